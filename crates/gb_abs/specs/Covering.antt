@@ -1,0 +1,102 @@
+-- Covering: one abstract state stands for all that another one does (abstract interpretation: inclusion).
+use Rattle.std.specs.Prelude.{ℕ, Bool, true, false, not, ◌&&◌, ◌||◌, ◌==◌, if◌then◌else◌, nat_le, List, [], ◌∷◌, Option, Some, None}
+use Rattle.std.specs.List.{list_all}
+use Rattle.gb_ops.specs.declared.op.Register.{Register}
+use Rattle.gb_ops.specs.declared.op.Register.TheVariants.{A, B, C, D, E, H, L}
+use Rattle.gb_ops.specs.declared.registers.Registers.{Registers}
+use Rattle.gb_cert.specs.declared.types.Origin.{Origin}
+use Rattle.gb_cert.specs.declared.types.Origin.TheVariants as origin
+use Rattle.gb_cert.specs.declared.types.Val.{Val}
+use Rattle.gb_cert.specs.declared.types.May.{May}
+use Rattle.gb_cert.specs.declared.types.Flg.{Flg}
+use Rattle.gb_cert.specs.declared.types.ImeSet.{ImeSet}
+use Rattle.gb_cert.specs.declared.types.Ctl.{Ctl}
+use Rattle.gb_cert.specs.declared.types.Item.{Item}
+use Rattle.gb_cert.specs.declared.types.Cell.{Cell}
+use Rattle.gb_cert.specs.declared.types.Core.{Core}
+use Rattle.gb_cert.specs.Types.{AbsState}
+
+-- an origin's number, by which two origins are compared
+abbrev pub register_number : Register → ℕ
+register_number A = 0
+register_number B = 1
+register_number C = 2
+register_number D = 3
+register_number E = 4
+register_number H = 5
+register_number L = 6
+
+abbrev pub origin_number : Origin → ℕ
+origin_number (origin.Register r) = register_number r
+origin_number origin.F = 7
+origin_number origin.Ie = 8
+
+-- one fact asks for another
+abbrev pub implied : Bool → Bool → Bool
+implied a b = not a || b
+
+-- without an origin nothing is asked, else the same one
+abbrev pub covers_origin : Option Origin → Option Origin → Bool
+covers_origin from None = true
+covers_origin None (Some to) = false
+covers_origin (Some from) (Some to) = origin_number from == origin_number to
+
+unfoldable pub covers_val : Val → Val → Bool
+covers_val s t = nat_le t.lo s.lo && nat_le s.hi t.hi && covers_origin s.origin t.origin
+
+abbrev pub covers_may : May → May → Bool
+covers_may s t = implied s.set t.set && implied s.clear t.clear
+
+unfoldable pub covers_flags : Flg → Flg → Bool
+covers_flags s t =
+    covers_may s.zero t.zero && covers_may s.subtract t.subtract && covers_may s.half_carry t.half_carry
+    && covers_may s.carry t.carry && implied t.is_own s.is_own
+
+unfoldable pub covers_ime : ImeSet → ImeSet → Bool
+covers_ime s t = implied s.off t.off && implied s.pending t.pending && implied s.on t.on
+
+unfoldable pub covers_controller : Ctl → Ctl → Bool
+covers_controller s t =
+    nat_le t.bank_lo s.bank_lo && nat_le s.bank_hi t.bank_hi && nat_le t.second_lo s.second_lo
+    && nat_le s.second_hi t.second_hi && covers_may s.gate t.gate && covers_may s.mode t.mode && implied t.is_kept s.is_kept
+
+unfoldable pub covers_registers : Registers Val → Registers Val → Bool
+covers_registers s t =
+    covers_val s.a t.a && covers_val s.b t.b && covers_val s.c t.c && covers_val s.d t.d && covers_val s.e t.e
+    && covers_val s.h t.h && covers_val s.l t.l
+
+-- without a test nothing is asked, else the same one
+abbrev pub covers_test : Option ℕ → Option ℕ → Bool
+covers_test from None = true
+covers_test None (Some to) = false
+covers_test (Some from) (Some to) = from == to
+
+unfoldable pub covers_core : Core → Core → Bool
+covers_core s t =
+    covers_registers s.registers t.registers && covers_flags s.flags t.flags && covers_val s.ie t.ie && covers_ime s.ime t.ime
+    && covers_controller s.ctl t.ctl && nat_le s.bound t.bound && implied t.stack_set s.stack_set && covers_test s.test t.test
+
+abbrev pub covers_item : Item → Item → Bool
+covers_item s t = covers_val s.high t.high && covers_val s.low t.low
+
+-- equally many, each covered
+abbrev pub covers_items : List Item → List Item → Bool
+covers_items [] [] = true
+covers_items [] (t ∷ ts) = false
+covers_items (s ∷ ss) [] = false
+covers_items (s ∷ ss) (t ∷ ts) = covers_item s t && covers_items ss ts
+
+abbrev pub any_val : Val
+any_val = record { lo = 0; hi = 255; origin = None }
+
+-- what is known of the byte at an address: any where there is no cell
+abbrev pub cell_at : ℕ → List Cell → Val
+cell_at a [] = any_val
+cell_at a (c ∷ cs) = if c.address == a then c.val else cell_at a cs
+
+unfoldable pub covers_cells : List Cell → List Cell → Bool
+covers_cells s t = list_all (λ c. covers_val (cell_at c.address s) c.val) t
+
+-- t stands for each state that s stands for
+unfoldable pub covers : AbsState → AbsState → Bool
+covers s t = covers_core s.core t.core && covers_items s.items t.items && covers_cells s.cells t.cells

@@ -1,0 +1,101 @@
+-- Which machine states an abstract state means (abstract interpretation: concretization).
+use Rattle.std.specs.Prelude.{◌≡◌, ℕ, ◌+◌, ◌-◌, ◌*◌, ◌≤◌, ◌<◌, Bool, true, false, ◌==◌, nat_lt, List, [], ◌∷◌, length, Option, Some, None}
+use Rattle.std.specs.List.{AllByRecursion}
+use Rattle.gb_ops.specs.declared.op.Register.{Register}
+use Rattle.gb_ops.specs.declared.registers.Flags.{Flags}
+use Rattle.gb_ops.specs.declared.registers.Ime.{Ime}
+use Rattle.gb_ops.specs.declared.registers.Ime.TheVariants.{Off, Pending, On}
+use Rattle.gb_ops.specs.declared.machine.Banks.{Banks}
+use Rattle.gb_ops.specs.Registers.{get}
+use Rattle.gb_ops.specs.Flags.{flags_byte}
+use Rattle.gb_ops.specs.Memory.{Storage}
+use Rattle.gb_ops.specs.Play.{MState}
+use Rattle.gb_cert.specs.declared.types.Origin.{Origin}
+use Rattle.gb_cert.specs.declared.types.Origin.TheVariants as origin
+use Rattle.gb_cert.specs.declared.types.Val.{Val}
+use Rattle.gb_cert.specs.declared.types.May.{May}
+use Rattle.gb_cert.specs.declared.types.Flg.{Flg}
+use Rattle.gb_cert.specs.declared.types.ImeSet.{ImeSet}
+use Rattle.gb_cert.specs.declared.types.Ctl.{Ctl}
+use Rattle.gb_cert.specs.declared.types.Item.{Item}
+use Rattle.gb_cert.specs.declared.types.Cell.{Cell}
+use Rattle.gb_cert.specs.declared.types.Core.{Core}
+use Rattle.gb_cert.specs.Types.{AbsState}
+use Rattle.gb_abs.specs.Storage.{peek}
+
+-- what an origin held
+abbrev pub origin_value : Origin → MState → ℕ
+origin_value (origin.Register r) s = get r s.processor.registers
+origin_value origin.F s = flags_byte s.processor.flags
+origin_value origin.Ie s = s.storage.ie
+
+-- x is a value that v stands for, where entry is the state as the procedure was entered
+pub record Holds (v : Val) (entry : MState) (x : ℕ) : Type 0 where
+  pub least : v.lo ≤ x
+  pub most : x ≤ v.hi
+  pub origin : (o : Origin) → v.origin ≡ Some o → x ≡ origin_value o entry
+
+-- a bit may be so
+abbrev pub may_be : May → Bool → Bool
+may_be m true = m.set
+may_be m false = m.clear
+
+pub record HoldsFlags (f : Flg) (entry : MState) (x : Flags) : Type 0 where
+  pub zero : may_be f.zero x.zero ≡ true
+  pub subtract : may_be f.subtract x.subtract ≡ true
+  pub half_carry : may_be f.half_carry x.half_carry ≡ true
+  pub carry : may_be f.carry x.carry ≡ true
+  pub own : f.is_own ≡ true → x ≡ entry.processor.flags
+
+abbrev pub ime_may_be : ImeSet → Ime → Bool
+ime_may_be s Off = s.off
+ime_may_be s Pending = s.pending
+ime_may_be s On = s.on
+
+pub record HoldsController (c : Ctl) (entry : MState) (x : Banks) : Type 0 where
+  pub bank_least : c.bank_lo ≤ x.bank
+  pub bank_most : x.bank ≤ c.bank_hi
+  pub second_least : c.second_lo ≤ x.second
+  pub second_most : x.second ≤ c.second_hi
+  pub gate : may_be c.gate x.gate ≡ true
+  pub mode : may_be c.mode x.mode ≡ true
+  pub kept : c.is_kept ≡ true → x ≡ entry.storage.banks
+
+-- test n: Z is set exactly where A is n, and C exactly where A is below n
+abbrev pub IsTested : Option ℕ → ℕ → Flags → Type 0
+IsTested None a f = Unit {0}
+IsTested (Some n) a f = (f.zero ≡ (a == n)) × (f.carry ≡ nat_lt a n)
+
+-- all but the stack and the cells
+pub record MeansCore (core : Core) (entry s : MState) : Type 0 where
+  pub registers : (r : Register) → Holds (get r core.registers) entry (get r s.processor.registers)
+  pub flags : HoldsFlags core.flags entry s.processor.flags
+  pub ie : Holds core.ie entry s.storage.ie
+  pub ime : ime_may_be core.ime s.processor.ime ≡ true
+  pub controller : HoldsController core.ctl entry s.storage.banks
+  pub count : s.storage.count ≤ core.bound
+  pub test : IsTested core.test s.processor.registers.a s.processor.flags
+  pub mark : s.processor.halt_mark ≡ false
+  pub locked : s.processor.locked ≡ false
+  pub stopped : s.processor.stopped ≡ false
+
+-- the items' words stand below an address, the oldest first
+abbrev pub AreItems : List Item → MState → ℕ → Storage → Type 0
+AreItems [] entry top s = Unit {0}
+AreItems (i ∷ rest) entry top s =
+    Holds i.high entry (peek s (top - 1)) × Holds i.low entry (peek s (top - 2)) × AreItems rest entry (top - 2) s
+
+-- memory has its size, and holds bytes
+pub record IsMemory (s : Storage) : Type 0 where
+  pub work : length s.work ≡ 8192
+  pub high : length s.high ≡ 127
+  pub bytes : (a : ℕ) → peek s a ≤ 255
+
+-- s is one of the states that abs means, in a procedure that was entered in the state entry, with its
+-- return word at base (main: base is the address after the region)
+pub record Means (abs : AbsState) (entry : MState) (base : ℕ) (s : MState) : Type 0 where
+  pub core : MeansCore abs.core entry s
+  pub memory : IsMemory s.storage
+  pub stack : abs.core.stack_set ≡ true → s.processor.sp + 2 * length abs.items ≡ base
+  pub items : AreItems abs.items entry base s.storage
+  pub cells : AllByRecursion (λ c. Holds c.val entry (peek s.storage c.address)) abs.cells

@@ -1,0 +1,186 @@
+//! Whether one abstract state stands for all that another one does.
+
+ghost use Rattle.std.specs.Prelude.{◌≡◌};
+ghost use Rattle.gb_abs.specs.Covering.{origin_number, register_number, implied, covers_origin, covers_val, covers_may, covers_flags, covers_ime, covers_controller, covers_registers, covers_test, covers_core, covers_item, covers_items, cell_at, covers_cells, covers};
+
+use gb_cert::types::{Abs, Cell, Core, Ctl, Flg, ImeSet, Item, May, Origin, Val};
+use gb_ops::op::Register;
+use gb_ops::registers::Registers;
+
+fn register_number(register: Register) -> u8
+    ensures { result ≡ register_number register }
+{
+    match register {
+        Register::A => 0,
+        Register::B => 1,
+        Register::C => 2,
+        Register::D => 3,
+        Register::E => 4,
+        Register::H => 5,
+        Register::L => 6,
+    }
+}
+
+fn origin_number(origin: Origin) -> u8
+    ensures { result ≡ origin_number origin }
+{
+    match origin {
+        Origin::Register(register) => register_number(register),
+        Origin::F => 7,
+        Origin::Ie => 8,
+    }
+}
+
+fn implied(a: bool, b: bool) -> bool
+    ensures { result ≡ implied a b }
+{
+    !a || b
+}
+
+fn covers_origin(from: Option<Origin>, to: Option<Origin>) -> bool
+    ensures { result ≡ covers_origin from to }
+{
+    match (from, to) {
+        (_, None) => true,
+        (None, Some(_)) => false,
+        (Some(from), Some(to)) => origin_number(from) == origin_number(to),
+    }
+}
+
+/// Whether each value that s stands for is one that t stands for.
+#[tactic(auto, unfolding(crate::specs::Covering::covers_val))]
+pub fn covers_val(s: &Val, t: &Val) -> bool
+    ensures { result ≡ covers_val s.now t.now }
+{
+    t.lo <= s.lo && s.hi <= t.hi && covers_origin(s.origin, t.origin)
+}
+
+fn covers_may(s: May, t: May) -> bool
+    ensures { result ≡ covers_may s t }
+{
+    implied(s.set, t.set) && implied(s.clear, t.clear)
+}
+
+#[tactic(auto, unfolding(crate::specs::Covering::covers_flags))]
+fn covers_flags(s: &Flg, t: &Flg) -> bool
+    ensures { result ≡ covers_flags s.now t.now }
+{
+    covers_may(s.zero, t.zero)
+        && covers_may(s.subtract, t.subtract)
+        && covers_may(s.half_carry, t.half_carry)
+        && covers_may(s.carry, t.carry)
+        && implied(t.is_own, s.is_own)
+}
+
+#[tactic(auto, unfolding(crate::specs::Covering::covers_ime))]
+fn covers_ime(s: &ImeSet, t: &ImeSet) -> bool
+    ensures { result ≡ covers_ime s.now t.now }
+{
+    implied(s.off, t.off) && implied(s.pending, t.pending) && implied(s.on, t.on)
+}
+
+#[tactic(auto, unfolding(crate::specs::Covering::covers_controller))]
+fn covers_controller(s: &Ctl, t: &Ctl) -> bool
+    ensures { result ≡ covers_controller s.now t.now }
+{
+    t.bank_lo <= s.bank_lo
+        && s.bank_hi <= t.bank_hi
+        && t.second_lo <= s.second_lo
+        && s.second_hi <= t.second_hi
+        && covers_may(s.gate, t.gate)
+        && covers_may(s.mode, t.mode)
+        && implied(t.is_kept, s.is_kept)
+}
+
+#[tactic(auto, unfolding(crate::specs::Covering::covers_registers))]
+fn covers_registers(s: &Registers<Val>, t: &Registers<Val>) -> bool
+    ensures { result ≡ covers_registers s.now t.now }
+{
+    covers_val(&s.a, &t.a)
+        && covers_val(&s.b, &t.b)
+        && covers_val(&s.c, &t.c)
+        && covers_val(&s.d, &t.d)
+        && covers_val(&s.e, &t.e)
+        && covers_val(&s.h, &t.h)
+        && covers_val(&s.l, &t.l)
+}
+
+fn covers_test(from: Option<u8>, to: Option<u8>) -> bool
+    ensures { result ≡ covers_test from to }
+{
+    match (from, to) {
+        (_, None) => true,
+        (None, Some(_)) => false,
+        (Some(from), Some(to)) => from == to,
+    }
+}
+
+#[tactic(auto, unfolding(crate::specs::Covering::covers_core))]
+fn covers_core(s: &Core, t: &Core) -> bool
+    ensures { result ≡ covers_core s.now t.now }
+{
+    covers_registers(&s.registers, &t.registers)
+        && covers_flags(&s.flags, &t.flags)
+        && covers_val(&s.ie, &t.ie)
+        && covers_ime(&s.ime, &t.ime)
+        && covers_controller(&s.ctl, &t.ctl)
+        && s.bound <= t.bound
+        && implied(t.stack_set, s.stack_set)
+        && covers_test(s.test, t.test)
+}
+
+fn covers_item(s: &Item, t: &Item) -> bool
+    ensures { result ≡ covers_item s.now t.now }
+{
+    covers_val(&s.high, &t.high) && covers_val(&s.low, &t.low)
+}
+
+fn covers_items(s: &[Item], t: &[Item]) -> bool
+    ensures { result ≡ covers_items s.now t.now }
+{
+    let Some((first, rest)) = s.split_first() else {
+        return t.is_empty();
+    };
+    let Some((other, others)) = t.split_first() else {
+        return false;
+    };
+    covers_item(first, other) && covers_items(rest, others)
+}
+
+/// What is known of the byte at an address.
+pub fn cell_at(address: u16, cells: &[Cell]) -> Val
+    ensures { result ≡ cell_at address cells.now }
+{
+    match cells {
+        [] => Val {
+            lo: 0,
+            hi: 255,
+            origin: None,
+        },
+        [cell, rest @ ..] => {
+            if cell.address == address {
+                cell.val
+            } else {
+                cell_at(address, rest)
+            }
+        }
+    }
+}
+
+#[tactic(auto, unfolding(crate::specs::Covering::covers_cells))]
+fn covers_cells(s: &[Cell], t: &[Cell]) -> bool
+    ensures { result ≡ covers_cells s.now t.now }
+{
+    t.iter()
+        .all(|cell| covers_val(&cell_at(cell.address, s), &cell.val))
+}
+
+/// Whether t stands for each machine state that s stands for, part by part.
+#[tactic(auto, unfolding(crate::specs::Covering::covers))]
+pub fn covers(s: &Abs, t: &Abs) -> bool
+    ensures { result ≡ covers s.now t.now }
+{
+    covers_core(s.core(), t.core())
+        && covers_items(s.items(), t.items())
+        && covers_cells(s.cells(), t.cells())
+}

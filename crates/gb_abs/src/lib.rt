@@ -1,0 +1,6 @@
+//! Abstract states: covering, and the operations that follow the machine.
+#![tactic(auto)]
+
+pub mod covering;
+pub mod operations;
+pub mod reason;

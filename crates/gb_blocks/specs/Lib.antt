@@ -1,0 +1,4 @@
+pub mod Code
+pub mod Places
+pub mod Rules
+pub mod Safety

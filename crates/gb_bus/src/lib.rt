@@ -1,0 +1,55 @@
+//! The memory bus, as the processor meets it.
+#![tactic(auto)]
+
+ghost use Rattle.std.specs.Prelude.{◌≡◌, ◌≢◌, ◌<◌, ◌%◌, ℕ};
+ghost use Rattle.std.specs.Bool.{OnFalse};
+ghost use Rattle.gb_ops.specs.Accesses.{Access};
+ghost use Rattle.gb_ops.specs.Accesses as access;
+ghost use Rattle.gb_ops.specs.Memory.{View, is_free, byte_at, place_of, wrote, passed};
+
+use gb_ops::machine::Place;
+
+/// A memory bus. Each call has a relation between the bus before it, what it gives or takes, and
+/// the bus after it.
+pub trait Bus {
+    /// The cartridge, the storage, and whether a transfer starts as the event ends.
+    ghost shows: { Self → View };
+
+    /// The bus before an access, the access, and the bus after it.
+    ghost does: { Self → Access → Self → Type 0 };
+
+    /// The interrupts that are enabled and requested.
+    ghost shared: { Self → ℕ };
+
+    /// The byte at an address; a free one may be any.
+    fn read(&mut self, address: u16) -> u8
+        ensures joined { does self.old (access.Reads address result) self.new }
+        ensures view { shows self.new ≡ shows self.old }
+        ensures fixed { OnFalse (is_free (shows self.old) address) (byte_at (shows self.old) address ≡ result) };
+
+    /// Stores a byte; a transfer drops it where it is closed.
+    fn write(&mut self, address: u16, value: u8)
+        ensures joined { does self.old (access.Writes address value) self.new }
+        ensures view { shows self.new ≡ wrote (shows self.old) address value };
+
+    /// What answers a read.
+    fn place(&self, address: u16) -> Place
+        ensures { result ≡ place_of (shows self.now) address };
+
+    /// Some of the interrupts that are enabled, those that are requested. It changes nothing.
+    fn pending(&mut self) -> u8
+        ensures same { self.new ≡ self.old }
+        ensures value { result ≡ shared self.old }
+        ensures enabled { result ≢ 0 → (shows self.old).storage.ie % 32 ≢ 0 };
+
+    /// Takes a request back.
+    fn acknowledge(&mut self, i: u8)
+        requires { i < 5 }
+        ensures joined { does self.old (access.Acknowledges i) self.new }
+        ensures view { shows self.new ≡ shows self.old };
+
+    /// The end of an event.
+    fn pass(&mut self, cycles: u8)
+        ensures joined { does self.old (access.Passes cycles) self.new }
+        ensures view { shows self.new ≡ passed (shows self.old) cycles };
+}

@@ -1,0 +1,233 @@
+-- Certificates: what is read is spelled so, what is spelled so is read, and there is one spelling.
+use Rattle.std.proofs.Common.{◌≡◌, ℕ, ◌-◌, ◌%◌, ◌<◌, ◌≤◌, true, ◌&&◌, ◌==◌, List, [], ◌∷◌, ◌++◌, length, Result, Ok, Err, refl, sym, ◌∙◌, ap, arith, append-nil}
+use Rattle.std.specs.List.{flat_map}
+use Rattle.std.proofs.lemmas.Bool.Decides.{nat_tests}
+use Rattle.gb_ops.specs.declared.machine.Region.{Region}
+use Rattle.gb_cert.specs.declared.fault.CertFault.{CertFault}
+use Rattle.gb_cert.specs.declared.fault.CertFault.TheVariants as fault
+use Rattle.gb_cert.specs.declared.types.Node.{Node}
+use Rattle.gb_cert.specs.declared.head.Head.{Head}
+use Rattle.gb_cert.specs.Limits.{procedure_limit}
+use Rattle.gb_cert.specs.Types.{ProcedureParts}
+use Rattle.gb_cert.specs.Certificate.{Certificate}
+use Rattle.gb_cert.specs.Format.{Read, go_on, both, checked, followed, ended, byte}
+use Rattle.gb_cert.specs.Rules.{IsRegion, IsProcedure, IsNode, IsCertificate, is_area, is_after, key}
+use Rattle.gb_cert.specs.Reading.{word, is_one, count_within, procedure_at, node_at, is_magic, magic_at, is_region, to_region, region_at, is_any, to_head, head_at, procedures_at, nodes_at, have_entries_in, to_certificate, certificate_at, read_certificate}
+use Rattle.gb_cert.specs.Spelling as spelled
+use Rattle.gb_cert.specs.Spelling.{Spells}
+use Rattle.gb_cert.proofs.Formats.{IsBytes, IsFormat, AreSoMany, ok_is, IsFormat-byte, IsFormat-both, IsFormat-followed, IsFormat-checked, IsFormat-mapped, IsFormat-as, IsFormat-several}
+use Rattle.gb_cert.proofs.FieldLaws.{and_both, both_and, spelled_byte, IsFormat-word, IsFormat-count_within}
+use Rattle.gb_cert.proofs.StateLaws.{area_small, lt_is, is_lt, IsFormat-procedure, IsFormat-node}
+
+-- ---- the head
+
+from_region : Region → ℕ × ℕ
+from_region r = (r.first, r.last)
+
+abbrev IsRegionPair : Region → Type 0
+IsRegionPair r = ((r.first < 65536) × (r.last < 65536)) × (is_region (r.first, r.last) ≡ true)
+
+same : (a b : ℕ) → (a == b) ≡ true → a ≡ b
+same a b h = grind (arith, nat_tests)
+
+is_same : (a b : ℕ) → a ≡ b → (a == b) ≡ true
+is_same a b h = grind (arith, nat_tests)
+
+region-is : (r : Region) → IsRegionPair r → IsRegion r
+region-is r h =
+    let a = and_both (is_area r.first r.last) ((r.last - r.first) % 2 == 1) h.1 in
+    record { area = a.0; even = same ((r.last - r.first) % 2) 1 a.1 }
+
+is-region : (r : Region) → IsRegion r → IsRegionPair r
+is-region r h = (area_small r.first r.last h.area, both_and (is_area r.first r.last) ((r.last - r.first) % 2 == 1) h.area (is_same ((r.last - r.first) % 2) 1 h.even))
+
+IsFormat-region : IsFormat region_at (λ r. spelled.word r.first ++ spelled.word r.last) IsRegion
+unfolding region_at from_region
+IsFormat-region =
+    IsFormat-as region_at (λ r. spelled.word r.first ++ spelled.word r.last) IsRegionPair IsRegion region-is is-region
+    (IsFormat-mapped to_region from_region _ _ _ (λ x h. refl) (λ y h. refl) (IsFormat-checked fault.Region is_region _ _ _ (IsFormat-both word word _ _ _ _ IsFormat-word IsFormat-word)))
+
+abbrev Letters : Type 0
+Letters = ℕ × (ℕ × (ℕ × ℕ))
+
+abbrev magic : Letters
+magic = (0x47, (0x42, (0x42, 0x43)))
+
+abbrev AreBytes : Letters → Type 0
+AreBytes p = (p.0 < 256) × ((p.1.0 < 256) × ((p.1.1.0 < 256) × (p.1.1.1 < 256)))
+
+abbrev spelled_letters : Letters → List ℕ
+spelled_letters p = p.0 ∷ p.1.0 ∷ p.1.1.0 ∷ p.1.1.1 ∷ []
+
+magic-is : (p : Letters) → is_magic p ≡ true → magic ≡ p
+magic-is p h =
+    let a = and_both (p.0 == 0x47) (p.1.0 == 0x42 && (p.1.1.0 == 0x42 && p.1.1.1 == 0x43)) h in
+    let b = and_both (p.1.0 == 0x42) (p.1.1.0 == 0x42 && p.1.1.1 == 0x43) a.1 in
+    let c = and_both (p.1.1.0 == 0x42) (p.1.1.1 == 0x43) b.1 in
+    letters p.0 p.1.0 p.1.1.0 p.1.1.1 (same p.0 0x47 a.0) (same p.1.0 0x42 b.0) (same p.1.1.0 0x42 c.0) (same p.1.1.1 0x43 c.1)
+  where
+    letters : (a b c d : ℕ) → a ≡ 0x47 → b ≡ 0x42 → c ≡ 0x42 → d ≡ 0x43 → magic ≡ (a, (b, (c, d)))
+    letters a b c d ea eb ec ed = rw (ea, eb, ec, ed) refl
+
+IsFormat-magic : IsFormat magic_at spelled_letters (λ p. AreBytes p × (is_magic p ≡ true))
+IsFormat-magic = IsFormat-checked fault.Magic is_magic _ _ _ (IsFormat-both _ _ _ _ _ _ IsFormat-byte (IsFormat-both _ _ _ _ _ _ IsFormat-byte (IsFormat-both byte byte _ _ _ _ IsFormat-byte IsFormat-byte)))
+
+abbrev HeadParts : Type 0
+HeadParts = Letters × (ℕ × (Region × (ℕ × ℕ)))
+
+from_head : Head → HeadParts
+from_head h = (magic, (1, (h.region, (h.procedures, h.nodes))))
+
+abbrev AreHeadParts : HeadParts → Type 0
+AreHeadParts p = (AreBytes p.0 × (is_magic p.0 ≡ true)) × (((p.1.0 < 256) × (is_one p.1.0 ≡ true)) × (IsRegion p.1.1.0 × (((p.1.1.1.0 ≤ procedure_limit) × (is_any p.1.1.1.0 ≡ true)) × ((p.1.1.1.1 < 65536) × (is_any p.1.1.1.1 ≡ true)))))
+
+abbrev spelled_parts : HeadParts → List ℕ
+spelled_parts p = spelled_letters p.0 ++ ((p.1.0 ∷ []) ++ ((spelled.word p.1.1.0.first ++ spelled.word p.1.1.0.last) ++ ((p.1.1.1.0 ∷ []) ++ spelled.word p.1.1.1.1)))
+
+head-there : (p : HeadParts) → AreHeadParts p → from_head (to_head p) ≡ p
+unfolding from_head
+head-there p h = parts p.0 p.1.0 p.1.1 (magic-is p.0 h.0.1) (same p.1.0 1 h.1.0.1)
+  where
+    parts : (m : Letters) (v : ℕ) (r : Region × (ℕ × ℕ)) → magic ≡ m → v ≡ 1 → (let q : HeadParts = (magic, (1, (r.0, (r.1.0, r.1.1)))) in q) ≡ (m, (v, r))
+    parts m v r e f = rw (← e, f) refl
+
+head-again : (h : Head) → to_head (from_head h) ≡ h
+unfolding from_head
+head-again h = refl
+
+record IsHead (h : Head) : Type 0 where
+  pub region : IsRegion h.region
+  pub some_procedure : 0 < h.procedures
+  pub few_procedures : h.procedures ≤ procedure_limit
+  pub some_node : 0 < h.nodes
+  pub few_nodes : h.nodes < 65536
+
+head-is : (h : Head) → AreHeadParts (from_head h) → IsHead h
+unfolding from_head
+head-is h a = record { region = a.1.1.0; some_procedure = lt_is 0 h.procedures a.1.1.1.0.1; few_procedures = a.1.1.1.0.0; some_node = lt_is 0 h.nodes a.1.1.1.1.1; few_nodes = a.1.1.1.1.0 }
+
+is-head : (h : Head) → IsHead h → AreHeadParts (from_head h)
+unfolding from_head
+is-head h a = (((omega arith, (omega arith, (omega arith, omega arith))), refl), ((omega arith, refl), (a.region, ((a.few_procedures, is_lt 0 h.procedures a.some_procedure), (a.few_nodes, is_lt 0 h.nodes a.some_node)))))
+
+abbrev spelled_head : Head → List ℕ
+spelled_head h = spelled_parts (from_head h)
+
+IsFormat-head : IsFormat head_at spelled_head IsHead
+unfolding head_at
+IsFormat-head =
+    IsFormat-as head_at spelled_head (λ h. AreHeadParts (from_head h)) IsHead head-is is-head
+    (IsFormat-mapped to_head from_head _ spelled_parts AreHeadParts head-there (λ h a. head-again h)
+    (IsFormat-both _ _ _ _ _ _ IsFormat-magic
+    (IsFormat-both _ _ _ _ _ _ (IsFormat-checked fault.Version is_one byte spelled_byte (λ b. b < 256) IsFormat-byte)
+    (IsFormat-both _ _ _ _ _ _ IsFormat-region
+    (IsFormat-both _ _ _ _ _ _ (IsFormat-checked fault.Field is_any (count_within procedure_limit) spelled_byte (λ n. n ≤ procedure_limit) (IsFormat-count_within procedure_limit (omega arith)))
+    (IsFormat-checked fault.Field is_any word spelled.word (λ n. n < 65536) IsFormat-word))))))
+
+-- ---- the procedures and the nodes
+
+abbrev Body : Type 0
+Body = List ProcedureParts × List Node
+
+abbrev spelled_body : Body → List ℕ
+spelled_body b = flat_map spelled.procedure b.0 ++ flat_map spelled.node b.1
+
+abbrev AreProcedures : Region → ℕ → ℕ → List ProcedureParts → Type 0
+AreProcedures region nodes count = AreSoMany (IsProcedure region nodes) is_after true count
+
+abbrev AreNodes : Region → ℕ → ℕ → List Node → Type 0
+AreNodes region procedures count = AreSoMany (IsNode region procedures) key (0, 0) count
+
+IsFormat-procedures : (region : Region) (nodes count : ℕ) → nodes < 65536 → IsFormat (procedures_at region nodes count) (flat_map spelled.procedure) (AreProcedures region nodes count)
+unfolding procedures_at
+IsFormat-procedures region nodes count few = IsFormat-several (procedure_at region nodes) is_after spelled.procedure (IsProcedure region nodes) true count (λ is_main. IsFormat-procedure region nodes is_main few)
+
+IsFormat-nodes : (region : Region) (procedures count : ℕ) → procedures ≤ 256 → IsFormat (nodes_at region procedures count) (flat_map spelled.node) (AreNodes region procedures count)
+unfolding nodes_at
+IsFormat-nodes region procedures count few = IsFormat-several (node_at region procedures) key spelled.node (IsNode region procedures) (0, 0) count (λ before. IsFormat-node region procedures before few)
+
+abbrev AreBody : Head → Body → Type 0
+AreBody h b = AreProcedures h.region h.nodes h.procedures b.0 × AreNodes h.region h.procedures h.nodes b.1
+
+abbrev body_at : Head → Read Body
+body_at h = both (procedures_at h.region h.nodes h.procedures) (nodes_at h.region h.procedures h.nodes)
+
+IsFormat-body : (h : Head) → IsHead h → IsFormat (body_at h) spelled_body (AreBody h)
+IsFormat-body h is =
+    let few : h.procedures ≤ 256 = omega (arith, is.few_procedures) in
+    IsFormat-both (procedures_at h.region h.nodes h.procedures) (nodes_at h.region h.procedures h.nodes) _ _ _ _ (IsFormat-procedures h.region h.nodes h.procedures is.few_nodes) (IsFormat-nodes h.region h.procedures h.nodes few)
+
+-- ---- certificates
+
+head_of : Certificate → Head
+head_of c = record { region = c.region; procedures = length c.procedures; nodes = length c.nodes }
+
+from_certificate : Certificate → Head × Body
+from_certificate c = (head_of c, (c.procedures, c.nodes))
+
+abbrev AreParts : Head × Body → Type 0
+AreParts p = (IsHead p.0 × AreBody p.0 p.1) × (have_entries_in p ≡ true)
+
+certificate-there : (p : Head × Body) → AreParts p → from_certificate (to_certificate p) ≡ p
+unfolding from_certificate head_of
+certificate-there p a = counts p.0.procedures p.0.nodes a.0.1.0.0 a.0.1.1.0
+  where
+    made : ℕ → ℕ → Head × Body
+    made i j = (record { region = p.0.region; procedures = i; nodes = j }, p.1)
+
+    counts : (i j : ℕ) → length p.1.0 ≡ i → length p.1.1 ≡ j → made (length p.1.0) (length p.1.1) ≡ made i j
+    counts i j e f = rw (e, f) refl
+
+certificate-is : (c : Certificate) → AreParts (from_certificate c) → IsCertificate c
+unfolding from_certificate head_of
+certificate-is c a = record {
+  region = a.0.0.region;
+  some_procedure = a.0.0.some_procedure;
+  procedure_count = a.0.0.few_procedures;
+  some_node = a.0.0.some_node;
+  node_count = a.0.0.few_nodes;
+  procedures = a.0.1.0.1;
+  nodes = a.0.1.1.1;
+  entries = a.1;
+}
+
+is-certificate : (c : Certificate) → IsCertificate c → AreParts (from_certificate c)
+unfolding from_certificate head_of
+is-certificate c a = ((record { region = a.region; some_procedure = a.some_procedure; few_procedures = a.procedure_count; some_node = a.some_node; few_nodes = a.node_count }, ((refl, a.procedures), (refl, a.nodes))), a.entries)
+
+IsFormat-certificate : IsFormat certificate_at spelled.spelling IsCertificate
+unfolding certificate_at from_certificate head_of from_head spelled.spelling spelled.head
+IsFormat-certificate =
+    IsFormat-as certificate_at spelled.spelling (λ c. AreParts (from_certificate c)) IsCertificate certificate-is is-certificate
+    (IsFormat-mapped to_certificate from_certificate (checked fault.Field have_entries_in (followed head_at body_at)) (λ p. spelled_head p.0 ++ spelled_body p.1) AreParts certificate-there (λ c h. refl)
+    (IsFormat-checked fault.Field have_entries_in (followed head_at body_at) (λ p. spelled_head p.0 ++ spelled_body p.1) (λ p. IsHead p.0 × AreBody p.0 p.1)
+    (IsFormat-followed head_at body_at spelled_head (λ h. spelled_body) IsHead AreBody IsFormat-head IsFormat-body)))
+
+-- ---- all of the bytes
+
+whole_is : {X : Type 0} (r : Result (X × List ℕ) CertFault) (x : X) → go_on r ended ≡ Ok x → r ≡ Ok (x, [])
+whole_is {X} (Ok p) x e = by p.0 p.1 e
+  where
+    by : (y : X) (rest : List ℕ) → ended y rest ≡ Ok x → (let q : Result (X × List ℕ) CertFault = Ok (y, rest) in q) ≡ Ok (x, [])
+    by y [] e = ap (λ (z : X). (let q : Result (X × List ℕ) CertFault = Ok (z, []) in q)) (ok_is y x e)
+    by y (b ∷ rest) e = cc
+whole_is (Err f) x e = cc
+
+pub found : (bytes : List ℕ) (c : Certificate) → IsBytes bytes → read_certificate bytes ≡ Ok c → Spells bytes c
+unfolding read_certificate
+found bytes c fit e =
+    let t = IsFormat-certificate.takes bytes c [] fit (whole_is (certificate_at bytes) c e) in
+    record { is_certificate = t.is_good; is_spelling = t.parts ∙ append-nil (spelled.spelling c) }
+
+pub again : (bytes : List ℕ) (c : Certificate) → Spells bytes c → read_certificate bytes ≡ Ok c
+unfolding read_certificate
+again bytes c s =
+    let all : certificate_at bytes ≡ Ok (c, []) = ap certificate_at (s.is_spelling ∙ sym (append-nil (spelled.spelling c))) ∙ IsFormat-certificate.again c [] s.is_certificate in
+    rw all refl
+
+-- one spelling, and bytes spell one certificate
+pub one_spelling : (a b : List ℕ) (c : Certificate) → Spells a c → Spells b c → a ≡ b
+one_spelling a b c s t = s.is_spelling ∙ sym t.is_spelling
+
+pub one_certificate : (bytes : List ℕ) (c d : Certificate) → Spells bytes c → Spells bytes d → c ≡ d
+one_certificate bytes c d s t = ok_is c d (sym (again bytes c s) ∙ again bytes d t)

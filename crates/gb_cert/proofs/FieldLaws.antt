@@ -1,0 +1,511 @@
+-- The fields of a state: what is read is spelled so, and what is spelled so is read.
+use Rattle.std.proofs.Common.{◌≡◌, ℕ, zero, suc, ◌+◌, ◌*◌, ◌/◌, ◌%◌, ◌<◌, ◌≤◌, Bool, true, false, ◌&&◌, ◌||◌, ◌==◌, nat_le, List, [], ◌∷◌, ◌⊎◌, inl, inr, Option, Some, None, refl, arith}
+use Rattle.std.specs.Prelude.{IfSome}
+use Rattle.std.proofs.lemmas.Bool.Decides.{nat_tests}
+use Rattle.gb_ops.specs.declared.op.Register.{Register}
+use Rattle.gb_ops.specs.declared.op.Register.TheVariants.{A, B, C, D, E, H, L}
+use Rattle.gb_ops.specs.declared.registers.Registers.{Registers}
+use Rattle.gb_ops.specs.Registers.{get}
+use Rattle.gb_cert.specs.declared.fault.CertFault.TheVariants as fault
+use Rattle.gb_cert.specs.declared.types.Origin.{Origin}
+use Rattle.gb_cert.specs.declared.types.Origin.TheVariants.{Register as Of, F, Ie}
+use Rattle.gb_cert.specs.declared.types.Val.{Val}
+use Rattle.gb_cert.specs.declared.types.May.{May}
+use Rattle.gb_cert.specs.declared.types.Flg.{Flg}
+use Rattle.gb_cert.specs.declared.types.ImeSet.{ImeSet}
+use Rattle.gb_cert.specs.declared.types.Ctl.{Ctl}
+use Rattle.gb_cert.specs.declared.types.Core.{Core}
+use Rattle.gb_cert.specs.declared.role.Role.{Role}
+use Rattle.gb_cert.specs.Format.{both, mapped, checked, byte}
+use Rattle.gb_cert.specs.Rules.{has_value, IsVal, IsFlg, IsCtl, may_be_any, IsCore}
+use Rattle.gb_cert.specs.Reading.{is_between, is_ordered, word_of, word, byte_between, word_between, count_within, is_one, yes_no, origin_of, origin_at, to_val, val_at, to_may, may_at, to_ime, ime_at, is_test, to_test, test_at, to_flags, have_values, is_own_number, is_two, to_flg, flg_at, to_ctl, ctl_at, to_vals, vals_at, to_core, is_stack_right, core_at}
+use Rattle.gb_cert.specs.Spelling as spelled
+use Rattle.gb_cert.proofs.Formats.{IsFormat, IsFormat-byte, IsFormat-both, IsFormat-checked, IsFormat-mapped, IsFormat-as, IsFormat-spelled}
+
+-- ---- tests
+
+pub le_is : (a b : ℕ) → nat_le a b ≡ true → a ≤ b
+le_is a b h = grind (arith, nat_tests)
+
+pub is_le : (a b : ℕ) → a ≤ b → nat_le a b ≡ true
+is_le a b h = grind (arith, nat_tests)
+
+pub and_both : (a b : Bool) → (a && b) ≡ true → (a ≡ true) × (b ≡ true)
+and_both true b h = (refl, h)
+and_both false b h = cc
+
+pub both_and : (a b : Bool) → a ≡ true → b ≡ true → (a && b) ≡ true
+both_and a b g h = rw (g, h) refl
+
+pub within : (limit n : ℕ) → is_between 0 limit n ≡ true → n ≤ limit
+within limit n h = grind (arith, nat_tests)
+
+pub is_within : (limit n : ℕ) → n ≤ limit → is_between 0 limit n ≡ true
+is_within limit n h = grind (arith, nat_tests)
+
+-- a test of all numbers below one
+all_below : ℕ → (ℕ → Bool) → Bool
+all_below zero p = true
+all_below (suc n) p = p n && all_below n p
+
+below : (n : ℕ) (p : ℕ → Bool) → all_below n p ≡ true → (b : ℕ) → b < n → p b ≡ true
+unfolding all_below
+below zero p h b l = absurd (omega arith)
+below (suc n) p h b l =
+    let q = and_both (p n) (all_below n p) h in
+    elim (below-cases b n l) [ inl e ↦ rw e q.0 | inr m ↦ below n p q.1 b m ]
+  where
+    below-cases : (b n : ℕ) → b < suc n → (b ≡ n) ⊎ (b < n)
+    below-cases b n l = grind arith
+
+same : (a b : ℕ) → (a == b) ≡ true → a ≡ b
+same a b h = grind (arith, nat_tests)
+
+-- ---- numbers
+
+split_word : ℕ → ℕ × ℕ
+split_word w = (w % 256, w / 256)
+
+split-word : (p : ℕ × ℕ) → (p.0 < 256) × (p.1 < 256) → split_word (word_of p) ≡ p
+unfolding split_word
+split-word p h = pair _ _ _ _ (low p.0 p.1 h.0) (top p.0 p.1 h.0)
+  where
+    pair : (a b c d : ℕ) → a ≡ c → b ≡ d → (let q : ℕ × ℕ = (a, b) in q) ≡ (c, d)
+    pair a b c d e f = cc
+
+    low : (a b : ℕ) → a < 256 → (a + 256 * b) % 256 ≡ a
+    low a b h = omega arith
+
+    top : (a b : ℕ) → a < 256 → (a + 256 * b) / 256 ≡ b
+    top a b h = omega arith
+
+word-split : (w : ℕ) → word_of (split_word w) ≡ w
+unfolding split_word
+word-split w = omega arith
+
+pub IsFormat-word : IsFormat word spelled.word (λ w. w < 65536)
+unfolding word split_word
+IsFormat-word =
+    IsFormat-as (mapped word_of (both byte byte)) spelled.word (λ w. (w % 256 < 256) × (w / 256 < 256)) (λ w. w < 65536) (λ w h. omega arith) (λ w h. (omega arith, omega arith))
+    (IsFormat-mapped word_of split_word (both byte byte) _ (λ p. (p.0 < 256) × (p.1 < 256)) split-word (λ w h. word-split w) (IsFormat-both byte byte _ _ _ _ IsFormat-byte IsFormat-byte))
+
+abbrev pub spelled_byte : ℕ → List ℕ
+spelled_byte b = b ∷ []
+
+pub IsFormat-byte_between : (low high : ℕ) → IsFormat (byte_between low high) spelled_byte (λ b. (b < 256) × (is_between low high b ≡ true))
+IsFormat-byte_between low high = IsFormat-checked fault.Field (is_between low high) byte spelled_byte (λ b. b < 256) IsFormat-byte
+
+pub IsFormat-word_between : (low high : ℕ) → IsFormat (word_between low high) spelled.word (λ b. (b < 65536) × (is_between low high b ≡ true))
+IsFormat-word_between low high = IsFormat-checked fault.Field (is_between low high) word spelled.word (λ b. b < 65536) IsFormat-word
+
+pub IsFormat-count_within : (limit : ℕ) → limit < 256 → IsFormat (count_within limit) spelled_byte (λ n. n ≤ limit)
+IsFormat-count_within limit small =
+    IsFormat-as (count_within limit) spelled_byte (λ b. (b < 256) × (is_between 0 limit b ≡ true)) (λ n. n ≤ limit) (λ n h. within limit n h.1) (λ n h. (omega arith, is_within limit n h))
+    (IsFormat-checked fault.Count (is_between 0 limit) byte spelled_byte (λ b. b < 256) IsFormat-byte)
+
+-- ---- values
+
+flag-of : (b : ℕ) → (b < 256) × (is_between 0 1 b ≡ true) → spelled.flag (is_one b) ≡ b
+unfolding all_below
+flag-of b h = same _ _ (below 2 (λ c. spelled.flag (is_one c) == c) refl b (high b h.1))
+  where
+    high : (b : ℕ) → is_between 0 1 b ≡ true → b < 2
+    high b h = grind (arith, nat_tests)
+
+of-flag : (b : Bool) → is_one (spelled.flag b) ≡ b
+of-flag true = refl
+of-flag false = refl
+
+flag_fits : (b : Bool) → (spelled.flag b < 256) × (is_between 0 1 (spelled.flag b) ≡ true)
+flag_fits true = (omega arith, refl)
+flag_fits false = (omega arith, refl)
+
+abbrev pub spelled_flag : Bool → List ℕ
+spelled_flag b = spelled.flag b ∷ []
+
+pub IsFormat-yes_no : IsFormat yes_no spelled_flag (λ b. Unit {0})
+unfolding yes_no
+IsFormat-yes_no =
+    IsFormat-as yes_no spelled_flag (λ b. (spelled.flag b < 256) × (is_between 0 1 (spelled.flag b) ≡ true)) (λ b. Unit {0}) (λ b h. tt) (λ b h. flag_fits b)
+    (IsFormat-mapped is_one spelled.flag (byte_between 0 1) spelled_byte _ flag-of (λ b h. of-flag b) (IsFormat-byte_between 0 1))
+
+origin_of-number : (o : Option Origin) → origin_of (spelled.origin_number o) ≡ o
+origin_of-number None = refl
+origin_of-number (Some (Of A)) = refl
+origin_of-number (Some F) = refl
+origin_of-number (Some (Of B)) = refl
+origin_of-number (Some (Of C)) = refl
+origin_of-number (Some (Of D)) = refl
+origin_of-number (Some (Of E)) = refl
+origin_of-number (Some (Of H)) = refl
+origin_of-number (Some (Of L)) = refl
+origin_of-number (Some Ie) = refl
+
+number-origin_of : (b : ℕ) → (b < 256) × (is_between 0 9 b ≡ true) → spelled.origin_number (origin_of b) ≡ b
+number-origin_of b h = grind (arith, nat_tests)
+
+origin_small : (o : Option Origin) → spelled.origin_number o ≤ 9
+origin_small None = omega arith
+origin_small (Some (Of A)) = omega arith
+origin_small (Some F) = omega arith
+origin_small (Some (Of B)) = omega arith
+origin_small (Some (Of C)) = omega arith
+origin_small (Some (Of D)) = omega arith
+origin_small (Some (Of E)) = omega arith
+origin_small (Some (Of H)) = omega arith
+origin_small (Some (Of L)) = omega arith
+origin_small (Some Ie) = omega arith
+
+origin_fits : (o : Option Origin) → (spelled.origin_number o < 256) × (is_between 0 9 (spelled.origin_number o) ≡ true)
+origin_fits o = let small = origin_small o in (omega (arith, origin_small o), is_within 9 (spelled.origin_number o) small)
+
+abbrev spelled_origin : Option Origin → List ℕ
+spelled_origin o = spelled.origin_number o ∷ []
+
+IsFormat-origin : IsFormat origin_at spelled_origin (λ o. Unit {0})
+unfolding origin_at
+IsFormat-origin =
+    IsFormat-as origin_at spelled_origin (λ o. (spelled.origin_number o < 256) × (is_between 0 9 (spelled.origin_number o) ≡ true)) (λ o. Unit {0}) (λ o h. tt) (λ o h. origin_fits o)
+    (IsFormat-mapped origin_of spelled.origin_number (byte_between 0 9) spelled_byte _ number-origin_of (λ o h. origin_of-number o) (IsFormat-byte_between 0 9))
+
+from_val : Val → (ℕ × ℕ) × Option Origin
+from_val v = ((v.lo, v.hi), v.origin)
+
+-- two bytes in order
+abbrev AreOrdered : ℕ → ℕ → Type 0
+AreOrdered lo hi = ((lo < 256) × (hi < 256)) × (nat_le lo hi ≡ true)
+
+are_ordered : (lo hi : ℕ) → lo ≤ hi → hi < 256 → AreOrdered lo hi
+are_ordered lo hi order small = ((omega arith, small), is_le lo hi order)
+
+pub IsFormat-val : IsFormat val_at spelled.val IsVal
+unfolding val_at from_val spelled.val
+IsFormat-val =
+    IsFormat-as val_at spelled.val (λ v. AreOrdered v.lo v.hi × Unit {0}) IsVal (λ v h. record { order = le_is v.lo v.hi h.0.1; hi = h.0.0.1 }) (λ v h. (are_ordered v.lo v.hi h.order h.hi, tt))
+    (IsFormat-mapped to_val from_val _ _ _ (λ x h. refl) (λ y h. refl)
+    (IsFormat-both _ _ _ _ _ _ (IsFormat-checked fault.Field is_ordered _ _ _ (IsFormat-both byte byte _ _ _ _ IsFormat-byte IsFormat-byte)) IsFormat-origin))
+
+number-may : (b : ℕ) → (b < 256) × (is_between 1 3 b ≡ true) → spelled.may_number (to_may b) ≡ b
+unfolding all_below
+number-may b h = same _ _ (below 4 (λ c. spelled.may_number (to_may c) == c) refl b (high b h.1))
+  where
+    high : (b : ℕ) → is_between 1 3 b ≡ true → b < 4
+    high b h = grind (arith, nat_tests)
+
+may-number : (m : May) → to_may (spelled.may_number m) ≡ m
+may-number m = by m.clear m.set
+  where
+    by : (c s : Bool) → to_may (2 * spelled.flag s + spelled.flag c) ≡ record { clear = c; set = s }
+    by true true = refl
+    by true false = refl
+    by false true = refl
+    by false false = refl
+
+abbrev IsMayNumber : May → Type 0
+IsMayNumber m = (spelled.may_number m < 256) × (is_between 1 3 (spelled.may_number m) ≡ true)
+
+may_is : (m : May) → IsMayNumber m → has_value m ≡ true
+may_is m h = by m.clear m.set h.1
+  where
+    by : (c s : Bool) → is_between 1 3 (2 * spelled.flag s + spelled.flag c) ≡ true → (c || s) ≡ true
+    by true s h = refl
+    by false true h = refl
+    by false false h = h
+
+is_may : (m : May) → has_value m ≡ true → IsMayNumber m
+is_may m h = by m.clear m.set h
+  where
+    by : (c s : Bool) → (c || s) ≡ true → (2 * spelled.flag s + spelled.flag c < 256) × (is_between 1 3 (2 * spelled.flag s + spelled.flag c) ≡ true)
+    by true true h = (omega arith, refl)
+    by true false h = (omega arith, refl)
+    by false true h = (omega arith, refl)
+    by false false h = absurd cc
+
+abbrev spelled_may : May → List ℕ
+spelled_may m = spelled.may_number m ∷ []
+
+pub IsFormat-may : IsFormat may_at spelled_may (λ m. has_value m ≡ true)
+unfolding may_at
+IsFormat-may =
+    IsFormat-as may_at spelled_may IsMayNumber (λ m. has_value m ≡ true) may_is is_may
+    (IsFormat-mapped to_may spelled.may_number (byte_between 1 3) spelled_byte _ number-may (λ m h. may-number m) (IsFormat-byte_between 1 3))
+
+number-ime : (b : ℕ) → (b < 256) × (is_between 1 7 b ≡ true) → spelled.ime_number (to_ime b) ≡ b
+unfolding all_below
+number-ime b h = same _ _ (below 8 (λ c. spelled.ime_number (to_ime c) == c) refl b (high b h.1))
+  where
+    high : (b : ℕ) → is_between 1 7 b ≡ true → b < 8
+    high b h = grind (arith, nat_tests)
+
+ime-number : (m : ImeSet) → to_ime (spelled.ime_number m) ≡ m
+ime-number m = by m.off m.pending m.on
+  where
+    by : (c s t : Bool) → to_ime (4 * spelled.flag t + 2 * spelled.flag s + spelled.flag c) ≡ record { off = c; pending = s; on = t }
+    by true true true = refl
+    by true true false = refl
+    by true false true = refl
+    by true false false = refl
+    by false true true = refl
+    by false true false = refl
+    by false false true = refl
+    by false false false = refl
+
+abbrev IsImeNumber : ImeSet → Type 0
+IsImeNumber m = (spelled.ime_number m < 256) × (is_between 1 7 (spelled.ime_number m) ≡ true)
+
+ime_is : (m : ImeSet) → IsImeNumber m → may_be_any m ≡ true
+ime_is m h = by m.off m.pending m.on h.1
+  where
+    by : (c s t : Bool) → is_between 1 7 (4 * spelled.flag t + 2 * spelled.flag s + spelled.flag c) ≡ true → (c || s || t) ≡ true
+    by true s t h = refl
+    by false true t h = refl
+    by false false true h = refl
+    by false false false h = h
+
+is_ime : (m : ImeSet) → may_be_any m ≡ true → IsImeNumber m
+is_ime m h = by m.off m.pending m.on h
+  where
+    by : (c s t : Bool) → (c || s || t) ≡ true → (4 * spelled.flag t + 2 * spelled.flag s + spelled.flag c < 256) × (is_between 1 7 (4 * spelled.flag t + 2 * spelled.flag s + spelled.flag c) ≡ true)
+    by true true true h = (omega arith, refl)
+    by true true false h = (omega arith, refl)
+    by true false true h = (omega arith, refl)
+    by true false false h = (omega arith, refl)
+    by false true true h = (omega arith, refl)
+    by false true false h = (omega arith, refl)
+    by false false true h = (omega arith, refl)
+    by false false false h = absurd cc
+
+abbrev spelled_ime : ImeSet → List ℕ
+spelled_ime m = spelled.ime_number m ∷ []
+
+IsFormat-ime : IsFormat ime_at spelled_ime (λ m. may_be_any m ≡ true)
+unfolding ime_at
+IsFormat-ime =
+    IsFormat-as ime_at spelled_ime IsImeNumber (λ m. may_be_any m ≡ true) ime_is is_ime
+    (IsFormat-mapped to_ime spelled.ime_number (byte_between 1 7) spelled_byte _ number-ime (λ m h. ime-number m) (IsFormat-byte_between 1 7))
+
+-- ---- the test
+
+from_test : Option ℕ → Bool × ℕ
+from_test None = (false, 0)
+from_test (Some a) = (true, a)
+
+abbrev IsTestPair : Bool × ℕ → Type 0
+IsTestPair p = (Unit {0} × (p.1 < 256)) × (is_test p ≡ true)
+
+test-there : (p : Bool × ℕ) → IsTestPair p → from_test (to_test p) ≡ p
+unfolding from_test
+test-there p h = by p.0 p.1 h.1
+  where
+    by : (b : Bool) (n : ℕ) → is_test (b, n) ≡ true → from_test (to_test (b, n)) ≡ (b, n)
+    by true n h = refl
+    by false n h = let e = same n 0 h in rw e refl
+
+test-again : (o : Option ℕ) → to_test (from_test o) ≡ o
+unfolding from_test
+test-again None = refl
+test-again (Some a) = refl
+
+test-is : (o : Option ℕ) → IsTestPair (from_test o) → IfSome o (λ a. a < 256)
+unfolding from_test
+test-is None h = tt
+test-is (Some a) h = h.0.1
+
+is-test : (o : Option ℕ) → IfSome o (λ a. a < 256) → IsTestPair (from_test o)
+unfolding from_test
+is-test None h = ((tt, omega arith), refl)
+is-test (Some a) h = ((tt, h), refl)
+
+test-spelled : (o : Option ℕ) → spelled.flag (from_test o).0 ∷ (from_test o).1 ∷ [] ≡ spelled.test o
+unfolding from_test
+test-spelled None = refl
+test-spelled (Some a) = refl
+
+IsFormat-test : IsFormat test_at spelled.test (λ o. IfSome o (λ a. a < 256))
+unfolding test_at
+IsFormat-test =
+    IsFormat-spelled test_at (λ o. spelled.flag (from_test o).0 ∷ (from_test o).1 ∷ []) spelled.test (λ o. IfSome o (λ a. a < 256)) (λ o h. test-spelled o)
+    (IsFormat-as test_at (λ o. spelled.flag (from_test o).0 ∷ (from_test o).1 ∷ []) (λ o. IsTestPair (from_test o)) (λ o. IfSome o (λ a. a < 256)) test-is is-test
+    (IsFormat-mapped to_test from_test _ _ IsTestPair test-there (λ o h. test-again o)
+    (IsFormat-checked fault.Field is_test _ _ _ (IsFormat-both yes_no byte _ _ _ _ IsFormat-yes_no IsFormat-byte))))
+
+-- ---- flags
+
+abbrev Flags : Type 0
+Flags = May × (May × (May × May))
+
+abbrev number_of : Flags → ℕ
+number_of p = spelled.flags_number p.0 p.1.0 p.1.1.0 p.1.1.1
+
+number-flags : (b : ℕ) → b < 256 → number_of (to_flags b) ≡ b
+unfolding all_below
+number-flags b h = same _ _ (below 256 (λ c. number_of (to_flags c) == c) refl b h)
+
+flag_small : (b : Bool) → spelled.flag b ≤ 1
+flag_small true = omega arith
+flag_small false = omega arith
+
+abbrev all_flags : Bool → Bool → Bool → Bool → Bool → Bool → Bool → Bool → Flags
+all_flags a b c d e f g h = (record { clear = e; set = a }, (record { clear = f; set = b }, (record { clear = g; set = c }, record { clear = h; set = d })))
+
+bits-number : (a b c d e f g h : ℕ) → a ≤ 1 → b ≤ 1 → c ≤ 1 → d ≤ 1 → e ≤ 1 → f ≤ 1 → g ≤ 1 → h ≤ 1 → (n : ℕ) → n ≡ 128 * a + 64 * b + 32 * c + 16 * d + 8 * e + 4 * f + 2 * g + h
+    → (n / 128 ≡ a) × (n / 64 % 2 ≡ b) × (n / 32 % 2 ≡ c) × (n / 16 % 2 ≡ d) × (n / 8 % 2 ≡ e) × (n / 4 % 2 ≡ f) × (n / 2 % 2 ≡ g) × (n % 2 ≡ h)
+bits-number a b c d e f g h a1 b1 c1 d1 e1 f1 g1 h1 n e0 = (omega arith, omega arith, omega arith, omega arith, omega arith, omega arith, omega arith, omega arith)
+
+one-flag : (n : ℕ) (b : Bool) → n ≡ spelled.flag b → (n == 1) ≡ b
+one-flag n b e = rw e (of-flag b)
+
+flags-same : (a b c d e f g h a2 b2 c2 d2 e2 f2 g2 h2 : Bool) → a ≡ a2 → b ≡ b2 → c ≡ c2 → d ≡ d2 → e ≡ e2 → f ≡ f2 → g ≡ g2 → h ≡ h2 → all_flags a b c d e f g h ≡ all_flags a2 b2 c2 d2 e2 f2 g2 h2
+flags-same a b c d e f g h a2 b2 c2 d2 e2 f2 g2 h2 ea eb ec ed ee ef eg eh = rw (ea, eb, ec, ed, ee, ef, eg, eh) refl
+
+flags-number : (p : Flags) → to_flags (number_of p) ≡ p
+flags-number p = by p.0.set p.1.0.set p.1.1.0.set p.1.1.1.set p.0.clear p.1.0.clear p.1.1.0.clear p.1.1.1.clear
+  where
+    by : (a b c d e f g h : Bool) → to_flags (number_of (all_flags a b c d e f g h)) ≡ all_flags a b c d e f g h
+    by a b c d e f g h =
+        let n : ℕ = number_of (all_flags a b c d e f g h) in
+        let k = bits-number (spelled.flag a) (spelled.flag b) (spelled.flag c) (spelled.flag d) (spelled.flag e) (spelled.flag f) (spelled.flag g) (spelled.flag h) (flag_small a) (flag_small b) (flag_small c) (flag_small d) (flag_small e) (flag_small f) (flag_small g) (flag_small h) n refl in
+        flags-same (n / 128 == 1) (n / 64 % 2 == 1) (n / 32 % 2 == 1) (n / 16 % 2 == 1) (n / 8 % 2 == 1) (n / 4 % 2 == 1) (n / 2 % 2 == 1) (n % 2 == 1) a b c d e f g h
+        (one-flag _ a k.0) (one-flag _ b k.1) (one-flag _ c k.2) (one-flag _ d k.3) (one-flag _ e k.4) (one-flag _ f k.5) (one-flag _ g k.6) (one-flag _ h k.7)
+
+flags_small : (p : Flags) → number_of p < 256
+flags_small p = omega (arith, flag_small p.0.set, flag_small p.1.0.set, flag_small p.1.1.0.set, flag_small p.1.1.1.set, flag_small p.0.clear, flag_small p.1.0.clear, flag_small p.1.1.0.clear, flag_small p.1.1.1.clear)
+
+own-there : (n : ℕ) → (n < 256) × (is_own_number n ≡ true) → spelled.own_number (is_two n) ≡ n
+own-there n h = grind (arith, nat_tests)
+
+own-again : (b : Bool) → is_two (spelled.own_number b) ≡ b
+own-again true = refl
+own-again false = refl
+
+own-fits : (b : Bool) → (spelled.own_number b < 256) × (is_own_number (spelled.own_number b) ≡ true)
+own-fits true = (omega arith, refl)
+own-fits false = (omega arith, refl)
+
+from_flg : Flg → Flags × Bool
+from_flg f = ((f.zero, (f.subtract, (f.half_carry, f.carry))), f.is_own)
+
+abbrev IsFlgPair : Flags × Bool → Type 0
+IsFlgPair p = ((number_of p.0 < 256) × (have_values p.0 ≡ true)) × ((spelled.own_number p.1 < 256) × (is_own_number (spelled.own_number p.1) ≡ true))
+
+flg-is : (f : Flg) → IsFlgPair (from_flg f) → IsFlg f
+unfolding from_flg
+flg-is f h =
+    let a = and_both (has_value f.zero) (has_value f.subtract && (has_value f.half_carry && has_value f.carry)) h.0.1 in
+    let b = and_both (has_value f.subtract) (has_value f.half_carry && has_value f.carry) a.1 in
+    let c = and_both (has_value f.half_carry) (has_value f.carry) b.1 in
+    record { zero = a.0; subtract = b.0; half_carry = c.0; carry = c.1 }
+
+is-flg : (f : Flg) → IsFlg f → IsFlgPair (from_flg f)
+unfolding from_flg
+is-flg f h = ((flags_small (f.zero, (f.subtract, (f.half_carry, f.carry))), both_and _ _ h.zero (both_and _ _ h.subtract (both_and _ _ h.half_carry h.carry))), own-fits f.is_own)
+
+IsFormat-flg : IsFormat flg_at spelled.flg IsFlg
+unfolding flg_at from_flg spelled.flg
+IsFormat-flg =
+    IsFormat-as flg_at spelled.flg (λ f. IsFlgPair (from_flg f)) IsFlg flg-is is-flg
+    (IsFormat-mapped to_flg from_flg _ _ IsFlgPair (λ x h. refl) (λ y h. refl)
+    (IsFormat-both _ _ _ _ _ _
+    (IsFormat-checked fault.Field have_values _ _ _ (IsFormat-mapped to_flags number_of byte spelled_byte (λ b. b < 256) number-flags (λ p h. flags-number p) IsFormat-byte))
+    (IsFormat-mapped is_two spelled.own_number (checked fault.Field is_own_number byte) spelled_byte _ own-there (λ b h. own-again b) (IsFormat-checked fault.Field is_own_number byte spelled_byte (λ b. b < 256) IsFormat-byte))))
+
+-- ---- the controller and the registers
+
+from_ctl : Ctl → (ℕ × ℕ) × ((ℕ × ℕ) × (May × (May × Bool)))
+from_ctl c = ((c.bank_lo, c.bank_hi), ((c.second_lo, c.second_hi), (c.gate, (c.mode, c.is_kept))))
+
+abbrev IsBank : ℕ → Type 0
+IsBank n = (n < 65536) × (is_between 0 511 n ≡ true)
+
+is_bank : (n : ℕ) → n ≤ 511 → IsBank n
+is_bank n h = (omega arith, is_within 511 n h)
+
+abbrev AreCtl : Ctl → Type 0
+AreCtl c = ((IsBank c.bank_lo × IsBank c.bank_hi) × (nat_le c.bank_lo c.bank_hi ≡ true)) × (AreOrdered c.second_lo c.second_hi × ((has_value c.gate ≡ true) × ((has_value c.mode ≡ true) × Unit {0})))
+
+ctl-is : (c : Ctl) → AreCtl c → IsCtl c
+ctl-is c h = record {
+  bank = le_is c.bank_lo c.bank_hi h.0.1;
+  bank_hi = within 511 c.bank_hi h.0.0.1.1;
+  second = le_is c.second_lo c.second_hi h.1.0.1;
+  second_hi = h.1.0.0.1;
+  gate = h.1.1.0;
+  mode = h.1.1.1.0;
+}
+
+is-ctl : (c : Ctl) → IsCtl c → AreCtl c
+is-ctl c h =
+    let low : c.bank_lo ≤ 511 = omega (arith, h.bank, h.bank_hi) in
+    (((is_bank c.bank_lo low, is_bank c.bank_hi h.bank_hi), is_le c.bank_lo c.bank_hi h.bank), (are_ordered c.second_lo c.second_hi h.second h.second_hi, (h.gate, (h.mode, tt))))
+
+IsFormat-ctl : IsFormat ctl_at spelled.ctl IsCtl
+unfolding ctl_at from_ctl spelled.ctl
+IsFormat-ctl =
+    IsFormat-as ctl_at spelled.ctl AreCtl IsCtl ctl-is is-ctl
+    (IsFormat-mapped to_ctl from_ctl _ _ _ (λ x h. refl) (λ y h. refl)
+    (IsFormat-both _ _ _ _ _ _ (IsFormat-checked fault.Field is_ordered _ _ _ (IsFormat-both _ _ _ _ _ _ (IsFormat-word_between 0 511) (IsFormat-word_between 0 511)))
+    (IsFormat-both _ _ _ _ _ _ (IsFormat-checked fault.Field is_ordered _ _ _ (IsFormat-both byte byte _ _ _ _ IsFormat-byte IsFormat-byte))
+    (IsFormat-both _ _ _ _ _ _ IsFormat-may (IsFormat-both _ _ _ _ _ _ IsFormat-may IsFormat-yes_no)))))
+
+from_vals : Registers Val → Val × (Val × (Val × (Val × (Val × (Val × Val)))))
+from_vals r = (r.a, (r.b, (r.c, (r.d, (r.e, (r.h, r.l))))))
+
+abbrev AreVals : Registers Val → Type 0
+AreVals r = IsVal r.a × (IsVal r.b × (IsVal r.c × (IsVal r.d × (IsVal r.e × (IsVal r.h × IsVal r.l)))))
+
+vals-are : (s : Registers Val) → AreVals s → (r : Register) → IsVal (get r s)
+vals-are s h A = h.0
+vals-are s h B = h.1.0
+vals-are s h C = h.1.1.0
+vals-are s h D = h.1.1.1.0
+vals-are s h E = h.1.1.1.1.0
+vals-are s h H = h.1.1.1.1.1.0
+vals-are s h L = h.1.1.1.1.1.1
+
+are-vals : (s : Registers Val) → ((r : Register) → IsVal (get r s)) → AreVals s
+are-vals s h = (h A, (h B, (h C, (h D, (h E, (h H, h L))))))
+
+IsFormat-vals : IsFormat vals_at spelled.vals (λ s. (r : Register) → IsVal (get r s))
+unfolding vals_at from_vals spelled.vals
+IsFormat-vals =
+    IsFormat-as vals_at spelled.vals AreVals (λ s. (r : Register) → IsVal (get r s)) vals-are are-vals
+    (IsFormat-mapped to_vals from_vals _ _ _ (λ x h. refl) (λ y h. refl)
+    (IsFormat-both _ _ _ _ _ _ IsFormat-val (IsFormat-both _ _ _ _ _ _ IsFormat-val (IsFormat-both _ _ _ _ _ _ IsFormat-val
+    (IsFormat-both _ _ _ _ _ _ IsFormat-val (IsFormat-both _ _ _ _ _ _ IsFormat-val (IsFormat-both _ _ _ _ _ _ IsFormat-val IsFormat-val)))))))
+
+from_core : Core → ImeSet × (ℕ × (Bool × (Option ℕ × (Ctl × (Flg × (Val × Registers Val))))))
+from_core c = (c.ime, (c.bound, (c.stack_set, (c.test, (c.ctl, (c.flags, (c.ie, c.registers)))))))
+
+abbrev AreCore : Role → Core → Type 0
+AreCore role c = (may_be_any c.ime ≡ true) × (((c.bound < 256) × (is_between 0 161 c.bound ≡ true)) × ((Unit {0} × (is_stack_right role c.stack_set ≡ true)) × (IfSome c.test (λ a. a < 256) × (IsCtl c.ctl × (IsFlg c.flags × (IsVal c.ie × ((r : Register) → IsVal (get r c.registers))))))))
+
+abbrev pub IsCoreFor : Role → Core → Type 0
+IsCoreFor role c = IsCore c × (is_stack_right role c.stack_set ≡ true)
+
+core-is : (role : Role) (c : Core) → AreCore role c → IsCoreFor role c
+core-is role c h = (
+  record {
+    ime = h.0;
+    bound = within 161 c.bound h.1.0.1;
+    test = h.1.1.1.0;
+    ctl = h.1.1.1.1.0;
+    flags = h.1.1.1.1.1.0;
+    ie = h.1.1.1.1.1.1.0;
+    registers = h.1.1.1.1.1.1.1;
+  },
+  h.1.1.0.1,
+)
+
+is-core : (role : Role) (c : Core) → IsCoreFor role c → AreCore role c
+is-core role c h =
+    let small : c.bound < 256 = omega (arith, h.0.bound) in
+    (h.0.ime, ((small, is_within 161 c.bound h.0.bound), ((tt, h.1), (h.0.test, (h.0.ctl, (h.0.flags, (h.0.ie, h.0.registers)))))))
+
+pub IsFormat-core : (role : Role) → IsFormat (core_at role) spelled.core (IsCoreFor role)
+unfolding core_at from_core spelled.core
+IsFormat-core role =
+    IsFormat-as (core_at role) spelled.core (AreCore role) (IsCoreFor role) (core-is role) (is-core role)
+    (IsFormat-mapped to_core from_core _ _ _ (λ x h. refl) (λ y h. refl)
+    (IsFormat-both _ _ _ _ _ _ IsFormat-ime (IsFormat-both _ _ _ _ _ _ (IsFormat-byte_between 0 161)
+    (IsFormat-both _ _ _ _ _ _ (IsFormat-checked fault.Field (is_stack_right role) _ _ _ IsFormat-yes_no)
+    (IsFormat-both _ _ _ _ _ _ IsFormat-test (IsFormat-both _ _ _ _ _ _ IsFormat-ctl (IsFormat-both _ _ _ _ _ _ IsFormat-flg (IsFormat-both _ _ _ _ _ _ IsFormat-val IsFormat-vals))))))))

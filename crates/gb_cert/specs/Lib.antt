@@ -1,0 +1,9 @@
+pub mod Certificate
+pub mod Fault
+pub mod Format
+pub mod Limits
+pub mod Parts
+pub mod Reading
+pub mod Rules
+pub mod Spelling
+pub mod Types

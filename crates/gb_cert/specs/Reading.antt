@@ -1,0 +1,280 @@
+-- Reading a certificate, field by field (own format). A test of two fields is made behind the later one.
+use Rattle.std.specs.Prelude.{ℕ, ◌+◌, ◌*◌, ◌-◌, ◌/◌, ◌%◌, Bool, true, ◌&&◌, ◌||◌, not, ◌==◌, nat_le, nat_lt, List, Option, Some, None, Result, if◌then◌else◌}
+use Rattle.gb_ops.specs.declared.machine.Region.{Region}
+use Rattle.gb_ops.specs.declared.op.Register.TheVariants.{A, B, C, D, E, H, L}
+use Rattle.gb_ops.specs.declared.registers.Registers.{Registers}
+use Rattle.gb_cert.specs.declared.fault.CertFault.{CertFault}
+use Rattle.gb_cert.specs.declared.fault.CertFault.TheVariants as fault
+use Rattle.gb_cert.specs.declared.types.Origin.{Origin}
+use Rattle.gb_cert.specs.declared.types.Origin.TheVariants.{Register as Of, F, Ie}
+use Rattle.gb_cert.specs.declared.types.Val.{Val}
+use Rattle.gb_cert.specs.declared.types.May.{May}
+use Rattle.gb_cert.specs.declared.types.Flg.{Flg}
+use Rattle.gb_cert.specs.declared.types.ImeSet.{ImeSet}
+use Rattle.gb_cert.specs.declared.types.Ctl.{Ctl}
+use Rattle.gb_cert.specs.declared.types.Core.{Core}
+use Rattle.gb_cert.specs.declared.types.Item.{Item}
+use Rattle.gb_cert.specs.declared.types.Cell.{Cell}
+use Rattle.gb_cert.specs.declared.types.Range.{Range}
+use Rattle.gb_cert.specs.declared.types.Node.{Node}
+use Rattle.gb_cert.specs.declared.role.Role.{Role}
+use Rattle.gb_cert.specs.declared.role.Role.TheVariants as role
+use Rattle.gb_cert.specs.declared.head.Head.{Head}
+use Rattle.gb_cert.specs.Limits.{procedure_limit, range_limit, cell_limit, item_limit}
+use Rattle.gb_cert.specs.Types.{AbsState, ProcedureParts}
+use Rattle.gb_cert.specs.Certificate.{Certificate}
+use Rattle.gb_cert.specs.Format.{Read, followed, both, mapped, checked, optional, several, counted, whole, byte}
+use Rattle.gb_cert.specs.Rules.{has_value, is_area, meets, after_cell, after_range, role_of, needs_stack, may_be_pushed, fits, is_after, key, is_from, have_entries}
+
+-- ---- numbers
+
+abbrev pub is_between : ℕ → ℕ → ℕ → Bool
+is_between low high n = nat_le low n && nat_le n high
+
+abbrev pub is_ordered : ℕ × ℕ → Bool
+is_ordered p = nat_le p.0 p.1
+
+abbrev pub word_of : ℕ × ℕ → ℕ
+word_of p = p.0 + 256 * p.1
+
+-- two bytes, the low one first
+unfoldable pub word : Read ℕ
+word = mapped word_of (both byte byte)
+
+-- a number from low to high
+abbrev pub byte_between : ℕ → ℕ → Read ℕ
+byte_between low high = checked fault.Field (is_between low high) byte
+
+abbrev pub word_between : ℕ → ℕ → Read ℕ
+word_between low high = checked fault.Field (is_between low high) word
+
+-- how many there are
+abbrev pub count_within : ℕ → Read ℕ
+count_within limit = checked fault.Count (is_between 0 limit) byte
+
+abbrev pub is_one : ℕ → Bool
+is_one n = n == 1
+
+-- 0 for no, 1 for yes
+unfoldable pub yes_no : Read Bool
+yes_no = mapped is_one (byte_between 0 1)
+
+-- ---- values
+
+abbrev pub origin_of : ℕ → Option Origin
+origin_of n =
+    if n == 0 then None
+    else if n == 1 then Some (Of A)
+    else if n == 2 then Some F
+    else if n == 3 then Some (Of B)
+    else if n == 4 then Some (Of C)
+    else if n == 5 then Some (Of D)
+    else if n == 6 then Some (Of E)
+    else if n == 7 then Some (Of H)
+    else if n == 8 then Some (Of L)
+    else Some Ie
+
+unfoldable pub origin_at : Read (Option Origin)
+origin_at = mapped origin_of (byte_between 0 9)
+
+abbrev pub to_val : (ℕ × ℕ) × Option Origin → Val
+to_val p = record { lo = p.0.0; hi = p.0.1; origin = p.1 }
+
+unfoldable pub val_at : Read Val
+val_at = mapped to_val (both (checked fault.Field is_ordered (both byte byte)) origin_at)
+
+-- bit 0: the bit may be clear; bit 1: it may be set
+abbrev pub to_may : ℕ → May
+to_may n = record { clear = n % 2 == 1; set = n / 2 == 1 }
+
+unfoldable pub may_at : Read May
+may_at = mapped to_may (byte_between 1 3)
+
+-- bits 0, 1 and 2: it may be off, pending, on
+abbrev pub to_ime : ℕ → ImeSet
+to_ime n = record { off = n % 2 == 1; pending = n / 2 % 2 == 1; on = n / 4 == 1 }
+
+unfoldable pub ime_at : Read ImeSet
+ime_at = mapped to_ime (byte_between 1 7)
+
+abbrev pub is_test : Bool × ℕ → Bool
+is_test p = p.0 || p.1 == 0
+
+abbrev pub to_test : Bool × ℕ → Option ℕ
+to_test p = if p.0 then Some p.1 else None
+
+-- whether there is a test, and its value, which is 0 where there is none
+unfoldable pub test_at : Read (Option ℕ)
+test_at = mapped to_test (checked fault.Field is_test (both yes_no byte))
+
+-- bits 7 to 4: Z, N, H and C may be set; bits 3 to 0: they may be clear
+abbrev pub to_flags : ℕ → May × (May × (May × May))
+to_flags n = (
+  record { clear = n / 8 % 2 == 1; set = n / 128 == 1 },
+  (
+    record { clear = n / 4 % 2 == 1; set = n / 64 % 2 == 1 },
+    (
+      record { clear = n / 2 % 2 == 1; set = n / 32 % 2 == 1 },
+      record { clear = n % 2 == 1; set = n / 16 % 2 == 1 },
+    ),
+  ),
+)
+
+abbrev pub have_values : May × (May × (May × May)) → Bool
+have_values p = has_value p.0 && (has_value p.1.0 && (has_value p.1.1.0 && has_value p.1.1.1))
+
+-- 0: F is no copy; 2: it is what it was as the procedure was entered
+abbrev pub is_own_number : ℕ → Bool
+is_own_number n = n == 0 || n == 2
+
+abbrev pub is_two : ℕ → Bool
+is_two n = n == 2
+
+abbrev pub to_flg : (May × (May × (May × May))) × Bool → Flg
+to_flg p = record { zero = p.0.0; subtract = p.0.1.0; half_carry = p.0.1.1.0; carry = p.0.1.1.1; is_own = p.1 }
+
+unfoldable pub flg_at : Read Flg
+flg_at = mapped to_flg (both (checked fault.Field have_values (mapped to_flags byte)) (mapped is_two (checked fault.Field is_own_number byte)))
+
+abbrev pub to_ctl : (ℕ × ℕ) × ((ℕ × ℕ) × (May × (May × Bool))) → Ctl
+to_ctl p = record { bank_lo = p.0.0; bank_hi = p.0.1; second_lo = p.1.0.0; second_hi = p.1.0.1; gate = p.1.1.0; mode = p.1.1.1.0; is_kept = p.1.1.1.1 }
+
+unfoldable pub ctl_at : Read Ctl
+ctl_at = mapped to_ctl (both (checked fault.Field is_ordered (both (word_between 0 511) (word_between 0 511))) (both (checked fault.Field is_ordered (both byte byte)) (both may_at (both may_at yes_no))))
+
+abbrev pub to_vals : Val × (Val × (Val × (Val × (Val × (Val × Val))))) → Registers Val
+to_vals p = record { a = p.0; b = p.1.0; c = p.1.1.0; d = p.1.1.1.0; e = p.1.1.1.1.0; h = p.1.1.1.1.1.0; l = p.1.1.1.1.1.1 }
+
+unfoldable pub vals_at : Read (Registers Val)
+vals_at = mapped to_vals (both val_at (both val_at (both val_at (both val_at (both val_at (both val_at val_at))))))
+
+-- ---- states
+
+abbrev pub to_core : ImeSet × (ℕ × (Bool × (Option ℕ × (Ctl × (Flg × (Val × Registers Val)))))) → Core
+to_core p = record { ime = p.0; bound = p.1.0; stack_set = p.1.1.0; test = p.1.1.1.0; ctl = p.1.1.1.1.0; flags = p.1.1.1.1.1.0; ie = p.1.1.1.1.1.1.0; registers = p.1.1.1.1.1.1.1 }
+
+abbrev pub is_stack_right : Role → Bool → Bool
+is_stack_right role stack_set = stack_set || not (needs_stack role)
+
+unfoldable pub core_at : Role → Read Core
+core_at role = mapped to_core (both ime_at (both (byte_between 0 161) (both (checked fault.Field (is_stack_right role) yes_no) (both test_at (both ctl_at (both flg_at (both val_at vals_at)))))))
+
+abbrev pub to_item : Val × Val → Item
+to_item p = record { high = p.0; low = p.1 }
+
+unfoldable pub item_at : Read Item
+item_at = mapped to_item (both val_at val_at)
+
+unfoldable pub items_at : Role → Bool → Read (List Item)
+items_at role stack_set = counted {S = Unit {0}} (checked fault.Field (may_be_pushed role stack_set) (count_within item_limit)) (λ s. item_at) (λ i. tt) tt
+
+-- A cell's address lies in RAM and outside the region.
+abbrev pub is_free : Region → ℕ × ℕ → Bool
+is_free region p = is_area p.0 p.1 && not (meets region p.0 p.1)
+
+abbrev pub is_free_byte : Region → ℕ → Bool
+is_free_byte region address = is_free region (address, address)
+
+abbrev pub to_cell : ℕ × Val → Cell
+to_cell p = record { address = p.0; val = p.1 }
+
+unfoldable pub cell_at : Region → ℕ → Read Cell
+cell_at region least = mapped to_cell (both (checked fault.Order (nat_le least) (checked fault.Field (is_free_byte region) word)) val_at)
+
+unfoldable pub cells_at : Region → Read (List Cell)
+cells_at region = counted (count_within cell_limit) (cell_at region) after_cell 0
+
+abbrev pub to_state : Core × (List Item × List Cell) → AbsState
+to_state p = record { core = p.0; items = p.1.0; cells = p.1.1 }
+
+unfoldable pub state_at : Role → Region → Read AbsState
+state_at role region = mapped to_state (followed (core_at role) (λ core. both (items_at role core.stack_set) (cells_at region)))
+
+-- ---- procedures
+
+abbrev pub to_range : ℕ × ℕ → Range
+to_range p = record { first = p.0; last = p.1 }
+
+unfoldable pub range_at : Region → ℕ → Read Range
+range_at region least = mapped to_range (checked fault.Field (is_free region) (both (checked fault.Order (nat_le least) word) word))
+
+unfoldable pub ranges_at : Region → Read (List Range)
+ranges_at region = counted (count_within range_limit) (range_at region) after_range 0
+
+abbrev pub may_return : Bool → Bool → Bool
+may_return is_main returns = not (is_main && returns)
+
+-- whether it returns, and in what state
+unfoldable pub exit_at : Region → Bool → Read (Option AbsState)
+exit_at region is_main = mapped (λ p. p.1) (followed (checked fault.Field (may_return is_main) yes_no) (λ returns. optional returns (state_at role.Exit region)))
+
+abbrev pub is_below : ℕ → ℕ → Bool
+is_below limit n = nat_lt n limit
+
+abbrev pub to_procedure : ℕ × (ℕ × (List Range × Option AbsState)) → ProcedureParts
+to_procedure p = record { entry = p.0; need = p.1.0; ranges = p.1.1.0; exit = p.1.1.1 }
+
+unfoldable pub procedure_at : Region → ℕ → Bool → Read ProcedureParts
+procedure_at region nodes is_main = mapped to_procedure (both (checked fault.Field (is_below nodes) word) (both (checked fault.Region (fits is_main region) (word_between 0 4096)) (both (ranges_at region) (exit_at region is_main))))
+
+-- ---- nodes
+
+-- a procedure's number that exists and isn't smaller than the one before; then an address that isn't smaller in the same procedure
+unfoldable pub key_at : ℕ → ℕ × ℕ → Read (ℕ × ℕ)
+key_at procedures before = checked fault.Order (is_from before) (both (checked fault.Order (nat_le before.0) (checked fault.Field (is_below procedures) byte)) word)
+
+abbrev pub to_node : (ℕ × ℕ) × (ℕ × AbsState) → Node
+to_node p = record { procedure = p.0.0; address = p.0.1; bank = p.1.0; state = p.1.1 }
+
+unfoldable pub node_at : Region → ℕ → ℕ × ℕ → Read Node
+node_at region procedures before = mapped to_node (followed (key_at procedures before) (λ k. both (word_between 0 511) (state_at (role_of k.0) region)))
+
+-- ---- certificates
+
+-- the letters GBBC
+abbrev pub is_magic : ℕ × (ℕ × (ℕ × ℕ)) → Bool
+is_magic p = p.0 == 0x47 && (p.1.0 == 0x42 && (p.1.1.0 == 0x42 && p.1.1.1 == 0x43))
+
+abbrev pub magic_at : Read (ℕ × (ℕ × (ℕ × ℕ)))
+magic_at = checked fault.Magic is_magic (both byte (both byte (both byte byte)))
+
+abbrev pub version_at : Read ℕ
+version_at = checked fault.Version is_one byte
+
+abbrev pub is_region : ℕ × ℕ → Bool
+is_region p = is_area p.0 p.1 && (p.1 - p.0) % 2 == 1
+
+abbrev pub to_region : ℕ × ℕ → Region
+to_region p = record { first = p.0; last = p.1 }
+
+unfoldable pub region_at : Read Region
+region_at = mapped to_region (checked fault.Region is_region (both word word))
+
+abbrev pub is_any : ℕ → Bool
+is_any n = nat_lt 0 n
+
+abbrev pub to_head : (ℕ × (ℕ × (ℕ × ℕ))) × (ℕ × (Region × (ℕ × ℕ))) → Head
+to_head p = record { region = p.1.1.0; procedures = p.1.1.1.0; nodes = p.1.1.1.1 }
+
+unfoldable pub head_at : Read Head
+head_at = mapped to_head (both magic_at (both version_at (both region_at (both (checked fault.Field is_any (count_within procedure_limit)) (checked fault.Field is_any word)))))
+
+unfoldable pub procedures_at : Region → ℕ → ℕ → Read (List ProcedureParts)
+procedures_at region nodes count = several (procedure_at region nodes) is_after true count
+
+unfoldable pub nodes_at : Region → ℕ → ℕ → Read (List Node)
+nodes_at region procedures count = several (node_at region procedures) key (0, 0) count
+
+abbrev pub have_entries_in : Head × (List ProcedureParts × List Node) → Bool
+have_entries_in p = have_entries 0 p.1.0 p.1.1
+
+abbrev pub to_certificate : Head × (List ProcedureParts × List Node) → Certificate
+to_certificate p = record { procedures = p.1.0; nodes = p.1.1; region = p.0.region }
+
+-- the head, the procedures and the nodes; then each entry must be a node of its procedure
+unfoldable pub certificate_at : Read Certificate
+certificate_at = mapped to_certificate (checked fault.Field have_entries_in (followed head_at (λ h. both (procedures_at h.region h.nodes h.procedures) (nodes_at h.region h.procedures h.nodes))))
+
+-- a certificate that is all of the bytes
+unfoldable pub read_certificate : List ℕ → Result Certificate CertFault
+read_certificate = whole certificate_at

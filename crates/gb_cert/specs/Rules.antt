@@ -1,0 +1,203 @@
+-- Which certificates there are (own format).
+use Rattle.std.specs.Prelude.{◌≡◌, ℕ, ◌+◌, ◌-◌, ◌/◌, ◌%◌, ◌≤◌, ◌<◌, Bool, true, false, ◌&&◌, ◌||◌, not, ◌==◌, nat_le, nat_lt, List, [], ◌∷◌, length, slice_get, Option, Some, None, IfSome, is_some, if◌then◌else◌}
+use Rattle.std.specs.List.{AllByRecursion}
+use Rattle.gb_ops.specs.declared.machine.Region.{Region}
+use Rattle.gb_ops.specs.declared.op.Register.{Register}
+use Rattle.gb_ops.specs.Registers.{get}
+use Rattle.gb_cert.specs.declared.types.Val.{Val}
+use Rattle.gb_cert.specs.declared.types.May.{May}
+use Rattle.gb_cert.specs.declared.types.Flg.{Flg}
+use Rattle.gb_cert.specs.declared.types.ImeSet.{ImeSet}
+use Rattle.gb_cert.specs.declared.types.Ctl.{Ctl}
+use Rattle.gb_cert.specs.declared.types.Core.{Core}
+use Rattle.gb_cert.specs.declared.types.Item.{Item}
+use Rattle.gb_cert.specs.declared.types.Cell.{Cell}
+use Rattle.gb_cert.specs.declared.types.Range.{Range}
+use Rattle.gb_cert.specs.declared.types.Node.{Node}
+use Rattle.gb_cert.specs.declared.role.Role.{Role}
+use Rattle.gb_cert.specs.declared.role.Role.TheVariants as role
+use Rattle.gb_cert.specs.Limits.{procedure_limit, range_limit, cell_limit, item_limit}
+use Rattle.gb_cert.specs.Types.{AbsState, ProcedureParts}
+use Rattle.gb_cert.specs.Certificate.{Certificate}
+
+-- Each element is right, by what the one before it leaves; s is what the first begins with.
+abbrev pub IsChain : {S X : Type 0} → (S → X → Type 0) → (X → S) → S → List X → Type 0
+IsChain good next s [] = Unit {0}
+IsChain good next s (x ∷ xs) = good s x × IsChain good next (next x) xs
+
+-- ---- values
+
+-- An interval of bytes.
+pub record IsVal (v : Val) : Type 0 where
+  pub order : v.lo ≤ v.hi
+  pub hi : v.hi < 256
+
+-- the bit has a value
+abbrev pub has_value : May → Bool
+has_value m = m.clear || m.set
+
+-- Each flag has a value.
+pub record IsFlg (f : Flg) : Type 0 where
+  pub zero : has_value f.zero ≡ true
+  pub subtract : has_value f.subtract ≡ true
+  pub half_carry : has_value f.half_carry ≡ true
+  pub carry : has_value f.carry ≡ true
+
+-- An interval of bank numbers, the greatest 511, one of bytes, and two bits with values.
+pub record IsCtl (c : Ctl) : Type 0 where
+  pub bank : c.bank_lo ≤ c.bank_hi
+  pub bank_hi : c.bank_hi ≤ 511
+  pub second : c.second_lo ≤ c.second_hi
+  pub second_hi : c.second_hi < 256
+  pub gate : has_value c.gate ≡ true
+  pub mode : has_value c.mode ≡ true
+
+abbrev pub may_be_any : ImeSet → Bool
+may_be_any i = i.off || i.pending || i.on
+
+-- The interrupt master enable has a value, the transfer bound is at most 161, and the parts are such.
+pub record IsCore (c : Core) : Type 0 where
+  pub ime : may_be_any c.ime ≡ true
+  pub bound : c.bound ≤ 161
+  pub test : IfSome c.test (λ a. a < 256)
+  pub ctl : IsCtl c.ctl
+  pub flags : IsFlg c.flags
+  pub ie : IsVal c.ie
+  pub registers : (r : Register) → IsVal (get r c.registers)
+
+pub record IsItem (i : Item) : Type 0 where
+  pub high : IsVal i.high
+  pub low : IsVal i.low
+
+-- ---- addresses
+
+-- Both lie in work RAM, C000 to DFFF, or both in high RAM, FF80 to FFFE.
+abbrev pub are_in_ram : ℕ → ℕ → Bool
+are_in_ram first last = nat_le 0xC000 first && nat_le last 0xDFFF || nat_le 0xFF80 first && nat_le last 0xFFFE
+
+-- From first to last there are addresses, all of them in RAM.
+abbrev pub is_area : ℕ → ℕ → Bool
+is_area first last = nat_le first last && are_in_ram first last
+
+-- The areas have an address in common.
+abbrev pub meets : Region → ℕ → ℕ → Bool
+meets region first last = nat_le first region.last && nat_le region.first last
+
+-- A stack region is an area of RAM with an even number of bytes.
+pub record IsRegion (r : Region) : Type 0 where
+  pub area : is_area r.first r.last ≡ true
+  pub even : (r.last - r.first) % 2 ≡ 1
+
+-- how many words it has room for
+abbrev pub words : Region → ℕ
+words r = (r.last - r.first + 1) / 2
+
+-- A cell is a byte of RAM outside the region, from the least address on.
+pub record IsCell (region : Region) (least : ℕ) (c : Cell) : Type 0 where
+  pub order : least ≤ c.address
+  pub area : is_area c.address c.address ≡ true
+  pub apart : meets region c.address c.address ≡ false
+  pub val : IsVal c.val
+
+-- the least address of the next
+abbrev pub after_cell : Cell → ℕ
+after_cell c = c.address + 1
+
+-- A range is an area of RAM outside the region, from the least address on.
+pub record IsRange (region : Region) (least : ℕ) (r : Range) : Type 0 where
+  pub order : least ≤ r.first
+  pub area : is_area r.first r.last ≡ true
+  pub apart : meets region r.first r.last ≡ false
+
+-- the least address of the next
+abbrev pub after_range : Range → ℕ
+after_range r = r.last + 1
+
+-- ---- states
+
+-- what a node's state is for
+abbrev pub role_of : ℕ → Role
+role_of procedure = if procedure == 0 then role.Main else role.Other
+
+-- Main may not have set its stack yet.
+abbrev pub needs_stack : Role → Bool
+needs_stack role.Main = false
+needs_stack role.Other = true
+needs_stack role.Exit = true
+
+-- A procedure returns with nothing pushed.
+abbrev pub may_have_items : Role → Bool
+may_have_items role.Main = true
+may_have_items role.Other = true
+may_have_items role.Exit = false
+
+-- so many items may be there
+abbrev pub may_be_pushed : Role → Bool → ℕ → Bool
+may_be_pushed role stack_set count = may_have_items role && stack_set || count == 0
+
+-- A state's parts are such, there are no items without a stack, and the cells are in order of address.
+pub record IsState (role : Role) (region : Region) (s : AbsState) : Type 0 where
+  pub core : IsCore s.core
+  pub stack : (s.core.stack_set || not (needs_stack role)) ≡ true
+  pub pushed : may_be_pushed role s.core.stack_set (length s.items) ≡ true
+  pub items : AllByRecursion IsItem s.items
+  pub item_count : length s.items ≤ item_limit
+  pub cells : IsChain (IsCell region) after_cell 0 s.cells
+  pub cell_count : length s.cells ≤ cell_limit
+
+-- ---- procedures and nodes
+
+-- Main's stack has room in the region.
+abbrev pub fits : Bool → Region → ℕ → Bool
+fits is_main region need = not is_main || nat_le need (words region)
+
+-- A procedure begins at one of so many nodes. Main doesn't return.
+pub record IsProcedure (region : Region) (nodes : ℕ) (is_main : Bool) (p : ProcedureParts) : Type 0 where
+  pub entry : p.entry < nodes
+  pub need : p.need ≤ 4096
+  pub room : fits is_main region p.need ≡ true
+  pub ranges : IsChain (IsRange region) after_range 0 p.ranges
+  pub range_count : length p.ranges ≤ range_limit
+  pub exit : IfSome p.exit (IsState role.Exit region)
+  pub main : (is_main && is_some p.exit) ≡ false
+
+-- only the first procedure is main
+abbrev pub is_after : ProcedureParts → Bool
+is_after p = false
+
+-- where a node belongs: its procedure and its address
+abbrev pub key : Node → ℕ × ℕ
+key n = (n.procedure, n.address)
+
+-- The second comes after the first, or is the same.
+abbrev pub is_from : ℕ × ℕ → ℕ × ℕ → Bool
+is_from a b = nat_lt a.0 b.0 || a.0 == b.0 && nat_le a.1 b.1
+
+-- A node belongs to one of so many procedures, and comes after the key before it or has the same.
+pub record IsNode (region : Region) (procedures : ℕ) (before : ℕ × ℕ) (n : Node) : Type 0 where
+  pub procedure : n.procedure < procedures
+  pub order : is_from before (key n) ≡ true
+  pub address : n.address < 65536
+  pub bank : n.bank ≤ 511
+  pub state : IsState (role_of n.procedure) region n.state
+
+abbrev pub is_of : ℕ → Option Node → Bool
+is_of number None = false
+is_of number (Some n) = n.procedure == number
+
+-- Each procedure's entry is one of its own nodes; the first of the procedures has this number.
+unfoldable pub have_entries : ℕ → List ProcedureParts → List Node → Bool
+have_entries number [] nodes = true
+have_entries number (p ∷ ps) nodes = is_of number (slice_get nodes p.entry) && have_entries (number + 1) ps nodes
+
+-- ---- certificates
+
+pub record IsCertificate (c : Certificate) : Type 0 where
+  pub region : IsRegion c.region
+  pub some_procedure : 0 < length c.procedures
+  pub procedure_count : length c.procedures ≤ procedure_limit
+  pub some_node : 0 < length c.nodes
+  pub node_count : length c.nodes < 65536
+  pub procedures : IsChain (IsProcedure c.region (length c.nodes)) is_after true c.procedures
+  pub nodes : IsChain (IsNode c.region (length c.procedures)) key (0, 0) c.nodes
+  pub entries : have_entries 0 c.procedures c.nodes ≡ true

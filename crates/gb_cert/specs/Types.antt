@@ -1,0 +1,40 @@
+-- What contracts see of states and procedures: plain lists.
+use Rattle.std.specs.Prelude.{ℕ, List, [], Option, None}
+use Rattle.gb_cert.specs.declared.types.Val.{Val}
+use Rattle.gb_cert.specs.declared.types.Core.{Core}
+use Rattle.gb_cert.specs.declared.types.Item.{Item}
+use Rattle.gb_cert.specs.declared.types.Cell.{Cell}
+use Rattle.gb_cert.specs.declared.types.Range.{Range}
+
+-- an abstract state
+pub record AbsState : Type 0 where
+  pub core : Core
+  pub items : List Item
+  pub cells : List Cell
+
+-- the state without items and cells
+abbrev pub state_of : Core → AbsState
+state_of core = record { core = core; items = []; cells = [] }
+
+-- a procedure
+pub record ProcedureParts : Type 0 where
+  pub entry : ℕ
+  pub need : ℕ
+  pub ranges : List Range
+  pub exit : Option AbsState
+
+-- any byte
+abbrev pub any_val : Val
+any_val = record { lo = 0; hi = 255; origin = None }
+
+-- any word
+abbrev pub any_item : Item
+any_item = record { high = any_val; low = any_val }
+
+-- any byte at address 0
+abbrev pub any_cell : Cell
+any_cell = record { address = 0; val = any_val }
+
+-- the first address alone
+abbrev pub least_range : Range
+least_range = record { first = 0; last = 0 }

@@ -1,0 +1,278 @@
+//! Reading the fields of a state, one after the other.
+
+ghost use Rattle.std.specs.Prelude.{◌≡◌, ◌&&◌, ◌||◌, nat_le};
+ghost use Rattle.gb_cert.specs.Format.{Gives, byte};
+ghost use Rattle.gb_cert.specs.Rules.{has_value};
+ghost use Rattle.gb_cert.specs.Reading.{word, byte_between, word_between, count_within, yes_no, origin_of, origin_at, val_at, may_at, ime_at, test_at, flg_at, ctl_at, vals_at, core_at};
+
+use crate::fault::CertFault;
+use crate::role::Role;
+use crate::types::{Core, Ctl, Flg, ImeSet, May, Origin, Val};
+use byteorder::{ByteOrder, LittleEndian};
+use gb_ops::op::Register;
+use gb_ops::registers::Registers;
+
+pub fn byte(bytes: &[u8]) -> Result<(u8, &[u8]), CertFault>
+    ensures { Gives (λ x. (x.0, x.1.now)) result (byte bytes.now) }
+{
+    match bytes {
+        [] => Err(CertFault::CutShort),
+        [first, rest @ ..] => Ok((*first, rest)),
+    }
+}
+
+#[tactic(auto, unfolding(crate::specs::Reading::word))]
+pub fn word(bytes: &[u8]) -> Result<(u16, &[u8]), CertFault>
+    ensures { Gives (λ x. (x.0, x.1.now)) result (word bytes.now) }
+{
+    match bytes {
+        [_, _, rest @ ..] => Ok((LittleEndian::read_u16(bytes), rest)),
+        _ => Err(CertFault::CutShort),
+    }
+}
+
+/// A byte from low to high.
+pub fn byte_between(low: u8, high: u8, bytes: &[u8]) -> Result<(u8, &[u8]), CertFault>
+    ensures { Gives (λ x. (x.0, x.1.now)) result (byte_between low high bytes.now) }
+{
+    let (number, rest) = byte(bytes)?;
+    if low <= number && number <= high {
+        Ok((number, rest))
+    } else {
+        Err(CertFault::Field)
+    }
+}
+
+/// A word from low to high.
+pub fn word_between(low: u16, high: u16, bytes: &[u8]) -> Result<(u16, &[u8]), CertFault>
+    ensures { Gives (λ x. (x.0, x.1.now)) result (word_between low high bytes.now) }
+{
+    let (number, rest) = word(bytes)?;
+    if low <= number && number <= high {
+        Ok((number, rest))
+    } else {
+        Err(CertFault::Field)
+    }
+}
+
+/// How many there are.
+pub fn count_within(limit: u8, bytes: &[u8]) -> Result<(u8, &[u8]), CertFault>
+    ensures { Gives (λ x. (x.0, x.1.now)) result (count_within limit bytes.now) }
+{
+    let (count, rest) = byte(bytes)?;
+    if count <= limit {
+        Ok((count, rest))
+    } else {
+        Err(CertFault::Count)
+    }
+}
+
+#[tactic(auto, unfolding(crate::specs::Reading::yes_no))]
+pub fn yes_no(bytes: &[u8]) -> Result<(bool, &[u8]), CertFault>
+    ensures { Gives (λ x. (x.0, x.1.now)) result (yes_no bytes.now) }
+{
+    let (number, rest) = byte_between(0, 1, bytes)?;
+    Ok((number == 1, rest))
+}
+
+fn origin_of(number: u8) -> Option<Origin>
+    ensures { result ≡ origin_of number }
+{
+    match number {
+        0 => None,
+        1 => Some(Origin::Register(Register::A)),
+        2 => Some(Origin::F),
+        3 => Some(Origin::Register(Register::B)),
+        4 => Some(Origin::Register(Register::C)),
+        5 => Some(Origin::Register(Register::D)),
+        6 => Some(Origin::Register(Register::E)),
+        7 => Some(Origin::Register(Register::H)),
+        8 => Some(Origin::Register(Register::L)),
+        _ => Some(Origin::Ie),
+    }
+}
+
+#[tactic(auto, unfolding(crate::specs::Reading::origin_at))]
+fn origin_at(bytes: &[u8]) -> Result<(Option<Origin>, &[u8]), CertFault>
+    ensures { Gives (λ x. (x.0, x.1.now)) result (origin_at bytes.now) }
+{
+    let (number, rest) = byte_between(0, 9, bytes)?;
+    Ok((origin_of(number), rest))
+}
+
+#[tactic(auto, unfolding(crate::specs::Reading::val_at))]
+pub fn val_at(bytes: &[u8]) -> Result<(Val, &[u8]), CertFault>
+    ensures { Gives (λ x. (x.0, x.1.now)) result (val_at bytes.now) }
+{
+    let (lo, rest) = byte(bytes)?;
+    let (hi, rest) = byte(rest)?;
+    if lo > hi {
+        return Err(CertFault::Field);
+    }
+    let (origin, rest) = origin_at(rest)?;
+    Ok((Val { lo, hi, origin }, rest))
+}
+
+#[tactic(auto, unfolding(crate::specs::Reading::may_at))]
+fn may_at(bytes: &[u8]) -> Result<(May, &[u8]), CertFault>
+    ensures { Gives (λ x. (x.0, x.1.now)) result (may_at bytes.now) }
+{
+    let (bits, rest) = byte_between(1, 3, bytes)?;
+    let may = May {
+        clear: bits % 2 == 1,
+        set: bits / 2 == 1,
+    };
+    Ok((may, rest))
+}
+
+#[tactic(auto, unfolding(crate::specs::Reading::ime_at))]
+fn ime_at(bytes: &[u8]) -> Result<(ImeSet, &[u8]), CertFault>
+    ensures { Gives (λ x. (x.0, x.1.now)) result (ime_at bytes.now) }
+{
+    let (bits, rest) = byte_between(1, 7, bytes)?;
+    let ime = ImeSet {
+        off: bits % 2 == 1,
+        pending: bits / 2 % 2 == 1,
+        on: bits / 4 == 1,
+    };
+    Ok((ime, rest))
+}
+
+#[tactic(auto, unfolding(crate::specs::Reading::test_at))]
+fn test_at(bytes: &[u8]) -> Result<(Option<u8>, &[u8]), CertFault>
+    ensures { Gives (λ x. (x.0, x.1.now)) result (test_at bytes.now) }
+{
+    let (is_there, rest) = yes_no(bytes)?;
+    let (value, rest) = byte(rest)?;
+    if is_there {
+        Ok((Some(value), rest))
+    } else if value == 0 {
+        Ok((None, rest))
+    } else {
+        Err(CertFault::Field)
+    }
+}
+
+fn has_value(may: May) -> bool
+    ensures { result ≡ has_value may }
+{
+    may.clear || may.set
+}
+
+#[tactic(auto, unfolding(crate::specs::Reading::flg_at))]
+fn flg_at(bytes: &[u8]) -> Result<(Flg, &[u8]), CertFault>
+    ensures { Gives (λ x. (x.0, x.1.now)) result (flg_at bytes.now) }
+{
+    let (bits, rest) = byte(bytes)?;
+    let zero = May {
+        clear: bits / 8 % 2 == 1,
+        set: bits / 128 == 1,
+    };
+    let subtract = May {
+        clear: bits / 4 % 2 == 1,
+        set: bits / 64 % 2 == 1,
+    };
+    let half_carry = May {
+        clear: bits / 2 % 2 == 1,
+        set: bits / 32 % 2 == 1,
+    };
+    let carry = May {
+        clear: bits % 2 == 1,
+        set: bits / 16 % 2 == 1,
+    };
+    if !(has_value(zero) && has_value(subtract) && has_value(half_carry) && has_value(carry)) {
+        return Err(CertFault::Field);
+    }
+    let (origin, rest) = byte(rest)?;
+    if origin != 0 && origin != 2 {
+        return Err(CertFault::Field);
+    }
+    let flags = Flg {
+        zero,
+        subtract,
+        half_carry,
+        carry,
+        is_own: origin == 2,
+    };
+    Ok((flags, rest))
+}
+
+#[tactic(auto, unfolding(crate::specs::Reading::ctl_at))]
+fn ctl_at(bytes: &[u8]) -> Result<(Ctl, &[u8]), CertFault>
+    ensures { Gives (λ x. (x.0, x.1.now)) result (ctl_at bytes.now) }
+{
+    let (bank_lo, rest) = word_between(0, 511, bytes)?;
+    let (bank_hi, rest) = word_between(0, 511, rest)?;
+    if bank_lo > bank_hi {
+        return Err(CertFault::Field);
+    }
+    let (second_lo, rest) = byte(rest)?;
+    let (second_hi, rest) = byte(rest)?;
+    if second_lo > second_hi {
+        return Err(CertFault::Field);
+    }
+    let (gate, rest) = may_at(rest)?;
+    let (mode, rest) = may_at(rest)?;
+    let (is_kept, rest) = yes_no(rest)?;
+    let ctl = Ctl {
+        bank_lo,
+        bank_hi,
+        second_lo,
+        second_hi,
+        gate,
+        mode,
+        is_kept,
+    };
+    Ok((ctl, rest))
+}
+
+#[tactic(auto, unfolding(crate::specs::Reading::vals_at))]
+fn vals_at(bytes: &[u8]) -> Result<(Registers<Val>, &[u8]), CertFault>
+    ensures { Gives (λ x. (x.0, x.1.now)) result (vals_at bytes.now) }
+{
+    let (a, rest) = val_at(bytes)?;
+    let (b, rest) = val_at(rest)?;
+    let (c, rest) = val_at(rest)?;
+    let (d, rest) = val_at(rest)?;
+    let (e, rest) = val_at(rest)?;
+    let (h, rest) = val_at(rest)?;
+    let (l, rest) = val_at(rest)?;
+    let registers = Registers {
+        a,
+        b,
+        c,
+        d,
+        e,
+        h,
+        l,
+    };
+    Ok((registers, rest))
+}
+
+#[tactic(auto, unfolding(crate::specs::Reading::core_at))]
+pub fn core_at(role: Role, bytes: &[u8]) -> Result<(Core, &[u8]), CertFault>
+    ensures { Gives (λ x. (x.0, x.1.now)) result (core_at role bytes.now) }
+{
+    let (ime, rest) = ime_at(bytes)?;
+    let (bound, rest) = byte_between(0, 161, rest)?;
+    let (stack_set, rest) = yes_no(rest)?;
+    if role.needs_stack() && !stack_set {
+        return Err(CertFault::Field);
+    }
+    let (test, rest) = test_at(rest)?;
+    let (ctl, rest) = ctl_at(rest)?;
+    let (flags, rest) = flg_at(rest)?;
+    let (ie, rest) = val_at(rest)?;
+    let (registers, rest) = vals_at(rest)?;
+    let core = Core {
+        ime,
+        bound,
+        stack_set,
+        test,
+        ctl,
+        flags,
+        ie,
+        registers,
+    };
+    Ok((core, rest))
+}

@@ -1,0 +1,39 @@
+//! What a state in a certificate is for.
+
+ghost use Rattle.std.specs.Prelude.{◌≡◌};
+ghost use Rattle.gb_cert.specs.Rules.{role_of, needs_stack, may_have_items};
+
+/// What a state is for: a node of main, a node of another procedure, or a procedure's exit.
+#[derive(Clone, Copy)]
+pub enum Role {
+    Main,
+    Other,
+    Exit,
+}
+
+impl Role {
+    /// Of a node of this procedure.
+    pub fn of(procedure: u8) -> Role
+        ensures { result ≡ role_of procedure }
+    {
+        if procedure == 0 {
+            Role::Main
+        } else {
+            Role::Other
+        }
+    }
+
+    /// Whether SP must be where the items say.
+    pub fn needs_stack(self) -> bool
+        ensures { result ≡ needs_stack self }
+    {
+        !matches!(self, Role::Main)
+    }
+
+    /// Whether there may be items.
+    pub fn may_have_items(self) -> bool
+        ensures { result ≡ may_have_items self }
+    {
+        !matches!(self, Role::Exit)
+    }
+}

@@ -1,0 +1,250 @@
+//! Reading states, procedures and nodes.
+
+ghost use Rattle.std.specs.Prelude.{◌≡◌, ◌≤◌, ◌&&◌, ◌||◌, true, nat_le};
+ghost use Rattle.gb_cert.specs.Format.{Gives, several};
+ghost use Rattle.gb_cert.specs.Limits.{item_limit, cell_limit, range_limit};
+ghost use Rattle.gb_cert.specs.Rules.{is_area, meets, words, fits, after_cell, after_range, role_of};
+ghost use Rattle.gb_cert.specs.Reading.{item_at, items_at, is_free, cell_at, cells_at, state_at, range_at, ranges_at, exit_at, procedure_at, key_at, node_at};
+
+use crate::fault::CertFault;
+use crate::fields::{byte, core_at, count_within, val_at, word, word_between, yes_no};
+use crate::limits::{CELL_LIMIT, ITEM_LIMIT, RANGE_LIMIT};
+use crate::role::Role;
+use crate::types::{Abs, Cell, Item, Node, Procedure, Range};
+use arrayvec::ArrayVec;
+use gb_ops::machine::Region;
+
+#[tactic(auto, unfolding(crate::specs::Reading::item_at))]
+fn item_at(bytes: &[u8]) -> Result<(Item, &[u8]), CertFault>
+    ensures { Gives (λ x. (x.0, x.1.now)) result (item_at bytes.now) }
+{
+    let (high, rest) = val_at(bytes)?;
+    let (low, rest) = val_at(rest)?;
+    Ok((Item { high, low }, rest))
+}
+
+/// So many items.
+fn some_items(count: u8, bytes: &[u8]) -> Result<(ArrayVec<Item, 16>, &[u8]), CertFault>
+    requires { count ≤ item_limit }
+    ensures { Gives (λ x. (x.0.items, x.1.now)) result (several {S = Unit {0}} (λ s. item_at) (λ i. tt) tt count bytes.now) }
+{
+    let mut items = ArrayVec::new();
+    let mut rest = bytes;
+    for _ in 0..count {
+        let (item, after) = item_at(rest)?;
+        items.push(item);
+        rest = after;
+    }
+    Ok((items, rest))
+}
+
+#[tactic(auto, unfolding(crate::specs::Reading::items_at))]
+fn items_at(
+    role: Role,
+    stack_set: bool,
+    bytes: &[u8],
+) -> Result<(ArrayVec<Item, 16>, &[u8]), CertFault>
+    ensures { Gives (λ x. (x.0.items, x.1.now)) result (items_at role stack_set bytes.now) }
+{
+    let (count, rest) = count_within(ITEM_LIMIT, bytes)?;
+    if count > 0 && !(role.may_have_items() && stack_set) {
+        return Err(CertFault::Field);
+    }
+    some_items(count, rest)
+}
+
+/// Whether the addresses from first to last are in RAM, and outside the region.
+fn is_free(region: Region, first: u16, last: u16) -> bool
+    ensures { result ≡ is_free region (first, last) }
+{
+    let is_in_work_ram = 0xC000 <= first && last <= 0xDFFF;
+    let is_in_high_ram = 0xFF80 <= first && last <= 0xFFFE;
+    let meets_region = first <= region.last && region.first <= last;
+    first <= last && (is_in_work_ram || is_in_high_ram) && !meets_region
+}
+
+/// A cell, its address from the least one on.
+#[tactic(auto, unfolding(crate::specs::Reading::cell_at))]
+fn cell_at(region: Region, least: u32, bytes: &[u8]) -> Result<(Cell, &[u8]), CertFault>
+    ensures { Gives (λ x. (x.0, x.1.now)) result (cell_at region least bytes.now) }
+{
+    let (address, rest) = word(bytes)?;
+    if !is_free(region, address, address) {
+        return Err(CertFault::Field);
+    }
+    if (address as u32) < least {
+        return Err(CertFault::Order);
+    }
+    let (val, rest) = val_at(rest)?;
+    Ok((Cell { address, val }, rest))
+}
+
+/// So many cells.
+fn some_cells(
+    region: Region,
+    count: u8,
+    bytes: &[u8],
+) -> Result<(ArrayVec<Cell, 32>, &[u8]), CertFault>
+    requires { count ≤ cell_limit }
+    ensures { Gives (λ x. (x.0.items, x.1.now)) result (several (cell_at region) after_cell 0 count bytes.now) }
+{
+    let mut cells = ArrayVec::new();
+    let mut least = 0;
+    let mut rest = bytes;
+    for _ in 0..count {
+        let (cell, after) = cell_at(region, least, rest)?;
+        cells.push(cell);
+        least = cell.address as u32 + 1;
+        rest = after;
+    }
+    Ok((cells, rest))
+}
+
+#[tactic(auto, unfolding(crate::specs::Reading::cells_at))]
+fn cells_at(region: Region, bytes: &[u8]) -> Result<(ArrayVec<Cell, 32>, &[u8]), CertFault>
+    ensures { Gives (λ x. (x.0.items, x.1.now)) result (cells_at region bytes.now) }
+{
+    let (count, rest) = count_within(CELL_LIMIT, bytes)?;
+    some_cells(region, count, rest)
+}
+
+#[tactic(auto, unfolding(crate::specs::Reading::state_at))]
+fn state_at(role: Role, region: Region, bytes: &[u8]) -> Result<(Abs, &[u8]), CertFault>
+    ensures { Gives (λ x. (x.0, x.1.now)) result (state_at role region bytes.now) }
+{
+    let (core, rest) = core_at(role, bytes)?;
+    let (items, rest) = items_at(role, core.stack_set, rest)?;
+    let (cells, rest) = cells_at(region, rest)?;
+    Ok((Abs::of_parts(core, items, cells), rest))
+}
+
+/// A range, its first address from the least one on.
+#[tactic(auto, unfolding(crate::specs::Reading::range_at))]
+fn range_at(region: Region, least: u32, bytes: &[u8]) -> Result<(Range, &[u8]), CertFault>
+    ensures { Gives (λ x. (x.0, x.1.now)) result (range_at region least bytes.now) }
+{
+    let (first, rest) = word(bytes)?;
+    if (first as u32) < least {
+        return Err(CertFault::Order);
+    }
+    let (last, rest) = word(rest)?;
+    if !is_free(region, first, last) {
+        return Err(CertFault::Field);
+    }
+    Ok((Range { first, last }, rest))
+}
+
+/// So many ranges.
+fn some_ranges(
+    region: Region,
+    count: u8,
+    bytes: &[u8],
+) -> Result<(ArrayVec<Range, 8>, &[u8]), CertFault>
+    requires { count ≤ range_limit }
+    ensures { Gives (λ x. (x.0.items, x.1.now)) result (several (range_at region) after_range 0 count bytes.now) }
+{
+    let mut ranges = ArrayVec::new();
+    let mut least = 0;
+    let mut rest = bytes;
+    for _ in 0..count {
+        let (range, after) = range_at(region, least, rest)?;
+        ranges.push(range);
+        least = range.last as u32 + 1;
+        rest = after;
+    }
+    Ok((ranges, rest))
+}
+
+#[tactic(auto, unfolding(crate::specs::Reading::ranges_at))]
+fn ranges_at(region: Region, bytes: &[u8]) -> Result<(ArrayVec<Range, 8>, &[u8]), CertFault>
+    ensures { Gives (λ x. (x.0.items, x.1.now)) result (ranges_at region bytes.now) }
+{
+    let (count, rest) = count_within(RANGE_LIMIT, bytes)?;
+    some_ranges(region, count, rest)
+}
+
+#[tactic(auto, unfolding(crate::specs::Reading::exit_at))]
+fn exit_at(region: Region, is_main: bool, bytes: &[u8]) -> Result<(Option<Abs>, &[u8]), CertFault>
+    ensures { Gives (λ x. (x.0, x.1.now)) result (exit_at region is_main bytes.now) }
+{
+    let (returns, rest) = yes_no(bytes)?;
+    if !returns {
+        return Ok((None, rest));
+    }
+    if is_main {
+        return Err(CertFault::Field);
+    }
+    let (exit, rest) = state_at(Role::Exit, region, rest)?;
+    Ok((Some(exit), rest))
+}
+
+/// Whether a need fits the region, where it is main's.
+fn fits(is_main: bool, region: Region, need: u16) -> bool
+    ensures { result ≡ fits is_main region need }
+{
+    !is_main || need as u32 <= (region.last.saturating_sub(region.first) as u32 + 1) / 2
+}
+
+/// A procedure that begins at one of so many nodes.
+#[tactic(auto, unfolding(crate::specs::Reading::procedure_at))]
+pub fn procedure_at(
+    region: Region,
+    nodes: u16,
+    is_main: bool,
+    bytes: &[u8],
+) -> Result<(Procedure, &[u8]), CertFault>
+    ensures { Gives (λ x. (x.0, x.1.now)) result (procedure_at region nodes is_main bytes.now) }
+{
+    let (entry, rest) = word(bytes)?;
+    if entry >= nodes {
+        return Err(CertFault::Field);
+    }
+    let (need, rest) = word_between(0, 4096, rest)?;
+    if !fits(is_main, region, need) {
+        return Err(CertFault::Region);
+    }
+    let (ranges, rest) = ranges_at(region, rest)?;
+    let (exit, rest) = exit_at(region, is_main, rest)?;
+    Ok((Procedure::of_parts(entry, need, ranges, exit), rest))
+}
+
+/// The procedure's number, of so many, and the address of a node, behind those of the node before.
+#[tactic(auto, unfolding(crate::specs::Reading::key_at))]
+fn key_at(procedures: u8, before: (u8, u16), bytes: &[u8]) -> Result<((u8, u16), &[u8]), CertFault>
+    ensures { Gives (λ x. (x.0, x.1.now)) result (key_at procedures before bytes.now) }
+{
+    let (procedure, rest) = byte(bytes)?;
+    if procedure >= procedures {
+        return Err(CertFault::Field);
+    }
+    if procedure < before.0 {
+        return Err(CertFault::Order);
+    }
+    let (address, rest) = word(rest)?;
+    if procedure == before.0 && address < before.1 {
+        return Err(CertFault::Order);
+    }
+    Ok(((procedure, address), rest))
+}
+
+/// A node of one of so many procedures, behind a node with this key.
+#[tactic(auto, unfolding(crate::specs::Reading::node_at))]
+pub fn node_at(
+    region: Region,
+    procedures: u8,
+    before: (u8, u16),
+    bytes: &[u8],
+) -> Result<(Node, &[u8]), CertFault>
+    ensures { Gives (λ x. (x.0, x.1.now)) result (node_at region procedures before bytes.now) }
+{
+    let ((procedure, address), rest) = key_at(procedures, before, bytes)?;
+    let (bank, rest) = word_between(0, 511, rest)?;
+    let (state, rest) = state_at(Role::of(procedure), region, rest)?;
+    let node = Node {
+        procedure,
+        address,
+        bank,
+        state,
+    };
+    Ok((node, rest))
+}

@@ -1,0 +1,4 @@
+pub mod Fetching
+pub mod Halting
+pub mod Joining
+pub mod Kept

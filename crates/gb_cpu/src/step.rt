@@ -1,0 +1,242 @@
+//! One step of the processor, and an interrupt's dispatch.
+
+ghost use Rattle.std.specs.Prelude.{if◌then◌else◌, [], ◌∷◌, ℕ, true, ◌%◌, IsTrue, ◌==◌, slice_index, ◌≡◌, ◌<◌, ◌≤◌, ◌^◌, ◌≢◌};
+ghost use Rattle.gb_ops.specs.Machine as Machine;
+ghost use Rattle.gb_ops.specs.Accesses.{Joined, execute_log, row_log, accesses_of, executed_cycles, row_cycles, event_cycles};
+ghost use Rattle.gb_ops.specs.Accesses as access;
+ghost use Rattle.gb_ops.specs.Play.{IsStep};
+ghost use Rattle.gb_cpu.specs.Step.{state, IsSpecial, IsDispatchable};
+
+use crate::access::{fetch, load, store};
+use gb_bus::Bus;
+use gb_effects::advance::{advanced, cycles_of, mark_of, settled};
+use gb_effects::effect::{effect_of, read_of, with_pc, with_sp};
+use gb_ops::decode::decode;
+use gb_ops::machine::{Event, Write};
+use gb_ops::op::Row;
+use gb_ops::registers::{Ime, Processor};
+
+/// What executing an instruction left, the free bytes that it read, and its M-cycles.
+#[derive(Clone, Copy, Debug)]
+struct Executed {
+    processor: Processor,
+    reads: [u8; 2],
+    cycles: u8,
+}
+
+/// Executes an instruction of the table.
+#[tactic(auto, using(crate::proofs::Joining::joined_append), unfolding(gb_ops::specs::Machine::executed, gb_ops::specs::Accesses::execute_log, gb_ops::specs::Accesses::executed_cycles))]
+fn execute<B: Bus>(processor: Processor, bus: &mut B, row: Row) -> Executed
+    ensures state { state result.processor (B.shows bus.new) ≡ Machine.executed (state processor (B.shows bus.old)) row result.reads }
+    ensures joined { Joined B.does bus.old (execute_log (state processor (B.shows bus.old)) row result.reads) bus.new }
+    ensures cycles { result.cycles ≡ executed_cycles (state processor (B.shows bus.old)) row result.reads }
+    ensures in_range { Machine.is_bytes 2 result.reads ≡ true }
+{
+    let processor = advanced(processor, row);
+    let answer = load(bus, read_of(row.op, processor));
+    let effect = effect_of(row.op, processor, answer.loaded.low, answer.loaded.high);
+    store(bus, effect.write);
+    let cycles = cycles_of(row, effect.is_taken);
+    bus.pass(cycles);
+    let reads = answer.free;
+    Executed {
+        processor: effect.processor,
+        reads,
+        cycles,
+    }
+}
+
+/// An event that happened, and its M-cycles.
+#[derive(Clone, Copy, Debug)]
+pub struct Stepped {
+    pub event: Event,
+    pub cycles: u8,
+}
+
+fn answer(event: Event, cycles: u8) -> Stepped
+    ensures { result ≡ record { event = event; cycles = cycles } }
+{
+    Stepped { event, cycles }
+}
+
+/// The processor.
+#[derive(Clone, Copy, Debug)]
+pub struct Cpu {
+    pub processor: Processor,
+    /// A HALT was executed, and no interrupt has ended it.
+    pub is_waiting: bool,
+}
+
+/// An undefined opcode.
+#[tactic(auto, unfolding(gb_ops::specs::Machine::locked))]
+fn lock<B: Bus>(processor: Processor, bus: &mut B) -> Processor
+    ensures state { state result (B.shows bus.new) ≡ Machine.locked (state processor (B.shows bus.old)) }
+    ensures joined { Joined B.does bus.old (access.Passes 1 ∷ []) bus.new }
+{
+    bus.pass(1);
+    Processor {
+        locked: true,
+        ..settled(processor)
+    }
+}
+
+/// A row's instruction, or an undefined opcode.
+#[tactic(auto, unfolding(gb_ops::specs::Machine::run_row))]
+fn run_row<B: Bus>(processor: Processor, bus: &mut B, row: Option<Row>) -> Executed
+    ensures state { state result.processor (B.shows bus.new) ≡ Machine.run_row row (state processor (B.shows bus.old)) result.reads }
+    ensures joined { Joined B.does bus.old (row_log row (state processor (B.shows bus.old)) result.reads) bus.new }
+    ensures cycles { result.cycles ≡ row_cycles row (state processor (B.shows bus.old)) result.reads }
+    ensures in_range { Machine.is_bytes 2 result.reads ≡ true }
+{
+    match row {
+        Some(row) => execute(processor, bus, row),
+        None => Executed {
+            processor: lock(processor, bus),
+            reads: [0, 0],
+            cycles: 1,
+        },
+    }
+}
+
+/// Interrupts become on, and PC stays on the HALT.
+#[tactic(auto, unfolding(gb_ops::specs::Machine::halt_stay))]
+fn stay<B: Bus>(processor: Processor, bus: &mut B) -> Processor
+    ensures state { state result (B.shows bus.new) ≡ Machine.halt_stay (state processor (B.shows bus.old)) }
+    ensures joined { Joined B.does bus.old (access.Passes 1 ∷ []) bus.new }
+{
+    bus.pass(1);
+    Processor {
+        ime: Ime::On,
+        ..processor
+    }
+}
+
+/// PC goes on, and the next instruction's first byte will be read twice.
+#[tactic(auto, unfolding(gb_ops::specs::Machine::halt_bug))]
+fn leave_mark<B: Bus>(processor: Processor, bus: &mut B) -> Processor
+    ensures state { state result (B.shows bus.new) ≡ Machine.halt_bug (state processor (B.shows bus.old)) }
+    ensures joined { Joined B.does bus.old (access.Passes 1 ∷ []) bus.new }
+{
+    bus.pass(1);
+    let way = 1 - mark_of(processor);
+    Processor {
+        pc: processor.pc.wrapping_add(way),
+        halt_mark: true,
+        ..processor
+    }
+}
+
+/// Which special case of HALT it is where an enabled interrupt is requested.
+#[derive(Clone, Copy, Debug)]
+enum Special {
+    Stay,
+    Bug,
+}
+
+/// The special case of HALT that an opcode is, under the interrupts that are shared.
+fn special_case(opcode: u8, ime: Ime, shared: u8) -> Option<Special>
+    ensures { IsSpecial opcode ime shared result }
+{
+    if opcode != 0x76 || shared == 0 {
+        return None;
+    }
+    match ime {
+        Ime::Off => Some(Special::Bug),
+        Ime::Pending => Some(Special::Stay),
+        Ime::On => None,
+    }
+}
+
+impl Cpu {
+    ghost use Rattle.gb_cpu.specs.Choice.{IsChoice, is_idle, waits_after};
+
+    /// The next event but interrupts: its effect on the processor and the bus.
+    #[tactic(auto, using(crate::proofs::Joining::joined_append, crate::proofs::Halting::has_halt_is, crate::proofs::Halting::fetch_log_halt), unfolding(gb_ops::specs::Machine::next, gb_ops::specs::Machine::only, gb_ops::specs::Machine::is_possible, gb_ops::specs::Machine::happened, gb_ops::specs::Machine::run, gb_ops::specs::Accesses::accesses_of, gb_ops::specs::Accesses::event_cycles))]
+    fn act<B: Bus>(&mut self, bus: &mut B) -> Stepped
+        ensures state { state self.new.processor (B.shows bus.new) ≡ Machine.next (state self.old.processor (B.shows bus.old)) result.event }
+        ensures joined { Joined B.does bus.old (accesses_of (state self.old.processor (B.shows bus.old)) result.event) bus.new }
+        ensures choice { IsChoice self.old (B.shared bus.old) (state self.old.processor (B.shows bus.old)) result.event }
+        ensures cycles { result.cycles ≡ event_cycles (state self.old.processor (B.shows bus.old)) result.event }
+        ensures waiting { self.new.is_waiting ≡ waits_after self.old (state self.old.processor (B.shows bus.old)) result.event }
+    {
+        let processor = self.processor;
+        if processor.locked || processor.stopped {
+            return answer(Event::Wait(0), 0);
+        }
+        let shared = bus.pending();
+        if self.is_waiting && shared == 0 {
+            bus.pass(1);
+            return answer(Event::Wait(1), 1);
+        }
+        let fetched = fetch(bus, processor);
+        let fetch = fetched.free;
+        let opcode = fetched.bytes[0];
+        self.is_waiting = false;
+        match special_case(opcode, processor.ime, shared) {
+            Some(Special::Stay) => {
+                self.processor = stay(processor, bus);
+                answer(Event::HaltStay, 1)
+            }
+            Some(Special::Bug) => {
+                self.processor = leave_mark(processor, bus);
+                answer(Event::HaltBug, 1)
+            }
+            None => {
+                let executed = run_row(processor, bus, decode(&fetched.bytes));
+                self.processor = executed.processor;
+                self.is_waiting = opcode == 0x76;
+                let reads = executed.reads;
+                answer(Event::Run { fetch, reads }, executed.cycles)
+            }
+        }
+    }
+
+    /// The next event but interrupts: its effect on the processor and the bus.
+    pub fn step<B: Bus>(&mut self, bus: &mut B) -> Stepped
+        ensures machine { IsStep (state self.old.processor (B.shows bus.old)) result.event (state self.new.processor (B.shows bus.new)) }
+        ensures joined { Joined B.does bus.old (accesses_of (state self.old.processor (B.shows bus.old)) result.event) bus.new }
+        ensures choice { IsChoice self.old (B.shared bus.old) (state self.old.processor (B.shows bus.old)) result.event }
+        ensures cycles { result.cycles ≡ event_cycles (state self.old.processor (B.shows bus.old)) result.event }
+        ensures waiting { self.new.is_waiting ≡ waits_after self.old (state self.old.processor (B.shows bus.old)) result.event }
+    {
+        self.act(bus)
+    }
+
+    /// An interrupt's dispatch, where it is possible.
+    pub fn dispatch<B: Bus>(&mut self, bus: &mut B, i: u8) -> Stepped
+        requires { IsDispatchable (state self.old.processor (B.shows bus.old)) i }
+        ensures machine { IsStep (state self.old.processor (B.shows bus.old)) result.event (state self.new.processor (B.shows bus.new)) }
+        ensures joined { Joined B.does bus.old (accesses_of (state self.old.processor (B.shows bus.old)) result.event) bus.new }
+        ensures choice { result.event ≡ (if is_idle self.old then Event.Wait 0 else Event.Irq i) }
+        ensures cycles { result.cycles ≡ event_cycles (state self.old.processor (B.shows bus.old)) result.event }
+        ensures waiting { self.new.is_waiting ≡ waits_after self.old (state self.old.processor (B.shows bus.old)) result.event }
+    {
+        self.interrupt(bus, i)
+    }
+
+    /// The dispatch: its effect on the processor and the bus.
+    #[tactic(auto, using(crate::proofs::Joining::joined_append), unfolding(gb_ops::specs::Machine::next, gb_ops::specs::Machine::only, gb_ops::specs::Machine::is_possible, gb_ops::specs::Machine::happened, gb_ops::specs::Machine::dispatched, gb_ops::specs::Accesses::accesses_of, gb_ops::specs::Accesses::event_cycles))]
+    fn interrupt<B: Bus>(&mut self, bus: &mut B, i: u8) -> Stepped
+        requires { IsDispatchable (state self.old.processor (B.shows bus.old)) i }
+        ensures state { state self.new.processor (B.shows bus.new) ≡ Machine.next (state self.old.processor (B.shows bus.old)) result.event }
+        ensures joined { Joined B.does bus.old (accesses_of (state self.old.processor (B.shows bus.old)) result.event) bus.new }
+        ensures choice { result.event ≡ (if is_idle self.old then Event.Wait 0 else Event.Irq i) }
+        ensures cycles { result.cycles ≡ event_cycles (state self.old.processor (B.shows bus.old)) result.event }
+        ensures waiting { self.new.is_waiting ≡ waits_after self.old (state self.old.processor (B.shows bus.old)) result.event }
+    {
+        let processor = self.processor;
+        if processor.locked || processor.stopped {
+            return answer(Event::Wait(0), 0);
+        }
+        bus.acknowledge(i);
+        store(bus, Write::Push(processor.sp, processor.pc));
+        bus.pass(5);
+        let below = with_sp(processor, processor.sp.wrapping_sub(2));
+        self.is_waiting = false;
+        self.processor = Processor {
+            ime: Ime::Off,
+            ..with_pc(below, 0x40 + 8 * u16::from(i))
+        };
+        answer(Event::Irq(i), 5)
+    }
+}

@@ -1,0 +1,97 @@
+//! What executing any instruction does: PC goes on, and interrupts that were pending become on.
+
+ghost use Rattle.std.specs.Prelude.{◌≡◌, ◌≤◌};
+ghost use Rattle.gb_ops.specs.Machine as Machine;
+
+use gb_ops::decode::decode;
+use gb_ops::op::{Op, Row};
+use gb_ops::registers::{Ime, Processor};
+
+/// How many bytes an instruction has, by its first; an undefined opcode has one.
+#[tactic(auto, unfolding(gb_ops::specs::Machine::length_of))]
+pub fn length_of(opcode: u8) -> u8
+    ensures { result ≡ Machine.length_of opcode }
+{
+    match decode(&[opcode, 0, 0]) {
+        Some(row) => row.length,
+        None => 1,
+    }
+}
+
+/// By how much less PC goes on: 1 under the HALT mark.
+pub fn mark_of(processor: Processor) -> u16
+    ensures value { result ≡ Machine.mark_of processor }
+    ensures small { result ≤ 1 }
+{
+    if processor.halt_mark { 1 } else { 0 }
+}
+
+/// Where the second byte of the instruction at PC stands.
+pub fn second_address(processor: Processor) -> u16
+    ensures { result ≡ Machine.second_address processor }
+{
+    processor.pc.wrapping_add(1 - mark_of(processor))
+}
+
+/// Where the third byte of the instruction at PC stands.
+pub fn third_address(processor: Processor) -> u16
+    ensures { result ≡ Machine.third_address processor }
+{
+    processor.pc.wrapping_add(2 - mark_of(processor))
+}
+
+/// Whether interrupts are dispatched after an instruction that says nothing of it.
+#[tactic(auto, unfolding(gb_ops::specs::Machine::ime_after))]
+pub fn ime_after(ime: Ime) -> Ime
+    ensures { result ≡ Machine.ime_after ime }
+{
+    match ime {
+        Ime::Off => Ime::Off,
+        Ime::Pending | Ime::On => Ime::On,
+    }
+}
+
+/// How far PC goes; STOP leaves it on the opcode.
+#[tactic(auto, unfolding(gb_ops::specs::Machine::way_of))]
+fn way_of(op: Op, length: u16, mark: u16) -> u16
+    ensures { result ≡ Machine.way_of op length mark }
+{
+    match op {
+        Op::Stop => 0,
+        _ => length.saturating_sub(mark),
+    }
+}
+
+/// The processor behind an instruction, but for PC.
+pub fn settled(processor: Processor) -> Processor
+    ensures { result ≡ Machine.settled processor }
+{
+    Processor {
+        ime: ime_after(processor.ime),
+        halt_mark: false,
+        ..processor
+    }
+}
+
+/// The processor as an instruction begins its work, its bytes fetched.
+#[tactic(auto, unfolding(gb_ops::specs::Machine::advanced))]
+pub fn advanced(processor: Processor, row: Row) -> Processor
+    ensures { result ≡ Machine.advanced processor row }
+{
+    let way = way_of(row.op, u16::from(row.length), mark_of(processor));
+    Processor {
+        pc: processor.pc.wrapping_add(way),
+        ..settled(processor)
+    }
+}
+
+/// The M-cycles of an instruction.
+pub fn cycles_of(row: Row, is_taken: bool) -> u8
+    ensures { result ≡ Machine.cycles_of row is_taken }
+{
+    if is_taken {
+        row.cycles
+    } else {
+        row.cycles_not_taken
+    }
+}

@@ -1,0 +1,4 @@
+pub mod PlainWords
+pub mod LeafWalk
+pub mod CommandWalk
+pub mod VerifyTaken

@@ -1,0 +1,38 @@
+//! Applies events to machine states by the definitions, as the lines of standard input ask for it,
+//! so that another implementation can be compared with them.
+#![tactic(auto)]
+
+mod fields;
+mod report;
+mod session;
+
+use crate::report::report;
+use crate::session::{Line, Session};
+use std::alloc::Global;
+use std::io::{self, BufRead, BufReader, BufWriter, Write};
+
+/// A line, applied; an event is reported, and a wrong line is named by its number.
+fn answer<W: Write>(
+    alloc: Global,
+    out: &mut W,
+    session: &mut Session,
+    line: &[u8],
+    number: u64,
+) -> io::Result<()> {
+    match session.apply(alloc, line)? {
+        Line::Nothing => Ok(()),
+        Line::Wrong => writeln!(out, "error line {number}"),
+        Line::Happens(event) => report(out, session, event),
+    }
+}
+
+fn main(rt: HostRuntime) -> io::Result<()> {
+    let mut session = Session::new(rt.alloc())?;
+    let mut out = BufWriter::new(rt.alloc(), io::writer(&rt))?;
+    let lines = BufReader::new(rt.alloc(), rt.reader())?.split(rt.alloc(), b'\n');
+    for (number, line) in (1u64..).zip(lines) {
+        let line = line?;
+        answer(rt.alloc(), &mut out, &mut session, &line, number)?;
+    }
+    out.flush()
+}

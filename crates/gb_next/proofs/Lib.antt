@@ -1,0 +1,4 @@
+pub mod Bytes
+pub mod Fetches
+pub mod Limiting
+pub mod Starting

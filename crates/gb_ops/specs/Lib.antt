@@ -1,0 +1,15 @@
+pub mod Accesses
+pub mod Arithmetic
+pub mod Cartridge
+pub mod Effects
+pub mod Faults
+pub mod Fields
+pub mod Flags
+pub mod Machine
+pub mod Memory
+pub mod Pairs
+pub mod Plain
+pub mod Play
+pub mod Registers
+pub mod Sink
+pub mod Table

@@ -1,0 +1,8 @@
+//! The opcode table, the machine's definitions, and sinks of text.
+#![tactic(auto)]
+
+pub mod decode;
+pub mod machine;
+pub mod op;
+pub mod registers;
+pub mod sink;

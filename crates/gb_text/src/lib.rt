@@ -1,0 +1,5 @@
+//! Lines of text, and writing them.
+#![tactic(auto)]
+
+pub mod line;
+pub mod put;

@@ -1,0 +1,70 @@
+//! A line of text in a buffer of fixed size.
+
+ghost use Rattle.std.specs.Prelude.{◌≡◌, ◌+◌, ◌≤◌, [], ◌++◌, length, decimal};
+ghost use Rattle.gb_text.specs.Text.{line_feed};
+
+use arrayvec::ArrayVec;
+use itoa::Buffer;
+use std::marker::Model;
+
+/// A line of at most 96 bytes. Contracts see its bytes.
+#[derive(Drop)]
+pub struct Line {
+    bytes: ArrayVec<u8, 96>,
+}
+
+impl Model for Line {
+    ghost use Rattle.std.specs.Prelude.{List, ℕ};
+
+    ghost Value = { List ℕ };
+
+    ghost view = { λ line. line.bytes.items };
+}
+
+impl Line {
+    /// An empty line.
+    pub fn new() -> Line
+        ensures { result ≡ [] }
+    {
+        Line {
+            bytes: ArrayVec::new(),
+        }
+    }
+
+    /// Puts text at the end.
+    pub fn push_text(&mut self, text: &[u8])
+        requires { length self.old + length text.now ≤ 96 }
+        ensures text { self.new ≡ self.old ++ text.now }
+        ensures length { length self.new ≡ length self.old + length text.now }
+    {
+        if self.bytes.try_extend_from_slice(text).is_err() {
+            unreachable!();
+        }
+    }
+
+    /// Puts a number at the end, in decimal digits.
+    pub fn push_number(&mut self, number: u64)
+        requires { length self.old + 20 ≤ 96 }
+        ensures text { self.new ≡ self.old ++ decimal number }
+        ensures short { length self.new ≤ length self.old + 20 }
+    {
+        let mut buffer = Buffer::new();
+        self.push_text(buffer.format(number).as_bytes());
+    }
+
+    /// Ends the line.
+    pub fn end(&mut self)
+        requires { length self.old + 1 ≤ 96 }
+        ensures text { self.new ≡ self.old ++ line_feed }
+        ensures length { length self.new ≡ length self.old + 1 }
+    {
+        self.push_text(b"\n");
+    }
+
+    /// Its bytes.
+    pub fn as_slice(&self) -> &[u8]
+        ensures { result.now ≡ self.now }
+    {
+        self.bytes.as_slice()
+    }
+}

@@ -1,0 +1,4 @@
+pub mod Headline
+pub mod PowerUp
+pub mod Text
+pub mod Verdict

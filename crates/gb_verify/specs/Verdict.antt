@@ -1,0 +1,109 @@
+-- When a certificate is right for a cartridge, and the verdict (own rules).
+use Rattle.std.specs.Prelude.{◌≡◌, ℕ, ◌+◌, ◌%◌, ◌<◌, Bool, true, false, not, ◌&&◌, ◌||◌, ◌==◌, nat_lt, if◌then◌else◌, List, [], ◌∷◌, length, ◌⊎◌, slice_get, Option, Some, None}
+use Rattle.std.specs.List.{All}
+use Rattle.gb_ops.specs.declared.machine.Kind.{Kind}
+use Rattle.gb_ops.specs.declared.machine.Kind.TheVariants as kind
+use Rattle.gb_ops.specs.Cartridge.{kind_of}
+use Rattle.gb_cert.specs.declared.types.Core.{Core}
+use Rattle.gb_cert.specs.declared.types.Node.{Node}
+use Rattle.gb_cert.specs.Types.{ProcedureParts}
+use Rattle.gb_cert.specs.Certificate.{Certificate}
+use Rattle.gb_abs.specs.declared.reason.Reason.{Reason}
+use Rattle.gb_abs.specs.declared.reason.Reason.TheVariants as reason
+use Rattle.gb_abs.specs.Covering.{covers}
+use Rattle.gb_blocks.specs.Rules.{reason_of}
+use Rattle.gb_verify.specs.PowerUp.{state_at_power_up}
+use Rattle.gb_verify.specs.declared.verdict.Verdict.{Verdict}
+use Rattle.gb_verify.specs.declared.verdict.Verdict.TheVariants.{Accepted, Refused}
+
+-- ---- the entry
+
+abbrev pub entry_of : Option ProcedureParts → ℕ
+entry_of None = 0
+entry_of (Some p) = p.entry
+
+-- the number of the node where main begins; procedure 0 is main
+abbrev pub main_entry : Certificate → ℕ
+main_entry cert = entry_of (slice_get cert.procedures 0)
+
+-- cartridges with a controller have no rules yet
+abbrev pub has_controller : Kind → Bool
+has_controller kind.Rom = false
+has_controller kind.Mbc1 = true
+has_controller kind.Mbc3 = true
+has_controller kind.Mbc5 = true
+
+abbrev pub is_bad_node : List ℕ → Certificate → Option Node → Bool
+is_bad_node rom cert None = true
+is_bad_node rom cert (Some n) =
+    not (n.address == 0x100) || not (n.bank == 0) || not (covers (state_at_power_up rom cert.region) n.state)
+
+-- main doesn't begin at 0100 in bank 0, or not in a state that covers power-up
+unfoldable pub is_bad_entry : List ℕ → Certificate → Bool
+is_bad_entry rom cert = has_controller (kind_of rom) || is_bad_node rom cert (slice_get cert.nodes (main_entry cert))
+
+-- ---- interrupts
+
+-- IE may have one of bits 0 to 4: of two values that follow each other one has
+abbrev pub may_enable : ℕ → ℕ → Bool
+may_enable lo hi = nat_lt lo hi || not (lo % 32 == 0)
+
+-- Interrupts have no rules yet: where one may come, the node is refused.
+unfoldable pub may_be_interrupted : Core → Bool
+may_be_interrupted s = s.ime.on && may_enable s.ie.lo s.ie.hi
+
+-- ---- the verdict
+
+abbrev pub or_interrupt : Option Reason → Bool → Option Reason
+or_interrupt (Some r) interrupted = Some r
+or_interrupt None true = Some reason.Interrupt
+or_interrupt None false = None
+
+-- the lowest reason against a node
+unfoldable pub reason_against : List ℕ → Certificate → Node → Option Reason
+reason_against rom cert n = or_interrupt (reason_of rom cert n) (may_be_interrupted n.state.core)
+
+-- a right certificate
+pub record IsRight (rom : List ℕ) (cert : Certificate) : Type 0 where
+  pub entry : is_bad_entry rom cert ≡ false
+  pub nodes : All (λ n. reason_against rom cert n ≡ None) cert.nodes
+
+abbrev pub reason_against_some : List ℕ → Certificate → Option Node → Option Reason
+reason_against_some rom cert None = None
+reason_against_some rom cert (Some n) = reason_against rom cert n
+
+-- the lowest reason against the node with a number
+abbrev pub reason_against_at : List ℕ → Certificate → ℕ → Option Reason
+reason_against_at rom cert i = reason_against_some rom cert (slice_get cert.nodes i)
+
+-- the first node that isn't right, with its lowest reason
+pub record IsFirstWrong (rom : List ℕ) (cert : Certificate) (i : ℕ) (r : Reason) : Type 0 where
+  pub entry : is_bad_entry rom cert ≡ false
+  pub reason : reason_against_at rom cert i ≡ Some r
+  pub earlier : (j : ℕ) → j < i → reason_against_at rom cert j ≡ None
+
+-- main's entry is wrong
+pub record IsWrongEntry (rom : List ℕ) (cert : Certificate) (i : ℕ) (r : Reason) : Type 0 where
+  pub entry : is_bad_entry rom cert ≡ true
+  pub node : i ≡ main_entry cert
+  pub reason : r ≡ reason.Entry
+
+-- The verdict: accepted, with the two counts, where the certificate is right; else main's entry node where
+-- that is wrong; else the first node that isn't right with its lowest reason.
+abbrev pub IsVerdict : List ℕ → Certificate → Verdict → Type 0
+IsVerdict rom cert (Accepted nodes procedures) =
+    IsRight rom cert × (nodes ≡ length cert.nodes) × (procedures ≡ length cert.procedures)
+IsVerdict rom cert (Refused i r) = IsWrongEntry rom cert i r ⊎ IsFirstWrong rom cert i r
+
+-- the same as a function: the verdict from node i on
+abbrev pub refusal_or : Option Reason → ℕ → Verdict → Verdict
+refusal_or None i v = v
+refusal_or (Some r) i v = Refused i r
+
+abbrev pub verdict_from : List ℕ → Certificate → ℕ → List Node → Verdict
+verdict_from rom cert i [] = Accepted (length cert.nodes) (length cert.procedures)
+verdict_from rom cert i (n ∷ rest) = refusal_or (reason_against rom cert n) i (verdict_from rom cert (i + 1) rest)
+
+unfoldable pub verdict_of : List ℕ → Certificate → Verdict
+verdict_of rom cert =
+    if is_bad_entry rom cert then Refused (main_entry cert) reason.Entry else verdict_from rom cert 0 cert.nodes

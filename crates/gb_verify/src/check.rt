@@ -1,0 +1,175 @@
+//! The check of a certificate.
+
+ghost use Rattle.std.specs.Prelude.{◌≡◌, ◌<◌, length, Option};
+ghost use Rattle.gb_ops.specs.declared.machine.Region.{Region};
+ghost use Rattle.gb_blocks.specs.Rules.{reason_at};
+ghost use Rattle.gb_verify.specs.PowerUp.{own, may_only, core_at_power_up, state_at_power_up};
+ghost use Rattle.gb_verify.specs.Verdict.{IsVerdict, verdict_of, is_bad_entry, main_entry, may_be_interrupted, has_controller, reason_against_at, entry_of, is_bad_node};
+ghost use Rattle.gb_verify.specs.Headline.{IfAccepted, IsSafe};
+
+use crate::verdict::Verdict;
+use gb_abs::covering::covers;
+use gb_abs::reason::Reason;
+use gb_blocks::rules::check_node;
+use gb_cert::types::{Abs, Cert, Core, Ctl, Flg, ImeSet, May, Origin, Val};
+use gb_header::Rom;
+use gb_ops::machine::{Kind, Region};
+use gb_ops::op::Register;
+use gb_ops::registers::Registers;
+
+/// A register's value at power-up, which is its own origin.
+fn own(register: Register, value: u8) -> Val
+    ensures { result ≡ own register value }
+{
+    Val {
+        lo: value,
+        hi: value,
+        origin: Some(Origin::Register(register)),
+    }
+}
+
+/// A bit that is known.
+fn may_only(bit: bool) -> May
+    ensures { result ≡ may_only bit }
+{
+    May {
+        clear: !bit,
+        set: bit,
+    }
+}
+
+/// Power-up as an abstract state.
+#[tactic(auto, unfolding(crate::specs::PowerUp::core_at_power_up))]
+fn core_at_power_up(rom: &Rom<'_>, region: Region) -> Core
+    ensures { result ≡ core_at_power_up rom.now region }
+{
+    let others = may_only(rom.checksum() != 0);
+    Core {
+        ime: ImeSet {
+            off: true,
+            pending: false,
+            on: false,
+        },
+        bound: 0,
+        stack_set: region.last == 0xFFFD,
+        test: None,
+        ctl: Ctl {
+            bank_lo: 1,
+            bank_hi: 1,
+            second_lo: 0,
+            second_hi: 0,
+            gate: may_only(false),
+            mode: may_only(false),
+            is_kept: true,
+        },
+        flags: Flg {
+            zero: may_only(true),
+            subtract: may_only(false),
+            half_carry: others,
+            carry: others,
+            is_own: true,
+        },
+        ie: Val {
+            lo: 0,
+            hi: 0,
+            origin: Some(Origin::Ie),
+        },
+        registers: Registers {
+            a: own(Register::A, 0x01),
+            b: own(Register::B, 0x00),
+            c: own(Register::C, 0x13),
+            d: own(Register::D, 0x00),
+            e: own(Register::E, 0xD8),
+            h: own(Register::H, 0x01),
+            l: own(Register::L, 0x4D),
+        },
+    }
+}
+
+/// The number of the node where main begins.
+fn main_entry(cert: &Cert) -> usize
+    ensures { result ≡ main_entry cert.now }
+{
+    if cert.procedures() == 0 {
+        0
+    } else {
+        usize::from(cert.procedure(0).entry())
+    }
+}
+
+/// Whether a cartridge has a controller, which has no rules yet.
+fn has_controller(kind: Kind) -> bool
+    ensures { result ≡ has_controller kind }
+{
+    !matches!(kind, Kind::Rom)
+}
+
+/// Whether main doesn't begin at 0100 in bank 0, or not in a state that covers power-up.
+#[tactic(auto, unfolding(crate::specs::Verdict::is_bad_entry))]
+fn is_bad_entry(rom: &Rom<'_>, cert: &Cert, entry: usize) -> bool
+    requires { entry ≡ main_entry cert.now }
+    ensures { result ≡ is_bad_entry rom.now cert.now }
+{
+    if has_controller(rom.kind()) || entry >= cert.nodes() {
+        return true;
+    }
+    let node = cert.node(entry);
+    let start = Abs::new(core_at_power_up(rom, cert.region()));
+    node.address != 0x100 || node.bank != 0 || !covers(&start, &node.state)
+}
+
+/// Whether an interrupt may come, which has no rules yet.
+#[tactic(auto, unfolding(crate::specs::Verdict::may_be_interrupted))]
+fn may_be_interrupted(core: &Core) -> bool
+    ensures { result ≡ may_be_interrupted core.now }
+{
+    core.ime.on && (core.ie.lo < core.ie.hi || core.ie.lo % 32 != 0)
+}
+
+/// The lowest reason against the node with a number.
+#[tactic(auto, unfolding(crate::specs::Verdict::reason_against))]
+fn reason_against(rom: &Rom<'_>, cert: &Cert, i: usize) -> Option<Reason>
+    requires { i < length cert.now.nodes }
+    ensures { result ≡ reason_against_at rom.now cert.now i }
+{
+    match check_node(rom, cert, i) {
+        Err(reason) => Some(reason),
+        Ok(()) if may_be_interrupted(cert.node(i).state.core()) => Some(Reason::Interrupt),
+        Ok(()) => None,
+    }
+}
+
+#[tactic(auto, using(crate::proofs::Verdicts::verdict_at), unfolding(crate::specs::Verdict::verdict_of))]
+fn verdict(rom: &Rom<'_>, cert: &Cert) -> Verdict
+    ensures { result ≡ verdict_of rom.now cert.now }
+{
+    let entry = main_entry(cert);
+    if is_bad_entry(rom, cert, entry) {
+        return Verdict::Refused {
+            node: entry,
+            reason: Reason::Entry,
+        };
+    }
+    for i in 0..cert.nodes() {
+        if let Some(reason) = reason_against(rom, cert, i) {
+            return Verdict::Refused { node: i, reason };
+        }
+    }
+    Verdict::Accepted {
+        nodes: cert.nodes(),
+        procedures: cert.procedures(),
+    }
+}
+
+/// The verdict on a certificate for a cartridge.
+pub fn check(rom: &Rom<'_>, cert: &Cert) -> Verdict
+    // Accepted exactly where the certificate is right, with its counts; else main's entry node
+    // where that is wrong, else the first wrong node with its lowest reason.
+    ensures exact { IsVerdict rom.now cert.now result }
+    // The same as a function.
+    ensures verdict { result ≡ verdict_of rom.now cert.now }
+    // Where it accepts, every run from power-up is safe.
+    ensures safe { IfAccepted result (IsSafe rom.now cert.now) }
+{
+    verdict(rom, cert)
+}

@@ -1,0 +1,6 @@
+//! The verdict on a certificate, the headline, and the printed line.
+#![tactic(auto)]
+
+pub mod check;
+pub mod verdict;
+pub mod verify;

@@ -1,0 +1,12 @@
+//! What a check answers.
+
+use gb_abs::reason::Reason;
+
+/// The verdict on a certificate.
+#[derive(Clone, Copy, Debug, PartialEq, Eq)]
+pub enum Verdict {
+    /// The certificate is right; with its numbers of nodes and procedures.
+    Accepted { nodes: usize, procedures: usize },
+    /// The first node that isn't right, with its lowest reason.
+    Refused { node: usize, reason: Reason },
+}
