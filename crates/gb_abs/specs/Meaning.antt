@@ -1,5 +1,5 @@
 -- Which machine states an abstract state means (abstract interpretation: concretization).
-use Rattle.std.specs.Prelude.{◌≡◌, ℕ, ◌+◌, ◌-◌, ◌*◌, ◌≤◌, ◌<◌, Bool, true, false, ◌==◌, nat_lt, List, [], ◌∷◌, length, Option, Some, None}
+use Rattle.std.specs.Prelude.{◌≡◌, ℕ, ◌+◌, ◌-◌, ◌*◌, ◌≤◌, Bool, true, false, ◌==◌, nat_lt, List, [], ◌∷◌, length, Option, Some, None}
 use Rattle.std.specs.List.{AllByRecursion}
 use Rattle.gb_ops.specs.declared.op.Register.{Register}
 use Rattle.gb_ops.specs.declared.registers.Flags.{Flags}
@@ -18,7 +18,6 @@ use Rattle.gb_cert.specs.declared.types.Flg.{Flg}
 use Rattle.gb_cert.specs.declared.types.ImeSet.{ImeSet}
 use Rattle.gb_cert.specs.declared.types.Ctl.{Ctl}
 use Rattle.gb_cert.specs.declared.types.Item.{Item}
-use Rattle.gb_cert.specs.declared.types.Cell.{Cell}
 use Rattle.gb_cert.specs.declared.types.Core.{Core}
 use Rattle.gb_cert.specs.Types.{AbsState}
 use Rattle.gb_abs.specs.Storage.{peek}

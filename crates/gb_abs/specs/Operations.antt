@@ -1,7 +1,7 @@
 -- Operations on abstract states: each follows a change of the machine (abstract interpretation: transfer functions).
-use Rattle.std.specs.Prelude.{ℕ, ◌-◌, true, false, ◌||◌, Option, None}
+use Rattle.std.specs.Prelude.{ℕ, ◌-◌, false, ◌||◌, Option, None}
 use Rattle.gb_ops.specs.declared.op.Register.{Register}
-use Rattle.gb_ops.specs.declared.op.Register.TheVariants.{A, B, C, D, E, H, L}
+use Rattle.gb_ops.specs.declared.op.Register.TheVariants.{A}
 use Rattle.gb_ops.specs.Registers.{set}
 use Rattle.gb_cert.specs.declared.types.Val.{Val}
 use Rattle.gb_cert.specs.declared.types.ImeSet.{ImeSet}

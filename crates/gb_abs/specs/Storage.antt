@@ -1,5 +1,5 @@
 -- Bytes of work RAM and high RAM by their address (Memory map).
-use Rattle.std.specs.Prelude.{◌≡◌, ℕ, Bool, true, false, ◌||◌, List, length, slice_index}
+use Rattle.std.specs.Prelude.{ℕ, Bool, ◌||◌, List, slice_index}
 use Rattle.gb_ops.specs.declared.machine.Mapped.{Mapped}
 use Rattle.gb_ops.specs.declared.machine.Mapped.TheVariants as mapped
 use Rattle.gb_ops.specs.Cartridge.{is_within}

@@ -1,5 +1,5 @@
 -- What an answer of check_node promises.
-use Rattle.std.proofs.Common.{◌≡◌, ℕ, List, Option, Some, None, Result, Ok, Err}
+use Rattle.std.proofs.Common.{◌≡◌, ℕ, List, Some, None, Result, Ok, Err}
 use Rattle.std.specs.Result.{MatchResult, OnOk}
 use Rattle.gb_cert.specs.Certificate.{Certificate}
 use Rattle.gb_abs.specs.declared.reason.Reason.{Reason}

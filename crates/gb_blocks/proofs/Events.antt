@@ -1,25 +1,23 @@
 -- One event from a state that a node means: no fault, certified places, and a node that means the state behind it.
-use Rattle.std.proofs.Common.{◌≡◌, ℕ, ◌+◌, ◌-◌, ◌%◌, ◌≤◌, ◌<◌, Bool, true, false, cond, not, ◌&&◌, ◌||◌, ◌==◌, nat_lt, nat_le, ◌⊎◌, inl, inr, List, [], ◌∷◌, ◌++◌, map, slice_index, slice_get, Option, Some, None, refl, sym, ◌∙◌, ap, subst, arith}
+use Rattle.std.proofs.Common.{◌≡◌, ℕ, ◌+◌, ◌-◌, ◌%◌, ◌≤◌, ◌<◌, Bool, true, false, cond, not, ◌&&◌, ◌||◌, ◌==◌, nat_lt, nat_le, ◌⊎◌, inl, inr, List, [], ◌∷◌, ◌++◌, map, slice_index, slice_get, Some, None, refl, sym, ◌∙◌, ap, subst, arith}
 use Rattle.std.proofs.lemmas.Bool.Decides.{nat_tests}
 use Rattle.std.specs.List.{All, AllByRecursion, Contains}
-use Rattle.std.proofs.lemmas.List.Elements.{All-contains, All-map, All-nil, All-contains_itself, All-from_recursion}
+use Rattle.std.proofs.lemmas.List.Elements.{All-map, All-nil, All-contains_itself, All-from_recursion}
 use Rattle.std.proofs.lemmas.List.Folds.{Any-from_list_any}
 use Rattle.std.proofs.lemmas.Option.{slice_get_within, get_or_from_slice_get}
 use Rattle.gb_ops.specs.declared.machine.Event.{Event}
 use Rattle.gb_ops.specs.declared.machine.Event.TheVariants as event
-use Rattle.gb_ops.specs.declared.machine.CodePlace.{CodePlace}
 use Rattle.gb_ops.specs.declared.machine.Region.{Region}
 use Rattle.gb_ops.specs.declared.machine.Banks.{Banks}
 use Rattle.gb_ops.specs.declared.registers.Processor.{Processor}
-use Rattle.gb_ops.specs.declared.op.Op.{Op}
 use Rattle.gb_ops.specs.declared.op.Op.TheVariants as op
 use Rattle.gb_ops.specs.declared.op.Row.{Row}
 use Rattle.gb_ops.specs.Cartridge.{is_within, shown_bank}
 use Rattle.gb_ops.specs.Table.{decoded, row_of, row_in, table}
-use Rattle.gb_ops.specs.Memory.{View, Storage, is_closed, is_free, byte_at, passed}
+use Rattle.gb_ops.specs.Memory.{View, is_closed, is_free, byte_at, passed}
 use Rattle.gb_ops.specs.Machine as Machine
 use Rattle.gb_ops.specs.Machine.{BusState, fetched, length_of, mark_of, run, run_row, executed, happened, is_possible, only, has_halt, is_running}
-use Rattle.gb_ops.specs.Faults.{no_faults, either_faults, access_faults, fetch_faults, all_fetch_faults, fetch_addresses, address_where, is_code_address, is_ram_closed, row_faults, run_faults, event_faults, event_places, code_place}
+use Rattle.gb_ops.specs.Faults.{no_faults, either_faults, access_faults, fetch_faults, all_fetch_faults, fetch_addresses, address_where, is_code_address, row_faults, run_faults, event_faults, event_places, code_place}
 use Rattle.gb_ops.specs.Play.{MState, within, outside, next, faults, places, faults_where, places_where}
 use Rattle.gb_cert.specs.declared.types.Ctl.{Ctl}
 use Rattle.gb_cert.specs.declared.types.Node.{Node}
@@ -28,10 +26,10 @@ use Rattle.gb_cert.specs.Certificate.{Certificate}
 use Rattle.gb_abs.specs.Meaning.{Means}
 use Rattle.gb_abs.proofs.Covers.{and_both, same_number, Means-covered}
 use Rattle.gb_blocks.specs.Code.{area_end, known_bank, span}
-use Rattle.gb_blocks.specs.Rules.{has_rules, is_cover, covered_at, target, reason_of, reason_of_some, reason_at}
+use Rattle.gb_blocks.specs.Rules.{has_rules, is_cover, covered_at, reason_of, reason_of_some, reason_at}
 use Rattle.gb_blocks.specs.Places.{IsCertified}
 use Rattle.gb_blocks.specs.Safety.{IsMeant, IsSafeEvent, IsNoDispatch, IsSafeNode}
-use Rattle.gb_blocks.proofs.Fetch.{KnownBytes, Gives, IsOpen, AreOpen, open_at, known_gives, fetched_known, shown_is}
+use Rattle.gb_blocks.proofs.Fetch.{IsOpen, open_at, known_gives, fetched_known, shown_is}
 use Rattle.gb_blocks.proofs.Passes.{Passes, passes_from}
 use Rattle.gb_blocks.proofs.Steps.{waited, acted, executed_is, row_fine, acted_pc, after_means, waited_means}
 
@@ -137,14 +135,14 @@ halves a end x h i =
           let x_low : x < 0x4000 = omega (arith, c.1) in
           InRom (omega arith) (below x 0x8000 (omega arith)) (below x 0x4000 x_low ∙ sym (below a 0x4000 a_low))
       | inr rest ↦ elim rest [
-          | inl c ↦
-              let a_high : 0x4000 ≤ a = c.0 in
-              let x_rom : x < 0x8000 = omega (arith, c.2) in
-              InRom c.1 (below x 0x8000 x_rom) (not_below x 0x4000 (omega arith) ∙ sym (not_below a 0x4000 a_high))
-          | inr ram ↦
-              let a_ram : 0x8000 ≤ a = elim ram [ inl c ↦ omega (arith, c.0) | inr c ↦ omega (arith, c.0) ] in
-              InRam (not_below a 0x8000 a_ram) (not_below x 0x8000 (omega arith))
-        ]
+        | inl c ↦
+            let a_high : 0x4000 ≤ a = c.0 in
+            let x_rom : x < 0x8000 = omega (arith, c.2) in
+            InRom c.1 (below x 0x8000 x_rom) (not_below x 0x4000 (omega arith) ∙ sym (not_below a 0x4000 a_high))
+        | inr ram ↦
+            let a_ram : 0x8000 ≤ a = elim ram [ inl c ↦ omega (arith, c.0) | inr c ↦ omega (arith, c.0) ] in
+            InRam (not_below a 0x8000 a_ram) (not_below x 0x8000 (omega arith))
+      ]
     ]
 
 half_same : (rom : List ℕ) (r : Banks) (a x : ℕ) → nat_lt x 0x4000 ≡ nat_lt a 0x4000 → shown_bank rom r x ≡ shown_bank rom r a
@@ -272,7 +270,7 @@ fine_span : (rom : List ℕ) (x : MState) (a n end : ℕ) → area_end a ≡ Som
     → all_fetch_faults (within rom x).memory (span a n) ≡ no_faults
 fine_span rom x a n end h inside opens =
     let fine : (b : ℕ) → IsInside a end b → IsOpen x.storage b → fetch_faults (within rom x).memory b ≡ no_faults =
-        λ b i o. fine_fetch _ b (code_inside a end b h i) (ap (λ s. is_closed s b) (memory_is rom x) ∙ open_at x.storage b o) in
+    λ b i o. fine_fetch _ b (code_inside a end b h i) (ap (λ s. is_closed s b) (memory_is rom x) ∙ open_at x.storage b o) in
     fine_all _ _ (each_all (λ b. fetch_faults (within rom x).memory b ≡ no_faults) a n (record {
       first = fine _ inside.first opens.first;
       second = λ w. fine _ (inside.second w) (opens.second w);
@@ -285,9 +283,9 @@ run_safe rom cert n entry base x fetch reads is_node p m at =
     let k = at_node rom cert n entry base x p m at in
     let next_is : (x.processor.pc + p.row.length) % 65536 ≡ (n.address + p.row.length) % 65536 = ap (λ a. (a + p.row.length) % 65536) at in
     let after : outside (happened (within rom x) (event.Run fetch reads)) ≡ waited p.row.cycles (acted p.row.op ((n.address + p.row.length) % 65536) x) =
-        ap outside (happens_by_row (within rom x) fetch reads p.bytes p.row (k.bytes fetch) p.is_row)
-        ∙ (executed_is rom x p.row.op p.row.length p.row.cycles p.row.cycles_not_taken reads p.rules k.mark
-        ∙ ap (λ b. waited p.row.cycles (acted p.row.op b x)) next_is) in
+    ap outside (happens_by_row (within rom x) fetch reads p.bytes p.row (k.bytes fetch) p.is_row)
+    ∙ (executed_is rom x p.row.op p.row.length p.row.cycles p.row.cycles_not_taken reads p.rules k.mark
+    ∙ ap (λ b. waited p.row.cycles (acted p.row.op b x)) next_is) in
     record {
       faults = run_fine cert.region (within rom x) fetch reads p.bytes p.row (k.bytes fetch) p.is_row
           (ap (all_fetch_faults (within rom x).memory) k.addresses ∙ fine_span rom x n.address _ p.end p.is_end k.inside k.open_)

@@ -1,16 +1,15 @@
 -- A node's instruction is what the machine fetches, without a fault.
-use Rattle.std.proofs.Common.{◌≡◌, ◌≢◌, ℕ, ◌+◌, ◌-◌, ◌%◌, ◌≤◌, ◌<◌, Bool, true, false, cond, not, ◌&&◌, ◌||◌, ◌==◌, nat_lt, nat_le, ◌⊎◌, inl, inr, List, [], ◌∷◌, ◌++◌, Option, Some, None, refl, sym, ◌∙◌, ap, subst, arith}
+use Rattle.std.proofs.Common.{◌≡◌, ℕ, ◌+◌, ◌-◌, ◌%◌, ◌≤◌, ◌<◌, Bool, true, false, cond, not, ◌&&◌, ◌==◌, nat_lt, nat_le, ◌⊎◌, inl, inr, List, [], ◌∷◌, Option, Some, None, refl, sym, ◌∙◌, ap, arith}
 use Rattle.std.proofs.lemmas.Bool.Decides.{nat_tests}
-use Rattle.std.specs.List.{AllByRecursion}
 use Rattle.gb_ops.specs.declared.machine.Banks.{Banks}
 use Rattle.gb_ops.specs.declared.machine.Kind.{Kind}
 use Rattle.gb_ops.specs.declared.machine.Kind.TheVariants as kind
 use Rattle.gb_ops.specs.declared.machine.Mapped.{Mapped}
 use Rattle.gb_ops.specs.declared.machine.Mapped.TheVariants as mapped
 use Rattle.gb_ops.specs.declared.registers.Processor.{Processor}
-use Rattle.gb_ops.specs.Cartridge.{is_within, kind_of, shown_bank, low_bank_number, high_bank_number, banks_at_power_up}
-use Rattle.gb_ops.specs.Memory.{Storage, View, mapped_at, is_high, is_closed, place_of, place_by, is_free_place, is_free, byte_at, byte_by, rom_byte}
-use Rattle.gb_ops.specs.Machine.{Reading, read_at, read_by, read_where, fetched, length_of, mark_of}
+use Rattle.gb_ops.specs.Cartridge.{kind_of, shown_bank, low_bank_number, high_bank_number, banks_at_power_up}
+use Rattle.gb_ops.specs.Memory.{Storage, View, mapped_at, is_closed, place_of, place_by, is_free_place, is_free, byte_at, byte_by, rom_byte}
+use Rattle.gb_ops.specs.Machine.{Reading, read_at, read_where, fetched, length_of, mark_of}
 use Rattle.gb_ops.specs.Play.{MState, within}
 use Rattle.gb_cert.specs.declared.types.Val.{Val}
 use Rattle.gb_cert.specs.Types.{AbsState}
@@ -164,9 +163,9 @@ unfolding known_byte
 known_gives rom s entry base x a b m clear h = elim (chosen (nat_lt a 0x8000) _ _ _ h) [
   | inl p ↦ let lt : a < 0x8000 = below a p.0 in rom_gives rom s x a b lt (open_at x.storage a clear) p.1
   | inr p ↦ elim (chosen (is_ram a) _ _ _ p.1) [
-      | inl q ↦ ram_gives rom s entry base x a b m q.0 (open_at x.storage a clear) q.1
-      | inr q ↦ cc
-    ]
+    | inl q ↦ ram_gives rom s entry base x a b m q.0 (open_at x.storage a clear) q.1
+    | inr q ↦ cc
+  ]
 ]
   where
     below : (a : ℕ) → nat_lt a 0x8000 ≡ true → a < 0x8000

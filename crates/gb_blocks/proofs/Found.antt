@@ -1,5 +1,5 @@
 -- A node of a list that passes a test, and what is left of a search.
-use Rattle.std.proofs.Common.{◌≡◌, ℕ, zero, suc, ◌+◌, Bool, true, false, ◌||◌, List, [], ◌∷◌, drop, slice_get, Option, Some, None, refl, arith}
+use Rattle.std.proofs.Common.{◌≡◌, ℕ, zero, suc, ◌+◌, Bool, true, false, ◌||◌, List, [], ◌∷◌, drop, slice_get, Some, refl, arith}
 use Rattle.std.specs.List.{list_any}
 
 or_true : (a : Bool) → (a || true) ≡ true

@@ -1,5 +1,5 @@
 -- What is known of a node that no reason applies to.
-use Rattle.std.proofs.Common.{◌≡◌, ℕ, ◌+◌, ◌%◌, ◌≤◌, Bool, true, false, cond, not, ◌&&◌, ◌==◌, ◌⊎◌, nat_lt, nat_le, List, [], ◌∷◌, slice_index, Option, Some, None, is_none, refl, sym, ◌∙◌, ap, subst, arith}
+use Rattle.std.proofs.Common.{◌≡◌, ℕ, ◌+◌, ◌%◌, ◌≤◌, Bool, true, false, cond, not, ◌&&◌, ◌==◌, ◌⊎◌, nat_lt, List, [], ◌∷◌, slice_index, Option, Some, None, is_none, refl, sym, ◌∙◌, ap, subst, arith}
 use Rattle.std.proofs.lemmas.Bool.Decides.{nat_tests}
 use Rattle.std.specs.List.{AllByRecursion, find}
 use Rattle.gb_ops.specs.declared.op.Row.{Row}
@@ -7,10 +7,9 @@ use Rattle.gb_ops.specs.Table.{decoded}
 use Rattle.gb_ops.specs.Machine.{length_of}
 use Rattle.gb_cert.specs.declared.types.Node.{Node}
 use Rattle.gb_cert.specs.Certificate.{Certificate}
-use Rattle.gb_abs.specs.declared.reason.Reason.{Reason}
 use Rattle.gb_abs.specs.declared.reason.Reason.TheVariants as reason
-use Rattle.gb_blocks.specs.Code.{area_end, known_bank, known_byte, known_bytes}
-use Rattle.gb_blocks.specs.Rules.{leaves, ends_after, is_not, has_rules, target, lies_high, covered_at, state_after, is_uncovered, test_row, test_bytes, test_instruction, node_bytes, applies, reasons, reason_of}
+use Rattle.gb_blocks.specs.Code.{area_end, known_bank}
+use Rattle.gb_blocks.specs.Rules.{leaves, ends_after, is_not, has_rules, target, lies_high, covered_at, state_after, is_uncovered, test_row, test_bytes, node_bytes, applies, reasons, reason_of}
 use Rattle.gb_blocks.proofs.Fetch.{KnownBytes, known_bytes-some}
 
 none_found : {X : Type 0} (test : X → Bool) (xs : List X) → find test xs ≡ None → AllByRecursion (λ x. test x ≡ false) xs

@@ -13,12 +13,11 @@ use Rattle.gb_ops.specs.Memory.{Storage, stored, passed}
 use Rattle.gb_ops.specs.Machine.{BusState, executed, advanced, way_of, loaded, mark_of}
 use Rattle.gb_ops.specs.Faults.{no_faults, either_faults, row_faults, load_faults, store_faults}
 use Rattle.gb_ops.specs.Play.{MState, within, outside}
-use Rattle.gb_cert.specs.declared.types.Core.{Core}
 use Rattle.gb_cert.specs.declared.types.Item.{Item}
 use Rattle.gb_cert.specs.declared.types.Cell.{Cell}
 use Rattle.gb_cert.specs.Types.{AbsState}
 use Rattle.gb_abs.specs.Storage.{peek}
-use Rattle.gb_abs.specs.Meaning.{Holds, MeansCore, AreItems, Means, IsMemory}
+use Rattle.gb_abs.specs.Meaning.{Holds, AreItems, Means, IsMemory}
 use Rattle.gb_abs.specs.Operations.{single, core_set_register, core_settle, core_pass, with_core}
 use Rattle.gb_abs.proofs.Steps.{MeansCore-set_register, MeansCore-settle, MeansCore-pass, MeansCore-wait, Holds-single, register_set, moved, counted}
 use Rattle.gb_blocks.specs.Rules.{has_rules, target, core_after, state_after}

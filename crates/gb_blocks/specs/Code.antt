@@ -1,5 +1,5 @@
 -- What a checker knows of a node's instruction (own rules; Memory map).
-use Rattle.std.specs.Prelude.{ℕ, ◌+◌, ◌*◌, ◌%◌, Bool, true, false, ◌==◌, ◌&&◌, if◌then◌else◌, nat_lt, nat_le, List, [], ◌∷◌, ◌++◌, slice_index, Option, Some, None}
+use Rattle.std.specs.Prelude.{ℕ, ◌+◌, ◌%◌, Bool, true, false, ◌==◌, if◌then◌else◌, nat_lt, nat_le, List, [], ◌∷◌, ◌++◌, Option, Some, None}
 use Rattle.gb_ops.specs.declared.machine.Kind.{Kind}
 use Rattle.gb_ops.specs.declared.machine.Kind.TheVariants as kind
 use Rattle.gb_ops.specs.Cartridge.{is_within, kind_of, shown_bank, banks_at_power_up}
@@ -8,7 +8,6 @@ use Rattle.gb_ops.specs.Machine.{length_of}
 use Rattle.gb_ops.specs.Faults.{address_where}
 use Rattle.gb_cert.specs.declared.types.Val.{Val}
 use Rattle.gb_cert.specs.declared.types.Ctl.{Ctl}
-use Rattle.gb_cert.specs.declared.types.Node.{Node}
 use Rattle.gb_cert.specs.Types.{AbsState}
 use Rattle.gb_abs.specs.Storage.{is_ram}
 use Rattle.gb_abs.specs.Covering.{cell_at}

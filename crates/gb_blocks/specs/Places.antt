@@ -1,5 +1,5 @@
 -- The places that a certificate certifies (own rules).
-use Rattle.std.specs.Prelude.{◌≡◌, ℕ, List, Option, Some}
+use Rattle.std.specs.Prelude.{◌≡◌, ℕ, List, Some}
 use Rattle.std.specs.List.{Contains}
 use Rattle.gb_ops.specs.declared.machine.CodePlace.{CodePlace}
 use Rattle.gb_ops.specs.Machine.{length_of}

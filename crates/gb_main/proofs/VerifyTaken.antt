@@ -1,11 +1,11 @@
 -- The words `verify` and two names that begin with no hyphen are taken without a fault.
-use Rattle.std.proofs.Common.{◌≡◌, ℕ, Bool, true, false, ◌&&◌, ◌==◌, ◌⊎◌, inl, inr, List, [], ◌∷◌, Option, Some, None, is_some, refl, ap, sym, ◌∙◌, codes}
+use Rattle.std.proofs.Common.{◌≡◌, Bool, true, false, ◌&&◌, ◌⊎◌, inl, inr, List, [], ◌∷◌, Option, Some, None, is_some, refl, ap, ◌∙◌, codes}
 use Rattle.std.specs.Prelude.{if◌then◌else◌, option_and_then}
 use Rattle.std.specs.Option.{option_map_or}
 use Rattle.std.specs.Str.{bytes_eq}
 use Rattle.clap.specs.Kinds.{HasKind, IsAmong, Kinds, or_else}
 use Rattle.clap.specs.Faults.{built_fault, bundle_fault, check_fault, defaults_fault, entered_fault, fault_of, flag_word_fault, is_simple_and_free, level_fault, settle_fault, step_fault, turn_fault, walk_fault}
-use Rattle.clap.specs.Walk.{Held, Names, Rule, Step, Text, Walk, after_step, finished, idle, long_or_other, nothing_held, settled, trailing, value, walk, walk_from, walked}
+use Rattle.clap.specs.Walk.{Held, Names, Rule, Step, Text, after_step, finished, idle, long_or_other, nothing_held, settled, trailing, value, walk, walk_from, walked}
 use Rattle.clap.specs.Simple.{App, Shape, entered, names_of}
 use Rattle.clap.specs.Lexer.{long_of, long_of_rest, short_of, short_of_rest, strip_byte}
 use Rattle.clap.specs.Values.{kind_of}
@@ -14,7 +14,7 @@ use Rattle.clap.specs.declared.error.kind.ErrorKind.{ErrorKind}
 use Rattle.clap.specs.declared.error.kind.ErrorKind.TheVariants as kind
 use Rattle.gb_main.specs.CommandLine.{program_app}
 use Rattle.gb_main.specs.Words.{begins_with_hyphen}
-use Rattle.gb_main.proofs.PlainWords.{held, word_is_value}
+use Rattle.gb_main.proofs.PlainWords.{word_is_value}
 use Rattle.gb_main.proofs.LeafWalk.{at, held_at, leaf, leaf_has_no_flags, pending_at, position_at, rows_at}
 use Rattle.gb_main.proofs.CommandWalk.{names, start, top, verify_fault, whole}
 
@@ -76,7 +76,7 @@ level_from : (s : Shape) (all : Names) (words : List Text) (has_subcommand : Boo
     → level_fault s all nothing_held words has_subcommand [] ≡ []
 level_from s all words has_subcommand h clear e settle defaults check =
     ap (λ k. or_else k (or_else (settle_fault s.rules s.args_override_self (walk s.rules all nothing_held words).held)
-        (or_else (defaults_fault (settled s.rules (walk s.rules all nothing_held words).held).rows s.rules) (check_fault s (finished s.rules (walk s.rules all nothing_held words).held) has_subcommand)))) clear
+    (or_else (defaults_fault (settled s.rules (walk s.rules all nothing_held words).held).rows s.rules) (check_fault s (finished s.rules (walk s.rules all nothing_held words).held) has_subcommand)))) clear
     ∙ ap (λ k. or_else (settle_fault s.rules s.args_override_self k) (or_else (defaults_fault (settled s.rules k).rows s.rules) (check_fault s (finished s.rules k) has_subcommand))) e
     ∙ ap (λ k. or_else k (or_else (defaults_fault (settled s.rules h).rows s.rules) (check_fault s (finished s.rules h) has_subcommand))) settle
     ∙ ap (λ k. or_else k (check_fault s (finished s.rules h) has_subcommand)) defaults

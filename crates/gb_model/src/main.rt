@@ -4,10 +4,10 @@
 
 mod fields;
 mod report;
-mod session;
+mod setup;
 
 use crate::report::report;
-use crate::session::{Line, Session};
+use crate::setup::{Line, Setup};
 use std::alloc::Global;
 use std::io::{self, BufRead, BufReader, BufWriter, Write};
 
@@ -15,24 +15,24 @@ use std::io::{self, BufRead, BufReader, BufWriter, Write};
 fn answer<W: Write>(
     alloc: Global,
     out: &mut W,
-    session: &mut Session,
+    setup: &mut Setup,
     line: &[u8],
     number: u64,
 ) -> io::Result<()> {
-    match session.apply(alloc, line)? {
+    match setup.apply(alloc, line)? {
         Line::Nothing => Ok(()),
         Line::Wrong => writeln!(out, "error line {number}"),
-        Line::Happens(event) => report(out, session, event),
+        Line::Happens(event) => report(out, setup, event),
     }
 }
 
 fn main(rt: HostRuntime) -> io::Result<()> {
-    let mut session = Session::new(rt.alloc())?;
+    let mut setup = Setup::new(rt.alloc())?;
     let mut out = BufWriter::new(rt.alloc(), io::writer(&rt))?;
     let lines = BufReader::new(rt.alloc(), rt.reader())?.split(rt.alloc(), b'\n');
     for (number, line) in (1u64..).zip(lines) {
         let line = line?;
-        answer(rt.alloc(), &mut out, &mut session, &line, number)?;
+        answer(rt.alloc(), &mut out, &mut setup, &line, number)?;
     }
     out.flush()
 }

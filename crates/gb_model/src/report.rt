@@ -1,6 +1,6 @@
 //! What is printed of an event.
 
-use crate::session::Session;
+use crate::setup::Setup;
 use gb_effects::flags::flags_byte;
 use gb_next::faults::faults;
 use gb_next::next::{cycles, is_possible, next};
@@ -76,17 +76,17 @@ fn write_changes<W: Write>(
 }
 
 /// Applies an event, and prints its line.
-pub fn report<W: Write>(out: &mut W, session: &mut Session, event: Event) -> io::Result<()> {
-    let is_possible = is_possible(&session.rom, &session.state, event);
-    let faults = faults(&session.rom, session.region, &session.state, event);
-    let fetched = places(&session.rom, &session.state, event);
+pub fn report<W: Write>(out: &mut W, setup: &mut Setup, event: Event) -> io::Result<()> {
+    let is_possible = is_possible(&setup.rom, &setup.state, event);
+    let faults = faults(&setup.rom, setup.region, &setup.state, event);
+    let fetched = places(&setup.rom, &setup.state, event);
     let cycles = if is_possible {
-        cycles(&session.rom, &session.state, event)
+        cycles(&setup.rom, &setup.state, event)
     } else {
         0
     };
-    next(&session.rom, &mut session.state, event);
-    write_state(out, &session.state)?;
+    next(&setup.rom, &mut setup.state, event);
+    write_state(out, &setup.state)?;
     write_faults(out, faults)?;
     write!(out, " places")?;
     for place in fetched.as_slice() {
@@ -96,8 +96,8 @@ pub fn report<W: Write>(out: &mut W, session: &mut Session, event: Event) -> io:
         write!(out, " -")?;
     }
     write!(out, " cycles {:X} ram", cycles)?;
-    let in_work = write_changes(out, 0xC000, &mut session.work, session.state.work())?;
-    let in_high = write_changes(out, 0xFF80, &mut session.high, session.state.high())?;
+    let in_work = write_changes(out, 0xC000, &mut setup.work, setup.state.work())?;
+    let in_high = write_changes(out, 0xFF80, &mut setup.high, setup.state.high())?;
     if in_work || in_high {
         writeln!(out)
     } else {

@@ -1,5 +1,5 @@
 -- What answers a read does not rest on whether a transfer starts as the event ends.
-use Rattle.std.proofs.Common.{◌≡◌, ℕ, Bool, true, false, List, refl}
+use Rattle.std.proofs.Common.{◌≡◌, ℕ, Bool, List, refl}
 use Rattle.gb_ops.specs.declared.machine.Mapped.{Mapped}
 use Rattle.gb_ops.specs.declared.machine.Mapped.TheVariants as mapped
 use Rattle.gb_ops.specs.Memory.{place_by, place_of, byte_by, byte_at, is_free, mapped_at}

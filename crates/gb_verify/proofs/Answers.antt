@@ -1,20 +1,18 @@
 -- From the parts' contracts to the answer of two files.
-use Rattle.std.proofs.Common.{◌≡◌, ℕ, List, Option, Some, None, Result, Ok, Err, ◌⊎◌, inl, inr, refl, sym, ◌∙◌, ap, subst}
+use Rattle.std.proofs.Common.{◌≡◌, ℕ, List, Option, Some, None, Result, Ok, Err, inl, inr, refl, sym, ◌∙◌, ap, subst}
 use Rattle.std.specs.Result.{IsOk}
-use Rattle.gb_ops.specs.Sink.{Gains}
 use Rattle.gb_header.specs.declared.fault.HeaderFault.{HeaderFault}
 use Rattle.gb_header.specs.Header as Header
 use Rattle.gb_cert.specs.declared.fault.CertFault.{CertFault}
 use Rattle.gb_cert.specs.declared.fault.CertFault.TheVariants as fault
 use Rattle.gb_cert.specs.Certificate.{Certificate}
-use Rattle.gb_cert.specs.Format.{GivesUnlessMemory}
 use Rattle.gb_cert.specs.Reading.{read_certificate}
 use Rattle.gb_cert.specs.Spelling.{Spells}
 use Rattle.gb_text.specs.Text.{GainsBeginning}
 use Rattle.gb_verify.specs.Verdict.{verdict_of, IsVerdict, IsRight}
 use Rattle.gb_verify.specs.Headline.{IsSafe, IfAccepted}
 use Rattle.gb_verify.specs.declared.verify.Answer.{Answer}
-use Rattle.gb_verify.specs.Text.{answer_of, answered, judged, answer_text, outcome_of, written, line_of, memory_line, IsAnswer, IsOutcome, IsVerified, IfVerified, IfAcceptedAnswer, HasBeginning}
+use Rattle.gb_verify.specs.Text.{answer_of, answered, judged, answer_text, outcome_of, written, IsAnswer, IsOutcome, IsVerified, IfVerified, IfAcceptedAnswer, HasBeginning}
 use Rattle.gb_verify.specs.declared.verdict.Verdict.{Verdict}
 use Rattle.gb_verify.specs.declared.verdict.Verdict.TheVariants.{Accepted, Refused}
 use Rattle.gb_verify.specs.declared.verify.Answer.TheVariants as answer

@@ -1,41 +1,26 @@
 -- A right certificate is safe: one event, then every list of events.
-use Rattle.std.proofs.Common.{◌≡◌, ℕ, ◌+◌, ◌*◌, ◌/◌, ◌%◌, ◌^◌, ◌≤◌, ◌<◌, Bool, true, false, cond, not, ◌&&◌, ◌||◌, ◌==◌, ◌⊎◌, inl, inr, nat_lt, List, [], ◌∷◌, ◌++◌, Option, Some, None, length, get_or, slice_get, slice_index, refl, sym, ◌∙◌, ap, subst, arith}
+use Rattle.std.proofs.Common.{◌≡◌, ℕ, ◌/◌, ◌%◌, ◌^◌, ◌≤◌, ◌<◌, Bool, true, false, not, ◌&&◌, ◌==◌, ◌⊎◌, inl, inr, nat_lt, List, [], ◌∷◌, Option, Some, None, refl, subst, arith}
 use Rattle.std.proofs.lemmas.Bool.Decides.{nat_tests}
-use Rattle.std.specs.List.{All, Contains}
+use Rattle.std.specs.List.{All}
 use Rattle.std.proofs.lemmas.List.Elements.{All-contains, All-append, All-nil}
-use Rattle.std.proofs.lemmas.Option.{slice_get_within, get_or_from_slice_get}
-use Rattle.gb_ops.specs.declared.op.Register.{Register}
-use Rattle.gb_ops.specs.declared.op.Register.TheVariants.{A, B, C, D, E, H, L}
-use Rattle.gb_ops.specs.declared.registers.Processor.{Processor}
 use Rattle.gb_ops.specs.declared.registers.Ime.{Ime}
 use Rattle.gb_ops.specs.declared.registers.Ime.TheVariants as ime
-use Rattle.gb_ops.specs.declared.machine.Mapped.{Mapped}
-use Rattle.gb_ops.specs.declared.machine.Mapped.TheVariants as mapped
 use Rattle.gb_ops.specs.declared.machine.Event.{Event}
 use Rattle.gb_ops.specs.declared.machine.Event.TheVariants as event
-use Rattle.gb_ops.specs.Registers.{get}
-use Rattle.gb_ops.specs.Memory.{Storage, mapped_at}
 use Rattle.gb_ops.specs.Machine.{is_possible, is_ime, is_running, has_enabled_bit}
 use Rattle.gb_ops.specs.Faults.{no_faults, either_faults}
-use Rattle.gb_ops.specs.Play.{MState, IsStart, IsReached, within, next, play, processor_at_power_up}
-use Rattle.gb_cert.specs.declared.types.Origin.{Origin}
-use Rattle.gb_cert.specs.declared.types.Origin.TheVariants as origin
-use Rattle.gb_cert.specs.declared.types.Val.{Val}
+use Rattle.gb_ops.specs.Play.{MState, IsStart, within, next, play}
 use Rattle.gb_cert.specs.declared.types.ImeSet.{ImeSet}
 use Rattle.gb_cert.specs.declared.types.Core.{Core}
 use Rattle.gb_cert.specs.declared.types.Node.{Node}
 use Rattle.gb_cert.specs.Certificate.{Certificate}
-use Rattle.gb_abs.specs.Storage.{peek, peek_by}
-use Rattle.gb_abs.specs.Meaning.{Holds, HoldsFlags, MeansCore, Means, IsMemory, origin_value, may_be, ime_may_be}
+use Rattle.gb_abs.specs.Meaning.{Means, ime_may_be}
 use Rattle.gb_abs.specs.declared.reason.Reason.{Reason}
-use Rattle.gb_abs.specs.declared.reason.Reason.TheVariants as reason
-use Rattle.gb_abs.proofs.Covers.{Means-covered, same_number, and_both}
 use Rattle.gb_blocks.specs.Rules.{reason_of}
 use Rattle.gb_blocks.specs.Places.{IsCertified}
 use Rattle.gb_blocks.specs.Safety.{IsMeant, IsSafeEvent}
 use Rattle.gb_blocks.proofs.Events.{node_safe, event_where}
-use Rattle.gb_verify.specs.PowerUp.{core_at_power_up, state_at_power_up, may_only}
-use Rattle.gb_verify.specs.Verdict.{IsRight, IsVerdict, is_bad_entry, is_bad_node, has_controller, main_entry, may_enable, may_be_interrupted, or_interrupt, reason_against}
+use Rattle.gb_verify.specs.Verdict.{IsRight, IsVerdict, may_enable, may_be_interrupted, or_interrupt, reason_against}
 use Rattle.gb_verify.specs.Headline.{IsSafe, IfAccepted}
 use Rattle.gb_verify.specs.declared.verdict.Verdict.{Verdict}
 use Rattle.gb_verify.specs.declared.verdict.Verdict.TheVariants.{Accepted, Refused}
@@ -48,9 +33,9 @@ no_bit : (ie i : ℕ) → ie % 32 ≡ 0 → i < 5 → ie / 2 ^ i % 2 ≡ 0
 no_bit ie i none lt = elim (cases i lt) [
   | inl e ↦ rw e (bit0 ie none)
   | inr p ↦ elim p [
-      | inl e ↦ rw e (bit1 ie none)
-      | inr q ↦ elim q [ inl e ↦ rw e (bit2 ie none) | inr r ↦ elim r [ inl e ↦ rw e (bit3 ie none) | inr e ↦ rw e (bit4 ie none) ] ]
-    ]
+    | inl e ↦ rw e (bit1 ie none)
+    | inr q ↦ elim q [ inl e ↦ rw e (bit2 ie none) | inr r ↦ elim r [ inl e ↦ rw e (bit3 ie none) | inr e ↦ rw e (bit4 ie none) ] ]
+  ]
 ]
   where
     cases : (i : ℕ) → i < 5 → (i ≡ 0) ⊎ ((i ≡ 1) ⊎ ((i ≡ 2) ⊎ ((i ≡ 3) ⊎ (i ≡ 4))))
@@ -106,10 +91,10 @@ unfolding is_possible within
 no_dispatch rom n entry base x i calm m =
     decide (is_running (within rom x)) (is_ime x.processor.ime ime.On) (nat_lt i 5) (has_enabled_bit (within rom x) i)
     (λ on lt.
-      let none = is_calm n.state.core.ime x.processor.ime _ (calm_core n.state.core calm) m.core.ime on in
-      let least = m.core.ie.least in
-      let most = m.core.ie.most in
-      rw (no_bit x.storage.ie i (none_enabled _ _ x.storage.ie none least most) (below i 5 lt)) refl)
+    let none = is_calm n.state.core.ime x.processor.ime _ (calm_core n.state.core calm) m.core.ime on in
+    let least = m.core.ie.least in
+    let most = m.core.ie.most in
+    rw (no_bit x.storage.ie i (none_enabled _ _ x.storage.ie none least most) (below i 5 lt)) refl)
   where
     below : (a b : ℕ) → nat_lt a b ≡ true → a < b
     below a b h = grind (arith, nat_tests)
@@ -169,13 +154,13 @@ run_safe rom cert entry base s (e ∷ events) right m =
 pub right_safe : (rom : List ℕ) (cert : Certificate) → IsRight rom cert → IsSafe rom cert
 right_safe rom cert right =
     let run : (s : MState) (events : List Event) → IsStart rom s → IsSafeRun rom cert s (main_base cert) s events =
-        λ s events start. run_safe rom cert s (main_base cert) s events right (start_meant rom cert s right.entry start) in
+    λ s events start. run_safe rom cert s (main_base cert) s events right (start_meant rom cert s right.entry start) in
     record {
       faults = λ s events start. (run s events start).faults;
       places = λ s events start. (run s events start).places;
       running = λ s reached.
-        let m = subst (IsMeant cert reached.start (main_base cert)) reached.leads (run reached.start reached.events reached.is_start).meant in
-        (m.means.core.locked, m.means.core.stopped);
+          let m = subst (IsMeant cert reached.start (main_base cert)) reached.leads (run reached.start reached.events reached.is_start).meant in
+          (m.means.core.locked, m.means.core.stopped);
     }
 
 -- what the verdict says is what is promised

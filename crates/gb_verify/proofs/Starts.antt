@@ -1,45 +1,26 @@
 -- Power-up is one of the machine states that its abstract state means.
-use Rattle.std.proofs.Common.{◌≡◌, ℕ, ◌+◌, ◌*◌, ◌/◌, ◌%◌, ◌^◌, ◌≤◌, ◌<◌, Bool, true, false, cond, not, ◌&&◌, ◌||◌, ◌==◌, ◌⊎◌, inl, inr, nat_lt, List, [], ◌∷◌, ◌++◌, Option, Some, None, length, get_or, slice_get, slice_index, refl, sym, ◌∙◌, ap, subst, arith}
-use Rattle.std.proofs.lemmas.Bool.Decides.{nat_tests}
+use Rattle.std.proofs.Common.{◌≡◌, ℕ, ◌+◌, ◌*◌, ◌≤◌, ◌<◌, Bool, true, false, not, ◌||◌, ◌==◌, ◌⊎◌, inl, inr, List, Option, Some, None, length, get_or, slice_get, slice_index, refl, sym, ◌∙◌, ap, arith}
 use Rattle.std.specs.List.{All, Contains}
-use Rattle.std.proofs.lemmas.List.Elements.{All-contains, All-append, All-nil}
 use Rattle.std.proofs.lemmas.Option.{slice_get_within, get_or_from_slice_get}
 use Rattle.std.proofs.lemmas.List.{get_or_past}
 use Rattle.gb_ops.specs.declared.op.Register.{Register}
 use Rattle.gb_ops.specs.declared.op.Register.TheVariants.{A, B, C, D, E, H, L}
-use Rattle.gb_ops.specs.declared.registers.Processor.{Processor}
-use Rattle.gb_ops.specs.declared.registers.Ime.{Ime}
-use Rattle.gb_ops.specs.declared.registers.Ime.TheVariants as ime
 use Rattle.gb_ops.specs.declared.machine.Mapped.{Mapped}
 use Rattle.gb_ops.specs.declared.machine.Mapped.TheVariants as mapped
-use Rattle.gb_ops.specs.declared.machine.Event.{Event}
-use Rattle.gb_ops.specs.declared.machine.Event.TheVariants as event
 use Rattle.gb_ops.specs.Registers.{get}
-use Rattle.gb_ops.specs.Memory.{Storage, mapped_at}
-use Rattle.gb_ops.specs.Machine.{is_possible, is_ime, is_running, has_enabled_bit}
-use Rattle.gb_ops.specs.Faults.{no_faults, either_faults}
-use Rattle.gb_ops.specs.Play.{MState, IsStart, IsReached, within, next, play, processor_at_power_up}
+use Rattle.gb_ops.specs.Memory.{mapped_at}
+use Rattle.gb_ops.specs.Play.{MState, IsStart, processor_at_power_up}
 use Rattle.gb_cert.specs.declared.types.Origin.{Origin}
 use Rattle.gb_cert.specs.declared.types.Origin.TheVariants as origin
 use Rattle.gb_cert.specs.declared.types.Val.{Val}
-use Rattle.gb_cert.specs.declared.types.ImeSet.{ImeSet}
-use Rattle.gb_cert.specs.declared.types.Core.{Core}
 use Rattle.gb_cert.specs.declared.types.Node.{Node}
 use Rattle.gb_cert.specs.Certificate.{Certificate}
 use Rattle.gb_abs.specs.Storage.{peek, peek_by}
 use Rattle.gb_abs.specs.Meaning.{Holds, HoldsFlags, MeansCore, Means, IsMemory, origin_value, may_be, ime_may_be}
-use Rattle.gb_abs.specs.declared.reason.Reason.{Reason}
-use Rattle.gb_abs.specs.declared.reason.Reason.TheVariants as reason
-use Rattle.gb_abs.proofs.Covers.{Means-covered, same_number, and_both}
-use Rattle.gb_blocks.specs.Rules.{reason_of}
-use Rattle.gb_blocks.specs.Places.{IsCertified}
-use Rattle.gb_blocks.specs.Safety.{IsMeant, IsSafeEvent}
-use Rattle.gb_blocks.proofs.Events.{node_safe, event_where}
+use Rattle.gb_abs.proofs.Covers.{Means-covered, same_number}
+use Rattle.gb_blocks.specs.Safety.{IsMeant}
 use Rattle.gb_verify.specs.PowerUp.{core_at_power_up, state_at_power_up, may_only}
-use Rattle.gb_verify.specs.Verdict.{IsRight, IsVerdict, is_bad_entry, is_bad_node, has_controller, main_entry, may_enable, may_be_interrupted, or_interrupt, reason_against}
-use Rattle.gb_verify.specs.Headline.{IsSafe, IfAccepted}
-use Rattle.gb_verify.specs.declared.verdict.Verdict.{Verdict}
-use Rattle.gb_verify.specs.declared.verdict.Verdict.TheVariants.{Accepted, Refused}
+use Rattle.gb_verify.specs.Verdict.{is_bad_entry, is_bad_node, main_entry}
 
 Holds-own : (v : Val) (entry : MState) (x : ℕ) (o : Origin) → v.lo ≡ x → v.hi ≡ x → v.origin ≡ Some o → x ≡ origin_value o entry → Holds v entry x
 Holds-own v entry x o l h e s =

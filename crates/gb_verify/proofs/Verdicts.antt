@@ -1,12 +1,11 @@
 -- The verdict: step by step over the nodes, and what it says.
-use Rattle.std.proofs.Common.{◌≡◌, ℕ, zero, suc, ◌+◌, ◌≤◌, ◌<◌, Bool, true, false, cond, ◌⊎◌, inl, inr, List, [], ◌∷◌, Option, Some, None, length, get_or, drop, slice_get, refl, sym, ◌∙◌, ap, subst, arith}
+use Rattle.std.proofs.Common.{◌≡◌, ℕ, zero, suc, ◌+◌, ◌≤◌, ◌<◌, Bool, true, false, cond, ◌⊎◌, inl, inr, List, [], ◌∷◌, Option, Some, None, length, drop, slice_get, refl, sym, ◌∙◌, ap, subst, arith}
 use Rattle.std.proofs.lemmas.Option.{slice_get-get_or}
 use Rattle.gb_cert.specs.declared.types.Node.{Node}
 use Rattle.gb_cert.specs.Certificate.{Certificate}
 use Rattle.gb_abs.specs.declared.reason.Reason.{Reason}
 use Rattle.gb_abs.specs.declared.reason.Reason.TheVariants as reason
-use Rattle.gb_verify.specs.declared.verdict.Verdict.{Verdict}
-use Rattle.gb_verify.specs.declared.verdict.Verdict.TheVariants.{Accepted, Refused}
+use Rattle.gb_verify.specs.declared.verdict.Verdict.TheVariants.{Refused}
 use Rattle.gb_verify.specs.Verdict.{reason_against, reason_against_some, reason_against_at, refusal_or, verdict_from, verdict_of, is_bad_entry, main_entry, IsVerdict}
 
 next : {X : Type 0} (xs : List X) (i : ℕ) (x : X) → slice_get xs i ≡ Some x → drop i xs ≡ x ∷ drop (i + 1) xs
@@ -51,8 +50,7 @@ one_more P i h here j lt = elim (split j i lt) [ inl less ↦ h j less | inr e �
 from_is : (rom : List ℕ) (cert : Certificate) (i : ℕ) (xs : List Node) → is_bad_entry rom cert ≡ false → drop i cert.nodes ≡ xs
     → ((j : ℕ) → j < i → reason_against_at rom cert j ≡ None) → IsVerdict rom cert (verdict_from rom cert i xs)
 from_is rom cert i [] good left before =
-    let all = nothing_left cert.nodes i left in
-    (
+    let all = nothing_left cert.nodes i left in (
       record {
         entry = good;
         nodes = λ k d h. let at = slice_get-get_or cert.nodes k d h in ap (reason_against_some rom cert) (sym at) ∙ before k (omega arith);

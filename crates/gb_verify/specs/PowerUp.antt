@@ -1,5 +1,5 @@
 -- Power-up as an abstract state (Power-up sequence).
-use Rattle.std.specs.Prelude.{ℕ, Bool, true, false, not, ◌==◌, List, slice_index, Option, Some, None}
+use Rattle.std.specs.Prelude.{ℕ, Bool, true, false, not, ◌==◌, List, slice_index, Some, None}
 use Rattle.gb_ops.specs.declared.op.Register.{Register}
 use Rattle.gb_ops.specs.declared.op.Register.TheVariants.{A, B, C, D, E, H, L}
 use Rattle.gb_ops.specs.declared.machine.Region.{Region}

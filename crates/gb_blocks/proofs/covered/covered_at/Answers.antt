@@ -1,5 +1,5 @@
 -- The node at hand doesn't cover, so what is left of the search stays the same.
-use Rattle.std.proofs.Common.{◌≡◌, false, sym, ◌∙◌}
+use Rattle.std.proofs.Common.{sym, ◌∙◌}
 use Rattle.gb_blocks.specs.Rules.{is_cover}
 use Rattle.gb_blocks.proofs.Found.{not_yet}
 use Rattle.gb_blocks.proofs.covered.covered_at.Goals as goal

@@ -1,5 +1,5 @@
 -- The sink took a part of what was left.
-use Rattle.std.proofs.Common.{◌≡◌, ◌+◌, ◌≤◌, length, arith, length-drop}
+use Rattle.std.proofs.Common.{◌≤◌, length, arith, length-drop}
 use Rattle.gb_text.proofs.Gained.{gains_more, gains_whole, rest_is}
 use Rattle.gb_text.proofs.put.put_all.Goals as goal
 

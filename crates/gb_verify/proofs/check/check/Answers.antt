@@ -1,4 +1,4 @@
-use Rattle.std.proofs.Common.{◌≡◌, sym, subst}
+use Rattle.std.proofs.Common.{sym, subst}
 use Rattle.gb_verify.specs.Verdict.{IsVerdict}
 use Rattle.gb_verify.proofs.Verdicts.{verdict_is}
 use Rattle.gb_verify.proofs.Runs.{verdict_safe}

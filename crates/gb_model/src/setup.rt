@@ -16,7 +16,7 @@ const SMALLEST_ROM: usize = 0x8000;
 /// What a line asks for.
 #[derive(Clone, Copy, Debug)]
 pub enum Line {
-    /// It changed the session, or was empty.
+    /// It changed the setup, or was empty.
     Nothing,
     /// It is none of the forms.
     Wrong,
@@ -26,7 +26,7 @@ pub enum Line {
 
 /// A cartridge, a declared region, and a state.
 #[derive(Drop)]
-pub struct Session {
+pub struct Setup {
     pub rom: Vec<u8>,
     pub region: Region,
     pub state: MachineState,
@@ -106,12 +106,12 @@ fn processor(words: &mut SplitWhitespace<'_>) -> Option<Processor> {
     })
 }
 
-impl Session {
+impl Setup {
     /// The smallest cartridge, all bytes 00, at power-up.
-    pub fn new(alloc: Global) -> Result<Session, AllocError> {
+    pub fn new(alloc: Global) -> Result<Setup, AllocError> {
         let rom = vec![in alloc; 0; SMALLEST_ROM]?;
         let state = MachineState::at_power_up(alloc, &rom)?;
-        Ok(Session {
+        Ok(Setup {
             rom,
             region: Region {
                 first: 0xDF00,

@@ -1,0 +1,61 @@
+//! How long a parse and a check of the largest certificate take, beside reading its bytes once. The
+//! times go to standard error; what is printed on standard output is the same each time.
+#![tactic(auto)]
+
+mod largest;
+
+use gb_cert::types::Cert;
+use gb_header::Rom;
+use gb_verify::check::check;
+use gb_verify::verdict::Verdict;
+use std::io;
+use std::rt::Clock;
+use std::time::Instant;
+
+/// A sum that needs each byte.
+fn sum_of(bytes: &[u8]) -> u8 {
+    let mut sum: u8 = 0;
+    for byte in bytes {
+        sum = sum.wrapping_add(*byte);
+    }
+    sum
+}
+
+/// Prints the microseconds since a moment.
+fn report<R: Eprint + Clock>(rt: &R, what: &str, since: &Instant) -> io::Result<()> {
+    let micros = since.elapsed(rt)?.as_micros();
+    eprintln!(rt; "{what}: {micros} microseconds")
+}
+
+fn main(rt: HostRuntime) -> io::Result<()> {
+    let cartridge = largest::cartridge();
+    let bytes = largest::certificate(rt.alloc())?;
+
+    let start = Instant::now(&rt)?;
+    let sum = sum_of(&bytes);
+    report(&rt, "reading the bytes once", &start)?;
+
+    let Ok(rom) = Rom::parse(&cartridge) else {
+        return println!(rt; "no cartridge");
+    };
+    let start = Instant::now(&rt)?;
+    let parsed = Cert::parse(rt.alloc(), &bytes);
+    report(&rt, "parse", &start)?;
+    let cert = match parsed {
+        Ok(cert) => cert,
+        Err(fault) => return println!(rt; "no certificate: C{}", fault.number()),
+    };
+
+    let start = Instant::now(&rt)?;
+    let verdict = check(&rom, &cert);
+    report(&rt, "check", &start)?;
+    let length = bytes.len();
+    match verdict {
+        Verdict::Accepted { nodes, procedures } => {
+            println!(rt; "{length} bytes, sum {sum}: accepted, nodes {nodes} procedures {procedures}")
+        }
+        Verdict::Refused { node, reason } => {
+            println!(rt; "{length} bytes, sum {sum}: refused, node {node} reason {}", reason.number())
+        }
+    }
+}
