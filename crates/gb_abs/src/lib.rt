@@ -4,3 +4,5 @@
 pub mod covering;
 pub mod operations;
 pub mod reason;
+#[cfg(test)]
+mod tests;

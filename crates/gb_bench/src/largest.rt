@@ -34,7 +34,11 @@ fn address_of(node: u32) -> u16 {
     } else {
         thirds + (node - 3 * thirds) / 2
     };
-    let address = if place < 0x102 { place } else { place + 0x150 - 0x102 };
+    let address = if place < 0x102 {
+        place
+    } else {
+        place + 0x150 - 0x102
+    };
     (address % 0x8000) as u16
 }
 

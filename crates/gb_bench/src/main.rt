@@ -1,8 +1,10 @@
-//! How long a parse and a check of the largest certificate take, beside reading its bytes once. The
-//! times go to standard error; what is printed on standard output is the same each time.
+//! How long a parse and a check of the largest certificate take, beside reading its bytes once, and
+//! the processor's steps, beside the plain body of one event. The times go to standard error; what is printed on standard output is the same each time.
 #![tactic(auto)]
 
+mod bus;
 mod largest;
+mod processor;
 
 use gb_cert::types::Cert;
 use gb_header::Rom;
@@ -28,34 +30,46 @@ fn report<R: Eprint + Clock>(rt: &R, what: &str, since: &Instant) -> io::Result<
 }
 
 fn main(rt: HostRuntime) -> io::Result<()> {
+    let same = processor::compare(&rt)?;
+    println!(rt; "the processor and the plain body agree: {same}")?;
+    largest_certificate(&rt)
+}
+
+/// Parses and checks the largest certificate.
+fn largest_certificate<R: Print + Eprint + Clock + AllocGlobal>(rt: &R) -> io::Result<()> {
     let cartridge = largest::cartridge();
     let bytes = largest::certificate(rt.alloc())?;
 
-    let start = Instant::now(&rt)?;
+    let start = Instant::now(rt)?;
     let sum = sum_of(&bytes);
-    report(&rt, "reading the bytes once", &start)?;
+    report(rt, "reading the bytes once", &start)?;
 
     let Ok(rom) = Rom::parse(&cartridge) else {
         return println!(rt; "no cartridge");
     };
-    let start = Instant::now(&rt)?;
+    let start = Instant::now(rt)?;
     let parsed = Cert::parse(rt.alloc(), &bytes);
-    report(&rt, "parse", &start)?;
+    report(rt, "parse", &start)?;
     let cert = match parsed {
         Ok(cert) => cert,
         Err(fault) => return println!(rt; "no certificate: C{}", fault.number()),
     };
 
-    let start = Instant::now(&rt)?;
+    let start = Instant::now(rt)?;
     let verdict = check(&rom, &cert);
-    report(&rt, "check", &start)?;
+    report(rt, "check", &start)?;
     let length = bytes.len();
     match verdict {
         Verdict::Accepted { nodes, procedures } => {
-            println!(rt; "{length} bytes, sum {sum}: accepted, nodes {nodes} procedures {procedures}")
+            println!(rt;
+                "{length} bytes, sum {sum}: accepted, nodes {nodes} procedures {procedures}"
+            )
         }
         Verdict::Refused { node, reason } => {
-            println!(rt; "{length} bytes, sum {sum}: refused, node {node} reason {}", reason.number())
+            println!(rt;
+                "{length} bytes, sum {sum}: refused, node {node} reason {}",
+                reason.number()
+            )
         }
     }
 }

@@ -1,11 +1,11 @@
 //! Accesses of the bus.
 
-ghost use Rattle.std.specs.Prelude.{[], ◌∷◌, ◌≡◌, ◌<◌, ◌≤◌, ◌^◌, true};
+ghost use Rattle.std.specs.Prelude.{[], ◌∷◌, ◌≡◌, ◌<◌, ◌≤◌, ◌^◌, ◌&&◌, true};
 ghost use Rattle.gb_ops.specs.Memory.{is_free, stored};
 ghost use Rattle.gb_ops.specs.Machine.{fetched, loaded, is_bytes};
 ghost use Rattle.gb_ops.specs.Accesses.{Joined, where_wanted, fetch_log, load_log, store_log};
 ghost use Rattle.gb_ops.specs.Accesses as access;
-ghost use Rattle.gb_cpu.specs.Access.{Gave, queued, queued_two};
+ghost use Rattle.gb_cpu.specs.Access.{Gave, queued, queued_two, free_fetches, free_reads};
 
 use gb_bus::Bus;
 use gb_effects::advance::{length_of, second_address, third_address};
@@ -35,6 +35,7 @@ fn is_free_at<B: Bus>(bus: &B, address: u16) -> bool
 fn take<B: Bus>(bus: &mut B, address: u16) -> Taken
     ensures view { B.shows bus.new ≡ B.shows bus.old }
     ensures gave { Gave true (B.shows bus.old) address result.is_free result.byte }
+    ensures free { result.is_free ≡ is_free (B.shows bus.old) address }
     ensures joined { Joined B.does bus.old (access.Reads address result.byte ∷ []) bus.new }
 {
     let is_free = is_free_at(bus, address);
@@ -47,6 +48,7 @@ fn take<B: Bus>(bus: &mut B, address: u16) -> Taken
 fn take_where<B: Bus>(bus: &mut B, wanted: bool, address: u16) -> Taken
     ensures view { B.shows bus.new ≡ B.shows bus.old }
     ensures gave { Gave wanted (B.shows bus.old) address result.is_free result.byte }
+    ensures free { result.is_free ≡ (wanted && is_free (B.shows bus.old) address) }
     ensures joined { Joined B.does bus.old (where_wanted wanted (access.Reads address result.byte)) bus.new }
 {
     if wanted {
@@ -93,10 +95,11 @@ pub struct Fetched {
 }
 
 /// Reads the bytes of the instruction at PC.
-#[tactic(auto, using(crate::proofs::Fetching::fetched_is, crate::proofs::Joining::joined_append), unfolding(gb_ops::specs::Accesses::fetch_log))]
+#[tactic(auto, using(crate::proofs::Fetching::fetched_is, crate::proofs::Joining::joined_append), unfolding(gb_ops::specs::Accesses::fetch_log, crate::specs::Access::free_fetches))]
 pub fn fetch<B: Bus>(bus: &mut B, processor: Processor) -> Fetched
     ensures view { B.shows bus.new ≡ B.shows bus.old }
     ensures bytes { fetched (B.shows bus.old) processor result.free ≡ result.bytes }
+    ensures free { result.free ≡ free_fetches (B.shows bus.old) processor result.bytes }
     ensures in_range { is_bytes 3 result.free ≡ true }
     ensures joined { Joined B.does bus.old (fetch_log processor result.bytes) bus.new }
 {
@@ -118,10 +121,11 @@ pub struct Answer {
 }
 
 /// Makes the reads of an instruction.
-#[tactic(auto, using(crate::proofs::Fetching::nothing_is, crate::proofs::Fetching::byte_is, crate::proofs::Fetching::word_is), unfolding(gb_ops::specs::Accesses::load_log))]
+#[tactic(auto, using(crate::proofs::Fetching::nothing_is, crate::proofs::Fetching::byte_is, crate::proofs::Fetching::word_is), unfolding(gb_ops::specs::Accesses::load_log, crate::specs::Access::free_reads))]
 pub fn load<B: Bus>(bus: &mut B, read: Read) -> Answer
     ensures view { B.shows bus.new ≡ B.shows bus.old }
     ensures values { loaded (B.shows bus.old) read result.free ≡ result.loaded }
+    ensures free { result.free ≡ free_reads (B.shows bus.old) read result.loaded }
     ensures in_range { is_bytes 2 result.free ≡ true }
     ensures joined { Joined B.does bus.old (load_log read result.loaded) bus.new }
 {

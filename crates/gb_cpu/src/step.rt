@@ -1,10 +1,11 @@
 //! One step of the processor, and an interrupt's dispatch.
 
-ghost use Rattle.std.specs.Prelude.{if◌then◌else◌, [], ◌∷◌, ℕ, true, ◌%◌, IsTrue, ◌==◌, slice_index, ◌≡◌, ◌<◌, ◌≤◌, ◌^◌, ◌≢◌};
+ghost use Rattle.std.specs.Prelude.{Some, if◌then◌else◌, [], ◌∷◌, ℕ, true, ◌%◌, IsTrue, ◌==◌, slice_index, ◌≡◌, ◌<◌, ◌≤◌, ◌^◌, ◌≢◌};
 ghost use Rattle.gb_ops.specs.Machine as Machine;
 ghost use Rattle.gb_ops.specs.Accesses.{Joined, execute_log, row_log, accesses_of, executed_cycles, row_cycles, event_cycles};
 ghost use Rattle.gb_ops.specs.Accesses as access;
 ghost use Rattle.gb_ops.specs.Play.{IsStep};
+ghost use Rattle.gb_cpu.specs.Access.{row_free_reads, HasFreeBytes};
 ghost use Rattle.gb_cpu.specs.Step.{state, IsSpecial, IsDispatchable};
 
 use crate::access::{fetch, load, store};
@@ -30,6 +31,7 @@ fn execute<B: Bus>(processor: Processor, bus: &mut B, row: Row) -> Executed
     ensures state { state result.processor (B.shows bus.new) ≡ Machine.executed (state processor (B.shows bus.old)) row result.reads }
     ensures joined { Joined B.does bus.old (execute_log (state processor (B.shows bus.old)) row result.reads) bus.new }
     ensures cycles { result.cycles ≡ executed_cycles (state processor (B.shows bus.old)) row result.reads }
+    ensures free { result.reads ≡ row_free_reads (Some row) (state processor (B.shows bus.old)) result.reads }
     ensures in_range { Machine.is_bytes 2 result.reads ≡ true }
 {
     let processor = advanced(processor, row);
@@ -86,6 +88,7 @@ fn run_row<B: Bus>(processor: Processor, bus: &mut B, row: Option<Row>) -> Execu
     ensures state { state result.processor (B.shows bus.new) ≡ Machine.run_row row (state processor (B.shows bus.old)) result.reads }
     ensures joined { Joined B.does bus.old (row_log row (state processor (B.shows bus.old)) result.reads) bus.new }
     ensures cycles { result.cycles ≡ row_cycles row (state processor (B.shows bus.old)) result.reads }
+    ensures free { result.reads ≡ row_free_reads row (state processor (B.shows bus.old)) result.reads }
     ensures in_range { Machine.is_bytes 2 result.reads ≡ true }
 {
     match row {
@@ -157,6 +160,7 @@ impl Cpu {
         ensures joined { Joined B.does bus.old (accesses_of (state self.old.processor (B.shows bus.old)) result.event) bus.new }
         ensures choice { IsChoice self.old (B.shared bus.old) (state self.old.processor (B.shows bus.old)) result.event }
         ensures cycles { result.cycles ≡ event_cycles (state self.old.processor (B.shows bus.old)) result.event }
+        ensures free { HasFreeBytes (state self.old.processor (B.shows bus.old)) result.event }
         ensures waiting { self.new.is_waiting ≡ waits_after self.old (state self.old.processor (B.shows bus.old)) result.event }
     {
         let processor = self.processor;
@@ -197,6 +201,7 @@ impl Cpu {
         ensures joined { Joined B.does bus.old (accesses_of (state self.old.processor (B.shows bus.old)) result.event) bus.new }
         ensures choice { IsChoice self.old (B.shared bus.old) (state self.old.processor (B.shows bus.old)) result.event }
         ensures cycles { result.cycles ≡ event_cycles (state self.old.processor (B.shows bus.old)) result.event }
+        ensures free { HasFreeBytes (state self.old.processor (B.shows bus.old)) result.event }
         ensures waiting { self.new.is_waiting ≡ waits_after self.old (state self.old.processor (B.shows bus.old)) result.event }
     {
         self.act(bus)

@@ -263,7 +263,7 @@ fn shows_banks(rt: HostRuntime) -> Result<(), Fail> {
     Ok(())
 }
 
-/// MBC1's second register shows at 0000 in mode 1 alone.
+/// MBC1's second register shows at 0000 in mode 1 alone, cut to the cartridge's size.
 #[test]
 fn shows_the_low_bank(rt: HostRuntime) -> Result<(), Fail> {
     let rom = header(0x01, 0x05);
@@ -274,6 +274,13 @@ fn shows_the_low_bank(rt: HostRuntime) -> Result<(), Fail> {
         assert_eq!(rt; shown_bank(&rom, second, 0x0000), 0);
         assert_eq!(rt; shown_bank(&rom, second, 0x4000), 33);
         assert_eq!(rt; shown_bank(&rom, mode, 0x0000), 32);
+    }
+    let small = header(0x03, 0x03);
+    let second = banks_after(&small, banks_at_power_up(), 0x4000, 0x02);
+    let mode = banks_after(&small, second, 0x6000, 0x01);
+    if second.bank < 512 && mode.bank < 512 {
+        assert_eq!(rt; shown_bank(&small, second, 0x0000), 0);
+        assert_eq!(rt; shown_bank(&small, mode, 0x0000), 0);
     }
     Ok(())
 }

@@ -6,3 +6,5 @@ pub mod machine;
 pub mod op;
 pub mod registers;
 pub mod sink;
+#[cfg(test)]
+mod tests;

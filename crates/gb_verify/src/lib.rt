@@ -2,5 +2,7 @@
 #![tactic(auto)]
 
 pub mod check;
+#[cfg(test)]
+mod tests;
 pub mod verdict;
 pub mod verify;

@@ -53,3 +53,61 @@ pub fn read_file<R: Files + AllocGlobal>(
     let file = fs::open(rt, path)?;
     read_within(rt.alloc(), file, limit)
 }
+
+#[cfg(test)]
+mod tests {
+    use super::*;
+    use std::test::Fail;
+
+    /// Gives a few bytes, one at a time, and then fails or ends.
+    #[derive(Drop)]
+    struct Few {
+        left: u8,
+        ends: bool,
+    }
+
+    impl Read for Few {
+        fn read(&mut self, buf: &mut [u8]) -> io::Result<usize> {
+            if self.left == 0 {
+                return if self.ends {
+                    Ok(0)
+                } else {
+                    Err(io::Error::from(io::ErrorKind::Other))
+                };
+            }
+            if buf.is_empty() {
+                return Ok(0);
+            }
+            self.left -= 1;
+            buf[0] = self.left;
+            Ok(1)
+        }
+    }
+
+    #[test]
+    fn reads_to_the_end_or_the_limit(rt: HostRuntime) -> Result<(), Fail> {
+        let whole = Few {
+            left: 5,
+            ends: true,
+        };
+        let bytes = read_within(rt.alloc(), whole, 10).map_err(|_| "five bytes can be read")?;
+        assert_eq!(rt; bytes.as_slice(), [4, 3, 2, 1, 0].as_slice());
+        let cut = Few {
+            left: 5,
+            ends: false,
+        };
+        let bytes = read_within(rt.alloc(), cut, 3).map_err(|_| "three bytes can be read")?;
+        assert_eq!(rt; bytes.as_slice(), [4, 3, 2].as_slice());
+        Ok(())
+    }
+
+    #[test]
+    fn a_read_that_fails_in_the_middle_is_the_devices(rt: HostRuntime) {
+        let failing = Few {
+            left: 2,
+            ends: false,
+        };
+        let trouble = read_within(rt.alloc(), failing, 10).err();
+        assert_eq!(rt; trouble, Some(Trouble::Device));
+    }
+}

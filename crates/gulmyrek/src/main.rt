@@ -10,10 +10,9 @@ use files::{Trouble, read_file};
 use gb_main::{Task, read_words};
 use gb_ops::sink::Plain;
 use gb_verify::verify::{Outcome, verify_bytes};
-use std::env;
-use std::io;
 use std::process::ExitCode;
 use std::rt::{Env, Files};
+use std::{env, io};
 
 /// The most bytes that are read of a cartridge: one more than the largest has.
 const CARTRIDGE_LIMIT: u64 = 8_388_609;
