@@ -1,0 +1,4 @@
+pub mod Cartridges
+pub mod Copying
+pub mod Reading
+pub mod Requests

@@ -7,7 +7,15 @@ ghost use Rattle.gb_ops.specs.Accesses.{Access};
 ghost use Rattle.gb_ops.specs.Accesses as access;
 ghost use Rattle.gb_ops.specs.Memory.{View, is_free, byte_at, place_of, wrote, passed};
 
+mod access;
+pub mod cartridge;
+pub mod hardware;
+pub mod memory;
+mod registers;
+mod transfer;
+
 use gb_ops::machine::Place;
+pub use memory::Memory;
 
 /// A memory bus. Each call has a relation between the bus before it, what it gives or takes, and
 /// the bus after it.
@@ -53,3 +61,6 @@ pub trait Bus {
         ensures joined { does self.old (access.Passes cycles) self.new }
         ensures view { shows self.new ≡ passed (shows self.old) cycles };
 }
+
+#[cfg(test)]
+mod tests;

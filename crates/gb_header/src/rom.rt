@@ -90,6 +90,15 @@ impl<'a> Rom<'a> {
         facts::type_has_clock(self.bytes[facts::TYPE])
     }
 
+    /// Whether it has a rumble motor.
+    #[tactic(auto, using(crate::proofs::Laws::bank_laws))]
+    pub fn has_rumble(&self) -> bool
+        ensures { result ≡ Cartridge.type_has_rumble (Cartridge.type_byte self.now) }
+    {
+        let type_byte = self.bytes[facts::TYPE];
+        facts::type_has_rumble(type_byte)
+    }
+
     /// The header's checksum.
     #[tactic(auto, using(crate::proofs::Laws::bank_laws))]
     pub fn checksum(&self) -> u8

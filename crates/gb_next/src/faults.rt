@@ -11,7 +11,8 @@ ghost use Rattle.gb_next.specs.Shown.{bus, resting};
 
 use crate::controller::{banks_after, has_ram_or_clock};
 use crate::fetch::fetched;
-use crate::memory::{closes, mapped_at};
+use crate::memory::closes;
+use gb_ops::map::mapped_at;
 use crate::next::{effect_at, is_possible};
 use crate::state::MachineState;
 use gb_effects::advance::{advanced, length_of, second_address, third_address};

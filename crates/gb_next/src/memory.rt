@@ -2,33 +2,15 @@
 
 ghost use Rattle.std.specs.Prelude.{◌≡◌, ◌<◌, ◌≤◌, ◌-◌, ℕ, ◌==◌, ◌&&◌, not, if◌then◌else◌};
 ghost use Rattle.gb_ops.specs.Memory as Spec;
-ghost use Rattle.gb_next.specs.Held.{IsHeld};
 ghost use Rattle.gb_next.specs.Shown.{shown, resting};
 
 use crate::controller::{banks_after, shown_bank};
 use crate::state::MachineState;
 use gb_ops::machine::{Mapped, Place, Write};
+use gb_ops::map::mapped_at;
 
 /// The M-cycles for which a transfer closes memory, from the end of the event that started it.
 const TRANSFER_CYCLES: u8 = 161;
-
-/// What an address names.
-#[tactic(auto, unfolding(gb_ops::specs::Memory::mapped_at))]
-pub fn mapped_at(address: u16) -> Mapped
-    ensures value { result ≡ Spec.mapped_at address }
-    ensures held { IsHeld result }
-{
-    match address {
-        0x0000..=0x7FFF => Mapped::Rom,
-        0x8000..=0x9FFF => Mapped::Hardware,
-        0xA000..=0xBFFF => Mapped::CartridgeRam,
-        0xC000..=0xFDFF => Mapped::WorkRam((address - 0xC000) % 0x2000),
-        0xFF46 => Mapped::Transfer,
-        0xFE00..=0xFF7F => Mapped::Hardware,
-        0xFF80..=0xFFFE => Mapped::HighRam(address - 0xFF80),
-        0xFFFF => Mapped::InterruptEnable,
-    }
-}
 
 /// Whether a transfer with so many M-cycles left closes an address.
 pub fn closes(count: u8, address: u16) -> bool

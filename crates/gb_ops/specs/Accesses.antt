@@ -11,7 +11,7 @@ use Rattle.gb_ops.specs.declared.machine.Event.TheVariants as event
 use Rattle.gb_ops.specs.declared.op.Row.{Row}
 use Rattle.gb_ops.specs.Table.{decoded}
 use Rattle.gb_ops.specs.Effects.{read_of}
-use Rattle.gb_ops.specs.Machine.{BusState, fetched, loaded, advanced, length_of, second_address, third_address, cycles_of, effect_at, is_running}
+use Rattle.gb_ops.specs.Machine.{BusState, fetched, loaded, advanced, length_of, second_address, third_address, cycles_of, effect_at}
 
 -- an access of a bus, with the byte that it gave or took
 pub data Access : Type 0 where

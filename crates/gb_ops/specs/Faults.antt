@@ -1,5 +1,5 @@
 -- The faults of an event, and the places that it fetches (own rules).
-use Rattle.std.specs.Prelude.{ℕ, ◌+◌, ◌-◌, ◌/◌, ◌%◌, Bool, true, false, ◌==◌, nat_lt, nat_le, ◌&&◌, ◌||◌, not, if◌then◌else◌, List, [], ◌∷◌, ◌++◌, map, slice_index, Option, Some, None}
+use Rattle.std.specs.Prelude.{ℕ, ◌+◌, ◌/◌, ◌%◌, Bool, true, false, ◌==◌, nat_lt, nat_le, ◌&&◌, ◌||◌, not, if◌then◌else◌, List, [], ◌∷◌, ◌++◌, map, slice_index, Option, Some, None}
 use Rattle.gb_ops.specs.declared.registers.Processor.{Processor}
 use Rattle.gb_ops.specs.declared.machine.Read.{Read}
 use Rattle.gb_ops.specs.declared.machine.Read.TheVariants as read
@@ -14,7 +14,7 @@ use Rattle.gb_ops.specs.declared.op.Row.{Row}
 use Rattle.gb_ops.specs.Cartridge.{is_within, shown_bank, has_ram_or_clock}
 use Rattle.gb_ops.specs.Table.{decoded}
 use Rattle.gb_ops.specs.Effects.{read_of}
-use Rattle.gb_ops.specs.Memory.{View, is_closed, is_high, mapped_at, wrote}
+use Rattle.gb_ops.specs.Memory.{View, is_closed, wrote}
 use Rattle.gb_ops.specs.Machine.{BusState, fetched, advanced, effect_at, length_of, second_address, third_address}
 
 abbrev pub no_faults : Faults

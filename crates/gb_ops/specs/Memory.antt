@@ -1,6 +1,6 @@
 -- Memory, as the machine knows it: plain storage, the controller's registers and the transfer count
 -- (Memory map; OAM DMA transfer).
-use Rattle.std.specs.Prelude.{ℕ, ◌+◌, ◌-◌, ◌*◌, ◌/◌, ◌%◌, Bool, true, false, ◌==◌, nat_lt, ◌&&◌, not, if◌then◌else◌, List, slice_index, slice_set}
+use Rattle.std.specs.Prelude.{ℕ, ◌+◌, ◌-◌, ◌*◌, ◌/◌, ◌%◌, Bool, true, false, ◌≡◌, ◌==◌, ◌<◌, ◌≤◌, nat_lt, ◌&&◌, not, if◌then◌else◌, List, slice_index, slice_set}
 use Rattle.gb_ops.specs.declared.machine.Banks.{Banks}
 use Rattle.gb_ops.specs.declared.machine.Mapped.{Mapped}
 use Rattle.gb_ops.specs.declared.machine.Mapped.TheVariants as mapped
@@ -36,6 +36,16 @@ mapped_at a =
     else if nat_lt a 0xFF80 then (if a == 0xFF46 then mapped.Transfer else mapped.Hardware)
     else if nat_lt a 0xFFFF then mapped.HighRam (a - 0xFF80)
     else mapped.InterruptEnable
+
+-- where the map has such a thing; a byte of plain storage lies in its memory
+abbrev pub IsMapped : ℕ → Mapped → Type 0
+IsMapped a mapped.Rom = a < 0x8000
+IsMapped a mapped.CartridgeRam = (0xA000 ≤ a) × (a < 0xC000)
+IsMapped a (mapped.WorkRam i) = i < 8192
+IsMapped a (mapped.HighRam i) = i < 127
+IsMapped a mapped.InterruptEnable = a ≡ 0xFFFF
+IsMapped a mapped.Transfer = a ≡ 0xFF46
+IsMapped a mapped.Hardware = (0x8000 ≤ a) × (a < 0xFE00 → a < 0xA000)
 
 abbrev pub is_high : Mapped → Bool
 is_high (mapped.HighRam i) = true

@@ -3,6 +3,7 @@
 
 pub mod decode;
 pub mod machine;
+pub mod map;
 pub mod op;
 pub mod registers;
 pub mod sink;

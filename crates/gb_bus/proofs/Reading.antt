@@ -1,0 +1,88 @@
+-- What the bus shows of an access.
+use Rattle.std.proofs.Common.{◌≡◌, ℕ, Bool, true, false, refl, if◌then◌else◌}
+use Rattle.gb_ops.specs.declared.machine.Mapped.{Mapped}
+use Rattle.gb_ops.specs.declared.machine.Mapped.TheVariants as mapped
+use Rattle.gb_ops.specs.declared.machine.Place.TheVariants as place
+use Rattle.gb_ops.specs.Memory.{View, mapped_at, is_closed, is_free, is_free_place, place_of, place_by, byte_at, byte_by, wrote, wrote_by, kept_or}
+use Rattle.gb_ops.specs.Cartridge.{kind_of}
+use Rattle.gb_mbc.specs.Controllers.{is_latch}
+use Rattle.gb_bus.specs.Contents.{Contents}
+use Rattle.gb_bus.specs.Hardware.{hardware_at}
+use Rattle.gb_bus.specs.declared.hardware.Hardware.{Hardware}
+use Rattle.gb_bus.specs.declared.hardware.Hardware.TheVariants as hardware
+use Rattle.gb_bus.specs.declared.hardware.IoRegister.{IoRegister}
+use Rattle.gb_bus.specs.declared.hardware.IoRegister.TheVariants as io
+use Rattle.gb_bus.specs.declared.cartridge.Behind.{Behind}
+use Rattle.gb_bus.specs.declared.cartridge.Behind.TheVariants as behind
+use Rattle.gb_bus.specs.CartridgeRam.{behind_written, behind_gate, cartridge_written}
+use Rattle.gb_bus.specs.Registers.{io_written}
+use Rattle.gb_bus.specs.Accessing.{open_byte, byte_read, written, open_written, hardware_written, commanded_where, dropped_or, viewed}
+
+-- ---- a fixed byte is what is read
+
+free : true ≡ false → (A : Type 0) → A
+free h A = absurd (let bad : true ≡ false = h in cc)
+
+open_is : (m : Mapped) (c : Contents) (a : ℕ) → is_free_place (place_by m c.view a) ≡ false → byte_by m c.view a ≡ open_byte m c a
+open_is mapped.Rom c a h = refl
+open_is mapped.CartridgeRam c a h = free h _
+open_is (mapped.WorkRam i) c a h = refl
+open_is (mapped.HighRam i) c a h = refl
+open_is mapped.InterruptEnable c a h = refl
+open_is mapped.Transfer c a h = free h _
+open_is mapped.Hardware c a h = free h _
+
+fixed_by :
+    (closed : Bool) (m : Mapped) (c : Contents) (a : ℕ) → is_free_place (if closed then place.Free else place_by m c.view a) ≡ false
+    → byte_by m c.view a ≡ (if closed then 0xFF else open_byte m c a)
+fixed_by true m c a h = free h _
+fixed_by false m c a h = open_is m c a h
+
+pub fixed_is : (c : Contents) (a : ℕ) → is_free c.view a ≡ false → byte_at c.view a ≡ byte_read c a
+unfolding is_free place_of byte_at byte_read
+fixed_is c a h = fixed_by (is_closed c.view.storage a) (mapped_at a) c a h
+
+-- ---- what a write shows
+
+command_keeps : (b : Bool) (c : Contents) (v : ℕ) → (commanded_where b c v).view ≡ c.view
+command_keeps true c v = refl
+command_keeps false c v = refl
+
+behind_keeps : (b : Behind) (c : Contents) (a v : ℕ) → (behind_written b c a v).view ≡ c.view
+behind_keeps (behind.Ram bank) c a v = refl
+behind_keeps (behind.Clock register) c a v = refl
+behind_keeps behind.Nothing c a v = refl
+
+io_keeps : (r : IoRegister) (c : Contents) (v : ℕ) → (io_written r c v).view ≡ c.view
+unfolding io_written
+io_keeps io.Joypad c v = refl
+io_keeps io.Divider c v = refl
+io_keeps io.TimerCounter c v = refl
+io_keeps io.TimerModulo c v = refl
+io_keeps io.TimerControl c v = refl
+io_keeps io.Requests c v = refl
+io_keeps io.Transfer c v = refl
+
+hardware_keeps : (h : Hardware) (c : Contents) (v : ℕ) → (hardware_written h c v).view ≡ c.view
+hardware_keeps (hardware.VideoRam i) c v = refl
+hardware_keeps (hardware.Oam i) c v = refl
+hardware_keeps (hardware.Io r) c v = io_keeps r c v
+hardware_keeps hardware.Nothing c v = refl
+
+open_shows : (m : Mapped) (c : Contents) (a v : ℕ) → (open_written m c a v).view ≡ wrote_by m c.view a v
+unfolding cartridge_written
+open_shows mapped.Rom c a v = command_keeps (is_latch (kind_of c.view.rom) a) (viewed mapped.Rom c a v) v
+open_shows mapped.CartridgeRam c a v = behind_keeps (behind_gate c) c a v
+open_shows (mapped.WorkRam i) c a v = refl
+open_shows (mapped.HighRam i) c a v = refl
+open_shows mapped.InterruptEnable c a v = refl
+open_shows mapped.Transfer c a v = refl
+open_shows mapped.Hardware c a v = hardware_keeps (hardware_at a) c v
+
+dropped_shows : (closed : Bool) (c d : Contents) (m : View) → d.view ≡ m → (dropped_or closed c d).view ≡ kept_or closed c.view m
+dropped_shows true c d m h = refl
+dropped_shows false c d m h = h
+
+pub write_shows : (c : Contents) (a v : ℕ) → (written c a v).view ≡ wrote c.view a v
+unfolding written wrote
+write_shows c a v = dropped_shows (is_closed c.view.storage a) c (open_written (mapped_at a) c a v) (wrote_by (mapped_at a) c.view a v) (open_shows (mapped_at a) c a v)

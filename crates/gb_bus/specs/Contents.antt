@@ -1,0 +1,21 @@
+-- What the console's memory bus holds (own: the whole of it as one record).
+use Rattle.std.specs.Prelude.{ℕ, List}
+use Rattle.gb_ops.specs.Memory.{View}
+use Rattle.gb_mbc.specs.Clock.{ClockState}
+use Rattle.gb_timer.specs.Timer.{Counters}
+use Rattle.gb_timer.specs.Joypad.{Pad}
+
+-- what the machine of the checker knows stands in the view: the cartridge, the controller's registers,
+-- plain storage, the transfer's count and whether one starts
+pub record Contents : Type 0 where
+  pub view : View
+  pub cartridge_ram : List ℕ
+  pub clock : ClockState
+  pub video_ram : List ℕ
+  pub oam : List ℕ
+  pub timer : Counters
+  pub pad : Pad
+  -- the five bits of IF
+  pub requests : ℕ
+  -- what was written to FF46 last
+  pub page : ℕ

@@ -1,0 +1,212 @@
+//! The console's memory as a bus.
+
+ghost use Rattle.std.specs.Prelude.{◌≡◌, ◌<◌, ◌≤◌};
+ghost use Rattle.gb_ops.specs.Memory as Spec;
+ghost use Rattle.gb_ops.specs.Cartridge.{kind_of};
+ghost use Rattle.gb_mbc.specs.Controllers.{is_latch};
+ghost use Rattle.gb_bus.specs.Accessing as Accessing;
+ghost use Rattle.gb_bus.specs.Hardware as Map;
+ghost use Rattle.gb_ops.specs.declared.machine.Mapped.TheVariants as mapped;
+
+use crate::Bus;
+use crate::hardware::{Hardware, hardware_at};
+use crate::memory::Memory;
+use crate::registers::{TIMER, with_requests};
+use gb_mbc::Mapper;
+use gb_ops::machine::{Mapped, Place};
+use gb_ops::map::mapped_at;
+
+impl Memory<'_> {
+    /// Whether a transfer closes an address.
+    #[tactic(auto, unfolding(gb_ops::specs::Memory::is_closed))]
+    fn is_closed(&self, address: u16) -> bool
+        ensures { result ≡ Spec.is_closed self.now.view.storage address }
+    {
+        self.transfer.left() != 0 && !matches!(mapped_at(address), Mapped::HighRam(_))
+    }
+
+    fn hardware_byte(&self, address: u16) -> u8
+        requires { 0x8000 ≤ address }
+        ensures { result ≡ Accessing.hardware_byte (Map.hardware_at address) self.now }
+    {
+        match hardware_at(address) {
+            Hardware::VideoRam(i) => self.video_ram[usize::from(i)],
+            Hardware::Oam(i) => self.oam[usize::from(i)],
+            Hardware::Io(register) => self.io_byte(register),
+            Hardware::Nothing => 0xFF,
+        }
+    }
+
+    /// What is read where no transfer closes it.
+    pub(crate) fn open_byte(&self, address: u16) -> u8
+        ensures { result ≡ Accessing.open_byte (Spec.mapped_at address) self.now address }
+    {
+        match mapped_at(address) {
+            Mapped::Rom => self.rom_byte(address),
+            Mapped::CartridgeRam => self.cartridge_byte(address),
+            Mapped::WorkRam(i) => self.work_ram[usize::from(i)],
+            Mapped::HighRam(i) => self.high_ram[usize::from(i)],
+            Mapped::InterruptEnable => self.interrupt_enable,
+            Mapped::Transfer | Mapped::Hardware => self.hardware_byte(address),
+        }
+    }
+}
+
+impl Memory<'_> {
+    /// A write to the controller's registers.
+    #[tactic(auto, using(crate::proofs::Cartridges::registers_are))]
+    fn write_controller(&mut self, address: u16, value: u8)
+        requires { address < 0x8000 }
+        ensures { self.new ≡ Accessing.viewed mapped.Rom self.old address value }
+    {
+        self.controller.write(address, value);
+    }
+
+    /// Whether a write to an address commands the latch of the clock.
+    #[tactic(auto, using(crate::proofs::Cartridges::latch_is))]
+    fn is_latch(&self, address: u16) -> bool
+        requires { address < 0x8000 }
+        ensures { result ≡ is_latch (kind_of self.now.view.rom) address }
+    {
+        self.controller.is_latch(address)
+    }
+
+    /// A write to ROM: the controller takes it, and MBC3 latches its clock by some.
+    fn write_rom(&mut self, address: u16, value: u8)
+        requires { address < 0x8000 }
+        ensures { self.new ≡ Accessing.open_written mapped.Rom self.old address value }
+    {
+        let is_latch = self.is_latch(address);
+        self.write_controller(address, value);
+        if is_latch {
+            self.clock.command(value);
+        }
+    }
+
+    /// A write to FF46: the bytes are copied at once, and the transfer starts as the event ends.
+    fn start_transfer(&mut self, page: u8)
+        ensures { self.new ≡ Accessing.open_written mapped.Transfer self.old 0xFF46 page }
+    {
+        *self.oam = self.copied(page);
+        self.page = page;
+        self.is_starting = true;
+    }
+
+    fn write_hardware(&mut self, address: u16, value: u8)
+        requires { 0x8000 ≤ address }
+        ensures { self.new ≡ Accessing.hardware_written (Map.hardware_at address) self.old value }
+    {
+        match hardware_at(address) {
+            Hardware::VideoRam(i) => self.video_ram[usize::from(i)] = value,
+            Hardware::Oam(i) => self.oam[usize::from(i)] = value,
+            Hardware::Io(register) => self.write_io(register, value),
+            Hardware::Nothing => {}
+        }
+    }
+
+    /// A write that no transfer closes.
+    fn write_open(&mut self, address: u16, value: u8)
+        ensures { self.new ≡ Accessing.open_written (Spec.mapped_at address) self.old address value }
+    {
+        match mapped_at(address) {
+            Mapped::Rom => self.write_rom(address, value),
+            Mapped::CartridgeRam => self.write_cartridge(address, value),
+            Mapped::WorkRam(i) => self.work_ram[usize::from(i)] = value,
+            Mapped::HighRam(i) => self.high_ram[usize::from(i)] = value,
+            Mapped::InterruptEnable => self.interrupt_enable = value,
+            Mapped::Transfer => self.start_transfer(value),
+            Mapped::Hardware => self.write_hardware(address, value),
+        }
+    }
+}
+
+impl Memory<'_> {
+    /// A write.
+    #[tactic(auto, unfolding(crate::specs::Accessing::written))]
+    fn store(&mut self, address: u16, value: u8)
+        ensures { self.new ≡ Accessing.written self.old address value }
+    {
+        if !self.is_closed(address) {
+            self.write_open(address, value);
+        }
+    }
+
+    /// The transfer as M-cycles pass: one that was started counts from its whole length.
+    #[tactic(auto, unfolding(gb_ops::specs::Memory::passed, gb_dma::specs::Transfer::left_after))]
+    fn pass_transfer(&mut self, cycles: u8)
+        ensures { self.new ≡ record self.old { view = Spec.passed self.old.view cycles } }
+    {
+        if self.is_starting {
+            self.transfer.start();
+            self.is_starting = false;
+        } else {
+            self.transfer.advance(cycles);
+        }
+    }
+
+    /// The timer as M-cycles pass.
+    fn pass_timer(&mut self, cycles: u8)
+        ensures { self.new ≡ Accessing.timed self.old cycles }
+    {
+        if self.timer.advance(cycles) != 0 {
+            self.requests = with_requests(self.requests, TIMER);
+        }
+    }
+}
+
+impl Bus for Memory<'_> {
+    ghost use Rattle.std.specs.Prelude.{◌%◌, bit_and};
+    ghost use Rattle.gb_bus.specs.Accessing.{Does, shared};
+
+    ghost shows = { λ m. m.view };
+
+    ghost does = { Does };
+
+    ghost shared = { shared };
+
+    #[tactic(auto, using(crate::proofs::Reading::fixed_is), unfolding(crate::specs::Accessing::byte_read))]
+    fn read(&mut self, address: u16) -> u8 {
+        if self.is_closed(address) {
+            0xFF
+        } else {
+            self.open_byte(address)
+        }
+    }
+
+    #[tactic(auto, using(crate::proofs::Reading::write_shows))]
+    fn write(&mut self, address: u16, value: u8) {
+        self.store(address, value);
+    }
+
+    #[tactic(auto, unfolding(gb_ops::specs::Memory::place_of))]
+    fn place(&self, address: u16) -> Place {
+        if self.is_closed(address) {
+            return Place::Free;
+        }
+        match mapped_at(address) {
+            Mapped::Rom => Place::Rom(self.shown_bank(address)),
+            Mapped::WorkRam(_) | Mapped::HighRam(_) | Mapped::InterruptEnable => Place::Plain,
+            Mapped::CartridgeRam | Mapped::Transfer | Mapped::Hardware => Place::Free,
+        }
+    }
+
+    #[tactic(auto, unfolding(crate::specs::Accessing::shared))]
+    fn pending(&mut self) -> u8 {
+        if self.interrupt_enable % 32 == 0 {
+            0
+        } else {
+            (self.interrupt_enable & self.requests) % 32
+        }
+    }
+
+    #[tactic(auto, using(crate::proofs::Requests::and_small), unfolding(crate::specs::Accessing::acknowledged))]
+    fn acknowledge(&mut self, i: u8) {
+        self.requests &= 255 - (1 << i);
+    }
+
+    #[tactic(auto, unfolding(crate::specs::Accessing::advanced))]
+    fn pass(&mut self, cycles: u8) {
+        self.pass_transfer(cycles);
+        self.pass_timer(cycles);
+    }
+}

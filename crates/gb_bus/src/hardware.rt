@@ -1,0 +1,56 @@
+//! Where the memory map has hardware.
+
+ghost use Rattle.std.specs.Prelude.{◌≡◌, ◌≤◌};
+ghost use Rattle.gb_bus.specs.Hardware as Map;
+
+/// The I/O registers that the console has.
+#[derive(Clone, Copy, Debug, PartialEq, Eq)]
+pub enum IoRegister {
+    /// FF00, JOYP.
+    Joypad,
+    /// FF04, DIV.
+    Divider,
+    /// FF05, TIMA.
+    TimerCounter,
+    /// FF06, TMA.
+    TimerModulo,
+    /// FF07, TAC.
+    TimerControl,
+    /// FF0F, IF.
+    Requests,
+    /// FF46, DMA.
+    Transfer,
+}
+
+/// What stands at an address from 8000 to 9FFF or from FE00 to FF7F.
+#[derive(Clone, Copy, Debug, PartialEq, Eq)]
+pub enum Hardware {
+    /// A byte of video RAM, by its index.
+    VideoRam(u16),
+    /// A byte of OAM, by its index.
+    Oam(u16),
+    Io(IoRegister),
+    /// It reads FF, and writes are dropped.
+    Nothing,
+}
+
+/// What stands at such an address (Pan Docs: Memory Map; Hardware Registers List).
+#[tactic(auto, unfolding(crate::specs::Hardware::hardware_at, crate::specs::Hardware::register_at))]
+pub fn hardware_at(address: u16) -> Hardware
+    requires { 0x8000 ≤ address }
+    ensures value { result ≡ Map.hardware_at address }
+    ensures held { Map.IsHeld result }
+{
+    match address {
+        0x0000..=0x9FFF => Hardware::VideoRam(address - 0x8000),
+        0xFE00..=0xFE9F => Hardware::Oam(address - 0xFE00),
+        0xFF00 => Hardware::Io(IoRegister::Joypad),
+        0xFF04 => Hardware::Io(IoRegister::Divider),
+        0xFF05 => Hardware::Io(IoRegister::TimerCounter),
+        0xFF06 => Hardware::Io(IoRegister::TimerModulo),
+        0xFF07 => Hardware::Io(IoRegister::TimerControl),
+        0xFF0F => Hardware::Io(IoRegister::Requests),
+        0xFF46 => Hardware::Io(IoRegister::Transfer),
+        _ => Hardware::Nothing,
+    }
+}

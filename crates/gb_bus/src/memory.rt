@@ -1,0 +1,132 @@
+//! The console's memory.
+
+ghost use Rattle.std.specs.Prelude.{◌≡◌, ◌<◌, ◌≤◌, IfOk, vec_len};
+ghost use Rattle.gb_bus.specs.PowerUp.{at_power_up, zeros};
+
+use gb_dma::Transfer;
+use gb_header::Rom;
+use gb_mbc::{Clock, Controller};
+use gb_timer::joypad::Joypad;
+use gb_timer::timer::Timer;
+use std::alloc::{AllocError, Global};
+use std::marker::Model;
+
+/// Bytes of work RAM.
+pub(crate) const WORK_RAM: usize = 0x2000;
+
+/// Bytes of high RAM.
+pub(crate) const HIGH_RAM: usize = 127;
+
+/// Bytes of video RAM.
+pub(crate) const VIDEO_RAM: usize = 0x2000;
+
+/// Bytes of OAM.
+pub(crate) const OAM: usize = 160;
+
+/// The console's memory: a cartridge, its controller, and everything that has an address.
+#[derive(Drop)]
+pub struct Memory<'a> {
+    pub(crate) rom: &'a [u8],
+    pub(crate) controller: Controller,
+    pub(crate) cartridge_ram: Vec<u8>,
+    pub(crate) clock: Clock,
+    pub(crate) video_ram: Box<[u8; VIDEO_RAM]>,
+    pub(crate) oam: Box<[u8; OAM]>,
+    pub(crate) work_ram: Box<[u8; WORK_RAM]>,
+    pub(crate) high_ram: Box<[u8; HIGH_RAM]>,
+    pub(crate) interrupt_enable: u8,
+    pub(crate) timer: Timer,
+    pub(crate) joypad: Joypad,
+    /// The low five bits of IF.
+    pub(crate) requests: u8,
+    pub(crate) transfer: Transfer,
+    /// A transfer starts as the event ends.
+    pub(crate) is_starting: bool,
+    /// What was written to FF46 last.
+    pub(crate) page: u8,
+}
+
+impl<'a> Model for Memory<'a> {
+    ghost use Rattle.std.specs.Prelude.{◌≡◌, ◌<◌, ◌*◌, vec_len, length};
+    ghost use Rattle.gb_header.specs.Header.{IsCartridge};
+    ghost use Rattle.gb_mbc.specs.Controller.{features, registers};
+    ghost use Rattle.gb_mbc.specs.Controllers.{features_of};
+    ghost use Rattle.gb_ops.specs.Cartridge.{ram_banks};
+    ghost use Rattle.gb_bus.specs.Contents.{Contents};
+
+    ghost Value = { Contents };
+
+    ghost view = { λ m. record {
+      view = record {
+        rom = m.rom.now;
+        storage = record {
+          banks = registers m.controller;
+          work = m.work_ram.value;
+          high = m.high_ram.value;
+          ie = m.interrupt_enable;
+          count = m.transfer;
+        };
+        starting = m.is_starting;
+      };
+      cartridge_ram = m.cartridge_ram.items;
+      clock = m.clock;
+      video_ram = m.video_ram.value;
+      oam = m.oam.value;
+      timer = m.timer;
+      pad = m.joypad;
+      requests = m.requests;
+      page = m.page;
+    } };
+
+    ghost invariant = { λ m. IsCartridge m.rom.now × (features m.controller ≡ features_of m.rom.now) × (vec_len m.cartridge_ram ≡ 0x2000 * ram_banks m.rom.now) × (m.requests < 32) };
+}
+
+/// A boxed array of bytes 00.
+#[tactic(auto, unfolding(crate::specs::PowerUp::zeros))]
+fn zeros<const N: usize>(alloc: Global) -> Result<Box<[u8; N]>, AllocError>
+    ensures { IfOk result (λ bytes. bytes.value ≡ zeros N) }
+{
+    Ok(Box::new(alloc, [0; N])?)
+}
+
+/// So many bytes 00.
+#[tactic(auto, unfolding(crate::specs::PowerUp::zeros))]
+fn zero_bytes(alloc: Global, size: usize) -> Result<Vec<u8>, AllocError>
+    ensures items { IfOk result (λ bytes. bytes.items ≡ zeros size) }
+    ensures size { IfOk result (λ bytes. vec_len bytes ≡ size) }
+{
+    Ok(vec![in alloc; 0; size]?)
+}
+
+impl<'a> Memory<'a> {
+    /// A cartridge's memory at power-up. All room is made here; nothing of it grows later.
+    #[tactic(auto, unfolding(crate::specs::PowerUp::at_power_up))]
+    pub fn new(alloc: Global, rom: &Rom<'a>) -> Result<Memory<'a>, AllocError>
+        ensures { IfOk result (λ memory. memory ≡ at_power_up rom.now) }
+    {
+        let ram_size = 0x2000 * usize::from(rom.ram_banks());
+        let cartridge_ram = zero_bytes(alloc, ram_size)?;
+        let video_ram = zeros(alloc)?;
+        let work_ram = zeros(alloc)?;
+        let oam = zeros(alloc)?;
+        let high_ram = zeros(alloc)?;
+        let memory = Memory {
+            rom: rom.bytes(),
+            controller: Controller::of(rom),
+            cartridge_ram,
+            clock: Clock::new(),
+            video_ram,
+            oam,
+            work_ram,
+            high_ram,
+            interrupt_enable: 0,
+            timer: Timer::new(),
+            joypad: Joypad::new(),
+            requests: 1,
+            transfer: Transfer::new(),
+            is_starting: false,
+            page: 0,
+        };
+        Ok(memory)
+    }
+}

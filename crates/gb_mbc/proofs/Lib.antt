@@ -1,0 +1,3 @@
+pub mod Halted
+pub mod Featured
+pub mod Seconds

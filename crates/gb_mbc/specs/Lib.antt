@@ -1,0 +1,4 @@
+pub mod Clock
+pub mod Controller
+pub mod Controllers
+pub mod Counting

@@ -1,0 +1,14 @@
+pub mod Control
+pub mod Tiles
+pub mod Maps
+pub mod Objects
+pub mod Pixel
+pub mod Picture
+pub mod LcdRegisters
+pub mod Sound
+pub mod Window
+pub mod Quiet
+pub mod Requests
+pub mod PowerUp
+pub mod Seen
+pub mod Kept

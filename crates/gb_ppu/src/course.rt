@@ -1,0 +1,86 @@
+//! The picture's course over several M-cycles.
+
+ghost use Rattle.std.specs.Prelude.{◌≡◌, ◌<◌, ◌≤◌, true};
+ghost use Rattle.gb_ppu.specs.Control.{is_on};
+ghost use Rattle.gb_ppu.specs.Picture.{advanced, requested_in, nothing};
+ghost use Rattle.gb_ppu.specs.Quiet.{quiet_at};
+ghost use Rattle.gb_ppu.specs.Sound.{IsSound};
+
+use crate::control::is_on;
+use crate::picture::{LINE_CYCLES, Passed, Picture, Requests};
+
+/// So many M-cycles, one after another. `advance` gives the same faster.
+#[tactic(auto, using(crate::proofs::Courses::steps))]
+pub fn advance_slowly(picture: Picture, n: u8) -> Passed
+    requires { IsSound picture }
+    ensures picture { result.picture ≡ advanced n picture }
+    ensures requests { result.requests ≡ requested_in n picture }
+{
+    if n == 0 {
+        return Passed {
+            picture,
+            requests: Requests::NOTHING,
+        };
+    }
+    let first = picture.tick();
+    let rest = advance_slowly(first.picture, n - 1);
+    Passed {
+        picture: rest.picture,
+        requests: first.requests.both(rest.requests),
+    }
+}
+
+/// M-cycles from a position on that reach neither a line's start nor another mode.
+#[tactic(auto, unfolding(crate::specs::Quiet::quiet_at))]
+fn quiet_at(position: u16) -> u16
+    ensures { result ≡ quiet_at position }
+{
+    match position % LINE_CYCLES {
+        column @ 0..20 => 19 - column,
+        column @ 20..63 => 62 - column,
+        column => 113 - column,
+    }
+}
+
+/// So many M-cycles in which nothing but the position changes.
+#[tactic(auto, using(crate::proofs::Courses::quiet))]
+fn advance_quietly(picture: Picture, n: u16) -> Picture
+    requires sound { IsSound picture }
+    requires on { is_on picture.lcdc ≡ true }
+    requires quiet { n ≤ quiet_at picture.position }
+    ensures picture { result ≡ advanced n picture }
+    ensures requests { requested_in n picture ≡ nothing }
+{
+    Picture {
+        position: picture.position + n,
+        ..picture
+    }
+}
+
+/// So many M-cycles: from one change to the next.
+#[tactic(auto, using(crate::proofs::Courses::course))]
+pub fn advance(picture: Picture, n: u8) -> Passed
+    requires { IsSound picture }
+    ensures picture { result.picture ≡ advanced n picture }
+    ensures requests { result.requests ≡ requested_in n picture }
+{
+    let quiet = quiet_at(picture.position);
+    if !is_on(picture.lcdc) {
+        return Passed {
+            picture,
+            requests: Requests::NOTHING,
+        };
+    }
+    if u16::from(n) <= quiet {
+        return Passed {
+            picture: advance_quietly(picture, u16::from(n)),
+            requests: Requests::NOTHING,
+        };
+    }
+    let change = advance_quietly(picture, quiet).tick();
+    let rest = advance(change.picture, n - 1 - quiet as u8);
+    Passed {
+        picture: rest.picture,
+        requests: change.requests.both(rest.requests),
+    }
+}

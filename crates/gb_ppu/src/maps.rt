@@ -1,0 +1,51 @@
+//! Tiles of background and window.
+
+ghost use Rattle.std.specs.Prelude.{◌≡◌, ◌<◌, ◌≤◌, ◌+◌};
+ghost use Rattle.gb_ppu.specs.Maps.{tile_offset, map_offset, tile_index, map_colour};
+
+use crate::control::has_bit;
+use crate::scene::VIDEO_RAM;
+use crate::tiles::tile_colour;
+
+/// Where the data of a tile begins in video RAM.
+#[tactic(auto, unfolding(crate::specs::Maps::tile_offset))]
+fn tile_offset(lcdc: u8, index: u8) -> usize
+    ensures value { result ≡ tile_offset lcdc index }
+    ensures within { result < 0x1800 }
+{
+    let place = 16 * usize::from(index);
+    if has_bit(4, lcdc) {
+        place
+    } else if index < 128 {
+        0x1000 + place
+    } else {
+        place
+    }
+}
+
+/// Where a map begins in video RAM.
+#[tactic(auto, unfolding(crate::specs::Maps::map_offset))]
+fn map_offset(is_second: bool) -> usize
+    ensures value { result ≡ map_offset is_second }
+    ensures within { result ≤ 0x1C00 }
+{
+    if is_second { 0x1C00 } else { 0x1800 }
+}
+
+/// The index of the tile at a point of a map.
+#[tactic(auto, unfolding(crate::specs::Maps::tile_index))]
+fn tile_index(video_ram: &[u8; VIDEO_RAM], is_second: bool, u: u8, v: u8) -> u8
+    ensures { result ≡ tile_index video_ram.now is_second u v }
+{
+    video_ram[map_offset(is_second) + 32 * usize::from(v / 8) + usize::from(u / 8)]
+}
+
+/// The colour at a point of a map.
+#[tactic(auto, unfolding(crate::specs::Maps::map_colour))]
+pub fn map_colour(video_ram: &[u8; VIDEO_RAM], lcdc: u8, is_second: bool, u: u8, v: u8) -> u8
+    ensures value { result ≡ map_colour video_ram.now lcdc is_second u v }
+    ensures small { result < 4 }
+{
+    let offset = tile_offset(lcdc, tile_index(video_ram, is_second, u, v));
+    tile_colour(video_ram, offset, v % 8, u % 8)
+}

@@ -1,0 +1,199 @@
+//! The picture unit, as the memory bus drives it.
+
+ghost use Rattle.std.specs.Prelude.{◌≡◌, ◌<◌};
+ghost use Rattle.gb_ppu.specs.Requests.{request_bits};
+ghost use Rattle.gb_ppu.specs.Picture.{IsNextDrawing};
+ghost use Rattle.gb_timer.specs.Interrupts.{irq_bits};
+
+use crate::control::is_on;
+use crate::course::{advance, advance_slowly};
+use crate::mode::Mode;
+use crate::picture::{FRAME_CYCLES, LINE_CYCLES, Picture, Requests};
+use crate::registers::LcdRegister;
+use crate::scene::{OAM, Scene, VIDEO_RAM};
+use bitflags::Flags;
+use gb_timer::irqs::Irqs;
+use std::marker::Model;
+
+/// Where mode 3 of line 143 begins.
+const LAST_DRAWING: u16 = 143 * LINE_CYCLES + 20;
+
+/// The picture: its registers, and where in the frame it stands.
+#[derive(Drop)]
+pub struct Ppu {
+    picture: Picture,
+}
+
+impl Model for Ppu {
+    ghost use Rattle.gb_ppu.specs.declared.picture.Picture.{Picture};
+    ghost use Rattle.gb_ppu.specs.Sound.{IsSound};
+
+    ghost Value = { Picture };
+
+    ghost view = { λ s. s.picture };
+
+    ghost invariant = { λ s. IsSound s.picture };
+}
+
+/// The interrupts that were requested.
+fn irqs_of(requests: Requests) -> Irqs
+    ensures { irq_bits result ≡ request_bits requests }
+{
+    let mut irqs = Irqs::empty();
+    if requests.vblank {
+        irqs.insert(Irqs::VBLANK);
+    }
+    if requests.stat {
+        irqs.insert(Irqs::STAT);
+    }
+    irqs
+}
+
+impl Ppu {
+    ghost use Rattle.std.specs.Prelude.{◌≡◌, ◌<◌, ◌+◌, ◌%◌, true, false, IfSome, IsSome, ◌↔◌};
+    ghost use Rattle.gb_timer.specs.Interrupts.{irq_bits};
+    ghost use Rattle.gb_ppu.specs.Control.{is_on};
+    ghost use Rattle.gb_ppu.specs.Picture.{advanced, requested_in, line_of, mode_of, IsNextDrawing};
+    ghost use Rattle.gb_ppu.specs.LcdRegisters.{register_read, register_written, requested_by};
+    ghost use Rattle.gb_ppu.specs.Requests.{request_bits};
+    ghost use Rattle.gb_ppu.specs.Kept.{HasSameRegisters};
+    ghost use Rattle.gb_ppu.specs.PowerUp.{power_up};
+    ghost use Rattle.gb_ppu.specs.Seen.{seen, seen_by};
+
+    /// The picture at power-up: all registers 00 but LCDC 91 and BGP FC (Pan Docs: Power-Up Sequence), at the start
+    /// of a frame (own).
+    pub fn new() -> Ppu
+        ensures { result ≡ power_up }
+    {
+        Ppu {
+            picture: Picture {
+                lcdc: 0x91,
+                stat: 0,
+                scy: 0,
+                scx: 0,
+                lyc: 0,
+                bgp: 0xFC,
+                obp0: 0,
+                obp1: 0,
+                wy: 0,
+                wx: 0,
+                position: 0,
+                window: Some(0),
+                shows_window: false,
+            },
+        }
+    }
+
+    /// Lets n M-cycles pass. Answers what they request (Pan Docs: Rendering, LCD Status).
+    pub fn advance(&mut self, n: u8) -> Irqs
+        ensures picture { self.new ≡ advanced n self.old }
+        ensures requests { irq_bits result ≡ request_bits (requested_in n self.old) }
+        ensures registers { HasSameRegisters self.old self.new }
+        ensures moved { is_on self.old.lcdc ≡ true → self.new.position ≡ (self.old.position + n) % FRAME_CYCLES }
+    {
+        let passed = advance(self.picture, n);
+        self.picture = passed.picture;
+        irqs_of(passed.requests)
+    }
+
+    /// The same, one M-cycle after another: slower, and with nothing clever.
+    pub fn advance_slowly(&mut self, n: u8) -> Irqs
+        ensures picture { self.new ≡ advanced n self.old }
+        ensures requests { irq_bits result ≡ request_bits (requested_in n self.old) }
+    {
+        let passed = advance_slowly(self.picture, n);
+        self.picture = passed.picture;
+        irqs_of(passed.requests)
+    }
+
+    /// What a register reads as (Pan Docs: LCD Control, LCD Status).
+    pub fn read(&self, register: LcdRegister) -> u8
+        ensures { result ≡ register_read register self.now }
+    {
+        self.picture.read(register)
+    }
+
+    /// Writes a register. Answers STAT's request where the write raises it (own). A write of LY does nothing.
+    #[tactic(auto, unfolding(crate::specs::LcdRegisters::requested_by))]
+    pub fn write(&mut self, register: LcdRegister, value: u8) -> Irqs
+        ensures picture { self.new ≡ register_written register value self.old }
+        ensures requests { irq_bits result ≡ request_bits (requested_by self.old self.new) }
+    {
+        let old = self.picture;
+        self.picture = old.written(register, value);
+        irqs_of(Requests {
+            vblank: false,
+            stat: old.rises(self.picture),
+        })
+    }
+
+    /// The mode, 0 while the LCD is off.
+    pub fn mode(&self) -> Mode
+        ensures { result ≡ mode_of self.now }
+    {
+        self.picture.mode()
+    }
+
+    /// LY, 0 while the LCD is off.
+    #[tactic(auto, unfolding(crate::specs::Picture::line_of))]
+    pub fn line(&self) -> u8
+        ensures value { result ≡ line_of self.now }
+        ensures small { result < 154 }
+        ensures off { is_on self.now.lcdc ≡ false → result ≡ 0 }
+    {
+        self.picture.line()
+    }
+
+    /// Whether the LCD is on.
+    pub fn is_on(&self) -> bool
+        ensures { result ≡ is_on self.now.lcdc }
+    {
+        is_on(self.picture.lcdc)
+    }
+
+    /// What a line is drawn from whose mode 3 begins now.
+    pub fn scene<'a>(&self, video_ram: &'a [u8; VIDEO_RAM], oam: &'a [u8; OAM]) -> Scene<'a>
+        ensures { seen result ≡ seen_by self.now video_ram.now oam.now }
+    {
+        let picture = self.picture;
+        Scene {
+            video_ram,
+            oam,
+            lcdc: picture.lcdc,
+            scx: picture.scx,
+            scy: picture.scy,
+            wx: picture.wx,
+            bgp: picture.bgp,
+            obp0: picture.obp0,
+            obp1: picture.obp1,
+            window_line: picture.window,
+        }
+    }
+
+    /// M-cycles until the next line begins its mode 3, and so is drawn. None while the LCD is off.
+    pub fn until_drawing(&self) -> Option<u16>
+        ensures on { IsSome result ↔ (is_on self.now.lcdc ≡ true) }
+        ensures next { IfSome result (IsNextDrawing self.now.position) }
+    {
+        if is_on(self.picture.lcdc) {
+            Some(until_drawing(self.picture.position))
+        } else {
+            None
+        }
+    }
+}
+
+/// M-cycles from a position until mode 3 of a line begins for the next time.
+fn until_drawing(position: u16) -> u16
+    requires { position < FRAME_CYCLES }
+    ensures { IsNextDrawing position result }
+{
+    let column = position % LINE_CYCLES;
+    if position >= LAST_DRAWING {
+        FRAME_CYCLES - position + 20
+    } else if column < 20 {
+        20 - column
+    } else {
+        LINE_CYCLES - column + 20
+    }
+}

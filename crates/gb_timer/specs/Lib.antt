@@ -1,0 +1,4 @@
+pub mod Bits
+pub mod Interrupts
+pub mod Joypad
+pub mod Timer

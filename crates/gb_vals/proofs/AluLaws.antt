@@ -1,0 +1,111 @@
+-- The operations of A stand for those of the machine.
+use Rattle.std.proofs.Common.{◌≡◌, ℕ, ◌+◌, ◌-◌, ◌%◌, ◌<◌, ◌≤◌, Bool, true, false, ◌==◌, nat_lt, refl, sym, subst, arith}
+use Rattle.std.proofs.lemmas.Bool.Decides.{nat_tests}
+use Rattle.std.specs.Int.Bits.{and_self, or_self, xor_self}
+use Rattle.gb_ops.specs.declared.op.AluOp.{AluOp}
+use Rattle.gb_ops.specs.declared.op.AluOp.TheVariants as op
+use Rattle.gb_ops.specs.declared.registers.Flags.{Flags}
+use Rattle.gb_ops.specs.declared.machine.Computed.{Computed}
+use Rattle.gb_ops.specs.Flags.{bit_of}
+use Rattle.gb_ops.specs.Arithmetic.{alu_result, added, subtracted, logical}
+use Rattle.gb_cert.specs.declared.types.Val.{Val}
+use Rattle.gb_cert.specs.declared.types.Flg.{Flg}
+use Rattle.gb_cert.specs.Rules.{IsVal, IsFlg}
+use Rattle.gb_vals.specs.declared.outcome.Outcome.{Outcome}
+use Rattle.gb_vals.specs.Vals.{single}
+use Rattle.gb_vals.specs.Flags.{known}
+use Rattle.gb_vals.specs.Meaning.{In, FlagsIn, Gives, IsSound, IsSoundOfTwo, IsOutcome}
+use Rattle.gb_vals.specs.Alu.{alu, alu_itself, nothing_left, result_with_itself}
+use Rattle.gb_vals.proofs.MeaningLaws.{may-is, In-single, IsOutcome-sound, IsOutcome-sound_of_two}
+use Rattle.gb_vals.proofs.SumLaws.{sum-gives, difference-gives, sum-byte, difference-byte}
+use Rattle.gb_vals.proofs.LogicLaws.{conjunction-gives, disjunction-gives, exclusion-gives, of_itself-gives, conjunction-byte, disjunction-byte, exclusion-byte, of_itself-byte}
+
+alu-gives :
+    (how : AluOp) (a v : Val) (f : Flg) (x y : ℕ) (g : Flags)
+    → a.hi < 256 → v.hi < 256 → In a x → In v y → FlagsIn f g → Gives (alu how a v f) (alu_result how x y g)
+unfolding alu alu_result bit_of
+alu-gives op.Add a v f x y g p q m n h = sum-gives a v (known false) x y false m n refl
+alu-gives op.Adc a v f x y g p q m n h = sum-gives a v f.carry x y g.carry m n h.carry
+alu-gives op.Sub a v f x y g p q m n h = difference-gives a v (known false) x y false m n refl
+alu-gives op.Sbc a v f x y g p q m n h = difference-gives a v f.carry x y g.carry m n h.carry
+alu-gives op.And a v f x y g p q m n h = conjunction-gives a v x y m n
+alu-gives op.Xor a v f x y g p q m n h = exclusion-gives a v x y p q m n
+alu-gives op.Or a v f x y g p q m n h = disjunction-gives a v x y p q m n
+alu-gives op.Cp a v f x y g p q m n h =
+    record { value = m; flags = (difference-gives a v (known false) x y false m n refl).flags }
+
+pub alu_sound :
+    (how : AluOp) (a v : Val) (f : Flg) (o : Outcome)
+    → o ≡ alu how a v f → a.hi < 256 → v.hi < 256 → IsSoundOfTwo (alu_result how) a v f o
+alu_sound how a v f o e p q =
+    subst (λ r. IsSoundOfTwo (alu_result how) a v f r) (sym e) (record { gives = λ x y g. alu-gives how a v f x y g p q })
+
+-- ---- A with A
+
+-- what a byte leaves with itself
+difference_with_itself : (x : ℕ) (subtract : Bool) (o : Val) → In o x → Gives (record { val = single 0; flags = nothing_left true }) (subtracted x x 0)
+unfolding subtracted
+difference_with_itself x subtract o m =
+    let nothing : (x + 256 - (x + 0)) % 256 ≡ 0 = omega arith in
+    record {
+      value = record { least = omega arith; most = omega arith };
+      flags = record {
+        zero = may-is true ((x + 256 - (x + 0)) % 256 == 0) (grind (arith, nat_tests));
+        subtract = refl;
+        half_carry = may-is false (nat_lt (x % 16) (x % 16 + 0)) (grind (arith, nat_tests));
+        carry = may-is false (nat_lt x (x + 0)) (grind (arith, nat_tests));
+      };
+    }
+
+alu_itself-gives :
+    (how : AluOp) (a : Val) (f : Flg) (x : ℕ) (g : Flags)
+    → In a x → FlagsIn f g → Gives (alu_itself how a f) (result_with_itself how x g)
+unfolding alu_itself alu_result bit_of logical
+alu_itself-gives op.Add a f x g m h = sum-gives a a (known false) x x false m m refl
+alu_itself-gives op.Adc a f x g m h = sum-gives a a f.carry x x g.carry m m h.carry
+alu_itself-gives op.Sub a f x g m h = difference_with_itself x true a m
+alu_itself-gives op.Sbc a f x g m h = difference-gives a a f.carry x x g.carry m m h.carry
+alu_itself-gives op.And a f x g m h = rw (and_self x) (of_itself-gives a x true m)
+alu_itself-gives op.Xor a f x g m h =
+    rw (xor_self x) (record { value = In-single 0; flags = record { zero = refl; subtract = refl; half_carry = refl; carry = refl } })
+alu_itself-gives op.Or a f x g m h = rw (or_self x) (of_itself-gives a x false m)
+alu_itself-gives op.Cp a f x g m h = record { value = m; flags = (difference_with_itself x true a m).flags }
+
+pub alu_itself_sound :
+    (how : AluOp) (a : Val) (f : Flg) (o : Outcome) → o ≡ alu_itself how a f → IsSound (result_with_itself how) a f o
+alu_itself_sound how a f o e =
+    subst (λ r. IsSound (result_with_itself how) a f r) (sym e) (record { gives = alu_itself-gives how a f })
+
+-- ---- results are bytes
+
+alu-byte : (how : AluOp) (a v : Val) (f : Flg) → IsVal a → IsVal v → (alu how a v f).val.hi < 256
+unfolding alu
+alu-byte op.Add a v f p q = sum-byte a v (known false)
+alu-byte op.Adc a v f p q = sum-byte a v f.carry
+alu-byte op.Sub a v f p q = difference-byte a v (known false)
+alu-byte op.Sbc a v f p q = difference-byte a v f.carry
+alu-byte op.And a v f p q = conjunction-byte a v (omega arith) p.hi
+alu-byte op.Xor a v f p q = exclusion-byte a v (omega arith) (omega arith)
+alu-byte op.Or a v f p q = disjunction-byte a v (omega arith) (omega arith)
+alu-byte op.Cp a v f p q = p.hi
+
+alu_itself-byte : (how : AluOp) (a : Val) (f : Flg) → IsVal a → (alu_itself how a f).val.hi < 256
+unfolding alu_itself
+alu_itself-byte op.Add a f p = sum-byte a a (known false)
+alu_itself-byte op.Adc a f p = sum-byte a a f.carry
+alu_itself-byte op.Sub a f p = omega arith
+alu_itself-byte op.Sbc a f p = difference-byte a a f.carry
+alu_itself-byte op.And a f p = of_itself-byte a true (omega arith) p.hi
+alu_itself-byte op.Xor a f p = omega arith
+alu_itself-byte op.Or a f p = of_itself-byte a false (omega arith) p.hi
+alu_itself-byte op.Cp a f p = p.hi
+
+pub alu_inhabited :
+    (how : AluOp) (a v : Val) (f : Flg) (o : Outcome) → o ≡ alu how a v f → IsVal a → IsVal v → IsFlg f → IsOutcome o
+alu_inhabited how a v f o e p q flags =
+    IsOutcome-sound_of_two (alu_result how) a v f o (alu_sound how a v f o e p.hi q.hi) p q flags (subst (λ r. r.val.hi < 256) (sym e) (alu-byte how a v f p q))
+
+pub alu_itself_inhabited :
+    (how : AluOp) (a : Val) (f : Flg) (o : Outcome) → o ≡ alu_itself how a f → IsVal a → IsFlg f → IsOutcome o
+alu_itself_inhabited how a f o e p flags =
+    IsOutcome-sound (result_with_itself how) a f o (alu_itself_sound how a f o e) p flags (subst (λ r. r.val.hi < 256) (sym e) (alu_itself-byte how a f p))

@@ -1,0 +1,11 @@
+pub mod AluLaws
+pub mod BitLaws
+pub mod BranchLaws
+pub mod CarryLaws
+pub mod DaaLaws
+pub mod FlagLaws
+pub mod LogicLaws
+pub mod MeaningLaws
+pub mod OriginLaws
+pub mod ShiftLaws
+pub mod SumLaws

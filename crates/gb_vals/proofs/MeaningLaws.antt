@@ -1,0 +1,155 @@
+-- What known and unknown bits, bytes and outcomes stand for.
+use Rattle.std.proofs.Common.{◌≡◌, ℕ, ◌≤◌, ◌<◌, Bool, true, false, not, ◌&&◌, ◌||◌, ◌==◌, if◌then◌else◌, cond, refl, sym, ◌∙◌, ap, subst, arith}
+use Rattle.std.proofs.lemmas.Bool.Decides.{nat_tests}
+use Rattle.gb_ops.specs.declared.registers.Flags.{Flags}
+use Rattle.gb_ops.specs.declared.machine.Computed.{Computed}
+use Rattle.gb_cert.specs.declared.types.Val.{Val}
+use Rattle.gb_cert.specs.declared.types.May.{May}
+use Rattle.gb_cert.specs.declared.types.Flg.{Flg}
+use Rattle.gb_cert.specs.Rules.{IsVal, IsFlg, has_value}
+use Rattle.gb_ops.specs.Flags.{bit_of}
+use Rattle.gb_vals.specs.declared.outcome.Outcome.{Outcome}
+use Rattle.gb_vals.specs.Vals.{single, any_val, is_single}
+use Rattle.gb_vals.specs.Flags.{known, either, is_known, zero_by, known_flags, greatest_flags}
+use Rattle.gb_vals.specs.Outcomes.{exact}
+use Rattle.gb_vals.specs.Meaning.{In, FlagsIn, may_be, Gives, IsSound, IsSoundOfTwo, IsOutcome}
+
+pub and_both : (a b : Bool) → (a && b) ≡ true → (a ≡ true) × (b ≡ true)
+and_both true b h = (refl, h)
+and_both false b h = cc
+
+-- ---- bits
+
+pub may-known : (b : Bool) → may_be (known b) b ≡ true
+may-known true = refl
+may-known false = refl
+
+pub may-either : (b : Bool) → may_be either b ≡ true
+may-either true = refl
+may-either false = refl
+
+pub may-is : (b c : Bool) → b ≡ c → may_be (known b) c ≡ true
+may-is b c e = subst (λ k. may_be (known b) k ≡ true) e (may-known b)
+
+pub may-by : (m : May) (b : Bool) → (b ≡ true → m.set ≡ true) → (b ≡ false → m.clear ≡ true) → may_be m b ≡ true
+may-by m true set clear = set refl
+may-by m false set clear = clear refl
+
+pub clear_from : (b : Bool) → not b ≡ true → b ≡ false
+clear_from true h = cc
+clear_from false h = refl
+
+-- a known bit is what its set says
+pub known-is : (m : May) (b : Bool) → is_known m ≡ true → may_be m b ≡ true → b ≡ m.set
+known-is m true k h = sym h
+known-is m false k h = sym (clear_from m.set (subst (λ c. cond c (not m.set) m.set ≡ true) h k))
+
+pub bit-weight : (b : Bool) (weight : ℕ) → bit_of b weight ≤ weight
+unfolding bit_of
+bit-weight true weight = omega arith
+bit-weight false weight = omega arith
+
+-- the least and the greatest weight of a bit
+pub bit-least : (m : May) (b : Bool) (weight : ℕ) → may_be m b ≡ true → bit_of (not m.clear) weight ≤ bit_of b weight
+unfolding bit_of
+bit-least m true weight h = bit-weight (not m.clear) weight
+bit-least m false weight h = rw h (omega arith)
+
+pub bit-greatest : (m : May) (b : Bool) (weight : ℕ) → may_be m b ≡ true → bit_of b weight ≤ bit_of m.set weight
+unfolding bit_of
+bit-greatest m true weight h = rw h (omega arith)
+bit-greatest m false weight h = omega arith
+
+or_right : (a b : Bool) → b ≡ true → (a || b) ≡ true
+or_right true b h = refl
+or_right false b h = h
+
+or_left : (a b : Bool) → a ≡ true → (a || b) ≡ true
+or_left true b h = refl
+or_left false b h = cc
+
+or_other : (a b : Bool) → (a || b) ≡ true → b ≡ false → a ≡ true
+or_other true b h e = refl
+or_other false b h e = cc
+
+has_value-from : (m : May) (b : Bool) → may_be m b ≡ true → has_value m ≡ true
+has_value-from m true h = or_right m.clear m.set h
+has_value-from m false h = or_left m.clear m.set h
+
+-- a bit that has a value may be its greatest
+may-greatest : (m : May) → has_value m ≡ true → may_be m m.set ≡ true
+may-greatest m h = choose m.set refl
+  where
+    choose : (b : Bool) → m.set ≡ b → may_be m b ≡ true
+    choose true e = e
+    choose false e = or_other m.clear m.set h e
+
+-- ---- bytes
+
+pub byte_in_any : (x : ℕ) → x < 256 → In any_val x
+byte_in_any x h = record { least = omega arith; most = omega arith }
+
+pub single-is : (v : Val) (x : ℕ) → is_single v ≡ true → In v x → x ≡ v.lo
+single-is v x h m = grind (arith, nat_tests)
+
+pub In-single : (x : ℕ) → In (single x) x
+In-single x = record { least = omega arith; most = omega arith }
+
+-- Z by the bounds of a result
+pub zero-holds : (v : Val) (x : ℕ) → In v x → may_be (zero_by v) (x == 0) ≡ true
+zero-holds v x m = may-by (zero_by v) (x == 0) (λ e. grind (arith, nat_tests)) (λ e. grind (arith, nat_tests))
+
+-- ---- flags and outcomes
+
+pub FlagsIn-known : (f : Flags) → FlagsIn (known_flags f) f
+FlagsIn-known f =
+    record {
+      zero = may-known f.zero;
+      subtract = may-known f.subtract;
+      half_carry = may-known f.half_carry;
+      carry = may-known f.carry;
+    }
+
+pub Gives-exact : (c d : Computed) → d ≡ c → Gives (exact c) d
+Gives-exact c d e = subst (λ k. Gives (exact k) d) e (record { value = In-single d.value; flags = FlagsIn-known d.flags })
+
+pub FlagsIn-greatest : (f : Flg) → IsFlg f → FlagsIn f (greatest_flags f)
+FlagsIn-greatest f h =
+    record {
+      zero = may-greatest f.zero h.zero;
+      subtract = may-greatest f.subtract h.subtract;
+      half_carry = may-greatest f.half_carry h.half_carry;
+      carry = may-greatest f.carry h.carry;
+    }
+
+pub IsFlg-from : (f : Flg) (x : Flags) → FlagsIn f x → IsFlg f
+IsFlg-from f x h =
+    record {
+      zero = has_value-from f.zero x.zero h.zero;
+      subtract = has_value-from f.subtract x.subtract h.subtract;
+      half_carry = has_value-from f.half_carry x.half_carry h.half_carry;
+      carry = has_value-from f.carry x.carry h.carry;
+    }
+
+pub IsVal-from : (v : Val) (x : ℕ) → In v x → v.hi < 256 → IsVal v
+IsVal-from v x m byte = record { order = omega arith; hi = byte }
+
+pub In-least : (v : Val) → IsVal v → In v v.lo
+In-least v h = record { least = omega arith; most = h.order }
+
+IsOutcome-from : (o : Outcome) (c : Computed) → Gives o c → o.val.hi < 256 → IsOutcome o
+IsOutcome-from o c h byte =
+    record { val = IsVal-from o.val c.value h.value byte; flags = IsFlg-from o.flags c.flags h.flags }
+
+-- what is sound has a value, where the operands have one
+pub IsOutcome-sound :
+    (machine : ℕ → Flags → Computed) (v : Val) (f : Flg) (o : Outcome)
+    → IsSound machine v f o → IsVal v → IsFlg f → o.val.hi < 256 → IsOutcome o
+IsOutcome-sound machine v f o sound val flags byte =
+    IsOutcome-from o _ (sound.gives v.lo (greatest_flags f) (In-least v val) (FlagsIn-greatest f flags)) byte
+
+pub IsOutcome-sound_of_two :
+    (machine : ℕ → ℕ → Flags → Computed) (a v : Val) (f : Flg) (o : Outcome)
+    → IsSoundOfTwo machine a v f o → IsVal a → IsVal v → IsFlg f → o.val.hi < 256 → IsOutcome o
+IsOutcome-sound_of_two machine a v f o sound val other flags byte =
+    IsOutcome-from o _ (sound.gives a.lo v.lo (greatest_flags f) (In-least a val) (In-least v other) (FlagsIn-greatest f flags)) byte

@@ -1,0 +1,26 @@
+-- BIT, RES and SET on intervals (CPU instruction set: single bits; own).
+use Rattle.std.specs.Prelude.{ℕ, false, true, if◌then◌else◌}
+use Rattle.gb_cert.specs.declared.types.Val.{Val}
+use Rattle.gb_cert.specs.declared.types.May.{May}
+use Rattle.gb_cert.specs.declared.types.Flg.{Flg}
+use Rattle.gb_ops.specs.Arithmetic as machine
+use Rattle.gb_vals.specs.Vals.{between, single, is_single}
+use Rattle.gb_vals.specs.Flags.{known, either, known_flags, greatest_flags}
+
+-- the flags of a byte that isn't known, with this carry
+abbrev pub tested_any : May → Flg
+tested_any carry =
+    record { zero = either; subtract = known false; half_carry = known true; carry = carry; is_own = false }
+
+-- the flags of a known byte, C as it was
+abbrev pub tested : ℕ → ℕ → Flg → Flg
+tested n x f = record (known_flags (machine.bit_tested n x (greatest_flags f))) { carry = f.carry }
+
+unfoldable pub bit_test : ℕ → Val → Flg → Flg
+bit_test n v f = if is_single v then tested n v.lo f else tested_any f.carry
+
+unfoldable pub bit_reset : ℕ → Val → Val
+bit_reset n v = if is_single v then single (machine.bit_reset n v.lo) else between 0 v.hi
+
+unfoldable pub bit_set : ℕ → Val → Val
+bit_set n v = if is_single v then single (machine.bit_set n v.lo) else between v.lo 255

@@ -1,0 +1,12 @@
+pub mod Alu
+pub mod Bits
+pub mod Carry
+pub mod Daa
+pub mod Flags
+pub mod Logic
+pub mod Meaning
+pub mod Outcomes
+pub mod Shifts
+pub mod Sums
+pub mod Tests
+pub mod Vals

@@ -1,0 +1,61 @@
+-- What intervals and sets of flags stand for, their origins apart (abstract interpretation: concretization and soundness; own).
+use Rattle.std.specs.Prelude.{◌≡◌, ℕ, ◌≤◌, Bool, true, false, Option, None}
+use Rattle.gb_ops.specs.declared.registers.Flags.{Flags}
+use Rattle.gb_ops.specs.declared.machine.Computed.{Computed}
+use Rattle.gb_cert.specs.declared.types.Val.{Val}
+use Rattle.gb_cert.specs.declared.types.May.{May}
+use Rattle.gb_cert.specs.declared.types.Flg.{Flg}
+use Rattle.gb_cert.specs.Rules.{IsVal, IsFlg}
+use Rattle.gb_vals.specs.declared.outcome.Outcome.{Outcome}
+
+-- v stands for x
+pub record In (v : Val) (x : ℕ) : Type 0 where
+  pub least : v.lo ≤ x
+  pub most : x ≤ v.hi
+
+-- a bit may be so
+abbrev pub may_be : May → Bool → Bool
+may_be m true = m.set
+may_be m false = m.clear
+
+-- f stands for x
+pub record FlagsIn (f : Flg) (x : Flags) : Type 0 where
+  pub zero : may_be f.zero x.zero ≡ true
+  pub subtract : may_be f.subtract x.subtract ≡ true
+  pub half_carry : may_be f.half_carry x.half_carry ≡ true
+  pub carry : may_be f.carry x.carry ≡ true
+
+-- an outcome stands for what the machine computes
+pub record Gives (o : Outcome) (c : Computed) : Type 0 where
+  pub value : In o.val c.value
+  pub flags : FlagsIn o.flags c.flags
+
+-- an outcome stands for what the machine computes of each value and flags that v and f stand for
+pub record IsSound (machine : ℕ → Flags → Computed) (v : Val) (f : Flg) (o : Outcome) : Type 0 where
+  pub gives : (x : ℕ) (g : Flags) → In v x → FlagsIn f g → Gives o (machine x g)
+
+-- the same of two operands
+pub record IsSoundOfTwo (machine : ℕ → ℕ → Flags → Computed) (a v : Val) (f : Flg) (o : Outcome) : Type 0 where
+  pub gives : (x y : ℕ) (g : Flags) → In a x → In v y → FlagsIn f g → Gives o (machine x y g)
+
+-- the same of an operation that leaves the flags
+pub record IsSoundOfVal (machine : ℕ → ℕ) (v o : Val) : Type 0 where
+  pub gives : (x : ℕ) → In v x → In o (machine x)
+
+-- the same of one that makes flags alone of a value and the flags
+pub record IsSoundOfTest (machine : ℕ → Flags → Flags) (v : Val) (f o : Flg) : Type 0 where
+  pub gives : (x : ℕ) (g : Flags) → In v x → FlagsIn f g → FlagsIn o (machine x g)
+
+-- the same of one that makes flags of the flags alone
+pub record IsSoundOfFlags (machine : Flags → Flags) (f o : Flg) : Type 0 where
+  pub gives : (g : Flags) → FlagsIn f g → FlagsIn o (machine g)
+
+-- an outcome has a value, and each flag has one
+pub record IsOutcome (o : Outcome) : Type 0 where
+  pub val : IsVal o.val
+  pub flags : IsFlg o.flags
+
+-- an outcome is computed: no copy of anything
+pub record IsComputed (o : Outcome) : Type 0 where
+  pub origin : o.val.origin ≡ None
+  pub own : o.flags.is_own ≡ false

@@ -1,0 +1,73 @@
+//! Single bits of intervals.
+
+ghost use Rattle.std.specs.Prelude.{◌≡◌, false};
+ghost use Rattle.gb_ops.specs.Arithmetic as machine;
+ghost use Rattle.gb_cert.specs.Rules.{IsVal, IsFlg};
+ghost use Rattle.gb_vals.specs.Meaning.{IsSoundOfVal, IsSoundOfTest};
+ghost use Rattle.gb_vals.specs.Bits as Bits;
+
+use crate::flags::{either, greatest_flags, known, known_flags};
+use crate::vals::{between, is_single, single};
+use gb_cert::types::{Flg, May, Val};
+use gb_effects::arithmetic::{bit_reset, bit_set, bit_tested};
+
+/// The flags that BIT leaves of a byte that isn't known.
+fn tested_any(carry: May) -> Flg
+    ensures { result ≡ Bits.tested_any carry }
+{
+    Flg {
+        zero: either(),
+        subtract: known(false),
+        half_carry: known(true),
+        carry,
+        is_own: false,
+    }
+}
+
+/// BIT: Z is known of a known byte alone; the carry stays. Of `n` the low three bits count.
+#[tactic(auto, using(crate::proofs::BitLaws::bit_test_sound, crate::proofs::BitLaws::bit_test_inhabited, crate::proofs::OriginLaws::bit_test_written), unfolding(crate::specs::Bits::bit_test))]
+pub fn test_bit(n: u8, val: Val, flags: Flg) -> Flg
+    ensures exact { result ≡ Bits.bit_test n val flags }
+    ensures sound { IsSoundOfTest (machine.bit_tested n) val flags result }
+    ensures inhabited { IsVal val → IsFlg flags → IsFlg result }
+    ensures written { result.is_own ≡ false }
+{
+    if is_single(val) {
+        Flg {
+            carry: flags.carry,
+            ..known_flags(bit_tested(n, val.lo, greatest_flags(flags)))
+        }
+    } else {
+        tested_any(flags.carry)
+    }
+}
+
+/// RES: from 0, where the byte isn't known. Of `n` the low three bits count.
+#[tactic(auto, using(crate::proofs::BitLaws::bit_reset_sound, crate::proofs::BitLaws::bit_reset_inhabited, crate::proofs::OriginLaws::bit_reset_computed), unfolding(crate::specs::Bits::bit_reset))]
+pub fn reset_bit(n: u8, val: Val) -> Val
+    ensures exact { result ≡ Bits.bit_reset n val }
+    ensures sound { IsSoundOfVal (machine.bit_reset n) val result }
+    ensures inhabited { IsVal val → IsVal result }
+    ensures computed { result.origin ≡ None }
+{
+    if is_single(val) {
+        single(bit_reset(n, val.lo))
+    } else {
+        between(0, val.hi)
+    }
+}
+
+/// SET: up to FF, where the byte isn't known. Of `n` the low three bits count.
+#[tactic(auto, using(crate::proofs::BitLaws::bit_set_sound, crate::proofs::BitLaws::bit_set_inhabited, crate::proofs::OriginLaws::bit_set_computed), unfolding(crate::specs::Bits::bit_set))]
+pub fn set_bit(n: u8, val: Val) -> Val
+    ensures exact { result ≡ Bits.bit_set n val }
+    ensures sound { IsSoundOfVal (machine.bit_set n) val result }
+    ensures inhabited { IsVal val → IsVal result }
+    ensures computed { result.origin ≡ None }
+{
+    if is_single(val) {
+        single(bit_set(n, val.lo))
+    } else {
+        between(val.lo, 255)
+    }
+}

@@ -1,0 +1,26 @@
+//! What an operation may give.
+
+ghost use Rattle.std.specs.Prelude.{◌≡◌};
+ghost use Rattle.gb_vals.specs.Outcomes.{exact};
+
+use crate::flags::known_flags;
+use crate::vals::single;
+use gb_cert::types::{Flg, Val};
+use gb_ops::machine::Computed;
+
+/// What an operation may give: a value, and the flags after it.
+#[derive(Clone, Copy, Debug, PartialEq, Eq)]
+pub struct Outcome {
+    pub val: Val,
+    pub flags: Flg,
+}
+
+/// What the machine computes, and nothing else.
+pub(crate) fn exact(computed: Computed) -> Outcome
+    ensures { result ≡ exact computed }
+{
+    Outcome {
+        val: single(computed.value),
+        flags: known_flags(computed.flags),
+    }
+}
