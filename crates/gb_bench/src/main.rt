@@ -1,9 +1,10 @@
-//! How long a parse and a check of the largest certificate take, beside reading its bytes once, and
-//! the processor's steps, beside the plain body of one event. The times go to standard error; what is printed on standard output is the same each time.
+//! How long a parse and a check of the largest certificate take, beside reading its bytes once; the
+//! processor's steps, beside the plain body of one event; and frames of a full scene. The times go to
+//! standard error; what is printed on standard output is the same each time.
 #![tactic(auto)]
 
-mod bus;
 mod largest;
+mod picture;
 mod processor;
 
 use gb_cert::types::Cert;
@@ -32,6 +33,8 @@ fn report<R: Eprint + Clock>(rt: &R, what: &str, since: &Instant) -> io::Result<
 fn main(rt: HostRuntime) -> io::Result<()> {
     let same = processor::compare(&rt)?;
     println!(rt; "the processor and the plain body agree: {same}")?;
+    let drawn = picture::draw(&rt)?;
+    println!(rt; "a full scene was drawn: {drawn}")?;
     largest_certificate(&rt)
 }
 

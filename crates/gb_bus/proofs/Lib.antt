@@ -2,3 +2,4 @@ pub mod Cartridges
 pub mod Copying
 pub mod Reading
 pub mod Requests
+pub mod Screens

@@ -6,6 +6,7 @@ use Rattle.gb_ops.specs.declared.machine.Place.TheVariants as place
 use Rattle.gb_ops.specs.Memory.{View, mapped_at, is_closed, is_free, is_free_place, place_of, place_by, byte_at, byte_by, wrote, wrote_by, kept_or}
 use Rattle.gb_ops.specs.Cartridge.{kind_of}
 use Rattle.gb_mbc.specs.Controllers.{is_latch}
+use Rattle.gb_ppu.specs.Picture.{mode_of}
 use Rattle.gb_bus.specs.Contents.{Contents}
 use Rattle.gb_bus.specs.Hardware.{hardware_at}
 use Rattle.gb_bus.specs.declared.hardware.Hardware.{Hardware}
@@ -16,7 +17,7 @@ use Rattle.gb_bus.specs.declared.cartridge.Behind.{Behind}
 use Rattle.gb_bus.specs.declared.cartridge.Behind.TheVariants as behind
 use Rattle.gb_bus.specs.CartridgeRam.{behind_written, behind_gate, cartridge_written}
 use Rattle.gb_bus.specs.Registers.{io_written}
-use Rattle.gb_bus.specs.Accessing.{open_byte, byte_read, written, open_written, hardware_written, commanded_where, dropped_or, viewed}
+use Rattle.gb_bus.specs.Accessing.{open_byte, byte_read, written, open_written, hardware_written, commanded_where, dropped_or, viewed, uses_video_ram, uses_oam, lcd_written}
 
 -- ---- a fixed byte is what is read
 
@@ -63,10 +64,16 @@ io_keeps io.TimerControl c v = refl
 io_keeps io.Requests c v = refl
 io_keeps io.Transfer c v = refl
 
+used_keeps : (used : Bool) (c d : Contents) → d.view ≡ c.view → (dropped_or used c d).view ≡ c.view
+used_keeps true c d h = refl
+used_keeps false c d h = h
+
 hardware_keeps : (h : Hardware) (c : Contents) (v : ℕ) → (hardware_written h c v).view ≡ c.view
-hardware_keeps (hardware.VideoRam i) c v = refl
-hardware_keeps (hardware.Oam i) c v = refl
+unfolding lcd_written
+hardware_keeps (hardware.VideoRam i) c v = used_keeps (uses_video_ram (mode_of c.picture)) c _ refl
+hardware_keeps (hardware.Oam i) c v = used_keeps (uses_oam (mode_of c.picture)) c _ refl
 hardware_keeps (hardware.Io r) c v = io_keeps r c v
+hardware_keeps (hardware.Lcd r) c v = refl
 hardware_keeps hardware.Nothing c v = refl
 
 open_shows : (m : Mapped) (c : Contents) (a v : ℕ) → (open_written m c a v).view ≡ wrote_by m c.view a v

@@ -1,6 +1,6 @@
 -- What each access of the console's memory gives and does (Pan Docs: Memory Map; OAM DMA Transfer). Own:
 -- what a transfer closes reads FF; the 160 bytes are copied at the write; pages E0 to FF copy from C0 to DF.
-use Rattle.std.specs.Prelude.{◌≡◌, ℕ, ◌+◌, ◌-◌, ◌*◌, ◌%◌, ◌^◌, Bool, true, false, ◌==◌, nat_le, not, if◌then◌else◌, List, map, slice_index, slice_set, bit_and}
+use Rattle.std.specs.Prelude.{◌≡◌, ℕ, ◌+◌, ◌-◌, ◌*◌, ◌%◌, ◌^◌, Bool, true, false, ◌==◌, nat_le, not, if◌then◌else◌, List, map, slice_index, slice_set, bit_and, bit_or}
 use Rattle.std.specs.List.{range_with_len}
 use Rattle.gb_ops.specs.declared.machine.Mapped.{Mapped}
 use Rattle.gb_ops.specs.declared.machine.Mapped.TheVariants as mapped
@@ -12,6 +12,15 @@ use Rattle.gb_mbc.specs.Controllers.{is_latch}
 use Rattle.gb_timer.specs.Timer as Timer
 use Rattle.gb_bus.specs.declared.hardware.Hardware.{Hardware}
 use Rattle.gb_bus.specs.declared.hardware.Hardware.TheVariants as hardware
+use Rattle.gb_ppu.specs.declared.mode.Mode.{Mode}
+use Rattle.gb_ppu.specs.declared.mode.Mode.TheVariants as mode
+use Rattle.gb_ppu.specs.declared.registers.LcdRegister.{LcdRegister}
+use Rattle.gb_ppu.specs.declared.registers.LcdRegister.TheVariants as lcd
+use Rattle.gb_ppu.specs.Control.{is_on}
+use Rattle.gb_ppu.specs.Picture.{mode_of}
+use Rattle.gb_ppu.specs.LcdRegisters.{register_read, register_written, requested_by}
+use Rattle.gb_ppu.specs.Requests.{request_bits}
+use Rattle.gb_bus.specs.Screen.{blank, pictured}
 use Rattle.gb_bus.specs.Hardware.{hardware_at}
 use Rattle.gb_bus.specs.Contents.{Contents}
 use Rattle.gb_bus.specs.CartridgeRam.{cartridge_byte, cartridge_written}
@@ -19,10 +28,25 @@ use Rattle.gb_bus.specs.Registers.{io_byte, io_written, requested_where, timer_b
 
 -- ---- reads
 
+-- the picture uses video RAM in mode 3, and OAM in modes 2 and 3
+abbrev pub uses_video_ram : Mode → Bool
+uses_video_ram mode.Drawing = true
+uses_video_ram _ = false
+
+abbrev pub uses_oam : Mode → Bool
+uses_oam mode.ObjectScan = true
+uses_oam mode.Drawing = true
+uses_oam _ = false
+
+abbrev pub unless_used : Bool → ℕ → ℕ
+unless_used true byte = 0xFF
+unless_used false byte = byte
+
 abbrev pub hardware_byte : Hardware → Contents → ℕ
-hardware_byte (hardware.VideoRam i) c = slice_index c.video_ram i
-hardware_byte (hardware.Oam i) c = slice_index c.oam i
+hardware_byte (hardware.VideoRam i) c = unless_used (uses_video_ram (mode_of c.picture)) (slice_index c.video_ram i)
+hardware_byte (hardware.Oam i) c = unless_used (uses_oam (mode_of c.picture)) (slice_index c.oam i)
 hardware_byte (hardware.Io register) c = io_byte register c
+hardware_byte (hardware.Lcd register) c = register_read register c.picture
 hardware_byte hardware.Nothing c = 0xFF
 
 -- what is read where no transfer closes it
@@ -64,10 +88,31 @@ abbrev pub commanded_where : Bool → Contents → ℕ → Contents
 commanded_where true c v = record c { clock = Clock.commanded c.clock v }
 commanded_where false c v = c
 
+abbrev pub dropped_or : Bool → Contents → Contents → Contents
+dropped_or true c otherwise = c
+dropped_or false c otherwise = otherwise
+
+-- nothing is shown as the LCD is turned off
+abbrev pub screen_after : LcdRegister → ℕ → List (List ℕ) → List (List ℕ)
+screen_after lcd.Lcdc v screen = if is_on v then screen else blank
+screen_after _ v screen = screen
+
+-- a write to a register of the picture may request STAT's interrupt
+unfoldable pub lcd_written : LcdRegister → Contents → ℕ → Contents
+lcd_written register c v =
+    let picture = register_written register v c.picture in
+    record c {
+      picture = picture;
+      screen = screen_after register v c.screen;
+      requests = bit_or c.requests (request_bits (requested_by c.picture picture));
+    }
+
 abbrev pub hardware_written : Hardware → Contents → ℕ → Contents
-hardware_written (hardware.VideoRam i) c v = record c { video_ram = slice_set c.video_ram i v }
-hardware_written (hardware.Oam i) c v = record c { oam = slice_set c.oam i v }
+hardware_written (hardware.VideoRam i) c v =
+    dropped_or (uses_video_ram (mode_of c.picture)) c (record c { video_ram = slice_set c.video_ram i v })
+hardware_written (hardware.Oam i) c v = dropped_or (uses_oam (mode_of c.picture)) c (record c { oam = slice_set c.oam i v })
 hardware_written (hardware.Io register) c v = io_written register c v
+hardware_written (hardware.Lcd register) c v = lcd_written register c v
 hardware_written hardware.Nothing c v = c
 
 -- the view after a write that no transfer closes
@@ -81,10 +126,6 @@ open_written mapped.CartridgeRam c a v = cartridge_written c a v
 open_written mapped.Transfer c a v = record (viewed mapped.Transfer c a v) { page = v; oam = copied c v }
 open_written mapped.Hardware c a v = hardware_written (hardware_at a) c v
 open_written m c a v = viewed m c a v
-
-abbrev pub dropped_or : Bool → Contents → Contents → Contents
-dropped_or true c otherwise = c
-dropped_or false c otherwise = otherwise
 
 unfoldable pub written : Contents → ℕ → ℕ → Contents
 written c a v = dropped_or (is_closed c.view.storage a) c (open_written (mapped_at a) c a v)
@@ -109,7 +150,7 @@ timed c n =
 
 -- n M-cycles pass
 unfoldable pub advanced : Contents → ℕ → Contents
-advanced c n = timed (record c { view = passed c.view n }) n
+advanced c n = pictured n (timed (record c { view = passed c.view n }) n)
 
 -- an access, with the memory before it and after it
 abbrev pub Does : Contents → Access → Contents → Type 0

@@ -4,6 +4,7 @@ use Rattle.gb_ops.specs.Memory.{View}
 use Rattle.gb_mbc.specs.Clock.{ClockState}
 use Rattle.gb_timer.specs.Timer.{Counters}
 use Rattle.gb_timer.specs.Joypad.{Pad}
+use Rattle.gb_ppu.specs.declared.picture.Picture.{Picture}
 
 -- what the machine of the checker knows stands in the view: the cartridge, the controller's registers,
 -- plain storage, the transfer's count and whether one starts
@@ -15,6 +16,9 @@ pub record Contents : Type 0 where
   pub oam : List ℕ
   pub timer : Counters
   pub pad : Pad
+  pub picture : Picture
+  -- 144 lines of 160 shades
+  pub screen : List (List ℕ)
   -- the five bits of IF
   pub requests : ℕ
   -- what was written to FF46 last

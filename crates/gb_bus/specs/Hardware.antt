@@ -3,6 +3,7 @@ use Rattle.std.specs.Prelude.{ℕ, ◌-◌, ◌==◌, ◌<◌, nat_lt, if◌then
 use Rattle.gb_bus.specs.declared.hardware.Hardware.{Hardware}
 use Rattle.gb_bus.specs.declared.hardware.Hardware.TheVariants as hardware
 use Rattle.gb_bus.specs.declared.hardware.IoRegister.TheVariants as io
+use Rattle.gb_ppu.specs.declared.registers.LcdRegister.TheVariants as lcd
 
 -- the I/O register at an address from FF00 to FF7F; all others read FF and drop writes (own)
 unfoldable pub register_at : ℕ → Hardware
@@ -13,7 +14,18 @@ register_at a =
     else if a == 0xFF06 then hardware.Io io.TimerModulo
     else if a == 0xFF07 then hardware.Io io.TimerControl
     else if a == 0xFF0F then hardware.Io io.Requests
+    else if a == 0xFF40 then hardware.Lcd lcd.Lcdc
+    else if a == 0xFF41 then hardware.Lcd lcd.Stat
+    else if a == 0xFF42 then hardware.Lcd lcd.Scy
+    else if a == 0xFF43 then hardware.Lcd lcd.Scx
+    else if a == 0xFF44 then hardware.Lcd lcd.Ly
+    else if a == 0xFF45 then hardware.Lcd lcd.Lyc
     else if a == 0xFF46 then hardware.Io io.Transfer
+    else if a == 0xFF47 then hardware.Lcd lcd.Bgp
+    else if a == 0xFF48 then hardware.Lcd lcd.Obp0
+    else if a == 0xFF49 then hardware.Lcd lcd.Obp1
+    else if a == 0xFF4A then hardware.Lcd lcd.Wy
+    else if a == 0xFF4B then hardware.Lcd lcd.Wx
     else hardware.Nothing
 
 -- what stands at an address from 8000 to 9FFF or from FE00 to FF7F

@@ -4,3 +4,4 @@ pub mod Contents
 pub mod Hardware
 pub mod PowerUp
 pub mod Registers
+pub mod Screen

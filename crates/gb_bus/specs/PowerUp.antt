@@ -5,7 +5,9 @@ use Rattle.gb_ops.specs.Cartridge.{banks_at_power_up, ram_banks}
 use Rattle.gb_ops.specs.Memory.{View}
 use Rattle.gb_mbc.specs.Clock.{clock_at_power_up}
 use Rattle.gb_timer.specs.Timer as Timer
+use Rattle.gb_ppu.specs.PowerUp.{power_up}
 use Rattle.gb_bus.specs.Contents.{Contents}
+use Rattle.gb_bus.specs.Screen.{blank}
 
 -- so many bytes 00
 unfoldable pub zeros : ℕ → List ℕ
@@ -35,6 +37,8 @@ at_power_up rom =
       oam = zeros 160;
       timer = Timer.at_power_up;
       pad = record { select = 0; keys = 0 };
+      picture = power_up;
+      screen = blank;
       requests = 1;
       page = 0;
     }

@@ -30,9 +30,12 @@ impl Memory<'_> {
         ensures { result ≡ Accessing.hardware_byte (Map.hardware_at address) self.now }
     {
         match hardware_at(address) {
+            Hardware::VideoRam(_) if self.uses_video_ram() => 0xFF,
             Hardware::VideoRam(i) => self.video_ram[usize::from(i)],
+            Hardware::Oam(_) if self.uses_oam() => 0xFF,
             Hardware::Oam(i) => self.oam[usize::from(i)],
             Hardware::Io(register) => self.io_byte(register),
+            Hardware::Lcd(register) => self.ppu.read(register),
             Hardware::Nothing => 0xFF,
         }
     }
@@ -97,9 +100,18 @@ impl Memory<'_> {
         ensures { self.new ≡ Accessing.hardware_written (Map.hardware_at address) self.old value }
     {
         match hardware_at(address) {
-            Hardware::VideoRam(i) => self.video_ram[usize::from(i)] = value,
-            Hardware::Oam(i) => self.oam[usize::from(i)] = value,
+            Hardware::VideoRam(i) => {
+                if !self.uses_video_ram() {
+                    self.video_ram[usize::from(i)] = value;
+                }
+            }
+            Hardware::Oam(i) => {
+                if !self.uses_oam() {
+                    self.oam[usize::from(i)] = value;
+                }
+            }
             Hardware::Io(register) => self.write_io(register, value),
+            Hardware::Lcd(register) => self.write_lcd(register, value),
             Hardware::Nothing => {}
         }
     }
@@ -208,5 +220,6 @@ impl Bus for Memory<'_> {
     fn pass(&mut self, cycles: u8) {
         self.pass_transfer(cycles);
         self.pass_timer(cycles);
+        self.pass_picture(cycles);
     }
 }

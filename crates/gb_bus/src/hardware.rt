@@ -3,7 +3,9 @@
 ghost use Rattle.std.specs.Prelude.{◌≡◌, ◌≤◌};
 ghost use Rattle.gb_bus.specs.Hardware as Map;
 
-/// The I/O registers that the console has.
+use gb_ppu::registers::LcdRegister;
+
+/// The I/O registers that the console has, but for the picture's.
 #[derive(Clone, Copy, Debug, PartialEq, Eq)]
 pub enum IoRegister {
     /// FF00, JOYP.
@@ -30,6 +32,8 @@ pub enum Hardware {
     /// A byte of OAM, by its index.
     Oam(u16),
     Io(IoRegister),
+    /// A register of the picture.
+    Lcd(LcdRegister),
     /// It reads FF, and writes are dropped.
     Nothing,
 }
@@ -50,7 +54,18 @@ pub fn hardware_at(address: u16) -> Hardware
         0xFF06 => Hardware::Io(IoRegister::TimerModulo),
         0xFF07 => Hardware::Io(IoRegister::TimerControl),
         0xFF0F => Hardware::Io(IoRegister::Requests),
+        0xFF40 => Hardware::Lcd(LcdRegister::Lcdc),
+        0xFF41 => Hardware::Lcd(LcdRegister::Stat),
+        0xFF42 => Hardware::Lcd(LcdRegister::Scy),
+        0xFF43 => Hardware::Lcd(LcdRegister::Scx),
+        0xFF44 => Hardware::Lcd(LcdRegister::Ly),
+        0xFF45 => Hardware::Lcd(LcdRegister::Lyc),
         0xFF46 => Hardware::Io(IoRegister::Transfer),
+        0xFF47 => Hardware::Lcd(LcdRegister::Bgp),
+        0xFF48 => Hardware::Lcd(LcdRegister::Obp0),
+        0xFF49 => Hardware::Lcd(LcdRegister::Obp1),
+        0xFF4A => Hardware::Lcd(LcdRegister::Wy),
+        0xFF4B => Hardware::Lcd(LcdRegister::Wx),
         _ => Hardware::Nothing,
     }
 }

@@ -11,6 +11,7 @@ mod access;
 pub mod cartridge;
 pub mod hardware;
 pub mod memory;
+mod picture;
 mod registers;
 mod transfer;
 

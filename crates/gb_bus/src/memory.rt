@@ -2,10 +2,14 @@
 
 ghost use Rattle.std.specs.Prelude.{◌≡◌, ◌<◌, ◌≤◌, IfOk, vec_len};
 ghost use Rattle.gb_bus.specs.PowerUp.{at_power_up, zeros};
+ghost use Rattle.gb_bus.specs.Screen.{blank};
 
 use gb_dma::Transfer;
 use gb_header::Rom;
 use gb_mbc::{Clock, Controller};
+use gb_ppu::line::WIDTH;
+use gb_ppu::ppu::Ppu;
+use gb_ppu::scene::{OAM, VIDEO_RAM};
 use gb_timer::joypad::Joypad;
 use gb_timer::timer::Timer;
 use std::alloc::{AllocError, Global};
@@ -17,11 +21,8 @@ pub(crate) const WORK_RAM: usize = 0x2000;
 /// Bytes of high RAM.
 pub(crate) const HIGH_RAM: usize = 127;
 
-/// Bytes of video RAM.
-pub(crate) const VIDEO_RAM: usize = 0x2000;
-
-/// Bytes of OAM.
-pub(crate) const OAM: usize = 160;
+/// Lines of the screen.
+pub const HEIGHT: usize = 144;
 
 /// The console's memory: a cartridge, its controller, and everything that has an address.
 #[derive(Drop)]
@@ -37,6 +38,9 @@ pub struct Memory<'a> {
     pub(crate) interrupt_enable: u8,
     pub(crate) timer: Timer,
     pub(crate) joypad: Joypad,
+    pub(crate) ppu: Ppu,
+    /// The shades of each line, as it was drawn last.
+    pub(crate) screen: Box<[[u8; WIDTH]; HEIGHT]>,
     /// The low five bits of IF.
     pub(crate) requests: u8,
     pub(crate) transfer: Transfer,
@@ -74,6 +78,8 @@ impl<'a> Model for Memory<'a> {
       oam = m.oam.value;
       timer = m.timer;
       pad = m.joypad;
+      picture = m.ppu;
+      screen = m.screen.value;
       requests = m.requests;
       page = m.page;
     } };
@@ -87,6 +93,14 @@ fn zeros<const N: usize>(alloc: Global) -> Result<Box<[u8; N]>, AllocError>
     ensures { IfOk result (λ bytes. bytes.value ≡ zeros N) }
 {
     Ok(Box::new(alloc, [0; N])?)
+}
+
+/// A screen that shows nothing.
+#[tactic(auto, unfolding(crate::specs::Screen::blank))]
+fn dark(alloc: Global) -> Result<Box<[[u8; WIDTH]; HEIGHT]>, AllocError>
+    ensures { IfOk result (λ screen. screen.value ≡ blank) }
+{
+    Ok(Box::new(alloc, [[0; WIDTH]; HEIGHT])?)
 }
 
 /// So many bytes 00.
@@ -110,6 +124,7 @@ impl<'a> Memory<'a> {
         let work_ram = zeros(alloc)?;
         let oam = zeros(alloc)?;
         let high_ram = zeros(alloc)?;
+        let screen = dark(alloc)?;
         let memory = Memory {
             rom: rom.bytes(),
             controller: Controller::of(rom),
@@ -122,11 +137,20 @@ impl<'a> Memory<'a> {
             interrupt_enable: 0,
             timer: Timer::new(),
             joypad: Joypad::new(),
+            ppu: Ppu::new(),
+            screen,
             requests: 1,
             transfer: Transfer::new(),
             is_starting: false,
             page: 0,
         };
         Ok(memory)
+    }
+
+    /// The shades of each line, from the top on: 0 to 3, as each was drawn last.
+    pub fn screen(&self) -> &[[u8; WIDTH]; HEIGHT]
+        ensures { result.now ≡ self.now.screen }
+    {
+        &self.screen
     }
 }

@@ -4,9 +4,10 @@ ghost use Rattle.std.specs.Prelude.{◌≡◌, ◌<◌, ◌≤◌, ◌+◌, ◌*
 ghost use Rattle.std.specs.List.{range_with_len};
 ghost use Rattle.gb_bus.specs.Accessing as Accessing;
 
-use crate::memory::{Memory, OAM};
+use crate::memory::Memory;
 use gb_ops::machine::Mapped;
 use gb_ops::map::mapped_at;
+use gb_ppu::scene::OAM;
 
 /// The page that a transfer copies from: E0 to FF are copied from C0 to DF.
 fn source_page(page: u8) -> u8

@@ -12,13 +12,13 @@ ghost use Rattle.gb_next.specs.Shown.{bus, resting};
 use crate::controller::{banks_after, has_ram_or_clock};
 use crate::fetch::fetched;
 use crate::memory::closes;
-use gb_ops::map::mapped_at;
 use crate::next::{effect_at, is_possible};
 use crate::state::MachineState;
 use gb_effects::advance::{advanced, length_of, second_address, third_address};
 use gb_effects::effect::read_of;
 use gb_ops::decode::decode;
 use gb_ops::machine::{Banks, Event, Faults, Mapped, Read, Region, Write};
+use gb_ops::map::mapped_at;
 use gb_ops::op::Row;
 use gb_ops::registers::Processor;
 

@@ -48,7 +48,7 @@ or-assoc false y z = refl
 both-assoc : (a b c : Requests) → both a (both b c) ≡ both (both a b) c
 both-assoc a b c = rw (or-assoc a.vblank b.vblank c.vblank, or-assoc a.stat b.stat c.stat) refl
 
-requested_in-append : (a b : ℕ) (p : Picture) → requested_in (a + b) p ≡ both (requested_in a p) (requested_in b (advanced a p))
+pub requested_in-append : (a b : ℕ) (p : Picture) → requested_in (a + b) p ≡ both (requested_in a p) (requested_in b (advanced a p))
 unfolding advanced requested_in
 requested_in-append zero b p = let e : zero + b ≡ b = omega arith in rw e refl
 requested_in-append (suc a) b p =
@@ -61,7 +61,7 @@ unfolding requested_in
 requested_in-split a b p silent = rw (requested_in-append a (suc b) p, silent) refl
 
 -- off
-off-ticked : (p : Picture) → is_on p.lcdc ≡ false → ticked p ≡ p
+pub off-ticked : (p : Picture) → is_on p.lcdc ≡ false → ticked p ≡ p
 unfolding ticked
 off-ticked p off = rw off refl
 

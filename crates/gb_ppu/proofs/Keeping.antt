@@ -73,11 +73,11 @@ moved-registers p position =
       wx = h.wx;
     }
 
-ticked-registers : (p : Picture) → HasSameRegisters p (ticked p)
+pub ticked-registers : (p : Picture) → HasSameRegisters p (ticked p)
 unfolding ticked
 ticked-registers p = either-same (is_on p.lcdc) p _ (moved-registers p ((p.position + 1) % 17556))
 
-ticked-position : (p : Picture) → is_on p.lcdc ≡ true → (ticked p).position ≡ (p.position + 1) % 17556
+pub ticked-position : (p : Picture) → is_on p.lcdc ≡ true → (ticked p).position ≡ (p.position + 1) % 17556
 unfolding ticked
 ticked-position p on = rw on (arrived-like (record p { position = (p.position + 1) % 17556 })).position
 

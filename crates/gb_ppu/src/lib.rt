@@ -1,7 +1,7 @@
 //! The picture: its modes and requests, and lines that are their pixels.
 #![tactic(auto)]
 
-mod control;
+pub mod control;
 mod course;
 pub mod line;
 mod maps;

@@ -1,13 +1,12 @@
 -- The operations of A stand for those of the machine.
-use Rattle.std.proofs.Common.{◌≡◌, ℕ, ◌+◌, ◌-◌, ◌%◌, ◌<◌, ◌≤◌, Bool, true, false, ◌==◌, nat_lt, refl, sym, subst, arith}
+use Rattle.std.proofs.Common.{◌≡◌, ℕ, ◌+◌, ◌-◌, ◌%◌, ◌<◌, Bool, true, false, ◌==◌, nat_lt, refl, sym, subst, arith}
 use Rattle.std.proofs.lemmas.Bool.Decides.{nat_tests}
 use Rattle.std.specs.Int.Bits.{and_self, or_self, xor_self}
 use Rattle.gb_ops.specs.declared.op.AluOp.{AluOp}
 use Rattle.gb_ops.specs.declared.op.AluOp.TheVariants as op
 use Rattle.gb_ops.specs.declared.registers.Flags.{Flags}
-use Rattle.gb_ops.specs.declared.machine.Computed.{Computed}
 use Rattle.gb_ops.specs.Flags.{bit_of}
-use Rattle.gb_ops.specs.Arithmetic.{alu_result, added, subtracted, logical}
+use Rattle.gb_ops.specs.Arithmetic.{alu_result, subtracted, logical}
 use Rattle.gb_cert.specs.declared.types.Val.{Val}
 use Rattle.gb_cert.specs.declared.types.Flg.{Flg}
 use Rattle.gb_cert.specs.Rules.{IsVal, IsFlg}

@@ -1,16 +1,14 @@
 -- BIT, RES and SET stand for those of the machine.
-use Rattle.std.proofs.Common.{◌≡◌, ℕ, ◌+◌, ◌-◌, ◌*◌, ◌/◌, ◌%◌, ◌^◌, ◌<◌, ◌≤◌, Bool, true, false, ◌==◌, if◌then◌else◌, cond, bit_and, bit_or, refl, sym, subst, arith}
-use Rattle.std.proofs.lemmas.Bool.Decides.{nat_tests}
+use Rattle.std.proofs.Common.{◌≡◌, ℕ, ◌-◌, ◌%◌, ◌<◌, ◌≤◌, Bool, true, false, ◌==◌, cond, bit_and, refl, sym, subst, arith}
 use Rattle.std.proofs.lemmas.Nat.{and_le_l, le_or_l, or_lt}
 use Rattle.std.proofs.Math.Pow.{pow-lt}
 use Rattle.gb_ops.specs.declared.registers.Flags.{Flags}
 use Rattle.gb_ops.specs.Arithmetic as machine
 use Rattle.gb_cert.specs.declared.types.Val.{Val}
-use Rattle.gb_cert.specs.declared.types.May.{May}
 use Rattle.gb_cert.specs.declared.types.Flg.{Flg}
 use Rattle.gb_cert.specs.Rules.{IsVal, IsFlg}
 use Rattle.gb_vals.specs.Vals.{between, single, is_single}
-use Rattle.gb_vals.specs.Flags.{known, either, known_flags, greatest_flags}
+use Rattle.gb_vals.specs.Flags.{known, greatest_flags}
 use Rattle.gb_vals.specs.Meaning.{In, FlagsIn, may_be, IsSoundOfVal, IsSoundOfTest}
 use Rattle.gb_vals.specs.Bits.{tested, tested_any, bit_test, bit_reset, bit_set}
 use Rattle.gb_vals.proofs.MeaningLaws.{may-known, may-either, single-is, In-single, In-least, IsVal-from, IsFlg-from, FlagsIn-greatest}

@@ -1,7 +1,6 @@
 -- Tests hold, and sides stand for A and the flags where the condition is met.
-use Rattle.std.proofs.Common.{◌≡◌, ℕ, ◌+◌, ◌-◌, ◌%◌, ◌<◌, ◌≤◌, Bool, true, false, not, ◌==◌, if◌then◌else◌, cond, nat_lt, nat_le, Option, Some, None, refl, sym, ◌∙◌, ap, subst, arith}
+use Rattle.std.proofs.Common.{◌≡◌, ℕ, ◌+◌, ◌-◌, ◌%◌, ◌<◌, ◌≤◌, Bool, true, false, ◌==◌, cond, nat_lt, Option, Some, None, refl, sym, ◌∙◌, subst, arith}
 use Rattle.std.proofs.lemmas.Bool.Decides.{nat_tests}
-use Rattle.std.specs.Int.Bits.{and_self, or_self}
 use Rattle.gb_ops.specs.declared.op.AluOp.{AluOp}
 use Rattle.gb_ops.specs.declared.op.AluOp.TheVariants as op
 use Rattle.gb_ops.specs.declared.op.Condition.{Condition}
@@ -13,7 +12,6 @@ use Rattle.gb_cert.specs.declared.types.Val.{Val}
 use Rattle.gb_cert.specs.declared.types.Flg.{Flg}
 use Rattle.gb_cert.specs.Rules.{IsVal, IsFlg}
 use Rattle.gb_vals.specs.declared.branch.Branch.{Branch}
-use Rattle.gb_vals.specs.Flags.{known}
 use Rattle.gb_vals.specs.Logic.{smaller, larger}
 use Rattle.gb_vals.specs.Meaning.{In, FlagsIn, may_be}
 use Rattle.gb_vals.specs.Alu.{result_with, result_with_itself}

@@ -1,17 +1,16 @@
 -- DAA stands for that of the machine.
-use Rattle.std.proofs.Common.{◌≡◌, ℕ, ◌+◌, ◌-◌, ◌%◌, ◌<◌, ◌≤◌, Bool, true, false, not, ◌&&◌, ◌||◌, ◌==◌, if◌then◌else◌, cond, nat_lt, refl, sym, subst, arith}
+use Rattle.std.proofs.Common.{◌≡◌, ℕ, ◌%◌, ◌<◌, Bool, true, false, ◌&&◌, cond, refl, sym, subst, arith}
 use Rattle.gb_ops.specs.declared.registers.Flags.{Flags}
-use Rattle.gb_ops.specs.declared.machine.Computed.{Computed}
-use Rattle.gb_ops.specs.Arithmetic.{adjustment, adjusted}
+use Rattle.gb_ops.specs.Arithmetic.{adjusted}
 use Rattle.gb_cert.specs.declared.types.Val.{Val}
 use Rattle.gb_cert.specs.declared.types.Flg.{Flg}
 use Rattle.gb_cert.specs.Rules.{IsVal, IsFlg}
 use Rattle.gb_vals.specs.declared.outcome.Outcome.{Outcome}
-use Rattle.gb_vals.specs.Vals.{any_val, is_single}
-use Rattle.gb_vals.specs.Flags.{known, either, is_known, greatest_flags}
+use Rattle.gb_vals.specs.Vals.{is_single}
+use Rattle.gb_vals.specs.Flags.{is_known, greatest_flags}
 use Rattle.gb_vals.specs.Outcomes.{exact}
 use Rattle.gb_vals.specs.Meaning.{In, FlagsIn, Gives, IsSound, IsOutcome}
-use Rattle.gb_vals.specs.Daa.{are_read_known, adjusted_any, adjustment_of}
+use Rattle.gb_vals.specs.Daa.{adjusted_any, adjustment_of}
 use Rattle.gb_vals.proofs.MeaningLaws.{and_both, may-either, known-is, single-is, byte_in_any, Gives-exact, IsOutcome-sound}
 
 adjusted-byte : (a : ℕ) (f : Flags) → (adjusted a f).value < 256

@@ -1,15 +1,14 @@
 -- F as an interval of bytes, and a byte as flags.
-use Rattle.std.proofs.Common.{◌≡◌, ℕ, ◌+◌, ◌<◌, ◌≤◌, Bool, true, false, not, ◌==◌, if◌then◌else◌, cond, Option, Some, None, refl, sym, subst, arith}
-use Rattle.std.proofs.lemmas.Bool.Decides.{nat_tests}
+use Rattle.std.proofs.Common.{◌≡◌, ℕ, ◌<◌, ◌≤◌, Bool, true, false, not, cond, refl, sym, subst, arith}
 use Rattle.gb_ops.specs.declared.registers.Flags.{Flags}
 use Rattle.gb_ops.specs.Flags.{bit_of, flags_byte, flags_of}
 use Rattle.gb_cert.specs.declared.types.Val.{Val}
 use Rattle.gb_cert.specs.declared.types.Flg.{Flg}
 use Rattle.gb_cert.specs.Rules.{IsVal, IsFlg}
 use Rattle.gb_vals.specs.Vals.{is_single}
-use Rattle.gb_vals.specs.Flags.{known, either, any_flags, with_own, known_flags, least_flags, greatest_flags, is_own_origin, flags_val, flags_of_val}
+use Rattle.gb_vals.specs.Flags.{any_flags, with_own, known_flags, greatest_flags, is_own_origin, flags_val, flags_of_val}
 use Rattle.gb_vals.specs.Meaning.{In, FlagsIn}
-use Rattle.gb_vals.proofs.MeaningLaws.{may-known, may-either, bit-weight, bit-least, bit-greatest, single-is, FlagsIn-known, FlagsIn-greatest, IsFlg-from, IsVal-from, In-least}
+use Rattle.gb_vals.proofs.MeaningLaws.{may-either, bit-weight, bit-least, bit-greatest, single-is, FlagsIn-known, FlagsIn-greatest, IsFlg-from, IsVal-from, In-least}
 
 flags_val-holds : (f : Flg) (x : Flags) → FlagsIn f x → In (flags_val f) (flags_byte x)
 unfolding flags_val flags_byte

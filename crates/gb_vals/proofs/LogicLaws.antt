@@ -1,11 +1,10 @@
 -- Bitwise operations stand for those of the machine.
-use Rattle.std.proofs.Common.{◌≡◌, ℕ, ◌+◌, ◌-◌, ◌*◌, ◌^◌, ◌<◌, ◌≤◌, Bool, true, false, ◌&&◌, ◌==◌, if◌then◌else◌, cond, nat_le, bit_and, bit_or, refl, sym, subst, arith}
+use Rattle.std.proofs.Common.{◌≡◌, ℕ, ◌+◌, ◌*◌, ◌<◌, ◌≤◌, Bool, true, false, ◌&&◌, cond, bit_and, bit_or, refl, sym, subst, arith}
 use Rattle.std.specs.Prelude.{bit_xor}
 use Rattle.std.proofs.lemmas.Bool.Decides.{nat_tests}
 use Rattle.std.proofs.lemmas.Nat.{and_le_l, and_le_r, le_or_l, le_or_r, or_lt}
 use Rattle.std.specs.Int.Bits.{or_add_and, xor_add_and}
 use Rattle.gb_ops.specs.declared.registers.Flags.{Flags}
-use Rattle.gb_ops.specs.declared.machine.Computed.{Computed}
 use Rattle.gb_ops.specs.Arithmetic as machine
 use Rattle.gb_cert.specs.declared.types.Val.{Val}
 use Rattle.gb_cert.specs.declared.types.Flg.{Flg}
@@ -14,7 +13,7 @@ use Rattle.gb_vals.specs.declared.outcome.Outcome.{Outcome}
 use Rattle.gb_vals.specs.Vals.{between, any_val, is_single}
 use Rattle.gb_vals.specs.Outcomes.{exact}
 use Rattle.gb_vals.specs.Meaning.{In, FlagsIn, Gives, IsSound, IsOutcome}
-use Rattle.gb_vals.specs.Logic.{smaller, larger, logical, are_single, conjunction, disjunction, exclusion, of_itself, complement_result, complement}
+use Rattle.gb_vals.specs.Logic.{smaller, larger, logical, conjunction, disjunction, exclusion, of_itself, complement_result, complement}
 use Rattle.gb_vals.proofs.MeaningLaws.{and_both, may-known, single-is, zero-holds, byte_in_any, Gives-exact, IsOutcome-sound}
 
 -- ---- bounds of bits

@@ -1,5 +1,5 @@
 -- What is computed is no copy of anything.
-use Rattle.std.proofs.Common.{◌≡◌, ℕ, ◌+◌, ◌-◌, ◌/◌, ◌%◌, Bool, true, false, ◌&&◌, ◌==◌, if◌then◌else◌, cond, nat_lt, bit_and, bit_or, Option, None, refl, sym, subst}
+use Rattle.std.proofs.Common.{◌≡◌, ℕ, ◌+◌, ◌-◌, ◌/◌, ◌%◌, Bool, true, false, ◌&&◌, ◌==◌, if◌then◌else◌, cond, nat_lt, bit_and, bit_or, None, refl, sym, subst}
 use Rattle.std.specs.Prelude.{bit_xor}
 use Rattle.gb_ops.specs.declared.op.AluOp.{AluOp}
 use Rattle.gb_ops.specs.declared.op.AluOp.TheVariants as op
@@ -12,7 +12,7 @@ use Rattle.gb_cert.specs.declared.types.May.{May}
 use Rattle.gb_cert.specs.declared.types.Flg.{Flg}
 use Rattle.gb_vals.specs.declared.outcome.Outcome.{Outcome}
 use Rattle.gb_vals.specs.Vals.{between, single, any_val, is_single}
-use Rattle.gb_vals.specs.Flags.{known, is_known, greatest_flags}
+use Rattle.gb_vals.specs.Flags.{known, greatest_flags}
 use Rattle.gb_vals.specs.Outcomes.{exact}
 use Rattle.gb_vals.specs.Meaning.{IsComputed}
 use Rattle.gb_vals.specs.Sums.{cut, sum_of, difference_of, least_bit, greatest_bit, are_known, sum, difference, counted, keeping_carry, next_val, previous_val, increment, decrement}

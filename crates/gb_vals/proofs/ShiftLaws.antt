@@ -1,23 +1,19 @@
 -- Rotations and shifts stand for those of the machine.
-use Rattle.std.proofs.Common.{◌≡◌, ℕ, ◌+◌, ◌*◌, ◌/◌, ◌%◌, ◌<◌, ◌≤◌, Bool, true, false, ◌&&◌, ◌==◌, if◌then◌else◌, cond, refl, sym, ap, subst, arith}
-use Rattle.std.proofs.lemmas.Bool.Decides.{nat_tests}
+use Rattle.std.proofs.Common.{◌≡◌, ℕ, ◌<◌, ◌≤◌, Bool, true, false, ◌&&◌, cond, refl, sym, ap, subst, arith}
 use Rattle.gb_ops.specs.declared.op.Shift.{Shift}
 use Rattle.gb_ops.specs.declared.op.Shift.TheVariants as shift
 use Rattle.gb_ops.specs.declared.registers.Flags.{Flags}
-use Rattle.gb_ops.specs.declared.machine.Computed.{Computed}
 use Rattle.gb_ops.specs.Flags.{bit_of}
-use Rattle.gb_ops.specs.Effects.{without_zero}
 use Rattle.gb_ops.specs.Arithmetic as machine
 use Rattle.gb_cert.specs.declared.types.Val.{Val}
 use Rattle.gb_cert.specs.declared.types.May.{May}
 use Rattle.gb_cert.specs.declared.types.Flg.{Flg}
 use Rattle.gb_cert.specs.Rules.{IsVal, IsFlg}
 use Rattle.gb_vals.specs.declared.outcome.Outcome.{Outcome}
-use Rattle.gb_vals.specs.Vals.{between, any_val, is_single}
-use Rattle.gb_vals.specs.Flags.{known, either, is_known}
+use Rattle.gb_vals.specs.Vals.{is_single}
 use Rattle.gb_vals.specs.Outcomes.{exact}
 use Rattle.gb_vals.specs.Meaning.{In, FlagsIn, may_be, Gives, IsSound, IsOutcome}
-use Rattle.gb_vals.specs.Shifts.{is_carry_known, shifted_val, carry_out, shifted_any, shift_of, shift_result, clearing_zero, rotation_of_a, rotation_result}
+use Rattle.gb_vals.specs.Shifts.{is_carry_known, shifted_val, carry_out, shifted_any, shift_of, shift_result, rotation_of_a, rotation_result}
 use Rattle.gb_vals.proofs.MeaningLaws.{and_both, bit-weight, may-either, known-is, single-is, byte_in_any, Gives-exact, IsOutcome-sound}
 
 shifted-byte : (how : Shift) (x : ℕ) (c : Bool) → x < 256 → machine.shifted_value how x c < 256

@@ -1,8 +1,7 @@
 -- Sums and differences stand for those of the machine.
-use Rattle.std.proofs.Common.{◌≡◌, ℕ, ◌+◌, ◌-◌, ◌*◌, ◌/◌, ◌%◌, ◌<◌, ◌≤◌, Bool, true, false, not, ◌&&◌, ◌||◌, ◌==◌, if◌then◌else◌, cond, nat_lt, nat_le, refl, sym, ◌∙◌, ap, subst, arith}
+use Rattle.std.proofs.Common.{◌≡◌, ℕ, ◌+◌, ◌-◌, ◌/◌, ◌%◌, ◌<◌, ◌≤◌, Bool, true, false, ◌&&◌, ◌==◌, cond, nat_lt, nat_le, refl, sym, subst, arith}
 use Rattle.std.proofs.lemmas.Bool.Decides.{nat_tests}
 use Rattle.gb_ops.specs.declared.registers.Flags.{Flags}
-use Rattle.gb_ops.specs.declared.machine.Computed.{Computed}
 use Rattle.gb_cert.specs.declared.types.Val.{Val}
 use Rattle.gb_cert.specs.declared.types.May.{May}
 use Rattle.gb_cert.specs.declared.types.Flg.{Flg}
@@ -10,12 +9,12 @@ use Rattle.gb_ops.specs.Flags.{bit_of}
 use Rattle.gb_ops.specs.Arithmetic.{added, subtracted, incremented, decremented}
 use Rattle.gb_vals.specs.declared.outcome.Outcome.{Outcome}
 use Rattle.gb_vals.specs.Vals.{between, any_val, is_single}
-use Rattle.gb_vals.specs.Flags.{known, either, is_known, zero_by, greatest_flags}
+use Rattle.gb_vals.specs.Flags.{is_known, greatest_flags}
 use Rattle.gb_vals.specs.Outcomes.{exact}
 use Rattle.gb_vals.specs.Meaning.{In, FlagsIn, may_be, Gives, IsSound, IsOutcome}
 use Rattle.gb_cert.specs.Rules.{IsVal, IsFlg}
-use Rattle.gb_vals.specs.Sums.{cut, zero_of, has_multiple_of_256, has_other, sum_of, difference_of, least_bit, greatest_bit, are_known, sum, difference, counted, keeping_carry, next_val, previous_val, increment, decrement}
-use Rattle.gb_vals.proofs.MeaningLaws.{byte_in_any, bit-least, bit-greatest, IsOutcome-sound, and_both, may-known, may-either, may-by, known-is, single-is, In-single, zero-holds, FlagsIn-known, Gives-exact}
+use Rattle.gb_vals.specs.Sums.{cut, zero_of, sum_of, difference_of, least_bit, greatest_bit, are_known, sum, difference, counted, keeping_carry, next_val, previous_val, increment, decrement}
+use Rattle.gb_vals.proofs.MeaningLaws.{byte_in_any, bit-least, bit-greatest, IsOutcome-sound, and_both, may-known, may-either, may-by, known-is, single-is, In-single, zero-holds, Gives-exact}
 
 -- ---- whole numbers from least to most
 

@@ -1,5 +1,5 @@
 -- SCF and CCF on sets of flags (CPU instruction set; own).
-use Rattle.std.specs.Prelude.{Bool, true, false, not, if◌then◌else◌}
+use Rattle.std.specs.Prelude.{true, false, not, if◌then◌else◌}
 use Rattle.gb_ops.specs.declared.registers.Flags.{Flags}
 use Rattle.gb_cert.specs.declared.types.May.{May}
 use Rattle.gb_cert.specs.declared.types.Flg.{Flg}

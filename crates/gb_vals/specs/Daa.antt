@@ -1,5 +1,5 @@
 -- DAA on intervals (CPU instruction set; own).
-use Rattle.std.specs.Prelude.{Bool, true, false, ◌&&◌, if◌then◌else◌}
+use Rattle.std.specs.Prelude.{Bool, false, ◌&&◌, if◌then◌else◌}
 use Rattle.gb_cert.specs.declared.types.Val.{Val}
 use Rattle.gb_cert.specs.declared.types.Flg.{Flg}
 use Rattle.gb_ops.specs.Arithmetic as machine

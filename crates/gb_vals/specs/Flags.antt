@@ -1,5 +1,5 @@
 -- Sets of flags (abstract interpretation: each flag a set of Bools; own), and F as a byte (CPU registers and flags).
-use Rattle.std.specs.Prelude.{ℕ, Bool, true, false, not, ◌==◌, if◌then◌else◌, Option, Some, None}
+use Rattle.std.specs.Prelude.{Bool, true, false, not, ◌==◌, if◌then◌else◌, Option, Some, None}
 use Rattle.gb_ops.specs.declared.registers.Flags.{Flags}
 use Rattle.gb_ops.specs.Flags.{flags_byte, flags_of}
 use Rattle.gb_cert.specs.declared.types.Origin.{Origin}

@@ -1,5 +1,5 @@
 -- What intervals and sets of flags stand for, their origins apart (abstract interpretation: concretization and soundness; own).
-use Rattle.std.specs.Prelude.{◌≡◌, ℕ, ◌≤◌, Bool, true, false, Option, None}
+use Rattle.std.specs.Prelude.{◌≡◌, ℕ, ◌≤◌, Bool, true, false, None}
 use Rattle.gb_ops.specs.declared.registers.Flags.{Flags}
 use Rattle.gb_ops.specs.declared.machine.Computed.{Computed}
 use Rattle.gb_cert.specs.declared.types.Val.{Val}

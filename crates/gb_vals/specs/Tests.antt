@@ -1,5 +1,5 @@
 -- What a conditional instruction learns from its condition (abstract interpretation: branch refinement; own).
-use Rattle.std.specs.Prelude.{◌≡◌, ℕ, ◌+◌, ◌-◌, ◌<◌, Bool, true, false, ◌==◌, if◌then◌else◌, nat_lt, nat_le, Option, Some, None}
+use Rattle.std.specs.Prelude.{◌≡◌, ℕ, ◌+◌, ◌-◌, ◌<◌, Bool, true, false, ◌==◌, if◌then◌else◌, nat_lt, Option, Some, None}
 use Rattle.gb_ops.specs.declared.op.AluOp.{AluOp}
 use Rattle.gb_ops.specs.declared.op.AluOp.TheVariants as alu
 use Rattle.gb_ops.specs.declared.op.Condition.{Condition}

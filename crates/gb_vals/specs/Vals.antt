@@ -1,5 +1,5 @@
 -- Intervals of bytes (abstract interpretation: the interval domain; own).
-use Rattle.std.specs.Prelude.{ℕ, Bool, ◌==◌, Option, None}
+use Rattle.std.specs.Prelude.{ℕ, Bool, ◌==◌, None}
 use Rattle.gb_cert.specs.declared.types.Val.{Val}
 
 -- a computed interval is no copy of anything

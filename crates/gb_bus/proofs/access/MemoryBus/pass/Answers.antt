@@ -1,0 +1,6 @@
+use Rattle.std.proofs.Common.{refl}
+use Rattle.gb_bus.proofs.Screens.{pictured-view}
+use Rattle.gb_bus.proofs.access.MemoryBus.pass.Goals as goal
+
+pub returns-clause-view : goal.returns-clause-view
+returns-clause-view c = rw (c.pass_picture.ensures, pictured-view, c.pass_timer.ensures, c.pass_transfer.ensures) refl
