@@ -1,5 +1,10 @@
 //! Reading files.
 
+ghost use Rattle.std.specs.Prelude.{◌≡◌, ◌↔◌};
+ghost use Rattle.std.specs.IoError.{error_kind};
+ghost use Rattle.std.specs.declared.io.ErrorKind.TheVariants as kind;
+ghost use Rattle.gulmyrek.specs.declared.files.Trouble.TheVariants as trouble;
+
 use std::alloc::{AllocError, AllocFailed, Global};
 use std::fs;
 use std::io::{self, Read};
@@ -13,6 +18,8 @@ pub enum Trouble {
 }
 
 impl From<io::Error> for Trouble {
+    ghost from_gives = { λ e t. (t ≡ trouble.Memory) ↔ (error_kind e ≡ kind.OutOfMemory) };
+
     fn from(error: io::Error) -> Trouble {
         match error.kind() {
             io::ErrorKind::OutOfMemory => Trouble::Memory,
@@ -22,12 +29,16 @@ impl From<io::Error> for Trouble {
 }
 
 impl From<AllocError> for Trouble {
+    ghost from_gives = { λ _ t. t ≡ trouble.Memory };
+
     fn from(_error: AllocError) -> Trouble {
         Trouble::Memory
     }
 }
 
 impl<T: Drop> From<AllocFailed<T>> for Trouble {
+    ghost from_gives = { λ _ t. t ≡ trouble.Memory };
+
     fn from(_error: AllocFailed<T>) -> Trouble {
         Trouble::Memory
     }
