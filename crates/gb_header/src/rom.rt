@@ -51,6 +51,14 @@ impl<'a> Rom<'a> {
         self.bytes
     }
 
+    /// The byte that names its type.
+    #[tactic(auto, using(crate::proofs::Laws::bank_laws))]
+    pub fn type_byte(&self) -> u8
+        ensures { result ≡ Cartridge.type_byte self.now }
+    {
+        self.bytes[facts::TYPE]
+    }
+
     /// The kind of its controller. A cartridge without one has two banks.
     #[tactic(auto, using(crate::proofs::Laws::bank_laws))]
     pub fn kind(&self) -> Kind
@@ -95,8 +103,7 @@ impl<'a> Rom<'a> {
     pub fn has_rumble(&self) -> bool
         ensures { result ≡ Cartridge.type_has_rumble (Cartridge.type_byte self.now) }
     {
-        let type_byte = self.bytes[facts::TYPE];
-        facts::type_has_rumble(type_byte)
+        facts::type_has_rumble(self.type_byte())
     }
 
     /// The header's checksum.

@@ -1,5 +1,6 @@
 //! Lines of text, and writing them.
 #![tactic(auto)]
 
+pub mod keeper;
 pub mod line;
 pub mod put;

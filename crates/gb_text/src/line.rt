@@ -1,11 +1,23 @@
 //! A line of text in a buffer of fixed size.
 
-ghost use Rattle.std.specs.Prelude.{◌≡◌, ◌+◌, ◌≤◌, [], ◌++◌, length, decimal};
-ghost use Rattle.gb_text.specs.Text.{line_feed};
+ghost use Rattle.std.specs.Prelude.{◌≡◌, ◌+◌, ◌<◌, ◌≤◌, [], ◌++◌, length, decimal};
+ghost use Rattle.gb_text.specs.Text.{line_feed, hex_digit, hex_byte};
 
 use arrayvec::ArrayVec;
 use itoa::Buffer;
 use std::marker::Model;
+
+/// A hexadecimal digit, upper case.
+fn hex_digit(digit: u8) -> u8
+    requires { digit < 16 }
+    ensures { result ≡ hex_digit digit }
+{
+    if digit < 10 {
+        b'0' + digit
+    } else {
+        b'A' - 10 + digit
+    }
+}
 
 /// A line of at most 96 bytes. Contracts see its bytes.
 #[derive(Drop)]
@@ -50,6 +62,15 @@ impl Line {
     {
         let mut buffer = Buffer::new();
         self.push_text(buffer.format(number).as_bytes());
+    }
+
+    /// Puts a byte at the end, in two hexadecimal digits of upper case.
+    pub fn push_byte(&mut self, byte: u8)
+        requires { length self.old + 2 ≤ 96 }
+        ensures text { self.new ≡ self.old ++ hex_byte byte }
+        ensures length { length self.new ≡ length self.old + 2 }
+    {
+        self.push_text(&[hex_digit(byte / 16), hex_digit(byte % 16)]);
     }
 
     /// Ends the line.

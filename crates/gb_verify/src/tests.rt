@@ -1,14 +1,13 @@
 //! The lines and verdicts of worked cases: the least cartridge, and bytes of it replaced.
 
-ghost use Rattle.std.specs.Prelude.{◌≡◌, false, Some};
-
 use crate::check::check;
 use crate::verdict::Verdict;
 use crate::verify::{Outcome, verify_bytes};
 use gb_abs::reason::Reason;
 use gb_cert::types::Cert;
 use gb_header::Rom;
-use gb_ops::sink::{OutFault, PutFault, Sink};
+use gb_ops::sink::{OutFault, Sink};
+use gb_text::keeper::Keeper;
 use gb_text::line::Line;
 use std::alloc::Global;
 use std::test::Fail;
@@ -69,58 +68,11 @@ fn certificate(changes: Changes<'_>) -> [u8; 159] {
     bytes
 }
 
-/// A sink that tells its bytes: it takes so many at once, and fails behind so many in all.
-#[derive(Drop)]
-struct Keeper {
-    line: Line,
-    at_once: usize,
-    most: usize,
-    has_failed: bool,
-}
-
-impl Keeper {
-    fn new(at_once: usize, most: usize) -> Keeper
-        ensures { result.has_failed ≡ false }
-    {
-        Keeper {
-            line: Line::new(),
-            at_once,
-            most,
-            has_failed: false,
-        }
-    }
-
-    fn kept(&self) -> &[u8] {
-        self.line.as_slice()
-    }
-}
-
-impl Sink for Keeper {
-    ghost contents = { λ s. Some s.line };
-
-    ghost has_failed = { λ s. s.has_failed };
-
-    fn put(&mut self, bytes: &[u8]) -> Result<usize, PutFault> {
-        let room = self.most.min(96).saturating_sub(self.line.as_slice().len());
-        let taken = bytes.len().min(self.at_once).min(room);
-        if taken == 0 {
-            self.has_failed = true;
-            return Err(PutFault);
-        }
-        self.line.push_text(&bytes[..taken]);
-        Ok(taken)
-    }
-
-    fn failed(&self) -> bool {
-        self.has_failed
-    }
-}
-
 /// The line of two files.
 fn line_of(alloc: Global, rom: &[u8], cert: &[u8]) -> Line {
     let mut out = Keeper::new(96, 96);
     let _ = verify_bytes(alloc, rom, cert, &mut out);
-    out.line
+    out.into_line()
 }
 
 #[test]

@@ -1,0 +1,6 @@
+pub mod Interrupts
+pub mod Reaching
+pub mod Stepping
+pub mod Cycles
+pub mod Idle
+pub mod Frames

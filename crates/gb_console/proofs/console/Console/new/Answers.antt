@@ -1,0 +1,5 @@
+use Rattle.gb_console.proofs.Reaching.{fresh}
+use Rattle.gb_console.proofs.console.Console.new.Goals as goal
+
+pub invariant_of-result : goal.invariant_of-result
+invariant_of-result c = fresh c.args.rom.now _ _ c.in_ok-memory.ensures c.processor_at_power_up.ensures

@@ -1,0 +1,161 @@
+//! The console.
+
+ghost use Rattle.std.specs.Prelude.{◌≡◌, ◌<◌, true, IfOk};
+ghost use Rattle.gb_ops.specs.Accesses.{event_cycles};
+ghost use Rattle.gb_ops.specs.Play.{IsStart};
+ghost use Rattle.gb_ops.specs.Play as Play;
+ghost use Rattle.gb_ops.specs.declared.machine.Event.TheVariants as event;
+ghost use Rattle.gb_cpu.specs.Choice.{is_idle};
+ghost use Rattle.gb_console.specs.Console.{IsConsoleStep, at_power_up, machine_of, shown, frame_cycles};
+
+use crate::choice::{act, take};
+use gb_bus::Memory;
+use gb_bus::memory::HEIGHT;
+use gb_cpu::step::{Cpu, Stepped};
+use gb_header::Rom;
+use gb_ops::machine::Event;
+use gb_ops::registers::{Flags, Ime, Processor, Registers};
+use gb_ppu::line::WIDTH;
+use gb_timer::irqs::Keys;
+use std::alloc::{AllocError, Global};
+use std::marker::Model;
+
+/// The M-cycles of a frame: 154 lines of 114.
+pub(crate) const FRAME: u16 = 17_556;
+
+/// A console that a cartridge runs in.
+#[derive(Drop)]
+pub struct Console<'a> {
+    memory: Memory<'a>,
+    cpu: Cpu,
+    /// The M-cycles since power-up, modulo a frame's.
+    cycles: u16,
+}
+
+impl<'a> Model for Console<'a> {
+    ghost use Rattle.std.specs.Prelude.{◌≡◌, ◌<◌, false};
+    ghost use Rattle.gb_console.specs.Console.{ConsoleState, IsReachable, frame_cycles};
+
+    ghost Value = { ConsoleState };
+
+    ghost view = { λ c. record { cpu = c.cpu; contents = c.memory; cycles = c.cycles } };
+
+    ghost invariant = { λ c. (c.cycles < frame_cycles) × (c.memory.view.starting ≡ false) × IsReachable c.memory.view.rom (record { processor = c.cpu.processor; storage = c.memory.view.storage }) };
+}
+
+/// The processor at power-up.
+#[tactic(auto, unfolding(gb_ops::specs::Play::processor_at_power_up))]
+fn processor_at_power_up(rom: &Rom<'_>) -> Processor
+    ensures { result ≡ Play.processor_at_power_up rom.now }
+{
+    let others = rom.checksum() != 0;
+    Processor {
+        registers: Registers {
+            a: 0x01,
+            b: 0x00,
+            c: 0x13,
+            d: 0x00,
+            e: 0xD8,
+            h: 0x01,
+            l: 0x4D,
+        },
+        flags: Flags {
+            zero: true,
+            subtract: false,
+            half_carry: others,
+            carry: others,
+        },
+        sp: 0xFFFE,
+        pc: 0x0100,
+        ime: Ime::Off,
+        halt_mark: false,
+        locked: false,
+        stopped: false,
+    }
+}
+
+impl<'a> Console<'a> {
+    /// A cartridge's console at power-up (Pan Docs: Power Up Sequence), or `AllocError` where there
+    /// is no room. All room is made here; nothing of it grows later.
+    #[tactic(auto, using(crate::proofs::Reaching::starts, crate::proofs::Reaching::start_reachable), unfolding(crate::specs::Console::at_power_up))]
+    pub fn new(alloc: Global, rom: &Rom<'a>) -> Result<Console<'a>, AllocError>
+        ensures exact { IfOk result (λ console. console ≡ at_power_up rom.now) }
+        ensures start { IfOk result (λ console. IsStart rom.now (machine_of console)) }
+    {
+        let memory = Memory::new(alloc, rom)?;
+        let cpu = Cpu {
+            processor: processor_at_power_up(rom),
+            is_waiting: false,
+        };
+        Ok(Console {
+            memory,
+            cpu,
+            cycles: 0,
+        })
+    }
+
+    /// One event, and its M-cycles.
+    fn take_event(&mut self, keys: Keys, seconds: u32) -> Stepped
+        ensures step { IsConsoleStep self.old keys seconds result.event self.new }
+        ensures cycles { result.cycles ≡ event_cycles (shown self.old) result.event }
+        ensures small { self.old.cycles < frame_cycles }
+    {
+        take(self.cpu, &mut self.memory, keys, seconds);
+        let stepped = act(&mut self.cpu, &mut self.memory);
+        self.cycles = (self.cycles + u16::from(stepped.cycles)) % FRAME;
+        stepped
+    }
+
+    /// One event, and its M-cycles; nothing changes where the console is locked or stopped.
+    pub(crate) fn advance(&mut self, keys: Keys, seconds: u32) -> Stepped
+        ensures step { IsConsoleStep self.old keys seconds result.event self.new }
+        ensures cycles { result.cycles ≡ event_cycles (shown self.old) result.event }
+        ensures waits { is_idle self.old.cpu ≡ true → result.event ≡ event.Wait 0 }
+        ensures unchanged { is_idle self.old.cpu ≡ true → self.new ≡ self.old }
+    {
+        self.take_event(keys, seconds)
+    }
+
+    /// One event, after the keys that are held and the seconds that passed are taken: the dispatch
+    /// of an interrupt, a wait of one M-cycle, or an instruction. A locked or stopped console takes
+    /// nothing, and answers `Wait(0)`.
+    pub fn step(&mut self, keys: Keys, seconds: u32) -> Event
+        ensures step { IsConsoleStep self.old keys seconds result self.new }
+        ensures waits { is_idle self.old.cpu ≡ true → result ≡ event.Wait 0 }
+        ensures unchanged { is_idle self.old.cpu ≡ true → self.new ≡ self.old }
+    {
+        self.advance(keys, seconds).event
+    }
+
+    /// The M-cycles since power-up, modulo a frame's.
+    pub(crate) fn cycles(&self) -> u16
+        ensures value { result ≡ self.now.cycles }
+        ensures small { result < frame_cycles }
+    {
+        self.cycles
+    }
+
+    /// The processor.
+    pub(crate) fn processor(&self) -> Processor
+        ensures { result ≡ self.now.cpu.processor }
+    {
+        self.cpu.processor
+    }
+
+    /// The shades of each line, from the top on: 0 to 3, as each was drawn last.
+    pub fn screen(&self) -> &[[u8; WIDTH]; HEIGHT]
+        ensures { result.now ≡ self.now.contents.screen }
+    {
+        self.memory.screen()
+    }
+
+    /// The address of the next instruction.
+    pub fn pc(&self) -> u16
+        ensures { result ≡ self.now.cpu.processor.pc }
+    {
+        self.cpu.processor.pc
+    }
+}
+
+#[cfg(test)]
+mod tests;

@@ -1,0 +1,67 @@
+//! Frames.
+
+ghost use Rattle.std.specs.Prelude.{◌≡◌, true};
+ghost use Rattle.gb_cpu.specs.Choice.{is_idle};
+ghost use Rattle.gb_console.specs.Frame.{IsFrame, IsFrameStep, idle_ending};
+
+use crate::console::{Console, FRAME};
+use gb_timer::irqs::Keys;
+
+/// How a frame ended.
+#[derive(Clone, Copy, Debug, PartialEq, Eq)]
+pub enum Ending {
+    /// The M-cycles since power-up reached or passed a multiple of 17,556.
+    Whole,
+    /// An undefined opcode locked the console.
+    Locked,
+    /// STOP stopped the console.
+    Stopped,
+}
+
+impl Console<'_> {
+    /// A step, and how it ended the frame, if it did.
+    #[tactic(auto, unfolding(crate::specs::Frame::ending_after))]
+    fn frame_step(&mut self, keys: Keys, seconds: u32) -> Option<Ending>
+        ensures step { IsFrameStep self.old keys seconds result self.new }
+        ensures unchanged { is_idle self.old.cpu ≡ true → self.new ≡ self.old }
+    {
+        let before = self.cycles();
+        let stepped = self.advance(keys, seconds);
+        let processor = self.processor();
+        if processor.locked {
+            return Some(Ending::Locked);
+        }
+        if processor.stopped {
+            return Some(Ending::Stopped);
+        }
+        if before + u16::from(stepped.cycles) >= FRAME {
+            return Some(Ending::Whole);
+        }
+        None
+    }
+
+    /// The steps of a frame.
+    fn run_frame(&mut self, keys: Keys, seconds: u32) -> Ending
+        ensures frame { IsFrame self.old keys seconds result self.new }
+        ensures unchanged { is_idle self.old.cpu ≡ true → self.new ≡ self.old }
+    {
+        let mut passed = seconds;
+        loop {
+            match self.frame_step(keys, passed) {
+                Some(ending) => return ending,
+                None => passed = 0,
+            }
+        }
+    }
+
+    /// Steps, the first with the seconds that passed and later ones with none, until the M-cycles
+    /// since power-up reach or pass the next multiple of 17,556, or the console is locked or
+    /// stopped, which win. A console that is locked or stopped already stays as it is.
+    pub fn frame(&mut self, keys: Keys, seconds: u32) -> Ending
+        ensures frame { IsFrame self.old keys seconds result self.new }
+        ensures idle { is_idle self.old.cpu ≡ true → result ≡ idle_ending self.old.cpu.processor.locked }
+        ensures unchanged { is_idle self.old.cpu ≡ true → self.new ≡ self.old }
+    {
+        self.run_frame(keys, seconds)
+    }
+}
