@@ -24,8 +24,12 @@ use Rattle.gb_cert.specs.declared.types.Cell.{Cell}
 use Rattle.gb_cert.specs.declared.types.Core.{Core}
 use Rattle.gb_cert.specs.Types.{AbsState}
 use Rattle.gb_abs.specs.Storage.{peek}
-use Rattle.gb_abs.specs.Meaning.{Holds, HoldsFlags, HoldsController, IsTested, MeansCore, AreItems, Means, IsMemory, may_be, ime_may_be}
-use Rattle.gb_abs.specs.Covering.{origin_number, covers_origin, covers_val, covers_may, covers_flags, covers_ime, covers_controller, covers_registers, covers_test, covers_core, covers_items, cell_at, covers_cells, covers, implied, any_val}
+use Rattle.gb_abs.specs.Meaning.{Holds, HoldsFlags, HoldsController, MeansCore, AreItems, Means, IsMemory, ime_may_be}
+use Rattle.gb_abs.specs.Covering.{origin_number, covers_origin, covers_val, covers_may, covers_flags, covers_ime, covers_controller, covers_registers, covers_test, covers_core, covers_items, cell_at, covers_cells, covers, implied}
+use Rattle.gb_abs.specs.Sound.{IsPartOf}
+use Rattle.gb_vals.specs.Vals.{any_val}
+use Rattle.gb_vals.specs.Meaning.{may_be}
+use Rattle.gb_vals.specs.Tests.{IsTested}
 
 -- ---- tests and what they say
 
@@ -239,3 +243,6 @@ Means-covered s t entry base x h m =
     lengths [] (t ∷ ts) h = cc
     lengths (s ∷ ss) [] h = cc
     lengths (s ∷ ss) (t ∷ ts) h = ap suc (lengths ss ts (and_both _ _ h).1)
+
+pub covers_sound : (s t : AbsState) (o : Bool) → o ≡ covers s t → o ≡ true → IsPartOf s t
+covers_sound s t o e h = record { gives = λ entry base x m. Means-covered s t entry base x (sym e ∙ h) m }

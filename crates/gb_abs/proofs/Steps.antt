@@ -1,5 +1,5 @@
 -- Each operation follows its change of the machine.
-use Rattle.std.proofs.Common.{◌≡◌, ℕ, ◌-◌, Bool, true, false, ◌||◌, Option, refl, ◌∙◌, ap, arith}
+use Rattle.std.proofs.Common.{◌≡◌, ℕ, ◌-◌, Bool, true, false, ◌||◌, List, Option, refl, sym, ◌∙◌, ap, subst, arith}
 use Rattle.gb_ops.specs.declared.op.Register.{Register}
 use Rattle.gb_ops.specs.declared.op.Register.TheVariants.{A, B, C, D, E, H, L}
 use Rattle.gb_ops.specs.declared.registers.Registers.{Registers}
@@ -9,13 +9,18 @@ use Rattle.gb_ops.specs.declared.registers.Ime.TheVariants.{Off, Pending, On}
 use Rattle.gb_ops.specs.Registers.{get, set}
 use Rattle.gb_ops.specs.Machine.{ime_after, settled}
 use Rattle.gb_ops.specs.Pairs.{with_registers}
+use Rattle.gb_ops.specs.Memory.{passed}
 use Rattle.gb_ops.specs.Effects.{with_pc}
 use Rattle.gb_ops.specs.Play.{MState}
 use Rattle.gb_cert.specs.declared.types.Val.{Val}
 use Rattle.gb_cert.specs.declared.types.ImeSet.{ImeSet}
 use Rattle.gb_cert.specs.declared.types.Core.{Core}
-use Rattle.gb_abs.specs.Meaning.{Holds, IsTested, MeansCore, ime_may_be}
-use Rattle.gb_abs.specs.Operations.{single, test_after, core_set_register, ime_set_after, core_settle, core_pass}
+use Rattle.gb_cert.specs.Types.{AbsState}
+use Rattle.gb_abs.specs.Meaning.{Holds, MeansCore, Means, ime_may_be}
+use Rattle.gb_abs.specs.Sound.{IsSoundSet, IsSoundValue, IsSoundSettling, IsSoundEnd}
+use Rattle.gb_vals.specs.Vals.{single}
+use Rattle.gb_vals.specs.Tests.{IsTested}
+use Rattle.gb_abs.specs.Operations.{test_after, core_set_register, core_with_value, ime_set_after, core_settle, core_pass, core_ended, with_core}
 
 -- a fact about two records of registers, after a write to both
 pub set_both :
@@ -135,3 +140,100 @@ MeansCore-wait s entry x n m =
 
 pub Holds-single : (n : ℕ) (entry : MState) → Holds (single n) entry n
 Holds-single n entry = record { least = omega arith; most = omega arith; origin = λ o e. cc }
+
+-- ---- covering value by value
+
+-- a fact about two records of registers, after a write to the first
+set_first :
+    {X Y : Type 0} (P : X → Y → Type 0) (r q : Register) (v : X) (vs : Registers X) (xs : Registers Y)
+    → P v (get r xs) → ((p : Register) → P (get p vs) (get p xs)) → P (get q (set r v vs)) (get q xs)
+set_first P A A v vs xs n o = n
+set_first P A q v vs xs n o = o q
+set_first P B B v vs xs n o = n
+set_first P B q v vs xs n o = o q
+set_first P C C v vs xs n o = n
+set_first P C q v vs xs n o = o q
+set_first P D D v vs xs n o = n
+set_first P D q v vs xs n o = o q
+set_first P E E v vs xs n o = n
+set_first P E q v vs xs n o = o q
+set_first P H H v vs xs n o = n
+set_first P H q v vs xs n o = o q
+set_first P L L v vs xs n o = n
+set_first P L q v vs xs n o = o q
+
+-- with the machine's own value of a register for its bounds, a core holds of that machine still
+pub MeansCore-with_value :
+    (r : Register) (s : Core) (entry x : MState) → MeansCore s entry x → MeansCore (core_with_value r (get r x.processor.registers) s) entry x
+unfolding core_with_value
+MeansCore-with_value r s entry x m =
+    let own = m.registers r in
+    record {
+      registers = λ q. set_first (λ w y. Holds w entry y) r q (record (get r s.registers) { lo = get r x.processor.registers; hi = get r x.processor.registers })
+          s.registers x.processor.registers (record { least = omega arith; most = omega arith; origin = own.origin }) m.registers;
+      flags = m.flags;
+      ie = m.ie;
+      ime = m.ime;
+      controller = m.controller;
+      count = m.count;
+      test = m.test;
+      mark = m.mark;
+      locked = m.locked;
+      stopped = m.stopped;
+    }
+
+pub Means-with_value :
+    (r : Register) (s : AbsState) (entry : MState) (base : ℕ) (x : MState)
+    → Means s entry base x → Means (with_core s (core_with_value r (get r x.processor.registers) s.core)) entry base x
+unfolding core_with_value
+Means-with_value r s entry base x m =
+    record { core = MeansCore-with_value r s.core entry x m.core; memory = m.memory; stack = m.stack; items = m.items; cells = m.cells }
+
+-- ---- the operations
+
+pub set_register_sound : (r : Register) (v : Val) (s o : Core) → o ≡ core_set_register r v s → IsSoundSet r v s o
+set_register_sound r v s o e =
+    record { gives = λ entry x n h m. subst (λ c. MeansCore c entry (register_set r n x)) (sym e) (MeansCore-set_register s entry x r v n h m) }
+
+pub with_value_sound : (r : Register) (n : ℕ) (s o : Core) → o ≡ core_with_value r n s → IsSoundValue r n s o
+with_value_sound r n s o e =
+    record { gives = λ entry x is m. subst (λ c. MeansCore c entry x) (sym e) (subst (λ k. MeansCore (core_with_value r k s) entry x) is (MeansCore-with_value r s entry x m)) }
+
+pub settle_sound : (s o : Core) → o ≡ core_settle s → IsSoundSettling s o
+settle_sound s o e =
+    record { gives = λ entry x m. subst (λ c. MeansCore c entry (record x { processor = settled x.processor })) (sym e) (MeansCore-settle s entry x x.processor.pc m) }
+
+MeansCore-start : (s : Core) (entry x : MState) → MeansCore s entry x → MeansCore (record s { bound = 161 }) entry (counted 161 x)
+MeansCore-start s entry x m =
+    record {
+      registers = m.registers;
+      flags = m.flags;
+      ie = m.ie;
+      ime = m.ime;
+      controller = m.controller;
+      count = omega arith;
+      test = m.test;
+      mark = m.mark;
+      locked = m.locked;
+      stopped = m.stopped;
+    }
+
+MeansCore-ended :
+    (starts : Bool) (n : ℕ) (rom : List ℕ) (s : Core) (entry x : MState) → MeansCore s entry x
+    → MeansCore (core_ended starts n s) entry (record x { storage = (passed (record { rom = rom; storage = x.storage; starting = starts }) n).storage })
+unfolding core_ended passed core_pass
+MeansCore-ended true n rom s entry x m = MeansCore-start s entry x m
+MeansCore-ended false n rom s entry x m = MeansCore-pass s entry x n m
+
+pub pass_sound : (n : ℕ) (s o : Core) → o ≡ core_pass n s → IsSoundEnd false n s o
+unfolding passed
+pass_sound n s o e =
+    record { gives = λ rom entry x m. subst (λ c. MeansCore c entry (counted (x.storage.count - n) x)) (sym e) (MeansCore-pass s entry x n m) }
+
+pub ended_sound : (starts : Bool) (n : ℕ) (s o : Core) → o ≡ core_ended starts n s → IsSoundEnd starts n s o
+ended_sound starts n s o e =
+    record {
+      gives = λ rom entry x m. subst
+          (λ c. MeansCore c entry (record x { storage = (passed (record { rom = rom; storage = x.storage; starting = starts }) n).storage })) (sym e)
+          (MeansCore-ended starts n rom s entry x m);
+    }

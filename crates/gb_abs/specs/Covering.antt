@@ -15,6 +15,7 @@ use Rattle.gb_cert.specs.declared.types.Item.{Item}
 use Rattle.gb_cert.specs.declared.types.Cell.{Cell}
 use Rattle.gb_cert.specs.declared.types.Core.{Core}
 use Rattle.gb_cert.specs.Types.{AbsState}
+use Rattle.gb_vals.specs.Vals.{any_val}
 
 -- an origin's number, by which two origins are compared
 abbrev pub register_number : Register → ℕ
@@ -85,9 +86,6 @@ covers_items [] [] = true
 covers_items [] (t ∷ ts) = false
 covers_items (s ∷ ss) [] = false
 covers_items (s ∷ ss) (t ∷ ts) = covers_item s t && covers_items ss ts
-
-abbrev pub any_val : Val
-any_val = record { lo = 0; hi = 255; origin = None }
 
 -- what is known of the byte at an address: any where there is no cell
 abbrev pub cell_at : ℕ → List Cell → Val

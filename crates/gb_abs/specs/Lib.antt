@@ -1,5 +1,10 @@
+pub mod Cells
 pub mod Covering
 pub mod Meaning
 pub mod Operations
+pub mod Poked
 pub mod Reason
+pub mod Sound
+pub mod Span
+pub mod Stack
 pub mod Storage

@@ -1,5 +1,5 @@
 -- Which machine states an abstract state means (abstract interpretation: concretization).
-use Rattle.std.specs.Prelude.{◌≡◌, ℕ, ◌+◌, ◌-◌, ◌*◌, ◌≤◌, Bool, true, false, ◌==◌, nat_lt, List, [], ◌∷◌, length, Option, Some, None}
+use Rattle.std.specs.Prelude.{◌≡◌, ℕ, ◌+◌, ◌-◌, ◌*◌, ◌≤◌, Bool, true, false, List, [], ◌∷◌, length, Some}
 use Rattle.std.specs.List.{AllByRecursion}
 use Rattle.gb_ops.specs.declared.op.Register.{Register}
 use Rattle.gb_ops.specs.declared.registers.Flags.{Flags}
@@ -13,13 +13,14 @@ use Rattle.gb_ops.specs.Play.{MState}
 use Rattle.gb_cert.specs.declared.types.Origin.{Origin}
 use Rattle.gb_cert.specs.declared.types.Origin.TheVariants as origin
 use Rattle.gb_cert.specs.declared.types.Val.{Val}
-use Rattle.gb_cert.specs.declared.types.May.{May}
 use Rattle.gb_cert.specs.declared.types.Flg.{Flg}
 use Rattle.gb_cert.specs.declared.types.ImeSet.{ImeSet}
 use Rattle.gb_cert.specs.declared.types.Ctl.{Ctl}
 use Rattle.gb_cert.specs.declared.types.Item.{Item}
 use Rattle.gb_cert.specs.declared.types.Core.{Core}
 use Rattle.gb_cert.specs.Types.{AbsState}
+use Rattle.gb_vals.specs.Meaning.{may_be}
+use Rattle.gb_vals.specs.Tests.{IsTested}
 use Rattle.gb_abs.specs.Storage.{peek}
 
 -- what an origin held
@@ -33,11 +34,6 @@ pub record Holds (v : Val) (entry : MState) (x : ℕ) : Type 0 where
   pub least : v.lo ≤ x
   pub most : x ≤ v.hi
   pub origin : (o : Origin) → v.origin ≡ Some o → x ≡ origin_value o entry
-
--- a bit may be so
-abbrev pub may_be : May → Bool → Bool
-may_be m true = m.set
-may_be m false = m.clear
 
 pub record HoldsFlags (f : Flg) (entry : MState) (x : Flags) : Type 0 where
   pub zero : may_be f.zero x.zero ≡ true
@@ -59,11 +55,6 @@ pub record HoldsController (c : Ctl) (entry : MState) (x : Banks) : Type 0 where
   pub gate : may_be c.gate x.gate ≡ true
   pub mode : may_be c.mode x.mode ≡ true
   pub kept : c.is_kept ≡ true → x ≡ entry.storage.banks
-
--- test n: Z is set exactly where A is n, and C exactly where A is below n
-abbrev pub IsTested : Option ℕ → ℕ → Flags → Type 0
-IsTested None a f = Unit {0}
-IsTested (Some n) a f = (f.zero ≡ (a == n)) × (f.carry ≡ nat_lt a n)
 
 -- all but the stack and the cells
 pub record MeansCore (core : Core) (entry s : MState) : Type 0 where

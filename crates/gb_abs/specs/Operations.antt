@@ -1,16 +1,12 @@
 -- Operations on abstract states: each follows a change of the machine (abstract interpretation: transfer functions).
-use Rattle.std.specs.Prelude.{ℕ, ◌-◌, false, ◌||◌, Option, None}
+use Rattle.std.specs.Prelude.{ℕ, ◌-◌, Bool, false, ◌||◌, if◌then◌else◌, Option, None}
 use Rattle.gb_ops.specs.declared.op.Register.{Register}
 use Rattle.gb_ops.specs.declared.op.Register.TheVariants.{A}
-use Rattle.gb_ops.specs.Registers.{set}
+use Rattle.gb_ops.specs.Registers.{get, set}
 use Rattle.gb_cert.specs.declared.types.Val.{Val}
 use Rattle.gb_cert.specs.declared.types.ImeSet.{ImeSet}
 use Rattle.gb_cert.specs.declared.types.Core.{Core}
 use Rattle.gb_cert.specs.Types.{AbsState}
-
--- a known value, no copy of another
-abbrev pub single : ℕ → Val
-single x = record { lo = x; hi = x; origin = None }
 
 -- a test doesn't outlive a change of A
 abbrev pub test_after : Register → Option ℕ → Option ℕ
@@ -24,6 +20,10 @@ core_set_register r v s = record s { registers = set r v s.registers; test = tes
 abbrev pub ime_set_after : ImeSet → ImeSet
 ime_set_after s = record { off = s.off; pending = false; on = s.pending || s.on }
 
+-- a register's bounds become one value of them; what it is a copy of, the flags and the test stay
+unfoldable pub core_with_value : Register → ℕ → Core → Core
+core_with_value r n s = record s { registers = set r (record (get r s.registers) { lo = n; hi = n }) s.registers }
+
 -- an instruction was executed: pending interrupts become on
 unfoldable pub core_settle : Core → Core
 core_settle s = record s { ime = ime_set_after s.ime }
@@ -31,6 +31,10 @@ core_settle s = record s { ime = ime_set_after s.ime }
 -- so many M-cycles pass
 unfoldable pub core_pass : ℕ → Core → Core
 core_pass n s = record s { bound = s.bound - n }
+
+-- an instruction of n M-cycles has ended: where it started a transfer, that runs from now on
+unfoldable pub core_ended : Bool → ℕ → Core → Core
+core_ended starts n s = if starts then record s { bound = 161 } else core_pass n s
 
 -- another core, the same items and cells
 abbrev pub with_core : AbsState → Core → AbsState

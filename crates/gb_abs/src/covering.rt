@@ -1,11 +1,13 @@
 //! Whether one abstract state stands for all that another one does.
 
-ghost use Rattle.std.specs.Prelude.{◌≡◌};
+ghost use Rattle.std.specs.Prelude.{◌≡◌, true};
+ghost use Rattle.gb_abs.specs.Sound.{IsPartOf};
 ghost use Rattle.gb_abs.specs.Covering.{origin_number, register_number, implied, covers_origin, covers_val, covers_may, covers_flags, covers_ime, covers_controller, covers_registers, covers_test, covers_core, covers_item, covers_items, cell_at, covers_cells, covers};
 
 use gb_cert::types::{Abs, Cell, Core, Ctl, Flg, ImeSet, Item, May, Origin, Val};
 use gb_ops::op::Register;
 use gb_ops::registers::Registers;
+use gb_vals::vals::any;
 
 fn register_number(register: Register) -> u8
     ensures { result ≡ register_number register }
@@ -152,11 +154,7 @@ pub fn cell_at(address: u16, cells: &[Cell]) -> Val
     ensures { result ≡ cell_at address cells.now }
 {
     match cells {
-        [] => Val {
-            lo: 0,
-            hi: 255,
-            origin: None,
-        },
+        [] => any(),
         [cell, rest @ ..] => {
             if cell.address == address {
                 cell.val
@@ -175,12 +173,21 @@ fn covers_cells(s: &[Cell], t: &[Cell]) -> bool
         .all(|cell| covers_val(&cell_at(cell.address, s), &cell.val))
 }
 
-/// Whether t stands for each machine state that s stands for, part by part.
+/// Whether each part of t stands for what the part of s does.
 #[tactic(auto, unfolding(crate::specs::Covering::covers))]
-pub fn covers(s: &Abs, t: &Abs) -> bool
+fn covers_each(s: &Abs, t: &Abs) -> bool
     ensures { result ≡ covers s.now t.now }
 {
     covers_core(s.core(), t.core())
         && covers_items(s.items(), t.items())
         && covers_cells(s.cells(), t.cells())
+}
+
+/// Whether t stands for each machine state that s stands for, part by part.
+#[tactic(auto, using(crate::proofs::Covers::covers_sound))]
+pub fn covers(s: &Abs, t: &Abs) -> bool
+    ensures exact { result ≡ covers s.now t.now }
+    ensures sound { result ≡ true → IsPartOf s.now t.now }
+{
+    covers_each(s, t)
 }

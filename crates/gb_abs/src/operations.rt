@@ -1,26 +1,20 @@
 //! Operations on the cores of abstract states.
 
-ghost use Rattle.std.specs.Prelude.{◌≡◌};
-ghost use Rattle.gb_abs.specs.Operations.{single, core_set_register, core_settle, core_pass, ime_set_after};
+ghost use Rattle.std.specs.Prelude.{◌≡◌, false};
+ghost use Rattle.gb_abs.specs.Operations.{core_set_register, core_with_value, core_settle, core_pass, core_ended, ime_set_after};
+ghost use Rattle.gb_abs.specs.Sound.{IsSoundSet, IsSoundValue, IsSoundSettling, IsSoundEnd};
 
 use gb_cert::types::{Core, ImeSet, Val};
 use gb_ops::op::Register;
 
-/// A known value, no copy of another.
-pub fn single(value: u8) -> Val
-    ensures { result ≡ single value }
-{
-    Val {
-        lo: value,
-        hi: value,
-        origin: None,
-    }
-}
+/// The M-cycles of a transfer.
+const TRANSFER: u8 = 161;
 
 /// A register gets a value.
-#[tactic(auto, unfolding(crate::specs::Operations::core_set_register))]
+#[tactic(auto, using(crate::proofs::Steps::set_register_sound), unfolding(crate::specs::Operations::core_set_register))]
 pub fn set_register(register: Register, value: Val, core: &Core) -> Core
-    ensures { result ≡ core_set_register register value core.now }
+    ensures exact { result ≡ core_set_register register value core.now }
+    ensures sound { IsSoundSet register value core.now result }
 {
     let mut after = *core;
     after.registers.set(register, value);
@@ -30,10 +24,28 @@ pub fn set_register(register: Register, value: Val, core: &Core) -> Core
     after
 }
 
+/// A register's bounds become one value, as covering value by value asks for each: what it is a copy of, the
+/// flags and the test stay.
+#[tactic(auto, using(crate::proofs::Steps::with_value_sound), unfolding(crate::specs::Operations::core_with_value))]
+pub fn with_value(register: Register, value: u8, core: &Core) -> Core
+    ensures exact { result ≡ core_with_value register value core.now }
+    ensures sound { IsSoundValue register value core.now result }
+{
+    let mut after = *core;
+    let bounds = Val {
+        lo: value,
+        hi: value,
+        ..core.registers.get(register)
+    };
+    after.registers.set(register, bounds);
+    after
+}
+
 /// An instruction was executed: pending interrupts become on.
-#[tactic(auto, unfolding(crate::specs::Operations::core_settle))]
+#[tactic(auto, using(crate::proofs::Steps::settle_sound), unfolding(crate::specs::Operations::core_settle))]
 pub fn settle(core: &Core) -> Core
-    ensures { result ≡ core_settle core.now }
+    ensures exact { result ≡ core_settle core.now }
+    ensures sound { IsSoundSettling core.now result }
 {
     let ime = ImeSet {
         off: core.ime.off,
@@ -44,12 +56,29 @@ pub fn settle(core: &Core) -> Core
 }
 
 /// So many M-cycles pass: the bound of the transfer count falls by them, to 0 at least.
-#[tactic(auto, unfolding(crate::specs::Operations::core_pass))]
+#[tactic(auto, using(crate::proofs::Steps::pass_sound), unfolding(crate::specs::Operations::core_pass))]
 pub fn pass(cycles: u8, core: &Core) -> Core
-    ensures { result ≡ core_pass cycles core.now }
+    ensures exact { result ≡ core_pass cycles core.now }
+    ensures sound { IsSoundEnd false cycles core.now result }
 {
     Core {
         bound: core.bound.saturating_sub(cycles),
         ..*core
+    }
+}
+
+/// An instruction has ended: its M-cycles pass; where it started a transfer, the count may be 161.
+#[tactic(auto, using(crate::proofs::Steps::ended_sound), unfolding(crate::specs::Operations::core_ended))]
+pub fn end(starts: bool, cycles: u8, core: &Core) -> Core
+    ensures exact { result ≡ core_ended starts cycles core.now }
+    ensures sound { IsSoundEnd starts cycles core.now result }
+{
+    if starts {
+        Core {
+            bound: TRANSFER,
+            ..*core
+        }
+    } else {
+        pass(cycles, core)
     }
 }

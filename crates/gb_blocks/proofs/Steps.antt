@@ -18,7 +18,8 @@ use Rattle.gb_cert.specs.declared.types.Cell.{Cell}
 use Rattle.gb_cert.specs.Types.{AbsState}
 use Rattle.gb_abs.specs.Storage.{peek}
 use Rattle.gb_abs.specs.Meaning.{Holds, AreItems, Means, IsMemory}
-use Rattle.gb_abs.specs.Operations.{single, core_set_register, core_settle, core_pass, with_core}
+use Rattle.gb_vals.specs.Vals.{single}
+use Rattle.gb_abs.specs.Operations.{core_set_register, core_settle, core_pass, with_core}
 use Rattle.gb_abs.proofs.Steps.{MeansCore-set_register, MeansCore-settle, MeansCore-pass, MeansCore-wait, Holds-single, register_set, moved, counted}
 use Rattle.gb_blocks.specs.Rules.{has_rules, target, core_after, state_after}
 

@@ -15,7 +15,8 @@ use Rattle.gb_cert.specs.Certificate.{Certificate}
 use Rattle.gb_abs.specs.declared.reason.Reason.{Reason}
 use Rattle.gb_abs.specs.declared.reason.Reason.TheVariants as reason
 use Rattle.gb_abs.specs.Covering.{covers}
-use Rattle.gb_abs.specs.Operations.{single, core_set_register, core_settle, core_pass, with_core}
+use Rattle.gb_vals.specs.Vals.{single}
+use Rattle.gb_abs.specs.Operations.{core_set_register, core_settle, core_pass, with_core}
 use Rattle.gb_blocks.specs.Code.{area_end, known_bank, known_byte, known_bytes}
 
 -- the instruction runs past its area, its first byte known

@@ -7,7 +7,7 @@ ghost use Rattle.gb_blocks.specs.Safety.{IsSafeAt};
 
 use crate::code::{area_end, known_bank, known_byte, known_bytes};
 use crate::covered::covered_at;
-use gb_abs::operations::{pass, set_register, settle, single};
+use gb_abs::operations::{pass, set_register, settle};
 use gb_abs::reason::Reason;
 use gb_cert::types::{Abs, Cert, Core, Node};
 use gb_effects::advance::length_of;
@@ -15,6 +15,7 @@ use gb_effects::arithmetic::displaced;
 use gb_header::Rom;
 use gb_ops::decode::decode;
 use gb_ops::op::{Op, Operand, Row};
+use gb_vals::vals::single;
 
 /// Whether an address is in no area for code, or its instruction leaves its area.
 fn leaves(address: u16, opcode: Option<u8>, end: Option<u16>) -> bool

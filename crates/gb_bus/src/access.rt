@@ -1,6 +1,6 @@
 //! The console's memory as a bus.
 
-ghost use Rattle.std.specs.Prelude.{◌≡◌, ◌<◌, ◌≤◌};
+ghost use Rattle.std.specs.Prelude.{◌≡◌, ◌<◌, ◌≤◌, true, false};
 ghost use Rattle.gb_ops.specs.Memory as Spec;
 ghost use Rattle.gb_ops.specs.Cartridge.{kind_of};
 ghost use Rattle.gb_mbc.specs.Controllers.{is_latch};
@@ -8,13 +8,33 @@ ghost use Rattle.gb_bus.specs.Accessing as Accessing;
 ghost use Rattle.gb_bus.specs.Hardware as Map;
 ghost use Rattle.gb_ops.specs.declared.machine.Mapped.TheVariants as mapped;
 
-use crate::Bus;
 use crate::hardware::{Hardware, hardware_at};
 use crate::memory::Memory;
 use crate::registers::{TIMER, with_requests};
+use crate::{Bus, Taken};
 use gb_mbc::Mapper;
 use gb_ops::machine::{Mapped, Place};
 use gb_ops::map::mapped_at;
+
+/// A byte of ROM or plain storage.
+fn fixed(byte: u8) -> Taken
+    ensures { result ≡ record { byte = byte; is_free = false } }
+{
+    Taken {
+        byte,
+        is_free: false,
+    }
+}
+
+/// A byte of anything else.
+fn free(byte: u8) -> Taken
+    ensures { result ≡ record { byte = byte; is_free = true } }
+{
+    Taken {
+        byte,
+        is_free: true,
+    }
+}
 
 impl Memory<'_> {
     /// Whether a transfer closes an address.
@@ -40,17 +60,40 @@ impl Memory<'_> {
         }
     }
 
+    /// What is read where no transfer closes it, and whether it is free.
+    #[inline]
+    fn open_taken(&self, address: u16) -> Taken
+        ensures byte { result.byte ≡ Accessing.open_byte (Spec.mapped_at address) self.now address }
+        ensures free { result.is_free ≡ Spec.is_free_place (Spec.place_by (Spec.mapped_at address) self.now.view address) }
+    {
+        match mapped_at(address) {
+            Mapped::Rom => fixed(self.rom_byte(address)),
+            Mapped::WorkRam(i) => fixed(self.work_ram[usize::from(i)]),
+            Mapped::HighRam(i) => fixed(self.high_ram[usize::from(i)]),
+            Mapped::InterruptEnable => fixed(self.interrupt_enable),
+            Mapped::CartridgeRam => free(self.cartridge_byte(address)),
+            Mapped::Transfer | Mapped::Hardware => free(self.hardware_byte(address)),
+        }
+    }
+
     /// What is read where no transfer closes it.
     pub(crate) fn open_byte(&self, address: u16) -> u8
         ensures { result ≡ Accessing.open_byte (Spec.mapped_at address) self.now address }
     {
-        match mapped_at(address) {
-            Mapped::Rom => self.rom_byte(address),
-            Mapped::CartridgeRam => self.cartridge_byte(address),
-            Mapped::WorkRam(i) => self.work_ram[usize::from(i)],
-            Mapped::HighRam(i) => self.high_ram[usize::from(i)],
-            Mapped::InterruptEnable => self.interrupt_enable,
-            Mapped::Transfer | Mapped::Hardware => self.hardware_byte(address),
+        self.open_taken(address).byte
+    }
+
+    /// What is read, and whether it is free.
+    #[inline]
+    #[tactic(auto, unfolding(crate::specs::Accessing::byte_read, gb_ops::specs::Memory::is_free, gb_ops::specs::Memory::place_of))]
+    fn taken(&self, address: u16) -> Taken
+        ensures byte { result.byte ≡ Accessing.byte_read self.now address }
+        ensures free { result.is_free ≡ Spec.is_free self.now.view address }
+    {
+        if self.is_closed(address) {
+            free(0xFF)
+        } else {
+            self.open_taken(address)
         }
     }
 }
@@ -63,6 +106,8 @@ impl Memory<'_> {
         ensures { self.new ≡ Accessing.viewed mapped.Rom self.old address value }
     {
         self.controller.write(address, value);
+        self.low_bank = self.controller.low_bank();
+        self.high_bank = self.controller.high_bank();
     }
 
     /// Whether a write to an address commands the latch of the clock.
@@ -176,13 +221,15 @@ impl Bus for Memory<'_> {
 
     ghost shared = { shared };
 
-    #[tactic(auto, using(crate::proofs::Reading::fixed_is), unfolding(crate::specs::Accessing::byte_read))]
+    #[tactic(auto, using(crate::proofs::Reading::fixed_is))]
     fn read(&mut self, address: u16) -> u8 {
-        if self.is_closed(address) {
-            0xFF
-        } else {
-            self.open_byte(address)
-        }
+        self.taken(address).byte
+    }
+
+    #[inline]
+    #[tactic(auto, using(crate::proofs::Reading::fixed_is))]
+    fn take(&mut self, address: u16) -> Taken {
+        self.taken(address)
     }
 
     #[tactic(auto, using(crate::proofs::Reading::write_shows))]

@@ -26,9 +26,9 @@ impl Memory<'_> {
         ensures { result ≡ shown_bank self.now.view.rom self.now.view.storage.banks address }
     {
         if address < 0x4000 {
-            self.controller.low_bank()
+            self.low_bank
         } else {
-            self.controller.high_bank()
+            self.high_bank
         }
     }
 

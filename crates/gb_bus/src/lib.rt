@@ -18,6 +18,13 @@ mod transfer;
 use gb_ops::machine::Place;
 pub use memory::Memory;
 
+/// A byte that was read, and whether it was free: whether the bus may give any byte there.
+#[derive(Clone, Copy, Debug, PartialEq, Eq)]
+pub struct Taken {
+    pub byte: u8,
+    pub is_free: bool,
+}
+
 /// A memory bus. Each call has a relation between the bus before it, what it gives or takes, and
 /// the bus after it.
 pub trait Bus {
@@ -44,6 +51,19 @@ pub trait Bus {
     /// What answers a read.
     fn place(&self, address: u16) -> Place
         ensures { result ≡ place_of (shows self.now) address };
+
+    /// The same as `read`, and whether the byte is free: `place` and `read` in one.
+    #[tactic(auto, unfolding(gb_ops::specs::Memory::is_free))]
+    fn take(&mut self, address: u16) -> Taken
+        ensures joined { does self.old (access.Reads address result.byte) self.new }
+        ensures view { shows self.new ≡ shows self.old }
+        ensures free { result.is_free ≡ is_free (shows self.old) address }
+        ensures fixed { OnFalse (is_free (shows self.old) address) (byte_at (shows self.old) address ≡ result.byte) }
+    {
+        let is_free = matches!(self.place(address), Place::Free);
+        let byte = self.read(address);
+        Taken { byte, is_free }
+    }
 
     /// Some of the interrupts that are enabled, those that are requested. It changes nothing.
     fn pending(&mut self) -> u8

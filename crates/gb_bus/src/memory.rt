@@ -6,7 +6,7 @@ ghost use Rattle.gb_bus.specs.Screen.{blank};
 
 use gb_dma::Transfer;
 use gb_header::Rom;
-use gb_mbc::{Clock, Controller};
+use gb_mbc::{Clock, Controller, Mapper};
 use gb_ppu::line::WIDTH;
 use gb_ppu::ppu::Ppu;
 use gb_ppu::scene::{OAM, VIDEO_RAM};
@@ -29,6 +29,10 @@ pub const HEIGHT: usize = 144;
 pub struct Memory<'a> {
     pub(crate) rom: &'a [u8],
     pub(crate) controller: Controller,
+    /// The ROM banks that the controller shows, at 0000-3FFF and at 4000-7FFF: they change by its writes
+    /// alone, and are read with nearly every instruction.
+    pub(crate) low_bank: u16,
+    pub(crate) high_bank: u16,
     pub(crate) cartridge_ram: Vec<u8>,
     pub(crate) clock: Clock,
     pub(crate) video_ram: Box<[u8; VIDEO_RAM]>,
@@ -55,6 +59,7 @@ impl<'a> Model for Memory<'a> {
     ghost use Rattle.gb_header.specs.Header.{IsCartridge};
     ghost use Rattle.gb_mbc.specs.Controller.{features, registers};
     ghost use Rattle.gb_mbc.specs.Controllers.{features_of};
+    ghost use Rattle.gb_mbc.specs.Controllers as Shown;
     ghost use Rattle.gb_ops.specs.Cartridge.{ram_banks};
     ghost use Rattle.gb_bus.specs.Contents.{Contents};
 
@@ -84,7 +89,7 @@ impl<'a> Model for Memory<'a> {
       page = m.page;
     } };
 
-    ghost invariant = { λ m. IsCartridge m.rom.now × (features m.controller ≡ features_of m.rom.now) × (vec_len m.cartridge_ram ≡ 0x2000 * ram_banks m.rom.now) × (m.requests < 32) };
+    ghost invariant = { λ m. IsCartridge m.rom.now × (features m.controller ≡ features_of m.rom.now) × (vec_len m.cartridge_ram ≡ 0x2000 * ram_banks m.rom.now) × (m.requests < 32) × (m.low_bank ≡ Shown.low_bank (features m.controller) (registers m.controller)) × (m.high_bank ≡ Shown.high_bank (features m.controller) (registers m.controller)) };
 }
 
 /// A boxed array of bytes 00.
@@ -125,9 +130,14 @@ impl<'a> Memory<'a> {
         let oam = zeros(alloc)?;
         let high_ram = zeros(alloc)?;
         let screen = dark(alloc)?;
+        let controller = Controller::of(rom);
+        let low_bank = controller.low_bank();
+        let high_bank = controller.high_bank();
         let memory = Memory {
             rom: rom.bytes(),
-            controller: Controller::of(rom),
+            controller,
+            low_bank,
+            high_bank,
             cartridge_ram,
             clock: Clock::new(),
             video_ram,

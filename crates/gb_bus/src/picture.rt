@@ -83,6 +83,7 @@ impl Memory<'_> {
     }
 
     /// Draws the line at which the picture stands.
+    #[inline(never)]
     fn draw_line(&mut self)
         requires { line_of self.old.picture < 144 }
         ensures { self.new ≡ record self.old { screen = slice_set self.old.screen (line_of self.old.picture) (Screen.line_drawn self.old.picture self.old.video_ram self.old.oam) } }

@@ -43,6 +43,9 @@ fn banks_are_shown(rt: HostRuntime) -> Result<(), Fail> {
     assert_eq!(rt; memory.read(0x7FFF), 0x22);
     assert_eq!(rt; memory.place(0x7FFF), Place::Rom(2));
     assert_eq!(rt; memory.place(0x3FFF), Place::Rom(0));
+    assert_eq!(rt; memory.take(0x7FFF).byte, 0x22);
+    assert_eq!(rt; memory.take(0x7FFF).is_free, false);
+    assert_eq!(rt; memory.take(0xFF04).is_free, true);
     Ok(())
 }
 

@@ -166,7 +166,7 @@ impl Abs {
     }
 
     /// A state of these parts.
-    pub(crate) fn of_parts(core: Core, items: ArrayVec<Item, 16>, cells: ArrayVec<Cell, 32>) -> Abs
+    pub fn of_parts(core: Core, items: ArrayVec<Item, 16>, cells: ArrayVec<Cell, 32>) -> Abs
         ensures { result ≡ record { core = core; items = items.items; cells = cells.items } }
     {
         Abs { core, items, cells }

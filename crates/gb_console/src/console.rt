@@ -6,7 +6,7 @@ ghost use Rattle.gb_ops.specs.Play.{IsStart};
 ghost use Rattle.gb_ops.specs.Play as Play;
 ghost use Rattle.gb_ops.specs.declared.machine.Event.TheVariants as event;
 ghost use Rattle.gb_cpu.specs.Choice.{is_idle};
-ghost use Rattle.gb_console.specs.Console.{IsConsoleStep, at_power_up, machine_of, shown, frame_cycles};
+ghost use Rattle.gb_console.specs.Console.{IsConsoleStep, IsReachable, at_power_up, machine_of, rom_of, shown, frame_cycles};
 
 use crate::choice::{act, take};
 use gb_bus::Memory;
@@ -149,9 +149,11 @@ impl<'a> Console<'a> {
         self.memory.screen()
     }
 
-    /// The address of the next instruction.
+    /// The address of the next instruction. Some start and some list of events lead to each
+    /// console's state.
     pub fn pc(&self) -> u16
-        ensures { result ≡ self.now.cpu.processor.pc }
+        ensures address { result ≡ self.now.cpu.processor.pc }
+        ensures reached { IsReachable (rom_of self.now) (machine_of self.now) }
     {
         self.cpu.processor.pc
     }

@@ -7,30 +7,13 @@ ghost use Rattle.gb_ops.specs.Accesses.{Joined, where_wanted, fetch_log, load_lo
 ghost use Rattle.gb_ops.specs.Accesses as access;
 ghost use Rattle.gb_cpu.specs.Access.{Gave, queued, queued_two, free_fetches, free_reads};
 
-use gb_bus::Bus;
+use gb_bus::{Bus, Taken};
 use gb_effects::advance::{length_of, second_address, third_address};
-use gb_ops::machine::{Loaded, Place, Read, Write};
+use gb_ops::machine::{Loaded, Read, Write};
 use gb_ops::registers::Processor;
 
-/// A byte that was read, and whether it was free.
-#[derive(Clone, Copy, Debug)]
-struct Taken {
-    byte: u8,
-    is_free: bool,
-}
-
-/// Whether a read may give any byte.
-#[tactic(auto, unfolding(gb_ops::specs::Memory::is_free))]
-fn is_free_at<B: Bus>(bus: &B, address: u16) -> bool
-    ensures { result ≡ is_free (B.shows bus.now) address }
-{
-    match bus.place(address) {
-        Place::Rom(_) | Place::Plain => false,
-        Place::Free => true,
-    }
-}
-
 /// Reads a byte.
+#[inline(always)]
 #[tactic(auto, using(crate::proofs::Fetching::gave))]
 fn take<B: Bus>(bus: &mut B, address: u16) -> Taken
     ensures view { B.shows bus.new ≡ B.shows bus.old }
@@ -38,12 +21,11 @@ fn take<B: Bus>(bus: &mut B, address: u16) -> Taken
     ensures free { result.is_free ≡ is_free (B.shows bus.old) address }
     ensures joined { Joined B.does bus.old (access.Reads address result.byte ∷ []) bus.new }
 {
-    let is_free = is_free_at(bus, address);
-    let byte = bus.read(address);
-    Taken { byte, is_free }
+    bus.take(address)
 }
 
 /// Reads a byte if it is wanted.
+#[inline(always)]
 #[tactic(auto, unfolding(gb_ops::specs::Machine::read_where))]
 fn take_where<B: Bus>(bus: &mut B, wanted: bool, address: u16) -> Taken
     ensures view { B.shows bus.new ≡ B.shows bus.old }
@@ -95,6 +77,7 @@ pub struct Fetched {
 }
 
 /// Reads the bytes of the instruction at PC.
+#[inline(always)]
 #[tactic(auto, using(crate::proofs::Fetching::fetched_is, crate::proofs::Joining::joined_append), unfolding(gb_ops::specs::Accesses::fetch_log, crate::specs::Access::free_fetches))]
 pub fn fetch<B: Bus>(bus: &mut B, processor: Processor) -> Fetched
     ensures view { B.shows bus.new ≡ B.shows bus.old }
@@ -121,6 +104,7 @@ pub struct Answer {
 }
 
 /// Makes the reads of an instruction.
+#[inline(always)]
 #[tactic(auto, using(crate::proofs::Fetching::nothing_is, crate::proofs::Fetching::byte_is, crate::proofs::Fetching::word_is), unfolding(gb_ops::specs::Accesses::load_log, crate::specs::Access::free_reads))]
 pub fn load<B: Bus>(bus: &mut B, read: Read) -> Answer
     ensures view { B.shows bus.new ≡ B.shows bus.old }
@@ -159,6 +143,7 @@ pub fn load<B: Bus>(bus: &mut B, read: Read) -> Answer
 }
 
 /// Makes the writes of an instruction.
+#[inline(always)]
 #[tactic(auto, unfolding(gb_ops::specs::Memory::stored, gb_ops::specs::Accesses::store_log))]
 pub fn store<B: Bus>(bus: &mut B, write: Write)
     ensures view { B.shows bus.new ≡ stored (B.shows bus.old) write }

@@ -1,4 +1,6 @@
 //! One step of the processor, and an interrupt's dispatch.
+//!
+//! The parts of a step are inlined into its caller: one that drops the event pays nothing for its bytes.
 
 ghost use Rattle.std.specs.Prelude.{Some, if◌then◌else◌, [], ◌∷◌, ℕ, true, ◌%◌, IsTrue, ◌==◌, slice_index, ◌≡◌, ◌<◌, ◌≤◌, ◌^◌, ◌≢◌};
 ghost use Rattle.gb_ops.specs.Machine as Machine;
@@ -10,42 +12,38 @@ ghost use Rattle.gb_cpu.specs.Step.{state, IsSpecial, IsDispatchable};
 
 use crate::access::{fetch, load, store};
 use gb_bus::Bus;
-use gb_effects::advance::{advanced, cycles_of, mark_of, settled};
-use gb_effects::effect::{effect_of, read_of, with_pc, with_sp};
+use gb_effects::advance::{advance, cycles_of, mark_of, settled};
+use gb_effects::effect::{perform, read_of, with_pc, with_sp};
 use gb_ops::decode::decode;
 use gb_ops::machine::{Event, Write};
 use gb_ops::op::Row;
 use gb_ops::registers::{Ime, Processor};
 
-/// What executing an instruction left, the free bytes that it read, and its M-cycles.
+/// The free bytes that an instruction read, and its M-cycles.
 #[derive(Clone, Copy, Debug)]
 struct Executed {
-    processor: Processor,
     reads: [u8; 2],
     cycles: u8,
 }
 
 /// Executes an instruction of the table.
+#[inline(always)]
 #[tactic(auto, using(crate::proofs::Joining::joined_append), unfolding(gb_ops::specs::Machine::executed, gb_ops::specs::Accesses::execute_log, gb_ops::specs::Accesses::executed_cycles))]
-fn execute<B: Bus>(processor: Processor, bus: &mut B, row: Row) -> Executed
-    ensures state { state result.processor (B.shows bus.new) ≡ Machine.executed (state processor (B.shows bus.old)) row result.reads }
-    ensures joined { Joined B.does bus.old (execute_log (state processor (B.shows bus.old)) row result.reads) bus.new }
-    ensures cycles { result.cycles ≡ executed_cycles (state processor (B.shows bus.old)) row result.reads }
-    ensures free { result.reads ≡ row_free_reads (Some row) (state processor (B.shows bus.old)) result.reads }
+fn execute<B: Bus>(processor: &mut Processor, bus: &mut B, row: Row) -> Executed
+    ensures state { state processor.new (B.shows bus.new) ≡ Machine.executed (state processor.old (B.shows bus.old)) row result.reads }
+    ensures joined { Joined B.does bus.old (execute_log (state processor.old (B.shows bus.old)) row result.reads) bus.new }
+    ensures cycles { result.cycles ≡ executed_cycles (state processor.old (B.shows bus.old)) row result.reads }
+    ensures free { result.reads ≡ row_free_reads (Some row) (state processor.old (B.shows bus.old)) result.reads }
     ensures in_range { Machine.is_bytes 2 result.reads ≡ true }
 {
-    let processor = advanced(processor, row);
-    let answer = load(bus, read_of(row.op, processor));
-    let effect = effect_of(row.op, processor, answer.loaded.low, answer.loaded.high);
-    store(bus, effect.write);
-    let cycles = cycles_of(row, effect.is_taken);
+    advance(processor, row);
+    let answer = load(bus, read_of(row.op, *processor));
+    let outcome = perform(row.op, processor, answer.loaded.low, answer.loaded.high);
+    store(bus, outcome.write);
+    let cycles = cycles_of(row, outcome.is_taken);
     bus.pass(cycles);
     let reads = answer.free;
-    Executed {
-        processor: effect.processor,
-        reads,
-        cycles,
-    }
+    Executed { reads, cycles }
 }
 
 /// An event that happened, and its M-cycles.
@@ -70,38 +68,43 @@ pub struct Cpu {
 }
 
 /// An undefined opcode.
+#[inline(always)]
 #[tactic(auto, unfolding(gb_ops::specs::Machine::locked))]
-fn lock<B: Bus>(processor: Processor, bus: &mut B) -> Processor
-    ensures state { state result (B.shows bus.new) ≡ Machine.locked (state processor (B.shows bus.old)) }
+fn lock<B: Bus>(processor: &mut Processor, bus: &mut B)
+    ensures state { state processor.new (B.shows bus.new) ≡ Machine.locked (state processor.old (B.shows bus.old)) }
     ensures joined { Joined B.does bus.old (access.Passes 1 ∷ []) bus.new }
 {
     bus.pass(1);
-    Processor {
+    *processor = Processor {
         locked: true,
-        ..settled(processor)
-    }
+        ..settled(*processor)
+    };
 }
 
 /// A row's instruction, or an undefined opcode.
+#[inline(always)]
 #[tactic(auto, unfolding(gb_ops::specs::Machine::run_row))]
-fn run_row<B: Bus>(processor: Processor, bus: &mut B, row: Option<Row>) -> Executed
-    ensures state { state result.processor (B.shows bus.new) ≡ Machine.run_row row (state processor (B.shows bus.old)) result.reads }
-    ensures joined { Joined B.does bus.old (row_log row (state processor (B.shows bus.old)) result.reads) bus.new }
-    ensures cycles { result.cycles ≡ row_cycles row (state processor (B.shows bus.old)) result.reads }
-    ensures free { result.reads ≡ row_free_reads row (state processor (B.shows bus.old)) result.reads }
+fn run_row<B: Bus>(processor: &mut Processor, bus: &mut B, row: Option<Row>) -> Executed
+    ensures state { state processor.new (B.shows bus.new) ≡ Machine.run_row row (state processor.old (B.shows bus.old)) result.reads }
+    ensures joined { Joined B.does bus.old (row_log row (state processor.old (B.shows bus.old)) result.reads) bus.new }
+    ensures cycles { result.cycles ≡ row_cycles row (state processor.old (B.shows bus.old)) result.reads }
+    ensures free { result.reads ≡ row_free_reads row (state processor.old (B.shows bus.old)) result.reads }
     ensures in_range { Machine.is_bytes 2 result.reads ≡ true }
 {
     match row {
         Some(row) => execute(processor, bus, row),
-        None => Executed {
-            processor: lock(processor, bus),
-            reads: [0, 0],
-            cycles: 1,
-        },
+        None => {
+            lock(processor, bus);
+            Executed {
+                reads: [0, 0],
+                cycles: 1,
+            }
+        }
     }
 }
 
 /// Interrupts become on, and PC stays on the HALT.
+#[inline(always)]
 #[tactic(auto, unfolding(gb_ops::specs::Machine::halt_stay))]
 fn stay<B: Bus>(processor: Processor, bus: &mut B) -> Processor
     ensures state { state result (B.shows bus.new) ≡ Machine.halt_stay (state processor (B.shows bus.old)) }
@@ -115,6 +118,7 @@ fn stay<B: Bus>(processor: Processor, bus: &mut B) -> Processor
 }
 
 /// PC goes on, and the next instruction's first byte will be read twice.
+#[inline(always)]
 #[tactic(auto, unfolding(gb_ops::specs::Machine::halt_bug))]
 fn leave_mark<B: Bus>(processor: Processor, bus: &mut B) -> Processor
     ensures state { state result (B.shows bus.new) ≡ Machine.halt_bug (state processor (B.shows bus.old)) }
@@ -154,6 +158,7 @@ impl Cpu {
     ghost use Rattle.gb_cpu.specs.Choice.{IsChoice, is_idle, waits_after};
 
     /// The next event but interrupts: its effect on the processor and the bus.
+    #[inline(always)]
     #[tactic(auto, using(crate::proofs::Joining::joined_append, crate::proofs::Halting::has_halt_is, crate::proofs::Halting::fetch_log_halt), unfolding(gb_ops::specs::Machine::next, gb_ops::specs::Machine::only, gb_ops::specs::Machine::is_possible, gb_ops::specs::Machine::happened, gb_ops::specs::Machine::run, gb_ops::specs::Accesses::accesses_of, gb_ops::specs::Accesses::event_cycles))]
     fn act<B: Bus>(&mut self, bus: &mut B) -> Stepped
         ensures state { state self.new.processor (B.shows bus.new) ≡ Machine.next (state self.old.processor (B.shows bus.old)) result.event }
@@ -186,8 +191,7 @@ impl Cpu {
                 answer(Event::HaltBug, 1)
             }
             None => {
-                let executed = run_row(processor, bus, decode(&fetched.bytes));
-                self.processor = executed.processor;
+                let executed = run_row(&mut self.processor, bus, decode(&fetched.bytes));
                 self.is_waiting = opcode == 0x76;
                 let reads = executed.reads;
                 answer(Event::Run { fetch, reads }, executed.cycles)
@@ -196,6 +200,7 @@ impl Cpu {
     }
 
     /// The next event but interrupts: its effect on the processor and the bus.
+    #[inline(always)]
     pub fn step<B: Bus>(&mut self, bus: &mut B) -> Stepped
         ensures machine { IsStep (state self.old.processor (B.shows bus.old)) result.event (state self.new.processor (B.shows bus.new)) }
         ensures joined { Joined B.does bus.old (accesses_of (state self.old.processor (B.shows bus.old)) result.event) bus.new }
@@ -208,6 +213,7 @@ impl Cpu {
     }
 
     /// An interrupt's dispatch, where it is possible.
+    #[inline(always)]
     pub fn dispatch<B: Bus>(&mut self, bus: &mut B, i: u8) -> Stepped
         requires { IsDispatchable (state self.old.processor (B.shows bus.old)) i }
         ensures machine { IsStep (state self.old.processor (B.shows bus.old)) result.event (state self.new.processor (B.shows bus.new)) }
@@ -220,6 +226,7 @@ impl Cpu {
     }
 
     /// The dispatch: its effect on the processor and the bus.
+    #[inline(always)]
     #[tactic(auto, using(crate::proofs::Joining::joined_append), unfolding(gb_ops::specs::Machine::next, gb_ops::specs::Machine::only, gb_ops::specs::Machine::is_possible, gb_ops::specs::Machine::happened, gb_ops::specs::Machine::dispatched, gb_ops::specs::Accesses::accesses_of, gb_ops::specs::Accesses::event_cycles))]
     fn interrupt<B: Bus>(&mut self, bus: &mut B, i: u8) -> Stepped
         requires { IsDispatchable (state self.old.processor (B.shows bus.old)) i }

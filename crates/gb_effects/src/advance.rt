@@ -3,19 +3,35 @@
 ghost use Rattle.std.specs.Prelude.{◌≡◌, ◌≤◌};
 ghost use Rattle.gb_ops.specs.Machine as Machine;
 
-use gb_ops::decode::decode;
 use gb_ops::op::{Op, Row};
 use gb_ops::registers::{Ime, Processor};
 
+/// The bytes of each instruction, by its first, sixteen opcodes a line.
+static LENGTHS: [u8; 256] = [
+    1, 3, 1, 1, 1, 1, 2, 1, 3, 1, 1, 1, 1, 1, 2, 1, // 00
+    2, 3, 1, 1, 1, 1, 2, 1, 2, 1, 1, 1, 1, 1, 2, 1, // 10
+    2, 3, 1, 1, 1, 1, 2, 1, 2, 1, 1, 1, 1, 1, 2, 1, // 20
+    2, 3, 1, 1, 1, 1, 2, 1, 2, 1, 1, 1, 1, 1, 2, 1, // 30
+    1, 1, 1, 1, 1, 1, 1, 1, 1, 1, 1, 1, 1, 1, 1, 1, // 40
+    1, 1, 1, 1, 1, 1, 1, 1, 1, 1, 1, 1, 1, 1, 1, 1, // 50
+    1, 1, 1, 1, 1, 1, 1, 1, 1, 1, 1, 1, 1, 1, 1, 1, // 60
+    1, 1, 1, 1, 1, 1, 1, 1, 1, 1, 1, 1, 1, 1, 1, 1, // 70
+    1, 1, 1, 1, 1, 1, 1, 1, 1, 1, 1, 1, 1, 1, 1, 1, // 80
+    1, 1, 1, 1, 1, 1, 1, 1, 1, 1, 1, 1, 1, 1, 1, 1, // 90
+    1, 1, 1, 1, 1, 1, 1, 1, 1, 1, 1, 1, 1, 1, 1, 1, // A0
+    1, 1, 1, 1, 1, 1, 1, 1, 1, 1, 1, 1, 1, 1, 1, 1, // B0
+    1, 1, 3, 3, 3, 1, 2, 1, 1, 1, 3, 2, 3, 3, 2, 1, // C0
+    1, 1, 3, 1, 3, 1, 2, 1, 1, 1, 3, 1, 3, 1, 2, 1, // D0
+    2, 1, 1, 1, 1, 1, 2, 1, 2, 1, 3, 1, 1, 1, 2, 1, // E0
+    2, 1, 1, 1, 1, 1, 2, 1, 2, 1, 3, 1, 1, 1, 2, 1, // F0
+];
+
 /// How many bytes an instruction has, by its first; an undefined opcode has one.
-#[tactic(auto, unfolding(gb_ops::specs::Machine::length_of))]
+#[inline]
 pub fn length_of(opcode: u8) -> u8
     ensures { result ≡ Machine.length_of opcode }
 {
-    match decode(&[opcode, 0, 0]) {
-        Some(row) => row.length,
-        None => 1,
-    }
+    LENGTHS[usize::from(opcode)]
 }
 
 /// By how much less PC goes on: 1 under the HALT mark.
@@ -83,6 +99,17 @@ pub fn advanced(processor: Processor, row: Row) -> Processor
         pc: processor.pc.wrapping_add(way),
         ..settled(processor)
     }
+}
+
+/// An instruction begins its work, its bytes fetched: PC goes on.
+#[tactic(auto, unfolding(gb_ops::specs::Machine::advanced))]
+pub fn advance(processor: &mut Processor, row: Row)
+    ensures { processor.new ≡ Machine.advanced processor.old row }
+{
+    let way = way_of(row.op, u16::from(row.length), mark_of(*processor));
+    processor.pc = processor.pc.wrapping_add(way);
+    processor.ime = ime_after(processor.ime);
+    processor.halt_mark = false;
 }
 
 /// The M-cycles of an instruction.

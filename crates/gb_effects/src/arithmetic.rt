@@ -62,6 +62,7 @@ pub fn logical(value: u8, half_carry: bool) -> Computed
 }
 
 /// An operation of A with a byte; CP leaves A.
+#[inline(always)]
 #[tactic(auto, unfolding(gb_ops::specs::Arithmetic::alu_result, gb_ops::specs::Flags::bit_of))]
 pub fn alu_result(how: AluOp, a: u8, value: u8, flags: Flags) -> Computed
     ensures { result ≡ Arithmetic.alu_result how a value flags }
@@ -147,6 +148,7 @@ pub fn shifted_out(how: Shift, value: u8) -> bool
 }
 
 /// A rotation or shift of a byte.
+#[inline(always)]
 #[tactic(auto, unfolding(gb_ops::specs::Arithmetic::shifted))]
 pub fn shifted(how: Shift, value: u8, carry: bool) -> Computed
     ensures { result ≡ Arithmetic.shifted how value carry }

@@ -5,13 +5,15 @@ ghost use Rattle.gb_ops.specs.declared.op.Pair.TheVariants as pair;
 ghost use Rattle.gb_ops.specs.Pairs.{with_pair};
 ghost use Rattle.gb_ops.specs.Arithmetic.{word_sum_flags};
 ghost use Rattle.gb_ops.specs.Effects as Effects;
+ghost use Rattle.gb_ops.specs.declared.machine.Write.TheVariants as write;
+ghost use Rattle.gb_effects.specs.Outcomes.{effect};
 
 use crate::arithmetic::{
     adjusted, alu_result, bit_reset, bit_set, bit_tested, decremented, displaced, incremented,
     shifted, sp_sum_flags, word_sum_flags,
 };
 use crate::flags::is_met;
-use crate::pairs::{pair_value, stack_pair_value, with_pair, with_stack_pair, word};
+use crate::pairs::{pair_value, set_pair, set_stack_pair, stack_pair_value, word};
 use gb_ops::machine::{Computed, Effect, Read, Write};
 use gb_ops::op::{Indirect, Op, Operand, Pair};
 use gb_ops::registers::{Flags, Ime, Processor};
@@ -33,14 +35,16 @@ fn indirect_address(processor: Processor, indirect: Indirect) -> u16
     }
 }
 
+/// HL counts up or down where the operand says so.
 #[tactic(auto, unfolding(gb_ops::specs::Effects::with_indirect))]
-fn with_indirect(processor: Processor, indirect: Indirect) -> Processor
-    ensures { result ≡ Effects.with_indirect processor indirect }
+fn count_indirect(processor: &mut Processor, indirect: Indirect)
+    ensures { processor.new ≡ Effects.with_indirect processor.old indirect }
 {
+    let address = hl(*processor);
     match indirect {
-        Indirect::Bc | Indirect::De => processor,
-        Indirect::HlIncrement => with_pair(processor, Pair::Hl, hl(processor).wrapping_add(1)),
-        Indirect::HlDecrement => with_pair(processor, Pair::Hl, hl(processor).wrapping_sub(1)),
+        Indirect::Bc | Indirect::De => {}
+        Indirect::HlIncrement => set_pair(processor, Pair::Hl, address.wrapping_add(1)),
+        Indirect::HlDecrement => set_pair(processor, Pair::Hl, address.wrapping_sub(1)),
     }
 }
 
@@ -62,6 +66,7 @@ fn read_if(is_read: bool, read: Read) -> Read
 }
 
 /// What an instruction reads besides its own bytes.
+#[inline(always)]
 #[tactic(auto, unfolding(gb_ops::specs::Effects::read_of))]
 pub fn read_of(op: Op, processor: Processor) -> Read
     ensures { result ≡ Effects.read_of op processor }
@@ -88,35 +93,38 @@ pub fn read_of(op: Op, processor: Processor) -> Read
     }
 }
 
-/// The processor changes, and nothing is written.
-fn quiet(processor: Processor) -> Effect
-    ensures { result ≡ Effects.quiet processor }
-{
-    writes(processor, Write::Nothing)
+/// What an instruction leaves to be done, as it has changed the processor.
+#[derive(Clone, Copy, Debug, PartialEq, Eq)]
+pub struct Outcome {
+    pub write: Write,
+    /// Whether its condition is met; an instruction without one is taken.
+    pub is_taken: bool,
 }
 
-fn writes(processor: Processor, write: Write) -> Effect
-    ensures { result ≡ Effects.writes processor write }
+/// Nothing is written.
+fn quiet() -> Outcome
+    ensures { result ≡ record { write = write.Nothing; is_taken = true } }
 {
-    Effect {
-        processor,
+    writes(Write::Nothing)
+}
+
+fn writes(write: Write) -> Outcome
+    ensures { result ≡ record { write = write; is_taken = true } }
+{
+    Outcome {
         write,
         is_taken: true,
     }
 }
 
-fn with_flags(processor: Processor, flags: Flags) -> Processor
-    ensures { result ≡ Effects.with_flags processor flags }
+/// The condition is not met.
+fn not_taken() -> Outcome
+    ensures { result ≡ record { write = write.Nothing; is_taken = false } }
 {
-    Processor { flags, ..processor }
-}
-
-fn with_a(processor: Processor, value: u8) -> Processor
-    ensures { result ≡ Effects.with_a processor value }
-{
-    let mut changed = processor;
-    changed.registers.a = value;
-    changed
+    Outcome {
+        write: Write::Nothing,
+        is_taken: false,
+    }
 }
 
 /// The processor with another stack pointer.
@@ -133,12 +141,6 @@ pub fn with_pc(processor: Processor, pc: u16) -> Processor
     Processor { pc, ..processor }
 }
 
-fn with_ime(processor: Processor, ime: Ime) -> Processor
-    ensures { result ≡ record processor { ime = ime } }
-{
-    Processor { ime, ..processor }
-}
-
 /// The value of an operand, where its byte in memory was read.
 #[tactic(auto, unfolding(gb_ops::specs::Effects::operand_value))]
 fn operand_value(processor: Processor, operand: Operand, low: u8) -> u8
@@ -151,36 +153,34 @@ fn operand_value(processor: Processor, operand: Operand, low: u8) -> u8
 }
 
 #[tactic(auto, unfolding(gb_ops::specs::Effects::store_operand))]
-fn store_operand(processor: Processor, operand: Operand, value: u8) -> Effect
-    ensures { result ≡ Effects.store_operand processor operand value }
+fn store_operand(processor: &mut Processor, operand: Operand, value: u8) -> Outcome
+    ensures { effect processor.new result ≡ Effects.store_operand processor.old operand value }
 {
     match operand {
         Operand::Register(which) => {
-            let mut changed = processor;
-            changed.registers.set(which, value);
-            quiet(changed)
+            processor.registers.set(which, value);
+            quiet()
         }
-        Operand::AtHl => writes(processor, Write::Byte(hl(processor), value)),
+        Operand::AtHl => writes(Write::Byte(hl(*processor), value)),
     }
 }
 
 /// The operand and the flags become what was computed.
 #[tactic(auto, unfolding(gb_ops::specs::Effects::update_operand))]
-fn update_operand(processor: Processor, operand: Operand, computed: Computed) -> Effect
-    ensures { result ≡ Effects.update_operand processor operand computed }
+fn update_operand(processor: &mut Processor, operand: Operand, computed: Computed) -> Outcome
+    ensures { effect processor.new result ≡ Effects.update_operand processor.old operand computed }
 {
-    store_operand(
-        with_flags(processor, computed.flags),
-        operand,
-        computed.value,
-    )
+    processor.flags = computed.flags;
+    store_operand(processor, operand, computed.value)
 }
 
 #[tactic(auto, unfolding(gb_ops::specs::Effects::update_a))]
-fn update_a(processor: Processor, computed: Computed) -> Effect
-    ensures { result ≡ Effects.update_a processor computed }
+fn update_a(processor: &mut Processor, computed: Computed) -> Outcome
+    ensures { effect processor.new result ≡ Effects.update_a processor.old computed }
 {
-    quiet(with_a(with_flags(processor, computed.flags), computed.value))
+    processor.flags = computed.flags;
+    processor.registers.a = computed.value;
+    quiet()
 }
 
 fn without_zero(computed: Computed) -> Computed
@@ -192,56 +192,42 @@ fn without_zero(computed: Computed) -> Computed
 }
 
 #[tactic(auto, unfolding(gb_ops::specs::Effects::jump))]
-fn jump(processor: Processor, to: u16) -> Effect
-    ensures { result ≡ Effects.jump processor to }
+fn jump(processor: &mut Processor, to: u16) -> Outcome
+    ensures { effect processor.new result ≡ Effects.jump processor.old to }
 {
-    quiet(with_pc(processor, to))
+    processor.pc = to;
+    quiet()
 }
 
 /// The word goes on the stack.
 #[tactic(auto, unfolding(gb_ops::specs::Effects::push))]
-fn push(processor: Processor, word: u16) -> Effect
-    ensures { result ≡ Effects.push processor word }
+fn push(processor: &mut Processor, word: u16) -> Outcome
+    ensures { effect processor.new result ≡ Effects.push processor.old word }
 {
     let sp = processor.sp;
-    writes(
-        with_sp(processor, sp.wrapping_sub(2)),
-        Write::Push(sp, word),
-    )
+    processor.sp = sp.wrapping_sub(2);
+    writes(Write::Push(sp, word))
 }
 
 /// The address of the next instruction goes on the stack.
 #[tactic(auto, unfolding(gb_ops::specs::Effects::call))]
-fn call(processor: Processor, to: u16) -> Effect
-    ensures { result ≡ Effects.call processor to }
+fn call(processor: &mut Processor, to: u16) -> Outcome
+    ensures { effect processor.new result ≡ Effects.call processor.old to }
 {
     let sp = processor.sp;
-    let below = with_sp(processor, sp.wrapping_sub(2));
-    writes(with_pc(below, to), Write::Push(sp, processor.pc))
+    let back = processor.pc;
+    processor.sp = sp.wrapping_sub(2);
+    processor.pc = to;
+    writes(Write::Push(sp, back))
 }
 
 #[tactic(auto, unfolding(gb_ops::specs::Effects::return_to))]
-fn return_to(processor: Processor, low: u8, high: u8) -> Effect
-    ensures { result ≡ Effects.return_to processor low high }
+fn return_to(processor: &mut Processor, low: u8, high: u8) -> Outcome
+    ensures { effect processor.new result ≡ Effects.return_to processor.old low high }
 {
-    let above = with_sp(processor, processor.sp.wrapping_add(2));
-    quiet(with_pc(above, word(high, low)))
-}
-
-/// The effect where a condition is met, else none.
-#[tactic(auto, unfolding(gb_ops::specs::Effects::only_if))]
-fn only_if(is_taken: bool, effect: Effect, processor: Processor) -> Effect
-    ensures { result ≡ Effects.only_if is_taken effect processor }
-{
-    if is_taken {
-        effect
-    } else {
-        Effect {
-            processor,
-            write: Write::Nothing,
-            is_taken: false,
-        }
-    }
+    processor.sp = processor.sp.wrapping_add(2);
+    processor.pc = word(high, low);
+    quiet()
 }
 
 #[tactic(auto, unfolding(gb_ops::specs::Effects::enabled))]
@@ -278,112 +264,190 @@ fn carry_flags(flags: Flags, carry: bool) -> Flags
 }
 
 /// ADD HL.
-fn add_to_hl(processor: Processor, value: u16) -> Effect
-    ensures { result ≡ Effects.quiet (Effects.with_flags (with_pair processor pair.Hl ((Effects.hl processor + value) % 65536)) (word_sum_flags (Effects.hl processor) value processor.flags)) }
+fn add_to_hl(processor: &mut Processor, value: u16) -> Outcome
+    ensures { effect processor.new result ≡ Effects.quiet (Effects.with_flags (with_pair processor.old pair.Hl ((Effects.hl processor.old + value) % 65536)) (word_sum_flags (Effects.hl processor.old) value processor.old.flags)) }
 {
-    let before = hl(processor);
-    let sum = with_pair(processor, Pair::Hl, before.wrapping_add(value));
-    quiet(with_flags(sum, word_sum_flags(before, value, processor.flags)))
+    let before = hl(*processor);
+    let flags = word_sum_flags(before, value, processor.flags);
+    set_pair(processor, Pair::Hl, before.wrapping_add(value));
+    processor.flags = flags;
+    quiet()
 }
 
 /// What an instruction does, once its bytes are fetched and its reads gave low and high.
-#[tactic(auto, unfolding(gb_ops::specs::Effects::effect_of))]
-pub fn effect_of(op: Op, processor: Processor, low: u8, high: u8) -> Effect
-    ensures { result ≡ Effects.effect_of op processor low high }
+#[tactic(auto, unfolding(gb_ops::specs::Effects::effect_of, gb_ops::specs::Effects::only_if))]
+#[inline(always)]
+pub fn perform(op: Op, processor: &mut Processor, low: u8, high: u8) -> Outcome
+    ensures { effect processor.new result ≡ Effects.effect_of op processor.old low high }
 {
     let p = processor;
     let a = p.registers.a;
     let flags = p.flags;
     match op {
-        Op::Nop | Op::Halt => quiet(p),
-        Op::Stop => quiet(Processor { stopped: true, ..p }),
-        Op::LoadPair(to, word) => quiet(with_pair(p, to, word)),
-        Op::StoreA(to) => {
-            let address = indirect_address(p, to);
-            writes(with_indirect(p, to), Write::Byte(address, a))
+        Op::Nop | Op::Halt => quiet(),
+        Op::Stop => {
+            p.stopped = true;
+            quiet()
         }
-        Op::LoadA(from) => quiet(with_a(with_indirect(p, from), low)),
+        Op::LoadPair(to, word) => {
+            set_pair(p, to, word);
+            quiet()
+        }
+        Op::StoreA(to) => {
+            let address = indirect_address(*p, to);
+            count_indirect(p, to);
+            writes(Write::Byte(address, a))
+        }
+        Op::LoadA(from) => {
+            count_indirect(p, from);
+            p.registers.a = low;
+            quiet()
+        }
         Op::IncrementPair(which) => {
-            let value = pair_value(p, which).wrapping_add(1);
-            quiet(with_pair(p, which, value))
+            let value = pair_value(*p, which).wrapping_add(1);
+            set_pair(p, which, value);
+            quiet()
         }
         Op::DecrementPair(which) => {
-            let value = pair_value(p, which).wrapping_sub(1);
-            quiet(with_pair(p, which, value))
+            let value = pair_value(*p, which).wrapping_sub(1);
+            set_pair(p, which, value);
+            quiet()
         }
         Op::Increment(operand) => {
-            let value = operand_value(p, operand, low);
+            let value = operand_value(*p, operand, low);
             update_operand(p, operand, incremented(value, flags))
         }
         Op::Decrement(operand) => {
-            let value = operand_value(p, operand, low);
+            let value = operand_value(*p, operand, low);
             update_operand(p, operand, decremented(value, flags))
         }
         Op::LoadImmediate(to, value) => store_operand(p, to, value),
         Op::RotateA(how) => update_a(p, without_zero(shifted(how, a, flags.carry))),
-        Op::StoreSp(address) => writes(p, Write::Word(address, p.sp)),
-        Op::AddHl(which) => add_to_hl(p, pair_value(p, which)),
-        Op::JumpRelative(e8) => jump(p, displaced(p.pc, e8)),
-        Op::JumpRelativeIf(condition, e8) => {
-            only_if(is_met(condition, flags), jump(p, displaced(p.pc, e8)), p)
+        Op::StoreSp(address) => writes(Write::Word(address, p.sp)),
+        Op::AddHl(which) => {
+            let value = pair_value(*p, which);
+            add_to_hl(p, value)
+        }
+        Op::JumpRelative(e8) => {
+            let to = displaced(p.pc, e8);
+            jump(p, to)
+        }
+        Op::JumpRelativeIf(condition, e8) if is_met(condition, flags) => {
+            let to = displaced(p.pc, e8);
+            jump(p, to)
         }
         Op::DecimalAdjust => update_a(p, adjusted(a, flags)),
-        Op::Complement => quiet(with_a(with_flags(p, complement_flags(flags)), !a)),
-        Op::SetCarry => quiet(with_flags(p, carry_flags(flags, true))),
-        Op::ComplementCarry => quiet(with_flags(p, carry_flags(flags, !flags.carry))),
-        Op::Load(to, from) => store_operand(p, to, operand_value(p, from, low)),
+        Op::Complement => {
+            p.flags = complement_flags(flags);
+            p.registers.a = !a;
+            quiet()
+        }
+        Op::SetCarry => {
+            p.flags = carry_flags(flags, true);
+            quiet()
+        }
+        Op::ComplementCarry => {
+            p.flags = carry_flags(flags, !flags.carry);
+            quiet()
+        }
+        Op::Load(to, from) => {
+            let value = operand_value(*p, from, low);
+            store_operand(p, to, value)
+        }
         Op::Alu(how, from) => {
-            let value = operand_value(p, from, low);
+            let value = operand_value(*p, from, low);
             update_a(p, alu_result(how, a, value, flags))
         }
         Op::AluImmediate(how, value) => update_a(p, alu_result(how, a, value, flags)),
-        Op::ReturnIf(condition) => only_if(is_met(condition, flags), return_to(p, low, high), p),
+        Op::ReturnIf(condition) if is_met(condition, flags) => return_to(p, low, high),
         Op::Return => return_to(p, low, high),
-        Op::ReturnFromInterrupt => return_to(with_ime(p, Ime::On), low, high),
+        Op::ReturnFromInterrupt => {
+            p.ime = Ime::On;
+            return_to(p, low, high)
+        }
         Op::Pop(to) => {
             let sp = p.sp.wrapping_add(2);
-            quiet(with_sp(with_stack_pair(p, to, low, high), sp))
+            set_stack_pair(p, to, low, high);
+            p.sp = sp;
+            quiet()
         }
-        Op::Push(from) => push(p, stack_pair_value(p, from)),
-        Op::JumpIf(condition, to) => only_if(is_met(condition, flags), jump(p, to), p),
+        Op::Push(from) => {
+            let value = stack_pair_value(*p, from);
+            push(p, value)
+        }
+        Op::JumpIf(condition, to) if is_met(condition, flags) => jump(p, to),
         Op::Jump(to) => jump(p, to),
-        Op::CallIf(condition, to) => only_if(is_met(condition, flags), call(p, to), p),
+        Op::CallIf(condition, to) if is_met(condition, flags) => call(p, to),
+        Op::JumpRelativeIf(_, _) | Op::ReturnIf(_) | Op::JumpIf(_, _) | Op::CallIf(_, _) =>
+            not_taken(),
         Op::Call(to) => call(p, to),
         Op::Restart(to) => call(p, u16::from(to)),
-        Op::StoreHigh(byte) => writes(p, Write::Byte(0xFF00 + u16::from(byte), a)),
+        Op::StoreHigh(byte) => writes(Write::Byte(0xFF00 + u16::from(byte), a)),
         Op::StoreHighC => {
             let address = 0xFF00 + u16::from(p.registers.c);
-            writes(p, Write::Byte(address, a))
+            writes(Write::Byte(address, a))
         }
-        Op::StoreAbsolute(address) => writes(p, Write::Byte(address, a)),
-        Op::LoadHigh(_) | Op::LoadHighC | Op::LoadAbsolute(_) => quiet(with_a(p, low)),
+        Op::StoreAbsolute(address) => writes(Write::Byte(address, a)),
+        Op::LoadHigh(_) | Op::LoadHighC | Op::LoadAbsolute(_) => {
+            p.registers.a = low;
+            quiet()
+        }
         Op::AddSp(e8) => {
-            let sum = with_sp(p, displaced(p.sp, e8));
-            quiet(with_flags(sum, sp_sum_flags(p.sp, e8)))
+            p.flags = sp_sum_flags(p.sp, e8);
+            p.sp = displaced(p.sp, e8);
+            quiet()
         }
         Op::LoadHlSp(e8) => {
-            let sum = with_pair(p, Pair::Hl, displaced(p.sp, e8));
-            quiet(with_flags(sum, sp_sum_flags(p.sp, e8)))
+            let sp = p.sp;
+            set_pair(p, Pair::Hl, displaced(sp, e8));
+            p.flags = sp_sum_flags(sp, e8);
+            quiet()
         }
-        Op::LoadSpHl => quiet(with_sp(p, hl(p))),
-        Op::JumpHl => jump(p, hl(p)),
-        Op::DisableInterrupts => quiet(with_ime(p, Ime::Off)),
-        Op::EnableInterrupts => quiet(with_ime(p, enabled(p.ime))),
+        Op::LoadSpHl => {
+            p.sp = hl(*p);
+            quiet()
+        }
+        Op::JumpHl => {
+            let to = hl(*p);
+            jump(p, to)
+        }
+        Op::DisableInterrupts => {
+            p.ime = Ime::Off;
+            quiet()
+        }
+        Op::EnableInterrupts => {
+            p.ime = enabled(p.ime);
+            quiet()
+        }
         Op::Shift(how, operand) => {
-            let value = operand_value(p, operand, low);
+            let value = operand_value(*p, operand, low);
             update_operand(p, operand, shifted(how, value, flags.carry))
         }
         Op::Bit(n, operand) => {
-            let value = operand_value(p, operand, low);
-            quiet(with_flags(p, bit_tested(n, value, flags)))
+            let value = operand_value(*p, operand, low);
+            p.flags = bit_tested(n, value, flags);
+            quiet()
         }
         Op::Reset(n, operand) => {
-            let value = operand_value(p, operand, low);
+            let value = operand_value(*p, operand, low);
             store_operand(p, operand, bit_reset(n, value))
         }
         Op::Set(n, operand) => {
-            let value = operand_value(p, operand, low);
+            let value = operand_value(*p, operand, low);
             store_operand(p, operand, bit_set(n, value))
         }
+    }
+}
+
+/// The same of a processor by value.
+pub fn effect_of(op: Op, processor: Processor, low: u8, high: u8) -> Effect
+    ensures { result ≡ Effects.effect_of op processor low high }
+{
+    let mut changed = processor;
+    let outcome = perform(op, &mut changed, low, high);
+    Effect {
+        processor: changed,
+        write: outcome.write,
+        is_taken: outcome.is_taken,
     }
 }

@@ -38,35 +38,28 @@ pub fn pair_value(processor: Processor, pair: Pair) -> u16
     }
 }
 
-/// The processor with another value of a pair.
+/// Gives a pair a value.
 #[tactic(auto, unfolding(gb_ops::specs::Pairs::with_pair))]
-pub fn with_pair(processor: Processor, pair: Pair, word: u16) -> Processor
-    ensures { result ≡ Pairs.with_pair processor pair word }
+pub fn set_pair(processor: &mut Processor, pair: Pair, word: u16)
+    ensures { processor.new ≡ Pairs.with_pair processor.old pair word }
 {
     let high = (word / 256) as u8;
     let low = (word % 256) as u8;
-    let mut registers = processor.registers;
     match pair {
         Pair::Bc => {
-            registers.b = high;
-            registers.c = low;
+            processor.registers.b = high;
+            processor.registers.c = low;
         }
         Pair::De => {
-            registers.d = high;
-            registers.e = low;
+            processor.registers.d = high;
+            processor.registers.e = low;
         }
         Pair::Hl => {
-            registers.h = high;
-            registers.l = low;
+            processor.registers.h = high;
+            processor.registers.l = low;
         }
-        Pair::Sp => {
-            return Processor {
-                sp: word,
-                ..processor
-            };
-        }
+        Pair::Sp => processor.sp = word,
     }
-    with_registers(processor, registers)
 }
 
 /// The value that PUSH stores of a pair.
@@ -83,34 +76,27 @@ pub fn stack_pair_value(processor: Processor, pair: StackPair) -> u16
     }
 }
 
-/// The processor with a pair that was popped.
+/// Gives a pair the bytes that were popped.
 #[tactic(auto, unfolding(gb_ops::specs::Pairs::with_stack_pair))]
-pub fn with_stack_pair(processor: Processor, pair: StackPair, low: u8, high: u8) -> Processor
-    ensures { result ≡ Pairs.with_stack_pair processor pair low high }
+pub fn set_stack_pair(processor: &mut Processor, pair: StackPair, low: u8, high: u8)
+    ensures { processor.new ≡ Pairs.with_stack_pair processor.old pair low high }
 {
-    let mut registers = processor.registers;
-    let mut flags = processor.flags;
     match pair {
         StackPair::Bc => {
-            registers.b = high;
-            registers.c = low;
+            processor.registers.b = high;
+            processor.registers.c = low;
         }
         StackPair::De => {
-            registers.d = high;
-            registers.e = low;
+            processor.registers.d = high;
+            processor.registers.e = low;
         }
         StackPair::Hl => {
-            registers.h = high;
-            registers.l = low;
+            processor.registers.h = high;
+            processor.registers.l = low;
         }
         StackPair::Af => {
-            registers.a = high;
-            flags = flags_of(low);
+            processor.registers.a = high;
+            processor.flags = flags_of(low);
         }
-    }
-    Processor {
-        registers,
-        flags,
-        ..processor
     }
 }

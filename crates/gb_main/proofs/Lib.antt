@@ -1,4 +1,11 @@
 pub mod PlainWords
 pub mod LeafWalk
+pub mod Leaves
 pub mod CommandWalk
-pub mod VerifyTaken
+pub mod CommandTaken
+pub mod Frames
+pub mod Given
+pub mod Lines
+pub mod Packing
+pub mod Playing
+pub mod Files

@@ -29,7 +29,7 @@ abbrev version : Rule
 version = with_index 1 (filled version_rule)
 
 -- the flag that is named, by the tests of the two names
-abbrev flag_named : Bool → Bool → Option Rule
+abbrev pub flag_named : Bool → Bool → Option Rule
 flag_named is_help is_version = if is_help then Some help else (if is_version then Some version else None)
 
 abbrev settle : List Rule → Bool → Held → Kinds

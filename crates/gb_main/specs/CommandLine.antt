@@ -1,13 +1,39 @@
 -- The program's command line, as clap is told it.
-use Rattle.std.specs.Prelude.{true, codes}
-use Rattle.clap.specs.Words.{App, Rule, Text, new_app, new_rule, with_rule, with_subcommand}
+use Rattle.std.specs.Prelude.{true, codes, List, [], ◌∷◌, pos, Some}
+use Rattle.clap.specs.Words.{App, Rule, Text, new_app, new_rule, with_subcommand}
+use Rattle.clap.specs.declared.builder.value_parser.ValueParser.TheVariants as parser
 
 -- a name of a file, which has to be there
 abbrev pub file_rule : Text → Rule
 file_rule id = record (new_rule id) { value_names = 1; required = true }
 
+-- a number of frames, which has to be there
+abbrev pub frames_rule : Text → Rule
+frames_rule id = record (file_rule id) { parser = Some (parser.Signed (pos 0) (pos 36000)) }
+
+-- a command that takes a value for each of these, in their order
+abbrev pub command_app : Text → List Rule → App
+command_app name rules = let a = new_app name in record a {
+  top = record a.top { rules = rules };
+}
+
+abbrev pub verify_rules : List Rule
+verify_rules = file_rule (codes "rom") ∷ file_rule (codes "cert") ∷ []
+
+abbrev pub header_rules : List Rule
+header_rules = file_rule (codes "rom") ∷ []
+
+abbrev pub run_rules : List Rule
+run_rules = file_rule (codes "rom") ∷ file_rule (codes "script") ∷ frames_rule (codes "frames") ∷ []
+
 abbrev pub verify_app : App
-verify_app = with_rule (with_rule (new_app (codes "verify")) (file_rule (codes "rom"))) (file_rule (codes "cert"))
+verify_app = command_app (codes "verify") verify_rules
+
+abbrev pub header_app : App
+header_app = command_app (codes "header") header_rules
+
+abbrev pub run_app : App
+run_app = command_app (codes "run") run_rules
 
 -- the program itself takes no more than its subcommands
 abbrev pub plain_app : App
@@ -20,4 +46,4 @@ plain_app = let a = new_app (codes "gulmyrek") in record a {
 }
 
 abbrev pub program_app : App
-program_app = with_subcommand plain_app verify_app.top
+program_app = with_subcommand (with_subcommand (with_subcommand plain_app verify_app.top) header_app.top) run_app.top

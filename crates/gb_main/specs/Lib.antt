@@ -1,3 +1,6 @@
 pub mod CommandLine
+pub mod Commands
 pub mod HeaderLine
+pub mod Screen
+pub mod Script
 pub mod Words

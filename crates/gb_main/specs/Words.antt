@@ -1,7 +1,8 @@
 -- Which words stand for which task.
-use Rattle.std.specs.Prelude.{◌≡◌, ◌==◌, Bool, false, List, [], ◌∷◌, codes, if◌then◌else◌}
+use Rattle.std.specs.Prelude.{◌≡◌, ◌==◌, Bool, false, ℕ, pos, List, [], ◌∷◌, codes, if◌then◌else◌}
 use Rattle.std.specs.Str.{bytes_eq}
-use Rattle.clap.specs.Words.{Text}
+use Rattle.std.specs.Str.Parse.{signed_digits_value}
+use Rattle.clap.specs.Words.{IsSignedIn, Text}
 use Rattle.gb_main.specs.declared.words.Task.{Task}
 use Rattle.gb_main.specs.declared.words.Task.TheVariants as task
 
@@ -16,13 +17,26 @@ abbrev pub values_in : List Text → List Text
 values_in [] = []
 values_in (word ∷ words) = if bytes_eq word (codes "--") then words else word ∷ values_in words
 
--- `verify` and the names of two files
-pub record IsVerify (words : List Text) (rom cert : Text) : Type 0 where
+-- a command's name, and behind it these values and no more
+pub record IsCommand (words : List Text) (name : Text) (values : List Text) : Type 0 where
   pub rest : List Text
-  pub command : words ≡ codes "verify" ∷ rest
-  pub files : values_in rest ≡ rom ∷ cert ∷ []
+  pub command : words ≡ name ∷ rest
+  pub values_are : values_in rest ≡ values
+
+-- clap's parser of numbers from 0 to 36,000 takes the word, and this is the number that it writes
+pub record IsFrames (word : Text) (frames : ℕ) : Type 0 where
+  pub is_taken : IsSignedIn (pos 0) (pos 36000) word
+  pub number : signed_digits_value 10 word ≡ pos frames
+
+-- `run`, the names of two files, and a number of frames
+pub record IsRun (words : List Text) (rom script : Text) (frames : ℕ) : Type 0 where
+  pub word : Text
+  pub command : IsCommand words (codes "run") (rom ∷ script ∷ word ∷ [])
+  pub frames_are : IsFrames word frames
 
 -- the words are those of the task
 abbrev pub StandFor : List Text → Task → Type 0
 StandFor words task.Stored = words ≡ []
-StandFor words (task.Verify rom cert) = IsVerify words rom.now cert.now
+StandFor words (task.Verify rom cert) = IsCommand words (codes "verify") (rom.now ∷ cert.now ∷ [])
+StandFor words (task.Header rom) = IsCommand words (codes "header") (rom.now ∷ [])
+StandFor words (task.Run rom script frames) = IsRun words rom.now script.now frames

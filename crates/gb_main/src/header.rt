@@ -30,9 +30,9 @@ fn yes_or_no(is_so: bool) -> &'static [u8]
     if is_so { b"yes" } else { b"no" }
 }
 
-/// The line.
+/// The line of a cartridge's header.
 #[tactic(auto, unfolding(crate::specs::HeaderLine::header_text))]
-fn text_of(rom: &Rom<'_>) -> Line
+pub(crate) fn text_of(rom: &Rom<'_>) -> Line
     ensures { result ≡ header_text rom.now }
 {
     let mut line = Line::new();

@@ -31,8 +31,33 @@ fn reads_each_task(rt: HostRuntime) -> Result<(), Fail> {
 }
 
 #[test]
+fn reads_header_and_run(rt: HostRuntime) -> Result<(), Fail> {
+    let task = read_words(rt.alloc(), &["header", "A"])?;
+    assert!(rt; task == Task::Header { rom: "A" });
+    let cases: [(&[&str], u32); 6] = [
+        (&["run", "A", "B", "36000"], 36_000),
+        (&["run", "A", "B", "0"], 0),
+        (&["run", "A", "B", "+60"], 60),
+        (&["run", "A", "B", "007"], 7),
+        (&["run", "A", "--", "B", "1"], 1),
+        (&["run", "--", "A", "B", "-0"], 0),
+    ];
+    for (words, frames) in cases {
+        let task = read_words(rt.alloc(), words)?;
+        assert!(rt;
+            task == Task::Run {
+                rom: "A",
+                script: "B",
+                frames
+            }
+        );
+    }
+    Ok(())
+}
+
+#[test]
 fn refuses_other_words(rt: HostRuntime) -> Result<(), Fail> {
-    let cases: [(&[&str], ErrorKind); 7] = [
+    let cases: [(&[&str], ErrorKind); 18] = [
         (&["verify", "A"], ErrorKind::MissingRequiredArgument),
         (&["turn"], ErrorKind::InvalidSubcommand),
         (&["verify", "A", "B", "C"], ErrorKind::UnknownArgument),
@@ -40,6 +65,17 @@ fn refuses_other_words(rt: HostRuntime) -> Result<(), Fail> {
         (&["--"], ErrorKind::MissingSubcommand),
         (&["--help"], ErrorKind::DisplayHelp),
         (&["--version"], ErrorKind::DisplayVersion),
+        (&["header"], ErrorKind::MissingRequiredArgument),
+        (&["header", "A", "B"], ErrorKind::UnknownArgument),
+        (&["header", "--help"], ErrorKind::DisplayHelp),
+        (&["run", "A"], ErrorKind::MissingRequiredArgument),
+        (&["run", "A", "B"], ErrorKind::MissingRequiredArgument),
+        (&["run", "A", "B", "36001"], ErrorKind::ValueValidation),
+        (&["run", "A", "B", "x"], ErrorKind::ValueValidation),
+        (&["run", "A", "B", "-1"], ErrorKind::UnknownArgument),
+        (&["run", "--", "A", "B", "-1"], ErrorKind::ValueValidation),
+        (&["run", "A", "B", ""], ErrorKind::ValueValidation),
+        (&["run", "A", "B", "1", "2"], ErrorKind::UnknownArgument),
     ];
     for (words, kind) in cases {
         let error = read_words(rt.alloc(), words).err().ok_or("an error")?;
@@ -56,6 +92,16 @@ fn reads_files_or_wants_memory(rt: HostRuntime) {
             task == Task::Verify {
                 rom: "A",
                 cert: "B"
+            }
+        ),
+        Err(error) => assert!(rt; error.kind() == ErrorKind::OutOfMemory),
+    }
+    match read_words(rt.alloc(), &["run", "A", "B", "5"]) {
+        Ok(task) => assert!(rt;
+            task == Task::Run {
+                rom: "A",
+                script: "B",
+                frames: 5
             }
         ),
         Err(error) => assert!(rt; error.kind() == ErrorKind::OutOfMemory),

@@ -1,14 +1,17 @@
 //! The program's words, read by `clap`.
 
-ghost use Rattle.std.specs.Prelude.{◌≡◌, ◌∷◌, [], IfErr, IfOk, IsOk, List, codes, false, map, ℕ};
-ghost use Rattle.clap.specs.Words.{app_of, kind_of};
+ghost use Rattle.std.specs.Prelude.{◌≡◌, ◌∷◌, ◌≤◌, [], IfErr, IfOk, IsOk, List, Some, codes, decimal, false, is_some, map, true, ℕ};
+ghost use Rattle.clap.specs.Words.{app_of, first_value, found_of, kind_of, rule_of};
 ghost use Rattle.clap.specs.declared.builder.command.Command.TheViews.{out-Command as fields_of};
 ghost use Rattle.gb_main.specs.CommandLine;
 ghost use Rattle.gb_main.specs.Words;
 
 use clap::error::ErrorKind;
-use clap::{Arg, Command, Error};
+use clap::{Arg, ArgMatches, Command, Error};
 use std::alloc::{AllocError, Global};
+
+/// The most frames that one run may be asked for.
+const MOST_FRAMES: i64 = 36_000;
 
 /// What the program is asked to do.
 #[derive(Clone, Copy, Debug, PartialEq, Eq)]
@@ -16,25 +19,81 @@ pub enum Task<'a> {
     /// The verdict on the cartridge and the certificate that the program brings along.
     Stored,
     /// The verdict on these two files.
-    Verify { rom: &'a str, cert: &'a str },
+    Verify {
+        rom: &'a str,
+        cert: &'a str,
+    },
+    /// The line on this cartridge's header.
+    Header {
+        rom: &'a str,
+    },
+    /// A run of so many frames of this cartridge, with the keys of this script.
+    Run {
+        rom: &'a str,
+        script: &'a str,
+        frames: u32,
+    },
+}
+
+/// The argument that names the cartridge's file.
+fn rom_arg<'a>(alloc: Global) -> Arg<'a>
+    ensures rule { rule_of result ≡ CommandLine.file_rule (codes "rom") }
+    ensures local { result.global ≡ false }
+{
+    Arg::new(alloc, "rom")
+        .value_name("ROM")
+        .help("The cartridge's file")
+        .required(true)
+}
+
+/// The argument that says how many frames to run.
+fn frames_arg<'a>(alloc: Global) -> Arg<'a>
+    ensures rule { rule_of result ≡ CommandLine.frames_rule (codes "frames") }
+    ensures local { result.global ≡ false }
+{
+    Arg::new(alloc, "frames")
+        .value_name("FRAMES")
+        .help("How many frames to run, at most 36000")
+        .required(true)
+        .value_parser(clap::value_parser!(u32).range(0..=MOST_FRAMES))
 }
 
 /// The command `verify`.
 fn verify_command<'a>(alloc: Global) -> Result<Command<'a>, AllocError>
     ensures { IfOk result (λ command. (app_of command ≡ CommandLine.verify_app) × ((fields_of command).has_globals ≡ false)) }
 {
-    let rom = Arg::new(alloc, "rom")
-        .value_name("ROM")
-        .help("The cartridge's file")
-        .required(true);
     let cert = Arg::new(alloc, "cert")
         .value_name("CERT")
         .help("The certificate's file")
         .required(true);
     Command::new(alloc, "verify")
         .about("Checks a cartridge against its certificate")
-        .arg(rom)?
+        .arg(rom_arg(alloc))?
         .arg(cert)
+}
+
+/// The command `header`.
+fn header_command<'a>(alloc: Global) -> Result<Command<'a>, AllocError>
+    ensures { IfOk result (λ command. (app_of command ≡ CommandLine.header_app) × ((fields_of command).has_globals ≡ false)) }
+{
+    Command::new(alloc, "header")
+        .about("Prints what a cartridge's header says")
+        .arg(rom_arg(alloc))
+}
+
+/// The command `run`.
+fn run_command<'a>(alloc: Global) -> Result<Command<'a>, AllocError>
+    ensures { IfOk result (λ command. (app_of command ≡ CommandLine.run_app) × ((fields_of command).has_globals ≡ false)) }
+{
+    let script = Arg::new(alloc, "script")
+        .value_name("SCRIPT")
+        .help("The file of the keys, a byte for each frame")
+        .required(true);
+    Command::new(alloc, "run")
+        .about("Runs a cartridge and prints its last picture")
+        .arg(rom_arg(alloc))?
+        .arg(script)?
+        .arg(frames_arg(alloc))
 }
 
 /// The program's command line.
@@ -42,6 +101,8 @@ fn program_command<'a>(alloc: Global) -> Result<Command<'a>, AllocError>
     ensures { IfOk result (λ command. app_of command ≡ CommandLine.program_app) }
 {
     let verify = verify_command(alloc)?;
+    let header = header_command(alloc)?;
+    let run = run_command(alloc)?;
     Command::new(alloc, "gulmyrek")
         .about(
             "Verifies Game Boy cartridges: without a command, the cartridge that it brings along",
@@ -49,7 +110,20 @@ fn program_command<'a>(alloc: Global) -> Result<Command<'a>, AllocError>
         .version("1.0.0")
         .no_binary_name(true)
         .subcommand_required(true)
-        .subcommand(verify)
+        .subcommand(verify)?
+        .subcommand(header)?
+        .subcommand(run)
+}
+
+/// The value of an argument that has to be there.
+fn value<'a>(matches: &ArgMatches<'a>, id: &str) -> &'a str
+    requires given { is_some (first_value (found_of matches.now) id.now) ≡ true }
+    ensures { first_value (found_of matches.now) id.now ≡ Some result.now }
+{
+    let Some(text) = matches.get_str(id) else {
+        unreachable!()
+    };
+    text
 }
 
 /// What the words after the program's name ask for. No word asks for the stored cartridge.
@@ -59,19 +133,46 @@ pub fn read_words<'a>(alloc: Global, words: &'a [&'a str]) -> Result<Task<'a>, E
     ensures verify { (rom cert : List ℕ) → map (λ word. word.now) words.now ≡ codes "verify" ∷ rom ∷ cert ∷ []
         → Words.begins_with_hyphen rom ≡ false → Words.begins_with_hyphen cert ≡ false
         → IfErr result (λ e. kind_of e ≡ ErrorKind.OutOfMemory) }
+    ensures header { (rom : List ℕ) → map (λ word. word.now) words.now ≡ codes "header" ∷ rom ∷ []
+        → Words.begins_with_hyphen rom ≡ false
+        → IfErr result (λ e. kind_of e ≡ ErrorKind.OutOfMemory) }
+    ensures run { (rom script frames : List ℕ) (n : ℕ) → map (λ word. word.now) words.now ≡ codes "run" ∷ rom ∷ script ∷ frames ∷ []
+        → Words.begins_with_hyphen rom ≡ false → Words.begins_with_hyphen script ≡ false
+        → Words.begins_with_hyphen frames ≡ false → Words.IsFrames frames n
+        → IfErr result (λ e. kind_of e ≡ ErrorKind.OutOfMemory) }
+    ensures run_decimal { (rom script : List ℕ) (n : ℕ) → map (λ word. word.now) words.now ≡ codes "run" ∷ rom ∷ script ∷ decimal n ∷ []
+        → Words.begins_with_hyphen rom ≡ false → Words.begins_with_hyphen script ≡ false → n ≤ 36000
+        → IfErr result (λ e. kind_of e ≡ ErrorKind.OutOfMemory) }
 {
     if words.is_empty() {
         return Ok(Task::Stored);
     }
     let matches = program_command(alloc)?.try_get_matches_from(words)?;
-    let Some(verify) = matches.subcommand_matches("verify") else {
+    let Some((name, given)) = matches.subcommand() else {
         unreachable!()
     };
-    let Some(rom) = verify.get_str("rom") else {
-        unreachable!()
-    };
-    let Some(cert) = verify.get_str("cert") else {
-        unreachable!()
-    };
-    Ok(Task::Verify { rom, cert })
+    match name {
+        "verify" => {
+            let rom = value(given, "rom");
+            let cert = value(given, "cert");
+            Ok(Task::Verify { rom, cert })
+        }
+        "header" => {
+            let rom = value(given, "rom");
+            Ok(Task::Header { rom })
+        }
+        "run" => {
+            let rom = value(given, "rom");
+            let script = value(given, "script");
+            let Some(frames) = given.get_one::<u32>("frames") else {
+                unreachable!()
+            };
+            Ok(Task::Run {
+                rom,
+                script,
+                frames,
+            })
+        }
+        _ => unreachable!(),
+    }
 }

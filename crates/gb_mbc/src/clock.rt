@@ -183,11 +183,11 @@ impl Clock {
     }
 
     /// So many seconds pass.
-    #[tactic(auto, using(crate::proofs::Halted::halted_stays), unfolding(crate::specs::Clock::advanced))]
+    #[tactic(auto, using(crate::proofs::Halted::stays), unfolding(crate::specs::Clock::advanced))]
     pub fn advance(&mut self, seconds: u32)
         ensures { self.new ≡ Clocks.advanced self.old seconds }
     {
-        if !self.running.is_halted {
+        if seconds > 0 && !self.running.is_halted {
             self.running = seconds_later(self.running, seconds);
         }
     }

@@ -170,6 +170,9 @@ quiet-requested_in (suc n) p within on quiet =
     let h = quiet-goes-on p n within quiet in
     rw (quiet-requested p within on h.0, quiet-ticked p within on h.0, quiet-requested_in n (next p) h.1 on h.2) refl
 
+pub IsSound-quiet : (n : ℕ) (p : Picture) → IsSound p → is_on p.lcdc ≡ true → n ≤ quiet_at p.position → IsSound (record p { position = p.position + n })
+IsSound-quiet n p h on quiet = rw (quiet-advanced n p h.within on quiet) at (IsSound-advanced n p h)
+
 pub quiet_at-small : (position : ℕ) → quiet_at position < 114
 unfolding quiet_at
 quiet_at-small position = grind (arith, nat_tests)

@@ -1,4 +1,6 @@
 pub mod Choosing
+pub mod Strips
+pub mod Shades
 pub mod Fronts
 pub mod Sounds
 pub mod Courses

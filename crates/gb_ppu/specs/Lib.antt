@@ -6,6 +6,7 @@ pub mod Pixel
 pub mod Picture
 pub mod LcdRegisters
 pub mod Sound
+pub mod Strips
 pub mod Window
 pub mod Quiet
 pub mod Requests

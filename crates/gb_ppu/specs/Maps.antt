@@ -2,6 +2,7 @@
 use Rattle.std.specs.Prelude.{ℕ, Bool, ◌+◌, ◌-◌, ◌*◌, ◌/◌, ◌%◌, if◌then◌else◌, nat_le, List, slice_index}
 use Rattle.gb_ppu.specs.Control.{has_bit}
 use Rattle.gb_ppu.specs.Tiles.{tile_colour}
+use Rattle.gb_ppu.specs.declared.tiles.TileRow.{TileRow}
 
 -- where a tile's data begins: at 8000 by an unsigned index, or at 9000 by a signed one
 unfoldable pub tile_offset : ℕ → ℕ → ℕ
@@ -20,3 +21,9 @@ tile_index video_ram is_second u v = slice_index video_ram (map_offset is_second
 unfoldable pub map_colour : List ℕ → ℕ → Bool → ℕ → ℕ → ℕ
 map_colour video_ram lcdc is_second u v =
     tile_colour video_ram (tile_offset lcdc (tile_index video_ram is_second u v)) (v % 8) (u % 8)
+
+-- the two bytes of a tile's row at a point of a map: the low bit plane, and the high one
+unfoldable pub tile_row : List ℕ → ℕ → Bool → ℕ → ℕ → TileRow
+tile_row video_ram lcdc is_second u v =
+    let place = tile_offset lcdc (tile_index video_ram is_second u v) + 2 * (v % 8) in
+    record { low = slice_index video_ram place; high = slice_index video_ram (place + 1) }

@@ -1,6 +1,6 @@
 //! The picture's course over several M-cycles.
 
-ghost use Rattle.std.specs.Prelude.{◌≡◌, ◌<◌, ◌≤◌, true};
+ghost use Rattle.std.specs.Prelude.{◌≡◌, ◌<◌, ◌≤◌, true, IsTrue};
 ghost use Rattle.gb_ppu.specs.Control.{is_on};
 ghost use Rattle.gb_ppu.specs.Picture.{advanced, requested_in, nothing};
 ghost use Rattle.gb_ppu.specs.Quiet.{quiet_at};
@@ -40,6 +40,14 @@ fn quiet_at(position: u16) -> u16
         column @ 20..63 => 62 - column,
         column => 113 - column,
     }
+}
+
+/// Whether nothing but the position changes in so many M-cycles, the LCD being on.
+#[inline]
+pub(crate) fn is_quiet(picture: &Picture, n: u8) -> bool
+    ensures { IsTrue result → (is_on picture.now.lcdc ≡ true) × (n ≤ quiet_at picture.now.position) }
+{
+    is_on(picture.lcdc) && u16::from(n) <= quiet_at(picture.position)
 }
 
 /// So many M-cycles in which nothing but the position changes.

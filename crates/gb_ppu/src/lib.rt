@@ -1,6 +1,7 @@
 //! The picture: its modes and requests, and lines that are their pixels.
 #![tactic(auto)]
 
+mod background;
 pub mod control;
 mod course;
 pub mod line;

@@ -3,10 +3,11 @@
 ghost use Rattle.std.specs.Prelude.{◌≡◌, ◌<◌, ℕ, slice_index};
 ghost use Rattle.gb_ppu.specs.Objects.{line_objects};
 ghost use Rattle.gb_ppu.specs.Seen.{seen};
-ghost use Rattle.gb_ppu.specs.Pixel.{shade};
+ghost use Rattle.gb_ppu.specs.Pixel.{shade, background_colour};
 
+use crate::background::background_line;
 use crate::objects::{LINE_OBJECTS, OBJECTS, Object};
-use crate::pixel::{background_colour, front_pixel, mix};
+use crate::pixel::{front_pixel, mix};
 use crate::scene::{OAM, Scene};
 use std::marker::Model;
 
@@ -87,16 +88,18 @@ fn line_objects(oam: &[u8; OAM], lcdc: u8, y: u8) -> LineObjects
     chosen
 }
 
-/// The shade at (x, y), given the line's objects.
+/// The shade at (x, y), given the background's colour there and the line's objects.
 #[tactic(auto, unfolding(crate::specs::Pixel::shade))]
-fn shade_among(scene: &Scene<'_>, objects: &LineObjects, x: u8, y: u8) -> u8
+fn shade_among(scene: &Scene<'_>, objects: &LineObjects, colour: u8, x: u8, y: u8) -> u8
     requires x_within { x < 160 }
     requires y_within { y < 144 }
     requires chosen { objects.now ≡ line_objects scene.now.lcdc scene.now.oam.now y }
+    requires below { colour ≡ background_colour (seen scene.now) x y }
+    requires small { colour < 4 }
     ensures { result ≡ shade (seen scene.now) x y }
 {
     let front = front_pixel(scene, x, y, objects.as_slice());
-    mix(scene, background_colour(scene, x, y), front)
+    mix(scene, colour, front)
 }
 
 /// Draws line y: the shades 0 to 3 of its pixels (Pan Docs: Rendering).
@@ -105,7 +108,9 @@ pub fn render_line(scene: &Scene<'_>, y: u8, line: &mut [u8; WIDTH])
     ensures pixels { (x : ℕ) → x < WIDTH → slice_index line.new x ≡ shade (seen scene.now) x y }
 {
     let objects = line_objects(scene.oam, scene.lcdc, y);
+    let colours = background_line(scene, y);
     for x in 0..160 {
-        line[usize::from(x)] = shade_among(scene, &objects, x, y);
+        let colour = colours[usize::from(x)];
+        line[usize::from(x)] = shade_among(scene, &objects, colour, x, y);
     }
 }

@@ -1,11 +1,11 @@
 //! Tiles of background and window.
 
 ghost use Rattle.std.specs.Prelude.{◌≡◌, ◌<◌, ◌≤◌, ◌+◌};
-ghost use Rattle.gb_ppu.specs.Maps.{tile_offset, map_offset, tile_index, map_colour};
+ghost use Rattle.gb_ppu.specs.Maps.{tile_offset, map_offset, tile_index, map_colour, tile_row};
 
 use crate::control::has_bit;
 use crate::scene::VIDEO_RAM;
-use crate::tiles::tile_colour;
+use crate::tiles::{TileRow, tile_colour};
 
 /// Where the data of a tile begins in video RAM.
 #[tactic(auto, unfolding(crate::specs::Maps::tile_offset))]
@@ -38,6 +38,25 @@ fn tile_index(video_ram: &[u8; VIDEO_RAM], is_second: bool, u: u8, v: u8) -> u8
     ensures { result ≡ tile_index video_ram.now is_second u v }
 {
     video_ram[map_offset(is_second) + 32 * usize::from(v / 8) + usize::from(u / 8)]
+}
+
+/// The row of a tile at a point of a map.
+#[tactic(auto, unfolding(crate::specs::Maps::tile_row))]
+pub(crate) fn tile_row(
+    video_ram: &[u8; VIDEO_RAM],
+    lcdc: u8,
+    is_second: bool,
+    u: u8,
+    v: u8,
+) -> TileRow
+    ensures { result ≡ tile_row video_ram.now lcdc is_second u v }
+{
+    let offset = tile_offset(lcdc, tile_index(video_ram, is_second, u, v));
+    let place = offset + 2 * usize::from(v % 8);
+    TileRow {
+        low: video_ram[place],
+        high: video_ram[place + 1],
+    }
 }
 
 /// The colour at a point of a map.

@@ -55,7 +55,7 @@ impl Object {
         requires y_within { y < 144 }
         ensures { result ≡ contains lcdc x y self }
     {
-        self.meets_line(lcdc, y) && self.x <= x + 8 && u16::from(x) + 8 < u16::from(self.x) + 8
+        self.x <= x + 8 && x < self.x && self.meets_line(lcdc, y)
     }
 
     /// The row of its tile that stands on the line.

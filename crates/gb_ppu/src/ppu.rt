@@ -6,7 +6,7 @@ ghost use Rattle.gb_ppu.specs.Picture.{IsNextDrawing};
 ghost use Rattle.gb_timer.specs.Interrupts.{irq_bits};
 
 use crate::control::is_on;
-use crate::course::{advance, advance_slowly};
+use crate::course::{advance, advance_slowly, is_quiet};
 use crate::mode::Mode;
 use crate::picture::{FRAME_CYCLES, LINE_CYCLES, Picture, Requests};
 use crate::registers::LcdRegister;
@@ -57,6 +57,7 @@ impl Ppu {
     ghost use Rattle.gb_ppu.specs.LcdRegisters.{register_read, register_written, requested_by};
     ghost use Rattle.gb_ppu.specs.Requests.{request_bits};
     ghost use Rattle.gb_ppu.specs.Kept.{HasSameRegisters};
+    ghost use Rattle.gb_ppu.specs.Sound.{IsSound};
     ghost use Rattle.gb_ppu.specs.PowerUp.{power_up};
     ghost use Rattle.gb_ppu.specs.Seen.{seen, seen_by};
 
@@ -85,15 +86,40 @@ impl Ppu {
     }
 
     /// Lets n M-cycles pass. Answers what they request (Pan Docs: Rendering, LCD Status).
+    #[inline]
     pub fn advance(&mut self, n: u8) -> Irqs
         ensures picture { self.new ≡ advanced n self.old }
         ensures requests { irq_bits result ≡ request_bits (requested_in n self.old) }
         ensures registers { HasSameRegisters self.old self.new }
         ensures moved { is_on self.old.lcdc ≡ true → self.new.position ≡ (self.old.position + n) % FRAME_CYCLES }
     {
+        irqs_of(self.pass(n))
+    }
+
+    /// Lets n M-cycles pass: at once where nothing but the position changes.
+    #[inline]
+    #[tactic(auto, using(crate::proofs::Courses::quiet))]
+    fn pass(&mut self, n: u8) -> Requests
+        ensures picture { self.new ≡ advanced n self.old }
+        ensures requests { result ≡ requested_in n self.old }
+        ensures sound { IsSound self.old }
+    {
+        if is_quiet(&self.picture, n) {
+            self.picture.position += u16::from(n);
+            return Requests::NOTHING;
+        }
+        self.pass_changes(n)
+    }
+
+    /// The same, wherever they lead.
+    #[inline(never)]
+    fn pass_changes(&mut self, n: u8) -> Requests
+        ensures picture { self.new ≡ advanced n self.old }
+        ensures requests { result ≡ requested_in n self.old }
+    {
         let passed = advance(self.picture, n);
         self.picture = passed.picture;
-        irqs_of(passed.requests)
+        passed.requests
     }
 
     /// The same, one M-cycle after another: slower, and with nothing clever.

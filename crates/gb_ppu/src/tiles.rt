@@ -16,6 +16,27 @@ fn colour_in(low: u8, high: u8, column: u8) -> u8
     bit(7 - column, low) + 2 * bit(7 - column, high)
 }
 
+/// A row of a tile: its two bit planes.
+#[derive(Clone, Copy)]
+pub(crate) struct TileRow {
+    pub low: u8,
+    pub high: u8,
+}
+
+impl TileRow {
+    ghost use Rattle.std.specs.Prelude.{◌≡◌, ◌<◌};
+    ghost use Rattle.gb_ppu.specs.Tiles.{colour_in};
+
+    /// The colour in a column.
+    pub(crate) fn colour(self, column: u8) -> u8
+        requires { column < 8 }
+        ensures value { result ≡ colour_in self.low self.high column }
+        ensures small { result < 4 }
+    {
+        colour_in(self.low, self.high, column)
+    }
+}
+
 /// The colour of a tile that lies at an offset in video RAM.
 #[tactic(auto, unfolding(crate::specs::Tiles::tile_colour))]
 pub fn tile_colour(video_ram: &[u8; VIDEO_RAM], offset: usize, row: u8, column: u8) -> u8
@@ -30,10 +51,10 @@ pub fn tile_colour(video_ram: &[u8; VIDEO_RAM], offset: usize, row: u8, column: 
 }
 
 /// The shade that a palette gives a colour.
-#[tactic(auto, unfolding(crate::specs::Tiles::shade_of))]
+#[tactic(auto, using(crate::proofs::Shades::two_bits))]
 pub fn shade_of(palette: u8, colour: u8) -> u8
     requires { colour < 4 }
     ensures { result ≡ shade_of palette colour }
 {
-    bit(2 * colour, palette) + 2 * bit(2 * colour + 1, palette)
+    (palette >> (2 * colour)) % 4
 }

@@ -1,6 +1,6 @@
 -- Bytes that a sink took, piece by piece.
 use Rattle.std.proofs.Common.{◌≡◌, ℕ, zero, suc, ◌+◌, ◌-◌, ◌≤◌, List, [], ◌∷◌, ◌++◌, take, drop, length, Option, Some, None, refl, sym, ◌∙◌, ap, subst, arith, length-drop}
-use Rattle.std.proofs.lemmas.List.{append_assoc, append-nil, take_all}
+use Rattle.std.proofs.lemmas.List.{append_assoc, append-nil, take_all, take-append-le, length-append}
 use Rattle.gb_ops.specs.Sink.{Gains}
 use Rattle.gb_text.specs.Text.{GainsBeginning}
 
@@ -42,3 +42,32 @@ gains_part (Some old) new bytes k h i = (k, h, i)
 -- the rest of a slice
 pub rest_is : (xs : List ℕ) (k : ℕ) → take (length xs - k) (drop k xs) ≡ drop k xs
 rest_is xs k = take_all (length xs - k) (drop k xs) (omega (arith, length-drop k xs))
+
+-- ---- one text after another
+
+pub gains_both : (old mid new : Option (List ℕ)) (first second : List ℕ) → Gains old first mid → Gains mid second new → Gains old (first ++ second) new
+gains_both None mid new first second h i = subst (λ m. Gains m second new) h i
+gains_both (Some old) mid new first second h i =
+    subst (λ m. Gains m second new) h i ∙ ap Some (append_assoc old first second)
+
+-- a beginning of the first text
+pub begins_first : (old new : Option (List ℕ)) (first second : List ℕ) → GainsBeginning old first new → GainsBeginning old (first ++ second) new
+begins_first None new first second h = h
+begins_first (Some old) new first second (n, h, i) =
+    (n, omega (arith, length-append first second), i ∙ ap (λ t. Some (old ++ t)) (sym (take-append-le n first second h)))
+
+take_past : (first second : List ℕ) (n : ℕ) → take (length first + n) (first ++ second) ≡ first ++ take n second
+take_past [] second n = let e : 0 + n ≡ n = omega arith in rw e refl
+take_past (x ∷ xs) second n = let e : suc (length xs) + n ≡ suc (length xs + n) = omega arith in rw e (ap (λ t. x ∷ t) (take_past xs second n))
+
+-- all of the first text, and a beginning of the second
+pub begins_second : (old mid new : Option (List ℕ)) (first second : List ℕ) → Gains old first mid → GainsBeginning mid second new → GainsBeginning old (first ++ second) new
+begins_second None mid new first second h i = subst (λ m. GainsBeginning m second new) h i
+begins_second (Some old) mid new first second h i = joined (subst (λ m. GainsBeginning m second new) h i)
+  where
+    joined : GainsBeginning (Some (old ++ first)) second new → GainsBeginning (Some old) (first ++ second) new
+    joined (n, most, is) = (
+      length first + n,
+      omega (arith, length-append first second),
+      is ∙ ap Some (append_assoc old first (take n second) ∙ ap (λ t. old ++ t) (sym (take_past first second n))),
+    )

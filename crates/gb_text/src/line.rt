@@ -1,7 +1,7 @@
 //! A line of text in a buffer of fixed size.
 
 ghost use Rattle.std.specs.Prelude.{◌≡◌, ◌+◌, ◌<◌, ◌≤◌, [], ◌++◌, length, decimal};
-ghost use Rattle.gb_text.specs.Text.{line_feed, hex_digit, hex_byte};
+ghost use Rattle.gb_text.specs.Text.{line_feed, hex_digit, hex_byte, hex_word};
 
 use arrayvec::ArrayVec;
 use itoa::Buffer;
@@ -71,6 +71,16 @@ impl Line {
         ensures length { length self.new ≡ length self.old + 2 }
     {
         self.push_text(&[hex_digit(byte / 16), hex_digit(byte % 16)]);
+    }
+
+    /// Puts a word at the end, in four hexadecimal digits of upper case.
+    pub fn push_word(&mut self, word: u16)
+        requires { length self.old + 4 ≤ 96 }
+        ensures text { self.new ≡ self.old ++ hex_word word }
+        ensures length { length self.new ≡ length self.old + 4 }
+    {
+        self.push_byte((word / 256) as u8);
+        self.push_byte((word % 256) as u8);
     }
 
     /// Ends the line.

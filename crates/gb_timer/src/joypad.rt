@@ -73,10 +73,15 @@ impl Joypad {
     }
 
     /// The keys that are held from now on. True: the joypad's interrupt is requested, since one of FF00's bits 3 to 0 fell from 1 to 0.
+    #[inline]
+    #[tactic(auto, using(crate::proofs::Holding::unchanged))]
     pub fn set(&mut self, keys: Keys) -> bool
         ensures state { self.new ≡ record self.old { keys = key_bits keys } }
         ensures request { result ≡ is_requested self.old self.new }
     {
+        if self.keys == keys {
+            return false;
+        }
         let before = *self;
         self.keys = keys;
         self.is_requested_since(&before)

@@ -12,7 +12,7 @@ use gb_effects::flags::{flags_byte, flags_of};
 use gb_ops::registers::Flags;
 
 /// A bit that is known.
-pub(crate) fn known(bit: bool) -> May
+pub fn known(bit: bool) -> May
     ensures { result ≡ Sets.known bit }
 {
     May {
@@ -22,7 +22,7 @@ pub(crate) fn known(bit: bool) -> May
 }
 
 /// A bit that may be clear or set.
-pub(crate) fn either() -> May
+pub fn either() -> May
     ensures { result ≡ Sets.either }
 {
     May {
@@ -47,7 +47,7 @@ pub(crate) fn zero_by(val: Val) -> May
     }
 }
 
-pub(crate) fn known_flags(flags: Flags) -> Flg
+pub fn known_flags(flags: Flags) -> Flg
     ensures { result ≡ Sets.known_flags flags }
 {
     Flg {
@@ -60,7 +60,7 @@ pub(crate) fn known_flags(flags: Flags) -> Flg
 }
 
 /// The flags, each set where it may be.
-pub(crate) fn greatest_flags(flags: Flg) -> Flags
+pub fn greatest_flags(flags: Flg) -> Flags
     ensures { result ≡ Sets.greatest_flags flags }
 {
     Flags {

@@ -16,7 +16,8 @@ use Rattle.gb_cert.specs.declared.types.Val.{Val}
 use Rattle.gb_cert.specs.declared.types.Node.{Node}
 use Rattle.gb_cert.specs.Certificate.{Certificate}
 use Rattle.gb_abs.specs.Storage.{peek, peek_by}
-use Rattle.gb_abs.specs.Meaning.{Holds, HoldsFlags, MeansCore, Means, IsMemory, origin_value, may_be, ime_may_be}
+use Rattle.gb_abs.specs.Meaning.{Holds, HoldsFlags, MeansCore, Means, IsMemory, origin_value, ime_may_be}
+use Rattle.gb_vals.specs.Meaning.{may_be}
 use Rattle.gb_abs.proofs.Covers.{Means-covered, same_number}
 use Rattle.gb_blocks.specs.Safety.{IsMeant}
 use Rattle.gb_verify.specs.PowerUp.{core_at_power_up, state_at_power_up, may_only}

@@ -10,6 +10,9 @@ use std::fs;
 use std::io::{self, Read};
 use std::rt::Files;
 
+/// The most bytes that are read of a cartridge: one more than the largest has.
+const CARTRIDGE_LIMIT: u64 = 8_388_609;
+
 /// Why a file couldn't be read.
 #[derive(Clone, Copy, Debug, PartialEq, Eq)]
 pub enum Trouble {
@@ -63,6 +66,11 @@ pub fn read_file<R: Files + AllocGlobal>(
 ) -> Result<Vec<u8>, Trouble> {
     let file = fs::open(rt, path)?;
     read_within(rt.alloc(), file, limit)
+}
+
+/// Reads a cartridge's file, or what of it can tell that it is none.
+pub fn read_cartridge<R: Files + AllocGlobal>(rt: &R, path: &str) -> Result<Vec<u8>, Trouble> {
+    read_file(rt, path, CARTRIDGE_LIMIT)
 }
 
 #[cfg(test)]

@@ -2,51 +2,31 @@
 #![tactic(auto)]
 
 mod files;
+mod progress;
+mod status;
 mod stored;
 
 use clap::Error;
 use clap::error::ErrorKind;
-use files::{Trouble, read_file};
-use gb_main::{Task, read_words};
+use files::{Trouble, read_cartridge, read_file};
+use gb_main::{Task, header_bytes, read_words, run_bytes};
 use gb_ops::sink::Plain;
-use gb_verify::verify::{Outcome, verify_bytes};
+use gb_verify::verify::verify_bytes;
+use progress::Shown;
+use status::{Status, header_status, run_status, verify_status};
+use std::io::IsTerminal;
 use std::process::ExitCode;
 use std::rt::{Env, Files};
 use std::{env, io};
 
-/// The most bytes that are read of a cartridge: one more than the largest has.
-const CARTRIDGE_LIMIT: u64 = 8_388_609;
-
 /// The most bytes that are read of a certificate: more than the largest has.
 const CERTIFICATE_LIMIT: u64 = 20_000_000;
-
-/// What the program ends with.
-#[derive(Clone, Copy, Debug, PartialEq, Eq)]
-enum Status {
-    /// Accepted, or printed.
-    Done = 0,
-    /// Refused.
-    Refused = 1,
-    /// The input or the words can't be read.
-    Unreadable = 2,
-    /// Memory or a device failed.
-    Failed = 3,
-}
-
-fn status_of(outcome: Outcome) -> Status {
-    match outcome {
-        Outcome::Accepted => Status::Done,
-        Outcome::Refused => Status::Refused,
-        Outcome::Unreadable => Status::Unreadable,
-        Outcome::NoMemory => Status::Failed,
-    }
-}
 
 /// Prints the line of a cartridge and a certificate.
 fn verify<R: Print + AllocGlobal>(rt: &R, rom: &[u8], cert: &[u8]) -> Status {
     let mut out = Plain::new(io::writer(rt));
     match verify_bytes(rt.alloc(), rom, cert, &mut out) {
-        Ok(outcome) => status_of(outcome),
+        Ok(outcome) => verify_status(outcome),
         Err(_) => Status::Failed,
     }
 }
@@ -61,14 +41,43 @@ fn complain<R: Print>(rt: &R, trouble: Trouble) -> Status {
     Status::Failed
 }
 
+/// The command `verify`.
 fn verify_files<R: Print + Files + AllocGlobal>(
     rt: &R,
     rom: &str,
     cert: &str,
 ) -> Result<Status, Trouble> {
-    let rom = read_file(rt, rom, CARTRIDGE_LIMIT)?;
+    let rom = read_cartridge(rt, rom)?;
     let cert = read_file(rt, cert, CERTIFICATE_LIMIT)?;
     Ok(verify(rt, &rom, &cert))
+}
+
+/// The command `header`.
+fn header<R: Print + Files + AllocGlobal>(rt: &R, rom: &str) -> Result<Status, Trouble> {
+    let rom = read_cartridge(rt, rom)?;
+    let mut out = Plain::new(io::writer(rt));
+    match header_bytes(&rom, &mut out) {
+        Ok(fault) => Ok(header_status(fault)),
+        Err(_) => Ok(Status::Failed),
+    }
+}
+
+/// The command `run`; of a script no more is read than there are frames.
+fn run<R: Print + Eprint + Files + AllocGlobal>(
+    rt: &R,
+    rom: &str,
+    script: &str,
+    frames: u32,
+    is_shown: bool,
+) -> Result<Status, Trouble> {
+    let rom = read_cartridge(rt, rom)?;
+    let script = read_file(rt, script, u64::from(frames))?;
+    let mut out = Plain::new(io::writer(rt));
+    let mut progress = Shown::new(rt, is_shown);
+    match run_bytes(rt.alloc(), &rom, &script, frames, &mut out, &mut progress) {
+        Ok(outcome) => run_status(outcome),
+        Err(_) => Ok(Status::Failed),
+    }
 }
 
 /// Prints what is wrong with the words, or the help that was asked for.
@@ -86,16 +95,32 @@ fn explain<R: Print + Eprint>(rt: &R, error: &Error) -> Status {
     }
 }
 
-fn run<R: Print + Eprint + Files + AllocGlobal>(rt: &R, words: &[&str]) -> Result<Status, Trouble> {
+/// Does what the words ask for; `is_shown` says whether a person sees standard error.
+fn perform<R: Print + Eprint + Files + AllocGlobal>(
+    rt: &R,
+    words: &[&str],
+    is_shown: bool,
+) -> Result<Status, Trouble> {
     match read_words(rt.alloc(), words) {
         Ok(Task::Stored) => Ok(verify(rt, &stored::cartridge(), stored::CERTIFICATE)),
         Ok(Task::Verify { rom, cert }) => verify_files(rt, rom, cert),
+        Ok(Task::Header { rom }) => header(rt, rom),
+        Ok(
+            Task::Run {
+                rom,
+                script,
+                frames,
+            },
+        ) => run(rt, rom, script, frames, is_shown),
         Err(error) => Ok(explain(rt, &error)),
     }
 }
 
 /// Runs the program on the words after its name.
-fn start<R: Print + Eprint + Files + Env + AllocGlobal>(rt: &R) -> Result<Status, Trouble> {
+fn start<R: Print + Eprint + Files + Env + AllocGlobal>(
+    rt: &R,
+    is_shown: bool,
+) -> Result<Status, Trouble> {
     let args = env::args(rt)?;
     let mut words = Vec::new(rt.alloc());
     for word in args.skip(1) {
@@ -105,11 +130,11 @@ fn start<R: Print + Eprint + Files + Env + AllocGlobal>(rt: &R) -> Result<Status
     for word in &words {
         texts.push(word.as_str())?;
     }
-    run(rt, &texts)
+    perform(rt, &texts, is_shown)
 }
 
 fn main(rt: HostRuntime) -> ExitCode {
-    let status = match start(&rt) {
+    let status = match start(&rt, rt.stderr().is_terminal()) {
         Ok(status) => status,
         Err(trouble) => complain(&rt, trouble),
     };

@@ -1,0 +1,39 @@
+-- The memory cells of an abstract state, in order of address: entering one, and dropping those of an area (own).
+use Rattle.std.specs.Prelude.{◌≡◌, ℕ, Bool, true, false, not, ◌||◌, ◌==◌, nat_lt, if◌then◌else◌, List, ◌∷◌, ◌++◌, length}
+use Rattle.std.specs.List.{AllByRecursion, filter, list_any}
+use Rattle.gb_ops.specs.declared.machine.Region.{Region}
+use Rattle.gb_ops.specs.Cartridge.{is_within}
+use Rattle.gb_cert.specs.declared.types.Cell.{Cell}
+use Rattle.gb_cert.specs.Rules.{is_area, meets}
+
+abbrev pub is_below : ℕ → Cell → Bool
+is_below a c = nat_lt c.address a
+
+abbrev pub is_above : ℕ → Cell → Bool
+is_above a c = nat_lt a c.address
+
+abbrev pub is_at : ℕ → Cell → Bool
+is_at a c = c.address == a
+
+-- the cells with this one in its place by address, in place of another of its address
+unfoldable pub entered : Cell → List Cell → List Cell
+entered c cells = filter (is_below c.address) cells ++ c ∷ filter (is_above c.address) cells
+
+-- a cell gets a value; where 32 are held already, no other one is entered: then nothing is known of its byte
+unfoldable pub with_cell : Cell → List Cell → List Cell
+with_cell c cells = if list_any (is_at c.address) cells || nat_lt (length cells) 32 then entered c cells else cells
+
+abbrev pub is_outside : ℕ → ℕ → Cell → Bool
+is_outside first last c = not (is_within first last c.address)
+
+-- the cells but for those from first to last
+unfoldable pub without : ℕ → ℕ → List Cell → List Cell
+without first last cells = filter (is_outside first last) cells
+
+-- a cell's byte stands in RAM, outside the declared stack region
+pub record IsPlaced (region : Region) (c : Cell) : Type 0 where
+  pub area : is_area c.address c.address ≡ true
+  pub apart : meets region c.address c.address ≡ false
+
+abbrev pub ArePlaced : Region → List Cell → Type 0
+ArePlaced region cells = AllByRecursion (IsPlaced region) cells

@@ -1,0 +1,89 @@
+-- What operations on abstract states promise of the machine (abstract interpretation: soundness; own).
+use Rattle.std.specs.Prelude.{◌≡◌, ℕ, ◌+◌, ◌/◌, ◌%◌, ◌≤◌, ◌<◌, Bool, true, List, length, ◌⊎◌}
+use Rattle.gb_ops.specs.declared.machine.Region.{Region}
+use Rattle.gb_ops.specs.declared.machine.Read.TheVariants as read
+use Rattle.gb_ops.specs.declared.machine.Write.TheVariants as write
+use Rattle.gb_ops.specs.declared.op.Register.{Register}
+use Rattle.gb_ops.specs.Registers.{get, set}
+use Rattle.gb_ops.specs.Pairs.{with_registers}
+use Rattle.gb_ops.specs.Memory.{Storage, View, stored, passed}
+use Rattle.gb_ops.specs.Machine.{loaded, settled}
+use Rattle.gb_ops.specs.Effects.{with_sp}
+use Rattle.gb_ops.specs.Faults.{no_faults, store_faults, load_faults}
+use Rattle.gb_ops.specs.Play.{MState}
+use Rattle.gb_cert.specs.declared.types.Val.{Val}
+use Rattle.gb_cert.specs.declared.types.Core.{Core}
+use Rattle.gb_cert.specs.declared.types.Item.{Item}
+use Rattle.gb_cert.specs.Types.{AbsState}
+use Rattle.gb_cert.specs.Rules.{IsRegion}
+use Rattle.gb_abs.specs.Meaning.{Holds, MeansCore, Means}
+use Rattle.gb_abs.specs.Cells.{ArePlaced}
+use Rattle.gb_abs.specs.Stack.{AreInRegion}
+
+-- t means each machine state that s means
+pub record IsPartOf (s t : AbsState) : Type 0 where
+  pub gives : (entry : MState) (base : ℕ) (x : MState) → Means s entry base x → Means t entry base x
+
+-- ---- cores
+
+-- a register gets one of the values that v stands for
+pub record IsSoundSet (r : Register) (v : Val) (s after : Core) : Type 0 where
+  pub gives :
+      (entry x : MState) (n : ℕ) → Holds v entry n → MeansCore s entry x
+      → MeansCore after entry (record x { processor = with_registers x.processor (set r n x.processor.registers) })
+
+-- of the states where the register holds n, none is lost
+pub record IsSoundValue (r : Register) (n : ℕ) (s after : Core) : Type 0 where
+  pub gives : (entry x : MState) → get r x.processor.registers ≡ n → MeansCore s entry x → MeansCore after entry x
+
+-- an instruction was executed
+pub record IsSoundSettling (s after : Core) : Type 0 where
+  pub gives : (entry x : MState) → MeansCore s entry x → MeansCore after entry (record x { processor = settled x.processor })
+
+-- an instruction of n M-cycles has ended, which started a transfer or didn't
+pub record IsSoundEnd (starts : Bool) (n : ℕ) (s after : Core) : Type 0 where
+  pub gives :
+      (rom : List ℕ) (entry x : MState) → MeansCore s entry x
+      → MeansCore after entry (record x { storage = (passed (record { rom = rom; storage = x.storage; starting = starts }) n).storage })
+
+-- ---- words
+
+-- no transfer closes the region: none runs, or the region lies in high RAM
+abbrev pub IsRegionOpen : Storage → Region → Type 0
+IsRegionOpen s region = (s.count ≡ 0) ⊎ (0xFF80 ≤ region.first)
+
+-- the machine with the stack pointer and the storage after a push
+abbrev pub with_stack : MState → ℕ → Storage → MState
+with_stack x sp t = record { processor = with_sp x.processor sp; storage = t }
+
+-- what a push leaves: the state with the word pushed, and no fault
+pub record Pushes (region : Region) (after : AbsState) (entry : MState) (base : ℕ) (x : MState) (m : View) (w : ℕ) : Type 0 where
+  pub means : Means after entry base (with_stack x ((x.processor.sp + 65534) % 65536) (stored m (write.Push x.processor.sp w)).storage)
+  pub faults : store_faults region m (write.Push x.processor.sp w) ≡ no_faults
+  pub starting : (stored m (write.Push x.processor.sp w)).starting ≡ m.starting
+  pub rom : (stored m (write.Push x.processor.sp w)).rom ≡ m.rom
+  pub banks : (stored m (write.Push x.processor.sp w)).storage.banks ≡ m.storage.banks
+  pub ie : (stored m (write.Push x.processor.sp w)).storage.ie ≡ m.storage.ie
+  pub count : (stored m (write.Push x.processor.sp w)).storage.count ≡ m.storage.count
+
+-- what a pop gives: the word's two bytes, the state without it, and no fault
+pub record Pops (after : AbsState) (i : Item) (entry : MState) (base : ℕ) (x : MState) (m : View) (free : List ℕ) : Type 0 where
+  pub low : Holds i.low entry (loaded m (read.Word x.processor.sp) free).low
+  pub high : Holds i.high entry (loaded m (read.Word x.processor.sp) free).high
+  pub faults : load_faults m (read.Word x.processor.sp) ≡ no_faults
+  pub means : Means after entry base (record x { processor = with_sp x.processor ((x.processor.sp + 2) % 65536) })
+
+-- of each of these states, with its stack set and room for the word, each word that the item stands for
+pub record IsSoundPush (s : AbsState) (i : Item) (after : AbsState) : Type 0 where
+  pub gives :
+      (region : Region) (entry : MState) (base : ℕ) (x : MState) (m : View) (w : ℕ)
+      → Means s entry base x → m.storage ≡ x.storage → s.core.stack_set ≡ true → AreInRegion region base (length s.items + 1)
+      → IsRegion region → ArePlaced region s.cells → IsRegionOpen x.storage region → Holds i.high entry (w / 256) → Holds i.low entry (w % 256) → w < 65536
+      → Pushes region after entry base x m w
+
+-- of each of these states, with its stack set: the item stands for the word that is read
+pub record IsSoundPop (s : AbsState) (i : Item) (after : AbsState) : Type 0 where
+  pub gives :
+      (region : Region) (entry : MState) (base : ℕ) (x : MState) (m : View) (free : List ℕ)
+      → Means s entry base x → m.storage ≡ x.storage → s.core.stack_set ≡ true → AreInRegion region base (length s.items)
+      → IsRegion region → IsRegionOpen x.storage region → Pops after i entry base x m free

@@ -1,0 +1,29 @@
+-- The addresses that an access may meet (own: those of a pair run from both least bytes to both greatest).
+use Rattle.std.specs.Prelude.{ℕ, ◌≤◌, Bool, ◌&&◌, ◌==◌, nat_le}
+use Rattle.gb_ops.specs.Pairs.{word}
+use Rattle.gb_cert.specs.declared.types.Val.{Val}
+use Rattle.gb_abs.specs.declared.span.Span.{Span}
+
+-- an address alone
+abbrev pub one : ℕ → Span
+one a = record { first = a; last = a }
+
+-- the addresses in a pair of registers
+unfoldable pub pair_span : Val → Val → Span
+pair_span high low = record { first = word high.lo low.lo; last = word high.hi low.hi }
+
+abbrev pub is_one : Span → Bool
+is_one s = s.first == s.last
+
+-- all of them lie from first to last
+abbrev pub is_inside : ℕ → ℕ → Span → Bool
+is_inside first last s = nat_le first s.first && nat_le s.last last
+
+-- one of them may lie from first to last
+abbrev pub may_meet : ℕ → ℕ → Span → Bool
+may_meet first last s = nat_le s.first last && nat_le first s.last
+
+-- an address is one of them
+pub record IsIn (s : Span) (a : ℕ) : Type 0 where
+  pub first : s.first ≤ a
+  pub last : a ≤ s.last

@@ -1,0 +1,103 @@
+//! The memory cells of abstract states: one gets a value, or some are dropped.
+
+ghost use Rattle.std.specs.Prelude.{◌≡◌, ◌+◌, ◌≤◌, ◌++◌, ◌||◌, nat_lt, length};
+ghost use Rattle.std.specs.List.{filter, list_any};
+ghost use Rattle.arrayvec.specs.ArrayVec.{array_vec_len};
+ghost use Rattle.gb_abs.specs.Cells.{is_below, is_above, is_at, is_outside, entered, with_cell, without};
+
+use arrayvec::ArrayVec;
+use gb_cert::types::{Abs, CELLS, Cell, Val};
+
+/// The same core and items with other cells.
+fn with_cells(state: &Abs, cells: ArrayVec<Cell, 32>) -> Abs
+    ensures { result ≡ record state.now { cells = cells.items } }
+{
+    let mut items = ArrayVec::new();
+    if items.try_extend_from_slice(state.items()).is_err() {
+        unreachable!();
+    }
+    Abs::of_parts(*state.core(), items, cells)
+}
+
+/// Appends the cells below an address. There must be room.
+fn append_below(cells: &mut ArrayVec<Cell, 32>, address: u16, from: &[Cell])
+    requires { array_vec_len cells.old + length (filter (is_below address) from.now) ≤ 32 }
+    ensures { cells.new.items ≡ cells.old.items ++ filter (is_below address) from.now }
+{
+    for cell in from {
+        if cell.address < address {
+            cells.push(*cell);
+        }
+    }
+}
+
+/// Appends the cells above an address. There must be room.
+fn append_above(cells: &mut ArrayVec<Cell, 32>, address: u16, from: &[Cell])
+    requires { array_vec_len cells.old + length (filter (is_above address) from.now) ≤ 32 }
+    ensures { cells.new.items ≡ cells.old.items ++ filter (is_above address) from.now }
+{
+    for cell in from {
+        if cell.address > address {
+            cells.push(*cell);
+        }
+    }
+}
+
+/// The cells with this one in its place. There must be room.
+#[tactic(auto, unfolding(crate::specs::Cells::entered))]
+fn entered(cell: Cell, held: &[Cell]) -> ArrayVec<Cell, 32>
+    requires { length (entered cell held.now) ≤ 32 }
+    ensures { result.items ≡ entered cell held.now }
+{
+    let mut cells = ArrayVec::new();
+    append_below(&mut cells, cell.address, held);
+    cells.push(cell);
+    append_above(&mut cells, cell.address, held);
+    cells
+}
+
+fn is_held(address: u16, held: &[Cell]) -> bool
+    ensures { result ≡ list_any (is_at address) held.now }
+{
+    held.iter().any(|cell| cell.address == address)
+}
+
+/// Whether a cell at an address finds its place: one there goes, or there is room.
+fn has_place(address: u16, held: &[Cell]) -> bool
+    ensures { result ≡ (list_any (is_at address) held.now || nat_lt (length held.now) 32) }
+{
+    held.len() < CELLS || is_held(address, held)
+}
+
+/// The byte at an address gets a value. Where 32 cells are held and none of them is there, nothing is
+/// known of the byte, and the state stays.
+#[tactic(auto, using(crate::proofs::CellLaws::entered_fits), unfolding(crate::specs::Cells::with_cell))]
+pub fn with_cell(state: &Abs, address: u16, val: Val) -> Abs
+    ensures { result ≡ record state.now { cells = with_cell (record { address = address; val = val }) state.now.cells } }
+{
+    if has_place(address, state.cells()) {
+        with_cells(state, entered(Cell { address, val }, state.cells()))
+    } else {
+        state.with_core(*state.core())
+    }
+}
+
+fn is_outside(first: u16, last: u16, cell: &Cell) -> bool
+    ensures { result ≡ is_outside first last cell.now }
+{
+    cell.address < first || last < cell.address
+}
+
+/// The bytes from first to last may be any: their cells are dropped.
+#[tactic(auto, unfolding(crate::specs::Cells::without))]
+pub fn without(state: &Abs, first: u16, last: u16) -> Abs
+    ensures { result ≡ record state.now { cells = without first last state.now.cells } }
+{
+    let mut cells = ArrayVec::new();
+    for cell in state.cells() {
+        if is_outside(first, last, cell) {
+            cells.push(*cell);
+        }
+    }
+    with_cells(state, cells)
+}

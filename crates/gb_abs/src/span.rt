@@ -1,0 +1,57 @@
+//! The addresses that an access may meet.
+
+ghost use Rattle.std.specs.Prelude.{◌≡◌, ◌≤◌};
+ghost use Rattle.gb_abs.specs.Span.{one, pair_span, is_one, is_inside, may_meet};
+
+use gb_cert::types::Val;
+
+/// Addresses, the last one included.
+#[derive(Clone, Copy, Debug, PartialEq, Eq)]
+pub struct Span {
+    pub first: u16,
+    pub last: u16,
+}
+
+impl Span {
+    /// An address alone.
+    pub fn one(address: u16) -> Span
+        ensures { result ≡ one address }
+    {
+        Span {
+            first: address,
+            last: address,
+        }
+    }
+
+    /// The addresses in a pair of registers: from both least bytes to both greatest.
+    #[tactic(auto, unfolding(crate::specs::Span::pair_span))]
+    pub fn of_pair(high: &Val, low: &Val) -> Span
+        ensures { result ≡ pair_span high.now low.now }
+    {
+        Span {
+            first: u16::from_be_bytes([high.lo, low.lo]),
+            last: u16::from_be_bytes([high.hi, low.hi]),
+        }
+    }
+
+    /// Whether it is one address.
+    pub fn is_one(self) -> bool
+        ensures { result ≡ is_one self }
+    {
+        self.first == self.last
+    }
+
+    /// Whether all addresses lie from first to last.
+    pub fn is_inside(self, first: u16, last: u16) -> bool
+        ensures { result ≡ is_inside first last self }
+    {
+        first <= self.first && self.last <= last
+    }
+
+    /// Whether an address may lie from first to last.
+    pub fn may_meet(self, first: u16, last: u16) -> bool
+        ensures { result ≡ may_meet first last self }
+    {
+        self.first <= last && first <= self.last
+    }
+}

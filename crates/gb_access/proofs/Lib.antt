@@ -1,0 +1,6 @@
+pub mod CutLaws
+pub mod WindowLaws
+pub mod ControllerLaws
+pub mod ShownLaws
+pub mod LoadLaws
+pub mod StoreLaws

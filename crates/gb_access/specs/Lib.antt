@@ -1,0 +1,4 @@
+pub mod Access
+pub mod Shown
+pub mod Sound
+pub mod Windows
