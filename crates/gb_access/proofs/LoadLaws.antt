@@ -27,6 +27,8 @@ use Rattle.gb_abs.specs.Covering.{cell_at}
 use Rattle.gb_abs.specs.Meaning.{Holds, HoldsController, MeansCore, Means}
 use Rattle.gb_abs.proofs.Covers.{cell-holds}
 use Rattle.gb_abs.proofs.Steps.{Holds-single}
+use Rattle.gb_header.specs.Header.{IsCartridge}
+use Rattle.gb_header.proofs.Laws.{rom_size-cartridge, rom_banks-cartridge}
 use Rattle.gb_access.specs.Windows.{InCtl}
 use Rattle.gb_access.specs.Shown.{known_bank}
 use Rattle.gb_access.specs.Access.{may_be_closed, meets_closed_ram, is_limited, refused_or, home_of, rom_val, val_at, loaded_val, load_reason, load}
@@ -324,3 +326,11 @@ pub load-promise : (rom : List ℕ) (s : AbsState) (span : Span) → IfOk (load 
 load-promise rom s span = if_ok (load rom s span) (λ v. IsSoundLoad rom s span v) (λ v h. load-sound rom s span v h)
 
 pub ruleset load_laws = (load-promise)
+
+-- a cartridge whose bytes are bytes
+pub IsRom-cartridge : (rom : List ℕ) → IsCartridge rom → ((i : ℕ) → slice_index rom i ≤ 255) → IsRom rom
+IsRom-cartridge rom c bytes =
+    record {
+      size = record { exponent = slice_index rom 0x148; small = rom_size-cartridge rom c; power = rom_banks-cartridge rom c };
+      bytes = bytes;
+    }

@@ -1,6 +1,6 @@
 -- A store that isn't refused has no fault, and leaves what the state after it means.
-use Rattle.std.proofs.Common.{◌≡◌, ℕ, ◌-◌, ◌<◌, ◌≤◌, Bool, true, false, not, ◌&&◌, ◌||◌, ◌==◌, nat_le, if◌then◌else◌, inl, inr, List, [], ◌∷◌, length, Option, Some, None, Ok, refl, sym, ◌∙◌, ap, subst, arith}
-use Rattle.std.specs.List.{AllByRecursion}
+use Rattle.std.proofs.Common.{◌≡◌, ℕ, ◌-◌, ◌<◌, ◌≤◌, Bool, true, false, not, ◌&&◌, ◌||◌, ◌==◌, nat_le, if◌then◌else◌, List, [], ◌∷◌, length, Option, Some, None, Ok, refl, sym, ◌∙◌, ap, subst, arith, ◌⊎◌, inl, inr}
+use Rattle.std.specs.List.{AllByRecursion, list_any}
 use Rattle.std.specs.Result.{IfOk}
 use Rattle.std.proofs.lemmas.Bool.Decides.{nat_tests}
 use Rattle.std.proofs.lemmas.List.Elements.{All-from_recursion}
@@ -23,7 +23,7 @@ use Rattle.gb_cert.specs.declared.types.Range.{Range}
 use Rattle.gb_cert.specs.Types.{AbsState}
 use Rattle.gb_cert.specs.Rules.{IsRegion, is_area, meets}
 use Rattle.gb_abs.specs.declared.span.Span.{Span}
-use Rattle.gb_abs.specs.Span.{IsIn, is_one, is_inside, may_meet}
+use Rattle.gb_abs.specs.Span.{IsIn, one, is_one, is_inside, may_meet}
 use Rattle.gb_abs.specs.Storage.{is_ram, peek}
 use Rattle.gb_abs.specs.Operations.{with_core}
 use Rattle.gb_abs.specs.Cells.{IsPlaced, ArePlaced, with_cell, without}
@@ -39,7 +39,7 @@ use Rattle.gb_access.specs.declared.store.Area.{Area}
 use Rattle.gb_access.specs.declared.store.Area.TheVariants as area
 use Rattle.gb_access.specs.declared.store.Stored.{Stored}
 use Rattle.gb_access.specs.Windows.{InCtl, windows, window_of, ctl_after}
-use Rattle.gb_access.specs.Access.{may_be_closed, meets_closed_ram, may_copy_closed_ram, store_meets_closed_ram, is_limited, may_start_transfer, is_store_limited, area_by, area_of, is_allowed, is_storable, store_reason, ram_stored, stored_in, stored_state, starts_transfer, store}
+use Rattle.gb_access.specs.Access.{may_be_closed, meets_closed_ram, may_copy_closed_ram, store_meets_closed_ram, is_limited, may_start_transfer, is_store_limited, area_by, area_of, is_range, is_allowed, is_storable, store_reason, ram_stored, stored_in, stored_state, starts_transfer, store}
 use Rattle.gb_access.specs.Sound.{view, IsStored, IsSoundStore}
 use Rattle.gb_access.proofs.WindowLaws.{after_window}
 use Rattle.gb_access.proofs.ControllerLaws.{IsInWindow, window_of-in, window-sound, window-nothing}
@@ -221,13 +221,14 @@ pub record AtStore (rom : List ℕ) (region : Region) (s : AbsState) (span : Spa
 stored_as :
     (m m' : View) (a n : ℕ) (region : Region) (s : AbsState) (entry : MState) (base : ℕ) (x : MState) (o : Stored) → wrote m a n ≡ m' → write_faults m a n ≡ no_faults
     → Means o.state entry base (record x { storage = m'.storage }) → m'.starting ≡ (m.starting || o.starts) → m'.rom ≡ m.rom → o.state.items ≡ s.items
-    → ArePlaced region o.state.cells → IsStored m a n region s entry base x o
-stored_as m m' a n region s entry base x o e faults means starting rom items placed =
+    → ArePlaced region o.state.cells → ((b : ℕ) → peek m'.storage b ≡ peek x.storage b) → IsStored m a n region s entry base x o
+stored_as m m' a n region s entry base x o e faults means starting rom items placed bytes =
     record {
       means = subst (λ (w : View). Means o.state entry base (record x { storage = w.storage })) (sym e) means;
       faults = faults;
       starting = ap (λ (w : View). w.starting) e ∙ starting;
       rom = ap (λ (w : View). w.rom) e ∙ rom;
+      others = λ b ram other. ap (λ (w : View). peek w.storage b) e ∙ bytes b;
       items = items;
       placed = placed;
     }
@@ -289,7 +290,8 @@ stored_window rom region s span v entry base x starting a n w h e =
     let core = controller_core s.core ctl entry x banks m.core holds in
     subst (λ (t : AbsState). IsStored (view rom x starting) a n region s entry base x (record { state = t; starts = starts_transfer span })) (window_state (kind_of rom) w.register span v s)
     (stored_as (view rom x starting) (wrote_by mapped.Rom (view rom x starting) a n) a n region s entry base x _ (written_at (view rom x starting) a n mapped.Rom h.free (rom_at a low)) h.faults
-    (Means-others s (record s.core { ctl = ctl }) entry base x banks x.storage.ie m refl core) (starts_not starting span a h.at (below_not a low)) refl refl h.placed)
+    (Means-others s (record s.core { ctl = ctl }) entry base x banks x.storage.ie m refl core) (starts_not starting span a h.at (below_not a low)) refl refl h.placed
+    (λ b. same_bytes x.storage banks x.storage.ie b))
 
 -- ---- in hardware
 
@@ -343,11 +345,11 @@ stored_hardware rom region s span v entry base x starting a n h inside = choose 
     choose : (b : Bool) → (a == 0xFF46) ≡ b → IsStored (view rom x starting) a n region s entry base x (record { state = s; starts = starts_transfer span })
     choose true e =
         stored_as (view rom x starting) (view rom x true) a n region s entry base x _ (written_at (view rom x starting) a n mapped.Transfer h.free (transfer_at a e)) h.faults h.means
-        (or_true starting ∙ ap (λ b. starting || b) (sym (starts_here span a h.at e h.seen))) refl refl h.placed
+        (or_true starting ∙ ap (λ b. starting || b) (sym (starts_here span a h.at e h.seen))) refl refl h.placed (λ b. refl)
     choose false e =
         stored_as (view rom x starting) (view rom x starting) a n region s entry base x _
         (written_at (view rom x starting) a n (mapped_at a) h.free refl ∙ hardware_idle a (hardware_in span a h.at inside) e (view rom x starting) a n) h.faults h.means
-        (starts_not starting span a h.at e) refl refl h.placed
+        (starts_not starting span a h.at e) refl refl h.placed (λ b. refl)
 
 -- ---- in RAM
 
@@ -395,6 +397,7 @@ stored_ram rom region s span v entry base x starting a n h inside apart = choose
       faults = h.faults;
       starting = wrote_ram-starting (view rom x starting) a n ram h.free ∙ starts_not starting span a h.at (ram_not a ram);
       rom = wrote_ram-rom (view rom x starting) a n ram h.free;
+      others = poked.others;
       items = refl;
       placed = placed;
     }
@@ -452,7 +455,7 @@ stored_ie rom region s span v entry base x starting a n h inside =
     stored_as (view rom x starting) (wrote_by mapped.InterruptEnable (view rom x starting) a n) a n region s entry base x _
     (written_at (view rom x starting) a n mapped.InterruptEnable h.free (ie_mapped a here)) h.faults
     (Means-others s (record s.core { ie = v }) entry base x x.storage.banks n m refl (ie_core s.core v entry x n m.core h.holds)) (starts_not starting span a h.at (ie_not a here)) refl refl
-    h.placed
+    h.placed (λ b. same_bytes x.storage x.storage.banks n b)
 
 -- ---- each area
 
@@ -463,6 +466,10 @@ leaves o k span v s = record { state = stored_in o k span v s; starts = starts_t
 first_true : (a b : Bool) → (a && b) ≡ true → a ≡ true
 first_true true b h = refl
 first_true false b h = absurd (let bad : false ≡ true = h in cc)
+
+second_true : (a b : Bool) → (a && b) ≡ true → b ≡ true
+second_true true b h = h
+second_true false b h = absurd (let bad : false ≡ true = h in cc)
 
 not_true : (b : Bool) → not b ≡ true → b ≡ false
 not_true true h = cc
@@ -525,6 +532,50 @@ stored-view rom region s entry base x starting a n o h = same (wrote (view rom x
   where
     same : (m : View) → m.rom ≡ rom → m.starting ≡ (starting || o.starts) → m ≡ view rom (record x { storage = m.storage }) (starting || o.starts)
     same m p q = ap (λ (r : List ℕ). record m { rom = r }) p ∙ ap (λ b. record m { rom = rom; starting = b }) q
+
+-- a byte of RAM that is stored to lies in one of the ranges, outside the region
+pub record IsInRanges (region : Region) (ranges : List Range) (a : ℕ) : Type 0 where
+  pub inside : list_any (is_range (one a)) ranges ≡ true
+  pub apart : meets region a a ≡ false
+
+in_range : (ranges : List Range) (span : Span) (a : ℕ) → IsIn span a → list_any (is_range span) ranges ≡ true → list_any (is_range (one a)) ranges ≡ true
+in_range [] span a i h = h
+in_range (r ∷ ranges) span a i h = either (is_range span r) (is_range (one a) r) (λ e. inside r e) h (λ e. in_range ranges span a i e)
+  where
+    inside : (r : Range) → is_range span r ≡ true → is_range (one a) r ≡ true
+    inside r e =
+        let low = i.first in
+        let high = i.last in
+        grind (arith, nat_tests)
+
+    either : (b c : Bool) → (b ≡ true → c ≡ true) → (b || list_any (is_range span) ranges) ≡ true
+        → (list_any (is_range span) ranges ≡ true → list_any (is_range (one a)) ranges ≡ true) → (c || list_any (is_range (one a)) ranges) ≡ true
+    either true c f t g = rw (f refl) refl
+    either false true f t g = refl
+    either false false f t g = g t
+
+ram_contra : (a : ℕ) → is_ram a ≡ true → (is_hardware_address a ≡ true) ⊎ ((a ≡ 0xFFFF) ⊎ (a < 0x8000)) → ⊥
+ram_contra a h (inl e) = grind (arith, nat_tests)
+ram_contra a h (inr (inl e)) = grind (arith, nat_tests)
+ram_contra a h (inr (inr e)) = grind (arith, nat_tests)
+
+pub storable-in_ranges : (k : Kind) (region : Region) (ranges : List Range) (span : Span) (a : ℕ) → is_storable k region ranges span ≡ true → IsIn span a → is_ram a ≡ true → IsInRanges region ranges a
+unfolding is_storable area_of
+storable-in_ranges k region ranges span a h i ram = by_window (window_of k span) refl h
+  where
+    by_area : (hardware inside ie : Bool) → (hardware ≡ true → is_hardware span ≡ true) → (ie ≡ true → is_inside 0xFFFF 0xFFFF span ≡ true)
+        → is_allowed (if hardware then Some area.Hardware else if inside then Some area.Ram else if ie then Some area.InterruptEnable else None) region ranges span ≡ true
+        → IsInRanges region ranges a
+    by_area true inside ie p r allowed = absurd (ram_contra a ram (inl (hardware_in span a i (p refl))))
+    by_area false true ie p r allowed =
+        let free = not_true _ (first_true _ _ allowed) in
+        record { inside = in_range ranges span a i (second_true _ _ allowed); apart = apart_at region span a i free }
+    by_area false false true p r allowed = absurd (ram_contra a ram (inr (inl (ie_only span a i (r refl)))))
+    by_area false false false p r allowed = absurd (let bad : false ≡ true = allowed in cc)
+
+    by_window : (o : Option Window) → window_of k span ≡ o → is_allowed (area_by o span) region ranges span ≡ true → IsInRanges region ranges a
+    by_window (Some w) e allowed = absurd (ram_contra a ram (inr (inr (window_below k w a (window_of-in k span w a e i)))))
+    by_window None e allowed = by_area (is_hardware span) (is_ram_span span) (is_inside 0xFFFF 0xFFFF span) (λ e. e) (λ e. e) allowed
 
 -- a store, by its answer
 pub store-sound :

@@ -1,5 +1,5 @@
 -- What loads and stores of abstract states promise of the machine (abstract interpretation: soundness; own).
-use Rattle.std.specs.Prelude.{◌≡◌, ℕ, ◌*◌, ◌^◌, ◌<◌, ◌≤◌, Bool, ◌||◌, List, slice_index, length}
+use Rattle.std.specs.Prelude.{◌≡◌, ℕ, ◌*◌, ◌^◌, ◌<◌, ◌≤◌, Bool, true, false, ◌||◌, ◌==◌, List, slice_index, length}
 use Rattle.gb_ops.specs.declared.machine.Region.{Region}
 use Rattle.gb_ops.specs.Cartridge.{rom_banks}
 use Rattle.gb_ops.specs.Memory.{View, wrote}
@@ -13,6 +13,7 @@ use Rattle.gb_abs.specs.declared.span.Span.{Span}
 use Rattle.gb_abs.specs.Span.{IsIn}
 use Rattle.gb_abs.specs.Cells.{ArePlaced}
 use Rattle.gb_abs.specs.Stack.{AreInRegion}
+use Rattle.gb_abs.specs.Storage.{is_ram, peek}
 use Rattle.gb_abs.specs.Meaning.{Holds, Means}
 use Rattle.gb_access.specs.declared.store.Stored.{Stored}
 
@@ -43,13 +44,14 @@ pub record IsSoundLoad (rom : List ℕ) (s : AbsState) (span : Span) (v : Val) :
       → IsRom rom → Means s entry base x → IsVal s.core.ie → IsIn span a → a < 65536 → slice_index free 0 ≤ 255
       → IsLoaded (view rom x starting) a free v entry
 
--- a byte is stored without a fault: what is left is meant, items and places of cells are kept, and a
--- transfer starts exactly where it is said
+-- a byte is stored without a fault: what is left is meant, the other bytes of RAM, the items and the places of
+-- cells are kept, and a transfer starts exactly where it is said
 pub record IsStored (m : View) (a n : ℕ) (region : Region) (s : AbsState) (entry : MState) (base : ℕ) (x : MState) (o : Stored) : Type 0 where
   pub means : Means o.state entry base (record x { storage = (wrote m a n).storage })
   pub faults : write_faults m a n ≡ no_faults
   pub starting : (wrote m a n).starting ≡ (m.starting || o.starts)
   pub rom : (wrote m a n).rom ≡ m.rom
+  pub others : (b : ℕ) → is_ram b ≡ true → (b == a) ≡ false → peek (wrote m a n).storage b ≡ peek x.storage b
   pub items : o.state.items ≡ s.items
   pub placed : ArePlaced region o.state.cells
 

@@ -516,13 +516,7 @@ fn areas_of_stores(rt: HostRuntime) {
 }
 
 /// The reason against a store of one of these bytes, with such a gate and such a bound.
-fn reason_against(
-    rom: &Rom<'_>,
-    at: Span,
-    val: &Val,
-    gate: May,
-    bound: u8,
-) -> Option<Reason> {
+fn reason_against(rom: &Rom<'_>, at: Span, val: &Val, gate: May, bound: u8) -> Option<Reason> {
     store(rom, REGION, &RANGES, &state_with(gate, bound), at, val).err()
 }
 
@@ -591,7 +585,7 @@ struct Left {
 }
 
 /// What a store leaves of the state with an open gate, where it isn't refused.
-fn left(rom: &Rom<'_>, at: Span, val: &Val) -> Option<Left> {
+fn after_store(rom: &Rom<'_>, at: Span, val: &Val) -> Option<Left> {
     let result = store(rom, REGION, &RANGES, &state_with(SET, 0), at, val);
     let Stored { state, starts } = result.ok()?;
     Some(Left {
@@ -646,20 +640,63 @@ fn stores(rt: HostRuntime) -> Result<(), Fail> {
     let one = from_to(1, 1);
     let cases = [
         // One address gets the value with its origin. Of several nothing is known any more.
-        (0xC001, 0xC001, OWN, Left { second: OWN, ..BEFORE }),
-        (0xC001, 0xC0FF, OWN, Left { second: ANY, cells: 3, ..BEFORE }),
-        (0xC000, 0xC001, OWN, Left { first: ANY, second: ANY, cells: 2, ..BEFORE }),
+        (
+            0xC001,
+            0xC001,
+            OWN,
+            Left {
+                second: OWN,
+                ..BEFORE
+            },
+        ),
+        (
+            0xC001,
+            0xC0FF,
+            OWN,
+            Left {
+                second: ANY,
+                cells: 3,
+                ..BEFORE
+            },
+        ),
+        (
+            0xC000,
+            0xC001,
+            OWN,
+            Left {
+                first: ANY,
+                second: ANY,
+                cells: 2,
+                ..BEFORE
+            },
+        ),
         (0xC100, 0xC100, OWN, Left { cells: 5, ..BEFORE }),
-        (0x2000, 0x3FFF, one, Left { ctl: written, ..BEFORE }),
+        (
+            0x2000,
+            0x3FFF,
+            one,
+            Left {
+                ctl: written,
+                ..BEFORE
+            },
+        ),
         (0x6000, 0x7FFF, one, BEFORE),
         (0x8000, 0x8000, OWN, BEFORE),
         (0xA000, 0xBFFF, OWN, BEFORE),
         (0xFF45, 0xFF45, OWN, BEFORE),
-        (0xFF46, 0xFF46, OWN, Left { starts: true, ..BEFORE }),
+        (
+            0xFF46,
+            0xFF46,
+            OWN,
+            Left {
+                starts: true,
+                ..BEFORE
+            },
+        ),
         (0xFFFF, 0xFFFF, OWN, Left { ie: OWN, ..BEFORE }),
     ];
     for (first, last, val, expected) in cases {
-        let found = left(&rom, span(first, last), &val);
+        let found = after_store(&rom, span(first, last), &val);
         assert_eq!(rt; found, Some(expected), "at {first} to {last}");
     }
     Ok(())
