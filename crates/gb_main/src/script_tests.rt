@@ -205,14 +205,10 @@ fn a_screen_is_drawn(rt: HostRuntime) -> Result<(), Fail> {
 fn a_sink_that_fails_has_a_beginning(rt: HostRuntime) -> Result<(), Fail> {
     let bytes = file(rt.alloc(), 0x00, 0xE7, &[0xD3])?;
     let whole = text(rt.alloc(), 0, b"", b"LOCKED frame 0 pc 0150\n")?;
-    let later = [
-        242, 243, 244, 5_000, 11_582, 11_583, 11_584, 11_663, 11_664, 11_665, 11_680, 11_686,
-    ];
-    for most in (0..200).chain(later) {
+    for most in 0..whole.len() {
         let mut out = Keeper::new(7, most);
         let ended = run(rt.alloc(), &bytes, &[], 1, &mut out)?;
         assert_eq!(rt; ended, Err(OutFault));
-        assert!(rt; most < whole.len());
         assert_eq!(rt; out.kept(), &whole[..most]);
     }
     let mut out = Keeper::new(7, 11_687);

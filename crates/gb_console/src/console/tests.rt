@@ -111,3 +111,25 @@ fn a_frame_draws_the_screen(rt: HostRuntime) -> Result<(), Fail> {
     assert_eq!(rt; console.screen()[143][159], 3);
     Ok(())
 }
+
+/// With each allocation refused in turn the answer is want of memory, and else the console at power-up.
+#[test]
+fn powers_up_or_wants_memory(rt: HostRuntime) -> Result<(), Fail> {
+    let mut bytes = [0; SIZE];
+    bytes[0x101] = 0xC3;
+    bytes[0x102] = 0x50;
+    bytes[0x103] = 0x01;
+    bytes[0x14D] = 0xE7;
+    let rom = Rom::parse(&bytes)?;
+    if let Ok(mut console) = Console::new(rt.alloc(), &rom) {
+        assert_eq!(rt; console.pc(), 0x0100);
+        for line in console.screen() {
+            assert!(rt; line.iter().all(|shade| *shade == 0));
+        }
+        // NOP, and then the jump.
+        console.step(no_keys(), 0);
+        console.step(no_keys(), 0);
+        assert_eq!(rt; console.pc(), 0x0150);
+    }
+    Ok(())
+}
