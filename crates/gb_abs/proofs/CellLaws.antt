@@ -1,42 +1,43 @@
 -- The cells of a state as a list: what is kept when one gets a value and when some are dropped.
-use Rattle.std.proofs.Common.{◌≡◌, ℕ, zero, suc, ◌+◌, ◌≤◌, ◌<◌, Bool, true, false, ◌||◌, ◌==◌, nat_lt, cond, List, [], ◌∷◌, ◌++◌, length, drop, get_or, None, refl, ap, arith, length-append}
+use Rattle.std.proofs.Common.{◌≡◌, ℕ, zero, suc, ◌+◌, ◌≤◌, ◌<◌, Bool, true, false, ◌||◌, ◌==◌, nat_lt, cond, List, [], ◌∷◌, ◌++◌, length, drop, get_or, None, refl, sym, ap, subst, arith, length-append}
 use Rattle.std.proofs.lemmas.Bool.Decides.{nat_tests}
 use Rattle.std.proofs.lemmas.List.Sums.{length-filter, count_by-le-length}
 use Rattle.std.specs.List.{AllByRecursion, filter, list_any}
 use Rattle.gb_ops.specs.declared.machine.Region.{Region}
 use Rattle.gb_cert.specs.declared.types.Cell.{Cell}
+use Rattle.gb_cert.specs.Types.{AbsState}
 use Rattle.gb_cert.specs.Rules.{IsChain, IsCell, after_cell}
-use Rattle.gb_abs.specs.Cells.{is_below, is_above, is_at, entered, with_cell, is_outside, without, IsPlaced, ArePlaced}
+use Rattle.gb_abs.specs.Cells.{is_below, is_above, is_at, entered, with_cell, is_outside, without_cells, IsPlaced, ArePlaced, AreInOrder, IsEntryInOrder, IsDropInOrder}
 
 -- ---- lists
 
-pub all_where :
+pub AllByRecursion-where :
     {X : Type 0} (P Q R : X → Type 0) (test : X → Bool) → ((x : X) → test x ≡ true → P x → Q x → R x) → (xs : List X)
     → AllByRecursion P xs → AllByRecursion Q xs → AllByRecursion R (filter test xs)
-all_where P Q R test f [] p q = tt
-all_where P Q R test f (x ∷ xs) p q = choose (test x) refl (all_where P Q R test f xs p.1 q.1)
+AllByRecursion-where P Q R test f [] p q = tt
+AllByRecursion-where P Q R test f (x ∷ xs) p q = choose (test x) refl (AllByRecursion-where P Q R test f xs p.1 q.1)
   where
     choose : (b : Bool) → test x ≡ b → AllByRecursion R (filter test xs) → AllByRecursion R (cond b (x ∷ filter test xs) (filter test xs))
     choose true e rest = (f x e p.0 q.0, rest)
     choose false e rest = rest
 
-pub all_append : {X : Type 0} (P : X → Type 0) (xs ys : List X) → AllByRecursion P xs → AllByRecursion P ys → AllByRecursion P (xs ++ ys)
-all_append P [] ys p q = q
-all_append P (x ∷ xs) ys p q = (p.0, all_append P xs ys p.1 q)
+pub AllByRecursion-append : {X : Type 0} (P : X → Type 0) (xs ys : List X) → AllByRecursion P xs → AllByRecursion P ys → AllByRecursion P (xs ++ ys)
+AllByRecursion-append P [] ys p q = q
+AllByRecursion-append P (x ∷ xs) ys p q = (p.0, AllByRecursion-append P xs ys p.1 q)
 
 -- ---- in their places
 
-pub chain-placed : (region : Region) (least : ℕ) (cells : List Cell) → IsChain (IsCell region) after_cell least cells → ArePlaced region cells
-chain-placed region least [] h = tt
-chain-placed region least (c ∷ cells) h = (record { area = h.0.area; apart = h.0.apart }, chain-placed region (after_cell c) cells h.1)
+pub ArePlaced-chain : (region : Region) (least : ℕ) (cells : List Cell) → IsChain (IsCell region) after_cell least cells → ArePlaced region cells
+ArePlaced-chain region least [] h = tt
+ArePlaced-chain region least (c ∷ cells) h = (record { area = h.0.area; apart = h.0.apart }, ArePlaced-chain region (after_cell c) cells h.1)
 
 pub ArePlaced-where : (region : Region) (test : Cell → Bool) (cells : List Cell) → ArePlaced region cells → ArePlaced region (filter test cells)
-ArePlaced-where region test cells h = all_where (IsPlaced region) (IsPlaced region) (IsPlaced region) test (λ c e p q. p) cells h h
+ArePlaced-where region test cells h = AllByRecursion-where (IsPlaced region) (IsPlaced region) (IsPlaced region) test (λ c e p q. p) cells h h
 
 pub ArePlaced-entered : (region : Region) (c : Cell) (cells : List Cell) → IsPlaced region c → ArePlaced region cells → ArePlaced region (entered c cells)
 unfolding entered
 ArePlaced-entered region c cells p h =
-    all_append (IsPlaced region) (filter (is_below c.address) cells) (c ∷ filter (is_above c.address) cells)
+    AllByRecursion-append (IsPlaced region) (filter (is_below c.address) cells) (c ∷ filter (is_above c.address) cells)
     (ArePlaced-where region (is_below c.address) cells h) (p, ArePlaced-where region (is_above c.address) cells h)
 
 pub ArePlaced-with_cell : (region : Region) (c : Cell) (cells : List Cell) → IsPlaced region c → ArePlaced region cells → ArePlaced region (with_cell c cells)
@@ -47,14 +48,11 @@ ArePlaced-with_cell region c cells p h = choose (list_any (is_at c.address) cell
     choose true = ArePlaced-entered region c cells p h
     choose false = h
 
-pub ArePlaced-without : (region : Region) (first last : ℕ) (cells : List Cell) → ArePlaced region cells → ArePlaced region (without first last cells)
-unfolding without
-ArePlaced-without region first last cells h = ArePlaced-where region (is_outside first last) cells h
+pub ArePlaced-without_cells : (region : Region) (first last : ℕ) (cells : List Cell) → ArePlaced region cells → ArePlaced region (without_cells first last cells)
+unfolding without_cells
+ArePlaced-without_cells region first last cells h = ArePlaced-where region (is_outside first last) cells h
 
 -- ---- in order of address
-
-abbrev pub AreInOrder : Region → ℕ → List Cell → Type 0
-AreInOrder region least cells = IsChain (IsCell region) after_cell least cells
 
 lowered : (region : Region) (least least' : ℕ) (cells : List Cell) → least' ≤ least → AreInOrder region least cells → AreInOrder region least' cells
 lowered region least least' [] le h = tt
@@ -98,10 +96,10 @@ pub AreInOrder-entered :
     (region : Region) (least : ℕ) (c : Cell) (cells : List Cell) → IsCell region least c → AreInOrder region least cells → AreInOrder region least (entered c cells)
 unfolding entered
 AreInOrder-entered region least c cells k h =
-    let placed = chain-placed region least cells h in
+    let placed = ArePlaced-chain region least cells h in
     AreInOrder-joined region least (filter (is_below c.address) cells) c (filter (is_above c.address) cells)
     (AreInOrder-where region (is_below c.address) least cells h)
-    (all_where (IsPlaced region) (IsPlaced region) (λ d. d.address < c.address) (is_below c.address) (λ d e p q. below c.address d.address e) cells placed placed)
+    (AllByRecursion-where (IsPlaced region) (IsPlaced region) (λ d. d.address < c.address) (is_below c.address) (λ d e p q. below c.address d.address e) cells placed placed)
     k
     (AreInOrder-from region (is_above c.address) (after_cell c) least cells (λ d e. let q = below d.address c.address e in omega arith) h)
 
@@ -115,11 +113,19 @@ AreInOrder-with_cell region least c cells k h = choose (list_any (is_at c.addres
     choose true = AreInOrder-entered region least c cells k h
     choose false = h
 
--- and where some are dropped
-pub AreInOrder-without :
-    (region : Region) (least first last : ℕ) (cells : List Cell) → AreInOrder region least cells → AreInOrder region least (without first last cells)
-unfolding without
-AreInOrder-without region least first last cells h = AreInOrder-where region (is_outside first last) least cells h
+-- a state's cells stay in order where some are dropped
+pub AreInOrder-without_cells :
+    (region : Region) (least first last : ℕ) (cells : List Cell) → AreInOrder region least cells → AreInOrder region least (without_cells first last cells)
+unfolding without_cells
+AreInOrder-without_cells region least first last cells h = AreInOrder-where region (is_outside first last) least cells h
+
+pub with_cell_ordered : (s o : AbsState) (c : Cell) → o ≡ record s { cells = with_cell c s.cells } → IsEntryInOrder c s.cells o.cells
+with_cell_ordered s o c e =
+    record { gives = λ region least k h. subst (λ (w : AbsState). AreInOrder region least w.cells) (sym e) (AreInOrder-with_cell region least c s.cells k h) }
+
+pub without_cells_ordered : (s o : AbsState) (first last : ℕ) → o ≡ record s { cells = without_cells first last s.cells } → IsDropInOrder s.cells o.cells
+without_cells_ordered s o first last e =
+    record { gives = λ region least h. subst (λ (w : AbsState). AreInOrder region least w.cells) (sym e) (AreInOrder-without_cells region least first last s.cells h) }
 
 -- ---- how many there are
 

@@ -1,5 +1,5 @@
 pub mod CellLaws
-pub mod Covers
-pub mod Poked
-pub mod Pushed
-pub mod Steps
+pub mod CoveringLaws
+pub mod StorageLaws
+pub mod StackLaws
+pub mod OperationLaws

@@ -4,7 +4,7 @@ use Rattle.std.specs.List.{AllByRecursion, filter, list_any}
 use Rattle.gb_ops.specs.declared.machine.Region.{Region}
 use Rattle.gb_ops.specs.Cartridge.{is_within}
 use Rattle.gb_cert.specs.declared.types.Cell.{Cell}
-use Rattle.gb_cert.specs.Rules.{is_area, meets}
+use Rattle.gb_cert.specs.Rules.{IsChain, IsCell, after_cell, is_area, meets}
 
 abbrev pub is_below : ℕ → Cell → Bool
 is_below a c = nat_lt c.address a
@@ -27,8 +27,8 @@ abbrev pub is_outside : ℕ → ℕ → Cell → Bool
 is_outside first last c = not (is_within first last c.address)
 
 -- the cells but for those from first to last
-unfoldable pub without : ℕ → ℕ → List Cell → List Cell
-without first last cells = filter (is_outside first last) cells
+unfoldable pub without_cells : ℕ → ℕ → List Cell → List Cell
+without_cells first last cells = filter (is_outside first last) cells
 
 -- a cell's byte stands in RAM, outside the declared stack region
 pub record IsPlaced (region : Region) (c : Cell) : Type 0 where
@@ -37,3 +37,15 @@ pub record IsPlaced (region : Region) (c : Cell) : Type 0 where
 
 abbrev pub ArePlaced : Region → List Cell → Type 0
 ArePlaced region cells = AllByRecursion (IsPlaced region) cells
+
+-- the cells are in order of address, from the least address on
+abbrev pub AreInOrder : Region → ℕ → List Cell → Type 0
+AreInOrder region least cells = IsChain (IsCell region) after_cell least cells
+
+-- where a cell may stand, cells that were in order are in order with it
+pub record IsEntryInOrder (c : Cell) (cells after : List Cell) : Type 0 where
+  pub gives : (region : Region) (least : ℕ) → IsCell region least c → AreInOrder region least cells → AreInOrder region least after
+
+-- cells that were in order still are
+pub record IsDropInOrder (cells after : List Cell) : Type 0 where
+  pub gives : (region : Region) (least : ℕ) → AreInOrder region least cells → AreInOrder region least after

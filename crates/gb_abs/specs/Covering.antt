@@ -36,7 +36,7 @@ origin_number origin.Ie = 8
 abbrev pub implied : Bool → Bool → Bool
 implied a b = not a || b
 
--- without an origin nothing is asked, else the same one
+-- an origin is asked for only where there is one, and then it must be equal
 abbrev pub covers_origin : Option Origin → Option Origin → Bool
 covers_origin from None = true
 covers_origin None (Some to) = false
@@ -66,7 +66,7 @@ covers_registers s t =
     covers_val s.a t.a && covers_val s.b t.b && covers_val s.c t.c && covers_val s.d t.d && covers_val s.e t.e
     && covers_val s.h t.h && covers_val s.l t.l
 
--- without a test nothing is asked, else the same one
+-- a test is asked for only where there is one, and then it must be equal
 abbrev pub covers_test : Option ℕ → Option ℕ → Bool
 covers_test from None = true
 covers_test None (Some to) = false

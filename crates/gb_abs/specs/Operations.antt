@@ -28,14 +28,10 @@ core_with_value r n s = record s { registers = set r (record (get r s.registers)
 unfoldable pub core_settle : Core → Core
 core_settle s = record s { ime = ime_set_after s.ime }
 
--- so many M-cycles pass
-unfoldable pub core_pass : ℕ → Core → Core
-core_pass n s = record s { bound = s.bound - n }
+-- an instruction of n M-cycles has ended: where it started an OAM transfer, that runs from now on
+unfoldable pub core_end : Bool → ℕ → Core → Core
+core_end starts n s = if starts then record s { bound = 161 } else record s { bound = s.bound - n }
 
--- an instruction of n M-cycles has ended: where it started a transfer, that runs from now on
-unfoldable pub core_ended : Bool → ℕ → Core → Core
-core_ended starts n s = if starts then record s { bound = 161 } else core_pass n s
-
--- another core, the same items and cells
+-- a state with another core: its items and cells stay
 abbrev pub with_core : AbsState → Core → AbsState
 with_core s core = record s { core = core }

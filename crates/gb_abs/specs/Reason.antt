@@ -1,7 +1,7 @@
 -- The numbers of the reasons.
 use Rattle.std.specs.Prelude.{ℕ}
 use Rattle.gb_abs.specs.declared.reason.Reason.{Reason}
-use Rattle.gb_abs.specs.declared.reason.Reason.TheVariants.{Entry, Area, Bank, Unreadable, UndefinedOpcode, Stop, Halt, Stack, Depth, Store, CartridgeRam, Transfer, JumpHl, Uncovered, Callee, Return, Interrupt}
+use Rattle.gb_abs.specs.declared.reason.Reason.TheVariants.{Entry, Area, Bank, Unreadable, UndefinedOpcode, Stop, Halt, Stack, Depth, Store, CartridgeRam, OamTransfer, JumpHl, Uncovered, Callee, Return, Interrupt}
 
 abbrev pub reason_number : Reason → ℕ
 reason_number Entry = 1
@@ -15,7 +15,7 @@ reason_number Stack = 8
 reason_number Depth = 9
 reason_number Store = 10
 reason_number CartridgeRam = 11
-reason_number Transfer = 12
+reason_number OamTransfer = 12
 reason_number JumpHl = 13
 reason_number Uncovered = 14
 reason_number Callee = 15

@@ -1,5 +1,5 @@
 -- What operations on abstract states promise of the machine (abstract interpretation: soundness; own).
-use Rattle.std.specs.Prelude.{◌≡◌, ℕ, ◌+◌, ◌/◌, ◌%◌, ◌≤◌, ◌<◌, Bool, true, List, length, ◌⊎◌}
+use Rattle.std.specs.Prelude.{◌≡◌, ℕ, ◌+◌, ◌/◌, ◌%◌, ◌≤◌, ◌<◌, Bool, true, false, List, length, ◌⊎◌}
 use Rattle.gb_ops.specs.declared.machine.Region.{Region}
 use Rattle.gb_ops.specs.declared.machine.Read.TheVariants as read
 use Rattle.gb_ops.specs.declared.machine.Write.TheVariants as write
@@ -15,9 +15,10 @@ use Rattle.gb_cert.specs.declared.types.Val.{Val}
 use Rattle.gb_cert.specs.declared.types.Core.{Core}
 use Rattle.gb_cert.specs.declared.types.Item.{Item}
 use Rattle.gb_cert.specs.Types.{AbsState}
-use Rattle.gb_cert.specs.Rules.{IsRegion}
+use Rattle.gb_cert.specs.Rules.{IsRegion, meets}
 use Rattle.gb_abs.specs.Meaning.{Holds, MeansCore, Means}
-use Rattle.gb_abs.specs.Cells.{ArePlaced}
+use Rattle.gb_abs.specs.Cells.{IsPlaced, ArePlaced}
+use Rattle.gb_abs.specs.Poked.{IsPoked}
 use Rattle.gb_abs.specs.Stack.{AreInRegion}
 
 -- t means each machine state that s means
@@ -40,15 +41,33 @@ pub record IsSoundValue (r : Register) (n : ℕ) (s after : Core) : Type 0 where
 pub record IsSoundSettling (s after : Core) : Type 0 where
   pub gives : (entry x : MState) → MeansCore s entry x → MeansCore after entry (record x { processor = settled x.processor })
 
--- an instruction of n M-cycles has ended, which started a transfer or didn't
+-- an instruction of n M-cycles has ended, which started an OAM transfer or didn't
 pub record IsSoundEnd (starts : Bool) (n : ℕ) (s after : Core) : Type 0 where
   pub gives :
       (rom : List ℕ) (entry x : MState) → MeansCore s entry x
       → MeansCore after entry (record x { storage = (passed (record { rom = rom; storage = x.storage; starting = starts }) n).storage })
 
+-- ---- cells
+
+-- of each of these states, where a byte that v stands for is stored at an address outside the stack region
+pub record IsSoundEntry (a : ℕ) (v : Val) (s after : AbsState) : Type 0 where
+  pub gives :
+      (region : Region) (entry : MState) (base : ℕ) (x : MState) (t : Storage) (n : ℕ)
+      → Means s entry base x → IsPoked a n x.storage t → Holds v entry n → IsPlaced region (record { address = a; val = v })
+      → ArePlaced region s.cells → AreInRegion region base (length s.items) → IsRegion region
+      → Means after entry base (record x { storage = t })
+
+-- of each of these states, where any byte is stored at one of the addresses, all outside the stack region
+pub record IsSoundDrop (first last : ℕ) (s after : AbsState) : Type 0 where
+  pub gives :
+      (region : Region) (entry : MState) (base : ℕ) (x : MState) (t : Storage) (a n : ℕ)
+      → Means s entry base x → IsPoked a n x.storage t → first ≤ a → a ≤ last → meets region first last ≡ false
+      → ArePlaced region s.cells → AreInRegion region base (length s.items) → IsRegion region
+      → Means after entry base (record x { storage = t })
+
 -- ---- words
 
--- no transfer closes the region: none runs, or the region lies in high RAM
+-- no OAM transfer closes the region: none runs, or the region lies in high RAM
 abbrev pub IsRegionOpen : Storage → Region → Type 0
 IsRegionOpen s region = (s.count ≡ 0) ⊎ (0xFF80 ≤ region.first)
 

@@ -4,7 +4,7 @@ use Rattle.gb_ops.specs.declared.machine.Region.{Region}
 use Rattle.gb_cert.specs.declared.types.Item.{Item}
 use Rattle.gb_cert.specs.Types.{AbsState}
 
--- so many words below the base lie in the declared region
+-- a number of words below the base lies in the declared region
 pub record AreInRegion (region : Region) (base words : ℕ) : Type 0 where
   pub first : region.first + 2 * words ≤ base
   pub last : base ≤ region.last + 1
@@ -17,6 +17,6 @@ pushed i s = record s { items = s.items ++ i ∷ [] }
 abbrev pub youngest : AbsState → Option Item
 youngest s = slice_get s.items (length s.items - 1)
 
--- and what is left without it
+-- the state without the word that was pushed last
 unfoldable pub popped : AbsState → AbsState
 popped s = record s { items = take (length s.items - 1) s.items }

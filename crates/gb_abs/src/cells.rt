@@ -3,12 +3,13 @@
 ghost use Rattle.std.specs.Prelude.{◌≡◌, ◌+◌, ◌≤◌, ◌++◌, ◌||◌, nat_lt, length};
 ghost use Rattle.std.specs.List.{filter, list_any};
 ghost use Rattle.arrayvec.specs.ArrayVec.{array_vec_len};
-ghost use Rattle.gb_abs.specs.Cells.{is_below, is_above, is_at, is_outside, entered, with_cell, without};
+ghost use Rattle.gb_abs.specs.Cells.{is_below, is_above, is_at, is_outside, entered, with_cell, without_cells, IsEntryInOrder, IsDropInOrder};
+ghost use Rattle.gb_abs.specs.Sound.{IsSoundEntry, IsSoundDrop};
 
 use arrayvec::ArrayVec;
 use gb_cert::types::{Abs, CELLS, Cell, Val};
 
-/// The same core and items with other cells.
+/// The state with other cells: its core and items stay.
 fn with_cells(state: &Abs, cells: ArrayVec<Cell, 32>) -> Abs
     ensures { result ≡ record state.now { cells = cells.items } }
 {
@@ -69,10 +70,9 @@ fn has_place(address: u16, held: &[Cell]) -> bool
     held.len() < CELLS || is_held(address, held)
 }
 
-/// The byte at an address gets a value. Where 32 cells are held and none of them is there, nothing is
-/// known of the byte, and the state stays.
+/// The state with a cell in its place, if it finds one.
 #[tactic(auto, using(crate::proofs::CellLaws::entered_fits), unfolding(crate::specs::Cells::with_cell))]
-pub fn with_cell(state: &Abs, address: u16, val: Val) -> Abs
+fn entered_or_same(state: &Abs, address: u16, val: Val) -> Abs
     ensures { result ≡ record state.now { cells = with_cell (record { address = address; val = val }) state.now.cells } }
 {
     if has_place(address, state.cells()) {
@@ -82,16 +82,27 @@ pub fn with_cell(state: &Abs, address: u16, val: Val) -> Abs
     }
 }
 
+/// The byte at an address gets a value. Where 32 cells are held and none of them is there, nothing is
+/// known of the byte, and the state stays.
+#[tactic(auto, using(crate::proofs::StorageLaws::with_cell_sound, crate::proofs::CellLaws::with_cell_ordered))]
+pub fn with_cell(state: &Abs, address: u16, val: Val) -> Abs
+    ensures exact { result ≡ record state.now { cells = with_cell (record { address = address; val = val }) state.now.cells } }
+    ensures sound { IsSoundEntry address val state.now result }
+    ensures ordered { IsEntryInOrder (record { address = address; val = val }) state.now.cells result.cells }
+{
+    entered_or_same(state, address, val)
+}
+
 fn is_outside(first: u16, last: u16, cell: &Cell) -> bool
     ensures { result ≡ is_outside first last cell.now }
 {
     cell.address < first || last < cell.address
 }
 
-/// The bytes from first to last may be any: their cells are dropped.
-#[tactic(auto, unfolding(crate::specs::Cells::without))]
-pub fn without(state: &Abs, first: u16, last: u16) -> Abs
-    ensures { result ≡ record state.now { cells = without first last state.now.cells } }
+/// The state without the cells from first to last.
+#[tactic(auto, unfolding(crate::specs::Cells::without_cells))]
+fn dropped(state: &Abs, first: u16, last: u16) -> Abs
+    ensures { result ≡ record state.now { cells = without_cells first last state.now.cells } }
 {
     let mut cells = ArrayVec::new();
     for cell in state.cells() {
@@ -100,4 +111,14 @@ pub fn without(state: &Abs, first: u16, last: u16) -> Abs
         }
     }
     with_cells(state, cells)
+}
+
+/// The bytes from first to last may be any: their cells are dropped.
+#[tactic(auto, using(crate::proofs::StorageLaws::without_cells_sound, crate::proofs::CellLaws::without_cells_ordered))]
+pub fn without_cells(state: &Abs, first: u16, last: u16) -> Abs
+    ensures exact { result ≡ record state.now { cells = without_cells first last state.now.cells } }
+    ensures sound { IsSoundDrop first last state.now result }
+    ensures ordered { IsDropInOrder state.now.cells result.cells }
+{
+    dropped(state, first, last)
 }

@@ -9,6 +9,7 @@ use gb_ops::op::Register;
 use gb_ops::registers::Registers;
 use gb_vals::vals::any;
 
+/// A register's number, by which two registers are compared.
 fn register_number(register: Register) -> u8
     ensures { result ≡ register_number register }
 {
@@ -23,6 +24,7 @@ fn register_number(register: Register) -> u8
     }
 }
 
+/// An origin's number, by which two origins are compared.
 fn origin_number(origin: Origin) -> u8
     ensures { result ≡ origin_number origin }
 {
@@ -183,8 +185,9 @@ fn covers_each(s: &Abs, t: &Abs) -> bool
         && covers_cells(s.cells(), t.cells())
 }
 
-/// Whether t stands for each machine state that s stands for, part by part.
-#[tactic(auto, using(crate::proofs::Covers::covers_sound))]
+/// Whether t stands for each machine state that s stands for, decided part by part (abstract
+/// interpretation: inclusion; the parts' tests are own).
+#[tactic(auto, using(crate::proofs::CoveringLaws::covers_sound))]
 pub fn covers(s: &Abs, t: &Abs) -> bool
     ensures exact { result ≡ covers s.now t.now }
     ensures sound { result ≡ true → IsPartOf s.now t.now }

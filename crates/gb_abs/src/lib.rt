@@ -1,4 +1,10 @@
-//! Abstract states: covering, and the operations that follow the machine.
+//! Abstract states (abstract interpretation: an abstract domain): which machine states one stands for
+//! (`Meaning` of the definitions), whether one stands for all that another does (`covers`: `exact`,
+//! `sound`), and operations that follow the machine's changes (`sound`): a register, a memory cell or
+//! a pushed word gets a value, and time passes.
+//!
+//! Read `covering`, then `operations`, `cells` and `stack`. `span`, `storage` and `reason` are words
+//! of the crates above: the addresses of an access, RAM, and why a node is refused.
 #![tactic(auto)]
 
 pub mod cells;
@@ -7,5 +13,4 @@ pub mod operations;
 pub mod reason;
 pub mod span;
 pub mod stack;
-#[cfg(test)]
-mod tests;
+pub mod storage;

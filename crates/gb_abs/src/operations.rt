@@ -1,17 +1,17 @@
-//! Operations on the cores of abstract states.
+//! Operations on the cores of abstract states: on all but pushed words and memory cells.
 
 ghost use Rattle.std.specs.Prelude.{◌≡◌, false};
-ghost use Rattle.gb_abs.specs.Operations.{core_set_register, core_with_value, core_settle, core_pass, core_ended, ime_set_after};
+ghost use Rattle.gb_abs.specs.Operations.{core_set_register, core_with_value, core_settle, core_end, ime_set_after};
 ghost use Rattle.gb_abs.specs.Sound.{IsSoundSet, IsSoundValue, IsSoundSettling, IsSoundEnd};
 
 use gb_cert::types::{Core, ImeSet, Val};
 use gb_ops::op::Register;
 
-/// The M-cycles of a transfer.
-const TRANSFER: u8 = 161;
+/// The M-cycles of an OAM transfer.
+const OAM_TRANSFER: u8 = 161;
 
 /// A register gets a value.
-#[tactic(auto, using(crate::proofs::Steps::set_register_sound), unfolding(crate::specs::Operations::core_set_register))]
+#[tactic(auto, using(crate::proofs::OperationLaws::set_register_sound), unfolding(crate::specs::Operations::core_set_register))]
 pub fn set_register(register: Register, value: Val, core: &Core) -> Core
     ensures exact { result ≡ core_set_register register value core.now }
     ensures sound { IsSoundSet register value core.now result }
@@ -26,7 +26,7 @@ pub fn set_register(register: Register, value: Val, core: &Core) -> Core
 
 /// A register's bounds become one value, as covering value by value asks for each: what it is a copy of, the
 /// flags and the test stay.
-#[tactic(auto, using(crate::proofs::Steps::with_value_sound), unfolding(crate::specs::Operations::core_with_value))]
+#[tactic(auto, using(crate::proofs::OperationLaws::with_value_sound), unfolding(crate::specs::Operations::core_with_value))]
 pub fn with_value(register: Register, value: u8, core: &Core) -> Core
     ensures exact { result ≡ core_with_value register value core.now }
     ensures sound { IsSoundValue register value core.now result }
@@ -42,7 +42,7 @@ pub fn with_value(register: Register, value: u8, core: &Core) -> Core
 }
 
 /// An instruction was executed: pending interrupts become on.
-#[tactic(auto, using(crate::proofs::Steps::settle_sound), unfolding(crate::specs::Operations::core_settle))]
+#[tactic(auto, using(crate::proofs::OperationLaws::settle_sound), unfolding(crate::specs::Operations::core_settle))]
 pub fn settle(core: &Core) -> Core
     ensures exact { result ≡ core_settle core.now }
     ensures sound { IsSoundSettling core.now result }
@@ -55,30 +55,22 @@ pub fn settle(core: &Core) -> Core
     Core { ime, ..*core }
 }
 
-/// So many M-cycles pass: the bound of the transfer count falls by them, to 0 at least.
-#[tactic(auto, using(crate::proofs::Steps::pass_sound), unfolding(crate::specs::Operations::core_pass))]
-pub fn pass(cycles: u8, core: &Core) -> Core
-    ensures exact { result ≡ core_pass cycles core.now }
-    ensures sound { IsSoundEnd false cycles core.now result }
-{
-    Core {
-        bound: core.bound.saturating_sub(cycles),
-        ..*core
-    }
-}
-
-/// An instruction has ended: its M-cycles pass; where it started a transfer, the count may be 161.
-#[tactic(auto, using(crate::proofs::Steps::ended_sound), unfolding(crate::specs::Operations::core_ended))]
+/// An instruction has ended, and its M-cycles pass: the bound of the OAM transfer's count falls by
+/// them, to 0 at least. Where the instruction started an OAM transfer, the bound is 161.
+#[tactic(auto, using(crate::proofs::OperationLaws::end_sound), unfolding(crate::specs::Operations::core_end))]
 pub fn end(starts: bool, cycles: u8, core: &Core) -> Core
-    ensures exact { result ≡ core_ended starts cycles core.now }
+    ensures exact { result ≡ core_end starts cycles core.now }
     ensures sound { IsSoundEnd starts cycles core.now result }
 {
     if starts {
         Core {
-            bound: TRANSFER,
+            bound: OAM_TRANSFER,
             ..*core
         }
     } else {
-        pass(cycles, core)
+        Core {
+            bound: core.bound.saturating_sub(cycles),
+            ..*core
+        }
     }
 }

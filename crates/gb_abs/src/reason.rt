@@ -26,8 +26,8 @@ pub enum Reason {
     Store,
     /// Cartridge RAM may be met with the gate closed, or where there is none.
     CartridgeRam,
-    /// An access outside high RAM during a transfer.
-    Transfer,
+    /// An access outside high RAM during an OAM transfer.
+    OamTransfer,
     /// JP HL with HL not known.
     JumpHl,
     /// A successor isn't covered.
@@ -57,7 +57,7 @@ impl Reason {
             Reason::Depth => 9,
             Reason::Store => 10,
             Reason::CartridgeRam => 11,
-            Reason::Transfer => 12,
+            Reason::OamTransfer => 12,
             Reason::JumpHl => 13,
             Reason::Uncovered => 14,
             Reason::Callee => 15,

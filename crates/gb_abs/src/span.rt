@@ -1,4 +1,4 @@
-//! The addresses that an access may meet.
+//! The addresses that an access may meet, as one interval.
 
 ghost use Rattle.std.specs.Prelude.{◌≡◌, ◌≤◌};
 ghost use Rattle.gb_abs.specs.Span.{one, pair_span, is_one, is_inside, may_meet};

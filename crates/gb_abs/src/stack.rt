@@ -14,7 +14,7 @@ pub struct Popped {
     pub state: Abs,
 }
 
-/// The same core and cells with other items.
+/// The state with other items: its core and cells stay.
 fn with_items(state: &Abs, items: ArrayVec<Item, 16>) -> Abs
     ensures { result ≡ record state.now { items = items.items } }
 {
@@ -42,7 +42,7 @@ fn pushed_or_full(state: &Abs, item: Item) -> Option<Abs>
     Some(with_items(state, items))
 }
 
-/// The word that was pushed last, and the others, if there is one.
+/// The word that was pushed last, and the state without it, if there is one.
 #[tactic(auto, unfolding(crate::specs::Stack::popped))]
 fn split(state: &Abs) -> Option<Popped>
     ensures variant { IsSome result ↔ (0 < length state.now.items) }
@@ -60,8 +60,8 @@ fn split(state: &Abs) -> Option<Popped>
     })
 }
 
-/// A word is pushed. Where 16 are held already there is no room for it.
-#[tactic(auto, using(crate::proofs::Pushed::push_sound))]
+/// A word is pushed. None where 16 are held already, so that there is no room for it.
+#[tactic(auto, using(crate::proofs::StackLaws::push_sound))]
 pub fn push(state: &Abs, item: Item) -> Option<Abs>
     ensures exact { result ≡ (if length state.now.items == 16 then None else Some (pushed item state.now)) }
     ensures sound { IfSome result (λ after. IsSoundPush state.now item after) }
@@ -69,8 +69,8 @@ pub fn push(state: &Abs, item: Item) -> Option<Abs>
     pushed_or_full(state, item)
 }
 
-/// The word that was pushed last, and what is left without it, if there is one.
-#[tactic(auto, using(crate::proofs::Pushed::pop_sound))]
+/// The word that was pushed last, and the state without it, if there is one.
+#[tactic(auto, using(crate::proofs::StackLaws::pop_sound))]
 pub fn pop(state: &Abs) -> Option<Popped>
     ensures variant { IsSome result ↔ (0 < length state.now.items) }
     ensures item { IfSome result (λ p. youngest state.now ≡ Some p.item) }

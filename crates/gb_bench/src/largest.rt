@@ -1,8 +1,8 @@
-//! A cartridge of NOPs, and a certificate with as many nodes as there may be.
+//! A cartridge of NOPs, and a certificate with as many nodes as there may be in version 1.
 
 use std::alloc::{AllocError, Global};
 
-/// The nodes of a certificate, at most.
+/// The nodes of a certificate in version 1, at most.
 const NODES: u32 = 65_535;
 
 /// The addresses that have a node: 0000 to 0101, and 0150 to 7FFD.

@@ -1,7 +1,7 @@
-pub mod Answered
-pub mod Banks
-pub mod Events
-pub mod Fetch
-pub mod Found
-pub mod Passes
-pub mod Steps
+pub mod AnswerLaws
+pub mod BankLaws
+pub mod EventLaws
+pub mod FetchLaws
+pub mod SearchLaws
+pub mod ReasonLaws
+pub mod StepLaws

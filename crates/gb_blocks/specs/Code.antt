@@ -21,7 +21,7 @@ area_end a =
     else if is_within 0xFF80 0xFFFE a then Some 0xFFFF
     else None
 
--- A cartridge without a controller shows the same banks at all times. Controllers have no rules yet:
+-- A cartridge without a controller shows its two banks at all times. Controllers have no rules yet:
 -- a certificate for one is refused at its entry.
 abbrev pub known_bank_of : Kind → List ℕ → ℕ → Option ℕ
 known_bank_of kind.Rom rom a = Some (shown_bank rom banks_at_power_up a)
@@ -29,7 +29,7 @@ known_bank_of kind.Mbc1 rom a = None
 known_bank_of kind.Mbc3 rom a = None
 known_bank_of kind.Mbc5 rom a = None
 
--- the bank that all of these controllers show at an address, where there is one; RAM has bank 0
+-- the bank that is shown at an address whatever the registers are within the bounds; RAM has bank 0
 unfoldable pub known_bank : List ℕ → Ctl → ℕ → Option ℕ
 known_bank rom ctl a = if nat_lt a 0x8000 then known_bank_of (kind_of rom) rom a else Some 0
 
@@ -41,7 +41,7 @@ byte_in rom a (Some bank) = Some (rom_byte rom bank a)
 unfoldable pub single_of : Val → Option ℕ
 single_of v = if v.lo == v.hi then Some v.lo else None
 
--- the byte at an address in each of these states, where there is one and no transfer closes it
+-- the byte at an address in each of these states, where there is one and no OAM transfer closes it
 unfoldable pub known_byte : List ℕ → AbsState → ℕ → Option ℕ
 known_byte rom s a =
     if nat_lt a 0x8000 then byte_in rom a (known_bank rom s.core.ctl a)

@@ -3,7 +3,7 @@ use Rattle.std.specs.Prelude.{◌≡◌, ℕ, List, Some}
 use Rattle.std.specs.List.{Contains}
 use Rattle.gb_ops.specs.declared.machine.CodePlace.{CodePlace}
 use Rattle.gb_ops.specs.Machine.{length_of}
-use Rattle.gb_cert.specs.declared.types.Node.{Node}
+use Rattle.gb_cert.specs.Types.{Node}
 use Rattle.gb_cert.specs.Certificate.{Certificate}
 use Rattle.gb_blocks.specs.Code.{known_byte, span}
 

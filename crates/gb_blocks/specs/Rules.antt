@@ -1,5 +1,5 @@
 -- When a node is right: the reasons against it, each a test, and the lowest that applies (own rules).
-use Rattle.std.specs.Prelude.{ℕ, ◌+◌, ◌%◌, Bool, true, false, not, ◌&&◌, ◌==◌, nat_lt, nat_le, List, [], ◌∷◌, find, slice_index, slice_get, Option, Some, None, is_none}
+use Rattle.std.specs.Prelude.{ℕ, ◌+◌, ◌%◌, Bool, true, false, not, ◌&&◌, ◌==◌, nat_lt, nat_le, List, [], ◌∷◌, find, slice_index, slice_get, Option, Some, None, is_none, option_and_then}
 use Rattle.std.specs.List.{list_any}
 use Rattle.gb_ops.specs.declared.op.Op.{Op}
 use Rattle.gb_ops.specs.declared.op.Op.TheVariants as op
@@ -9,14 +9,13 @@ use Rattle.gb_ops.specs.Arithmetic.{displaced}
 use Rattle.gb_ops.specs.Table.{decoded}
 use Rattle.gb_ops.specs.Machine.{length_of}
 use Rattle.gb_cert.specs.declared.types.Core.{Core}
-use Rattle.gb_cert.specs.declared.types.Node.{Node}
-use Rattle.gb_cert.specs.Types.{AbsState}
+use Rattle.gb_cert.specs.Types.{AbsState, Node}
 use Rattle.gb_cert.specs.Certificate.{Certificate}
 use Rattle.gb_abs.specs.declared.reason.Reason.{Reason}
 use Rattle.gb_abs.specs.declared.reason.Reason.TheVariants as reason
 use Rattle.gb_abs.specs.Covering.{covers}
 use Rattle.gb_vals.specs.Vals.{single}
-use Rattle.gb_abs.specs.Operations.{core_set_register, core_settle, core_pass, with_core}
+use Rattle.gb_abs.specs.Operations.{core_set_register, core_settle, core_end, with_core}
 use Rattle.gb_blocks.specs.Code.{area_end, known_bank, known_byte, known_bytes}
 
 -- the instruction runs past its area, its first byte known
@@ -25,14 +24,14 @@ ends_after a None end = false
 ends_after a (Some opcode) end = nat_lt end (a + length_of opcode)
 
 -- an address is in no area for code, or its instruction leaves its area
-abbrev pub leaves : ℕ → Option ℕ → Option ℕ → Bool
-leaves a opcode None = true
-leaves a opcode (Some end) = ends_after a opcode end
+abbrev pub leaves_area : ℕ → Option ℕ → Option ℕ → Bool
+leaves_area a opcode None = true
+leaves_area a opcode (Some end) = ends_after a opcode end
 
 -- a bank isn't known, or is another one
-abbrev pub is_not : Option ℕ → ℕ → Bool
-is_not None bank = true
-is_not (Some shown) bank = not (shown == bank)
+abbrev pub is_other_bank : Option ℕ → ℕ → Bool
+is_other_bank None bank = true
+is_other_bank (Some shown) bank = not (shown == bank)
 
 abbrev pub is_stop : Op → Bool
 is_stop op.Stop = true
@@ -58,8 +57,8 @@ core_after (op.LoadImmediate (operand.Register r) v) s = core_settle (core_set_r
 core_after _ s = core_settle s
 
 -- whether an instruction of n bytes lies inside high RAM
-abbrev pub lies_high : ℕ → ℕ → Bool
-lies_high a n = nat_le 0xFF80 a && nat_le (a + n) 0xFFFF
+abbrev pub lies_in_high_ram : ℕ → ℕ → Bool
+lies_in_high_ram a n = nat_le 0xFF80 a && nat_le (a + n) 0xFFFF
 
 -- a node stands for these states, in a procedure at an address
 abbrev pub is_cover : ℕ → ℕ → AbsState → Node → Bool
@@ -69,9 +68,9 @@ is_cover procedure a s n = (n.procedure == procedure) && (n.address == a) && cov
 unfoldable pub covered_at : List Node → ℕ → ℕ → AbsState → Bool
 covered_at nodes procedure a s = list_any (is_cover procedure a s) nodes
 
--- the states behind a node's instruction
+-- the states behind a node's instruction, none of which starts an OAM transfer so far
 unfoldable pub state_after : Row → AbsState → AbsState
-state_after row s = with_core s (core_pass row.cycles (core_after row.op s.core))
+state_after row s = with_core s (core_end false row.cycles (core_after row.op s.core))
 
 -- no node stands for the states behind the instruction, where it goes on
 unfoldable pub is_uncovered : List Node → Node → Row → Bool
@@ -95,31 +94,27 @@ node_bytes rom n = known_bytes rom n.state n.address
 
 -- whether a reason applies to a node; a later one presumes that the instruction could be read
 unfoldable pub applies : List ℕ → Certificate → Node → Reason → Bool
-applies rom cert n reason.Area = leaves n.address (known_byte rom n.state n.address) (area_end n.address)
-applies rom cert n reason.Bank = is_not (known_bank rom n.state.core.ctl n.address) n.bank
+applies rom cert n reason.Area = leaves_area n.address (known_byte rom n.state n.address) (area_end n.address)
+applies rom cert n reason.Bank = is_other_bank (known_bank rom n.state.core.ctl n.address) n.bank
 applies rom cert n reason.Unreadable = is_none (node_bytes rom n)
 applies rom cert n reason.UndefinedOpcode = test_bytes (λ bytes. is_none (decoded bytes)) (node_bytes rom n)
 applies rom cert n reason.Stop = test_instruction (λ row. is_stop row.op) (node_bytes rom n)
 applies rom cert n reason.Stack = test_instruction (λ row. not (has_rules row.op)) (node_bytes rom n)
-applies rom cert n reason.Transfer =
-    test_bytes (λ bytes. not (n.state.core.bound == 0) && not (lies_high n.address (length_of (slice_index bytes 0)))) (node_bytes rom n)
+applies rom cert n reason.OamTransfer =
+    test_bytes (λ bytes. not (n.state.core.bound == 0) && not (lies_in_high_ram n.address (length_of (slice_index bytes 0)))) (node_bytes rom n)
 applies rom cert n reason.Uncovered = test_instruction (is_uncovered cert.nodes n) (node_bytes rom n)
 applies rom cert n _ = false
 
 -- the reasons that have rules by now, the lowest first
 abbrev pub reasons : List Reason
 reasons =
-    reason.Area ∷ reason.Bank ∷ reason.Unreadable ∷ reason.UndefinedOpcode ∷ reason.Stop ∷ reason.Stack ∷ reason.Transfer
+    reason.Area ∷ reason.Bank ∷ reason.Unreadable ∷ reason.UndefinedOpcode ∷ reason.Stop ∷ reason.Stack ∷ reason.OamTransfer
     ∷ reason.Uncovered ∷ []
 
 -- the lowest reason against a node
 unfoldable pub reason_of : List ℕ → Certificate → Node → Option Reason
 reason_of rom cert n = find (applies rom cert n) reasons
 
-abbrev pub reason_of_some : List ℕ → Certificate → Option Node → Option Reason
-reason_of_some rom cert None = None
-reason_of_some rom cert (Some n) = reason_of rom cert n
-
 -- the lowest reason against the node with a number
 abbrev pub reason_at : List ℕ → Certificate → ℕ → Option Reason
-reason_at rom cert i = reason_of_some rom cert (slice_get cert.nodes i)
+reason_at rom cert i = option_and_then (reason_of rom cert) (slice_get cert.nodes i)

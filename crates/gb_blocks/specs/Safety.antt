@@ -5,7 +5,7 @@ use Rattle.gb_ops.specs.declared.machine.Event.{Event}
 use Rattle.gb_ops.specs.declared.machine.Event.TheVariants as event
 use Rattle.gb_ops.specs.Faults.{no_faults}
 use Rattle.gb_ops.specs.Play.{MState, next, faults, places}
-use Rattle.gb_cert.specs.declared.types.Node.{Node}
+use Rattle.gb_cert.specs.Types.{Node}
 use Rattle.gb_cert.specs.Certificate.{Certificate}
 use Rattle.gb_abs.specs.Meaning.{Means}
 use Rattle.gb_blocks.specs.Places.{IsCertified}
@@ -34,6 +34,6 @@ IsSafeNode rom cert n =
     (entry : MState) (base : ℕ) (s : MState) (e : Event) → IsNoDispatch e → s.processor.pc ≡ n.address → Means n.state entry base s
     → IsSafeEvent rom cert entry base s e
 
--- the same of the node with a number
+-- the promise of the node with a number
 abbrev pub IsSafeAt : List ℕ → Certificate → ℕ → Type 0
 IsSafeAt rom cert i = (n : Node) → slice_get cert.nodes i ≡ Some n → IsSafeNode rom cert n

@@ -2,16 +2,17 @@
 
 ghost use Rattle.std.specs.Prelude.{◌≡◌, ◌<◌, Option, Some, None, IfSome};
 ghost use Rattle.gb_ops.specs.Cartridge as Cartridge;
-ghost use Rattle.gb_abs.specs.Storage.{is_ram};
 ghost use Rattle.gb_blocks.specs.Code.{area_end, known_bank, known_bank_of, single_of, known_byte, known_where, known_bytes};
 
 use gb_abs::covering::cell_at;
+use gb_abs::storage::is_ram;
 use gb_cert::types::{Abs, Ctl, Val};
 use gb_effects::advance::length_of;
 use gb_header::Rom;
 use gb_ops::machine::Kind;
 
-/// The address behind the area of an address, where code may lie.
+/// The address behind the area of an address, where code may lie: the two halves of ROM, work RAM,
+/// high RAM (Memory map). None elsewhere.
 #[tactic(auto, unfolding(crate::specs::Code::area_end))]
 pub fn area_end(address: u16) -> Option<u16>
     ensures { result ≡ area_end address }
@@ -25,8 +26,9 @@ pub fn area_end(address: u16) -> Option<u16>
     }
 }
 
-/// The ROM bank that all controllers of a cartridge show at an address, where there is one.
-#[tactic(auto, using(crate::proofs::Banks::shown_without_controller))]
+/// The ROM bank that is shown at an address at all times, where there is one: cartridges without a
+/// controller have one, the others have no rules yet.
+#[tactic(auto, using(crate::proofs::BankLaws::shown_without_controller))]
 fn known_rom_bank(rom: &Rom<'_>, address: u16) -> Option<u16>
     requires { address < 0x8000 }
     ensures bank { result ≡ known_bank_of (Cartridge.kind_of rom.now) rom.now address }
@@ -39,7 +41,8 @@ fn known_rom_bank(rom: &Rom<'_>, address: u16) -> Option<u16>
     }
 }
 
-/// The bank that all of these controllers show at an address, where there is one; RAM has bank 0.
+/// The bank that is shown at an address, whatever the controller's registers are within the bounds and
+/// sets, where there is one. RAM has bank 0.
 #[tactic(auto, unfolding(crate::specs::Code::known_bank))]
 pub fn known_bank(rom: &Rom<'_>, ctl: &Ctl, address: u16) -> Option<u16>
     ensures { result ≡ known_bank rom.now ctl.now address }
@@ -53,14 +56,7 @@ pub fn known_bank(rom: &Rom<'_>, ctl: &Ctl, address: u16) -> Option<u16>
     }
 }
 
-/// Whether a certificate may know the byte at an address.
-fn is_ram(address: u16) -> bool
-    ensures { result ≡ is_ram address }
-{
-    (0xC000..=0xDFFF).contains(&address) || (0xFF80..=0xFFFE).contains(&address)
-}
-
-/// The one value of a Val.
+/// The value of an interval that has one alone.
 #[tactic(auto, unfolding(crate::specs::Code::single_of))]
 fn single_of(val: &Val) -> Option<u8>
     ensures { result ≡ single_of val.now }
@@ -68,7 +64,7 @@ fn single_of(val: &Val) -> Option<u8>
     if val.lo == val.hi { Some(val.lo) } else { None }
 }
 
-/// The byte at an address in each of these states, where there is one and no transfer closes it.
+/// The byte at an address, where it is the same in each of these states and no OAM transfer closes it.
 #[tactic(auto, unfolding(crate::specs::Code::known_byte, crate::specs::Code::known_bank))]
 pub fn known_byte(rom: &Rom<'_>, state: &Abs, address: u16) -> Option<u8>
     ensures { result ≡ known_byte rom.now state.now address }
@@ -96,8 +92,8 @@ fn known_where(wanted: bool, rom: &Rom<'_>, state: &Abs, address: u16) -> Option
     }
 }
 
-/// The bytes of the instruction at an address, three of them, 00 behind its length, where all
-/// are known.
+/// The bytes of the instruction at an address, three of them, 00 behind its length. None where one
+/// of them isn't known.
 #[tactic(auto, unfolding(crate::specs::Code::known_bytes))]
 pub fn known_bytes(rom: &Rom<'_>, state: &Abs, address: u16) -> Option<[u8; 3]>
     ensures { result ≡ known_bytes rom.now state.now address }

@@ -1,5 +1,6 @@
 pub mod Cartridges
 pub mod Copying
 pub mod Reading
+pub mod ReadingBack
 pub mod Requests
 pub mod Screens

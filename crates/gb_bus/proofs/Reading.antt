@@ -17,7 +17,7 @@ use Rattle.gb_bus.specs.declared.cartridge.Behind.{Behind}
 use Rattle.gb_bus.specs.declared.cartridge.Behind.TheVariants as behind
 use Rattle.gb_bus.specs.CartridgeRam.{behind_written, behind_gate, cartridge_written}
 use Rattle.gb_bus.specs.Registers.{io_written}
-use Rattle.gb_bus.specs.Accessing.{open_byte, byte_read, written, open_written, hardware_written, commanded_where, dropped_or, viewed, uses_video_ram, uses_oam, lcd_written}
+use Rattle.gb_bus.specs.Access.{open_byte, byte_read, written, open_written, hardware_written, commanded, viewed, uses_video_ram, uses_oam, lcd_written}
 
 -- ---- a fixed byte is what is read
 
@@ -45,7 +45,7 @@ fixed_is c a h = fixed_by (is_closed c.view.storage a) (mapped_at a) c a h
 
 -- ---- what a write shows
 
-command_keeps : (b : Bool) (c : Contents) (v : ℕ) → (commanded_where b c v).view ≡ c.view
+command_keeps : (b : Bool) (c : Contents) (v : ℕ) → (commanded b c v).view ≡ c.view
 command_keeps true c v = refl
 command_keeps false c v = refl
 
@@ -62,9 +62,8 @@ io_keeps io.TimerCounter c v = refl
 io_keeps io.TimerModulo c v = refl
 io_keeps io.TimerControl c v = refl
 io_keeps io.Requests c v = refl
-io_keeps io.Transfer c v = refl
 
-used_keeps : (used : Bool) (c d : Contents) → d.view ≡ c.view → (dropped_or used c d).view ≡ c.view
+used_keeps : (used : Bool) (c d : Contents) → d.view ≡ c.view → (if used then c else d).view ≡ c.view
 used_keeps true c d h = refl
 used_keeps false c d h = h
 
@@ -86,7 +85,7 @@ open_shows mapped.InterruptEnable c a v = refl
 open_shows mapped.Transfer c a v = refl
 open_shows mapped.Hardware c a v = hardware_keeps (hardware_at a) c v
 
-dropped_shows : (closed : Bool) (c d : Contents) (m : View) → d.view ≡ m → (dropped_or closed c d).view ≡ kept_or closed c.view m
+dropped_shows : (closed : Bool) (c d : Contents) (m : View) → d.view ≡ m → (if closed then c else d).view ≡ kept_or closed c.view m
 dropped_shows true c d m h = refl
 dropped_shows false c d m h = h
 

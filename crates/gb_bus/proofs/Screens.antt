@@ -1,5 +1,6 @@
 -- The picture and its screen over several M-cycles.
-use Rattle.std.proofs.Common.{◌≡◌, ℕ, zero, suc, ◌+◌, ◌-◌, ◌/◌, ◌%◌, ◌<◌, ◌≤◌, Bool, true, false, List, slice_set, bit_or, refl, ap, sym, ◌∙◌, arith, ◌&&◌, Option, None, length, get_or, IsSome, ◌↔◌}
+use Rattle.std.proofs.Common.{◌≡◌, ℕ, zero, suc, ◌+◌, ◌-◌, ◌/◌, ◌%◌, ◌<◌, ◌≤◌, Bool, true, false, List, slice_set, bit_or, refl, ap, sym, ◌∙◌, arith, Option, None, length, get_or, IsSome, ◌↔◌}
+use Rattle.std.proofs.lemmas.Bool.{and_right}
 use Rattle.std.proofs.lemmas.Bool.Decides.{nat_tests}
 use Rattle.std.specs.Int.Bits.{or_zero_r}
 use Rattle.gb_ops.proofs.Agree.{agree, below}
@@ -9,7 +10,7 @@ use Rattle.gb_ppu.specs.Control.{is_on}
 use Rattle.gb_ppu.specs.Picture.{line_of, begins_drawing, ticked, advanced, both, requested_in, IsNextDrawing}
 use Rattle.gb_ppu.specs.Requests.{request_bits}
 use Rattle.gb_ppu.proofs.Courses.{requested_in-append, off-ticked}
-use Rattle.gb_ppu.proofs.Keeping.{ticked-registers, ticked-position}
+use Rattle.gb_ppu.proofs.SameRegisters.{ticked-registers, ticked-position}
 use Rattle.gb_ppu.specs.Pixel.{shade}
 use Rattle.gb_ppu.specs.Seen.{Seen, seen_by}
 use Rattle.gb_bus.specs.Contents.{Contents}
@@ -73,16 +74,12 @@ pictured-append a b c lt =
 
 -- ---- M-cycles in which no line is drawn
 
-and_false : (b : Bool) → (b && false) ≡ false
-and_false true = refl
-and_false false = refl
-
 still_on : (p : Picture) → is_on p.lcdc ≡ true → is_on (ticked p).lcdc ≡ true
 still_on p on = ap (λ lcdc. is_on lcdc) (ticked-registers p).lcdc ∙ on
 
 not_drawing : (p : Picture) → begins_drawing p.position ≡ false → is_drawing p ≡ false
 unfolding is_drawing
-not_drawing p h = rw h (and_false (is_on p.lcdc))
+not_drawing p h = and_right (is_on p.lcdc) (begins_drawing p.position) h
 
 pub screened-quiet :
     (n : ℕ) (p : Picture) (v o : List ℕ) (s : List (List ℕ)) → is_on p.lcdc ≡ true

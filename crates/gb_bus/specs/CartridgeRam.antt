@@ -1,6 +1,6 @@
 -- What stands behind A000-BFFF (Pan Docs: MBC1, MBC3, MBC5; own: what the registers don't choose reads FF
 -- and drops writes).
-use Rattle.std.specs.Prelude.{ℕ, ◌+◌, ◌-◌, ◌*◌, ◌<◌, Bool, true, false, slice_index, slice_set, Option, Some, None}
+use Rattle.std.specs.Prelude.{ℕ, ◌+◌, ◌-◌, ◌*◌, ◌<◌, if◌then◌else◌, slice_index, slice_set, Option, Some, None}
 use Rattle.gb_mbc.specs.declared.clock.ClockRegister.{ClockRegister}
 use Rattle.gb_mbc.specs.Clock as Clock
 use Rattle.gb_mbc.specs.Controllers.{features_of, ram_bank, clock_register}
@@ -14,15 +14,12 @@ chosen (Some bank) register = behind.Ram bank
 chosen None (Some register) = behind.Clock register
 chosen None None = behind.Nothing
 
-abbrev pub behind_where : Bool → Behind → Behind
-behind_where true b = b
-behind_where false b = behind.Nothing
-
 -- what the gate and the registers show
 unfoldable pub behind_gate : Contents → Behind
 behind_gate c =
-    behind_where c.view.storage.banks.gate
-    (chosen (ram_bank (features_of c.view.rom) c.view.storage.banks) (clock_register (features_of c.view.rom) c.view.storage.banks))
+    if c.view.storage.banks.gate
+    then chosen (ram_bank (features_of c.view.rom) c.view.storage.banks) (clock_register (features_of c.view.rom) c.view.storage.banks)
+    else behind.Nothing
 
 -- a RAM bank is one of so many
 abbrev pub IsHeld : ℕ → Behind → Type 0

@@ -5,7 +5,8 @@ use Rattle.gb_bus.specs.declared.hardware.Hardware.TheVariants as hardware
 use Rattle.gb_bus.specs.declared.hardware.IoRegister.TheVariants as io
 use Rattle.gb_ppu.specs.declared.registers.LcdRegister.TheVariants as lcd
 
--- the I/O register at an address from FF00 to FF7F; all others read FF and drop writes (own)
+-- the I/O register at an address from FF00 to FF7F but FF46, which the memory map has apart; all others
+-- read FF and drop writes (own)
 unfoldable pub register_at : ℕ → Hardware
 register_at a =
     if a == 0xFF00 then hardware.Io io.Joypad
@@ -20,7 +21,6 @@ register_at a =
     else if a == 0xFF43 then hardware.Lcd lcd.Scx
     else if a == 0xFF44 then hardware.Lcd lcd.Ly
     else if a == 0xFF45 then hardware.Lcd lcd.Lyc
-    else if a == 0xFF46 then hardware.Io io.Transfer
     else if a == 0xFF47 then hardware.Lcd lcd.Bgp
     else if a == 0xFF48 then hardware.Lcd lcd.Obp0
     else if a == 0xFF49 then hardware.Lcd lcd.Obp1

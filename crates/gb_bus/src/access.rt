@@ -4,17 +4,19 @@ ghost use Rattle.std.specs.Prelude.{◌≡◌, ◌<◌, ◌≤◌, true, false};
 ghost use Rattle.gb_ops.specs.Memory as Spec;
 ghost use Rattle.gb_ops.specs.Cartridge.{kind_of};
 ghost use Rattle.gb_mbc.specs.Controllers.{is_latch};
-ghost use Rattle.gb_bus.specs.Accessing as Accessing;
+ghost use Rattle.gb_bus.specs.Access as Access;
 ghost use Rattle.gb_bus.specs.Hardware as Map;
+ghost use Rattle.gb_bus.specs.ReadsBack.{ReadsBack};
 ghost use Rattle.gb_ops.specs.declared.machine.Mapped.TheVariants as mapped;
 
 use crate::hardware::{Hardware, hardware_at};
 use crate::memory::Memory;
-use crate::registers::{TIMER, with_requests};
 use crate::{Bus, Taken};
+use bitflags::Flags;
 use gb_mbc::Mapper;
 use gb_ops::machine::{Mapped, Place};
 use gb_ops::map::mapped_at;
+use gb_timer::irqs::Irqs;
 
 /// A byte of ROM or plain storage.
 fn fixed(byte: u8) -> Taken
@@ -47,7 +49,7 @@ impl Memory<'_> {
 
     fn hardware_byte(&self, address: u16) -> u8
         requires { 0x8000 ≤ address }
-        ensures { result ≡ Accessing.hardware_byte (Map.hardware_at address) self.now }
+        ensures { result ≡ Access.hardware_byte (Map.hardware_at address) self.now }
     {
         match hardware_at(address) {
             Hardware::VideoRam(_) if self.uses_video_ram() => 0xFF,
@@ -63,7 +65,7 @@ impl Memory<'_> {
     /// What is read where no transfer closes it, and whether it is free.
     #[inline]
     fn open_taken(&self, address: u16) -> Taken
-        ensures byte { result.byte ≡ Accessing.open_byte (Spec.mapped_at address) self.now address }
+        ensures byte { result.byte ≡ Access.open_byte (Spec.mapped_at address) self.now address }
         ensures free { result.is_free ≡ Spec.is_free_place (Spec.place_by (Spec.mapped_at address) self.now.view address) }
     {
         match mapped_at(address) {
@@ -72,22 +74,23 @@ impl Memory<'_> {
             Mapped::HighRam(i) => fixed(self.high_ram[usize::from(i)]),
             Mapped::InterruptEnable => fixed(self.interrupt_enable),
             Mapped::CartridgeRam => free(self.cartridge_byte(address)),
-            Mapped::Transfer | Mapped::Hardware => free(self.hardware_byte(address)),
+            Mapped::Transfer => free(self.page),
+            Mapped::Hardware => free(self.hardware_byte(address)),
         }
     }
 
     /// What is read where no transfer closes it.
     pub(crate) fn open_byte(&self, address: u16) -> u8
-        ensures { result ≡ Accessing.open_byte (Spec.mapped_at address) self.now address }
+        ensures { result ≡ Access.open_byte (Spec.mapped_at address) self.now address }
     {
         self.open_taken(address).byte
     }
 
     /// What is read, and whether it is free.
     #[inline]
-    #[tactic(auto, unfolding(crate::specs::Accessing::byte_read, gb_ops::specs::Memory::is_free, gb_ops::specs::Memory::place_of))]
+    #[tactic(auto, unfolding(crate::specs::Access::byte_read, gb_ops::specs::Memory::is_free, gb_ops::specs::Memory::place_of))]
     fn taken(&self, address: u16) -> Taken
-        ensures byte { result.byte ≡ Accessing.byte_read self.now address }
+        ensures byte { result.byte ≡ Access.byte_read self.now address }
         ensures free { result.is_free ≡ Spec.is_free self.now.view address }
     {
         if self.is_closed(address) {
@@ -103,7 +106,7 @@ impl Memory<'_> {
     #[tactic(auto, using(crate::proofs::Cartridges::registers_are))]
     fn write_controller(&mut self, address: u16, value: u8)
         requires { address < 0x8000 }
-        ensures { self.new ≡ Accessing.viewed mapped.Rom self.old address value }
+        ensures { self.new ≡ Access.viewed mapped.Rom self.old address value }
     {
         self.controller.write(address, value);
         self.low_bank = self.controller.low_bank();
@@ -122,7 +125,7 @@ impl Memory<'_> {
     /// A write to ROM: the controller takes it, and MBC3 latches its clock by some.
     fn write_rom(&mut self, address: u16, value: u8)
         requires { address < 0x8000 }
-        ensures { self.new ≡ Accessing.open_written mapped.Rom self.old address value }
+        ensures { self.new ≡ Access.open_written mapped.Rom self.old address value }
     {
         let is_latch = self.is_latch(address);
         self.write_controller(address, value);
@@ -133,7 +136,7 @@ impl Memory<'_> {
 
     /// A write to FF46: the bytes are copied at once, and the transfer starts as the event ends.
     fn start_transfer(&mut self, page: u8)
-        ensures { self.new ≡ Accessing.open_written mapped.Transfer self.old 0xFF46 page }
+        ensures { self.new ≡ Access.open_written mapped.Transfer self.old 0xFF46 page }
     {
         *self.oam = self.copied(page);
         self.page = page;
@@ -142,7 +145,7 @@ impl Memory<'_> {
 
     fn write_hardware(&mut self, address: u16, value: u8)
         requires { 0x8000 ≤ address }
-        ensures { self.new ≡ Accessing.hardware_written (Map.hardware_at address) self.old value }
+        ensures { self.new ≡ Access.hardware_written (Map.hardware_at address) self.old value }
     {
         match hardware_at(address) {
             Hardware::VideoRam(i) => {
@@ -163,7 +166,7 @@ impl Memory<'_> {
 
     /// A write that no transfer closes.
     fn write_open(&mut self, address: u16, value: u8)
-        ensures { self.new ≡ Accessing.open_written (Spec.mapped_at address) self.old address value }
+        ensures { self.new ≡ Access.open_written (Spec.mapped_at address) self.old address value }
     {
         match mapped_at(address) {
             Mapped::Rom => self.write_rom(address, value),
@@ -179,9 +182,9 @@ impl Memory<'_> {
 
 impl Memory<'_> {
     /// A write.
-    #[tactic(auto, unfolding(crate::specs::Accessing::written))]
+    #[tactic(auto, unfolding(crate::specs::Access::written))]
     fn store(&mut self, address: u16, value: u8)
-        ensures { self.new ≡ Accessing.written self.old address value }
+        ensures { self.new ≡ Access.written self.old address value }
     {
         if !self.is_closed(address) {
             self.write_open(address, value);
@@ -203,21 +206,21 @@ impl Memory<'_> {
 
     /// The timer as M-cycles pass.
     fn pass_timer(&mut self, cycles: u8)
-        ensures { self.new ≡ Accessing.timed self.old cycles }
+        ensures { self.new ≡ Access.timed self.old cycles }
     {
         if self.timer.advance(cycles) != 0 {
-            self.requests = with_requests(self.requests, TIMER);
+            self.request(Irqs::TIMER);
         }
     }
 }
 
 impl Bus for Memory<'_> {
     ghost use Rattle.std.specs.Prelude.{◌%◌, bit_and};
-    ghost use Rattle.gb_bus.specs.Accessing.{Does, shared};
+    ghost use Rattle.gb_bus.specs.Access.{IsAccessed, shared};
 
     ghost shows = { λ m. m.view };
 
-    ghost does = { Does };
+    ghost does = { IsAccessed };
 
     ghost shared = { shared };
 
@@ -249,24 +252,31 @@ impl Bus for Memory<'_> {
         }
     }
 
-    #[tactic(auto, unfolding(crate::specs::Accessing::shared))]
+    #[tactic(auto, unfolding(crate::specs::Access::shared))]
     fn pending(&mut self) -> u8 {
         if self.interrupt_enable % 32 == 0 {
             0
         } else {
-            (self.interrupt_enable & self.requests) % 32
+            (self.interrupt_enable & self.requests.bits()) % 32
         }
     }
 
-    #[tactic(auto, using(crate::proofs::Requests::and_small), unfolding(crate::specs::Accessing::acknowledged))]
+    #[tactic(auto, using(crate::proofs::Requests::and_small), unfolding(crate::specs::Access::acknowledged))]
     fn acknowledge(&mut self, i: u8) {
-        self.requests &= 255 - (1 << i);
+        self.requests = Irqs::from_bits_retain(self.requests.bits() & (255 - (1 << i)));
     }
 
-    #[tactic(auto, unfolding(crate::specs::Accessing::advanced))]
+    #[tactic(auto, unfolding(crate::specs::Access::advanced))]
     fn pass(&mut self, cycles: u8) {
         self.pass_transfer(cycles);
         self.pass_timer(cycles);
         self.pass_picture(cycles);
     }
 }
+
+/// The law of the console's plain storage (C000-FDFF, FF80-FFFE, FFFF; E000-FDFF are the bytes of
+/// C000-DDFF): after any accesses, what is read there is what they wrote there last.
+#[tactic(auto, using(crate::proofs::ReadingBack::memory_reads_back))]
+pub fn plain_storage_reads_back()
+    ensures { ReadsBack }
+{}

@@ -5,7 +5,8 @@ ghost use Rattle.gb_bus.specs.Hardware as Map;
 
 use gb_ppu::registers::LcdRegister;
 
-/// The I/O registers that the console has, but for the picture's.
+/// The I/O registers that the console has, but for the picture's and for FF46, which the memory map
+/// has apart.
 #[derive(Clone, Copy, Debug, PartialEq, Eq)]
 pub enum IoRegister {
     /// FF00, JOYP.
@@ -20,8 +21,6 @@ pub enum IoRegister {
     TimerControl,
     /// FF0F, IF.
     Requests,
-    /// FF46, DMA.
-    Transfer,
 }
 
 /// What stands at an address from 8000 to 9FFF or from FE00 to FF7F.
@@ -60,7 +59,6 @@ pub fn hardware_at(address: u16) -> Hardware
         0xFF43 => Hardware::Lcd(LcdRegister::Scx),
         0xFF44 => Hardware::Lcd(LcdRegister::Ly),
         0xFF45 => Hardware::Lcd(LcdRegister::Lyc),
-        0xFF46 => Hardware::Io(IoRegister::Transfer),
         0xFF47 => Hardware::Lcd(LcdRegister::Bgp),
         0xFF48 => Hardware::Lcd(LcdRegister::Obp0),
         0xFF49 => Hardware::Lcd(LcdRegister::Obp1),

@@ -1,7 +1,12 @@
-//! The memory bus, as the processor meets it.
+//! The memory bus, as the processor meets it, and the console's memory behind it.
+//!
+//! The trait `Bus` says what the processor's proof needs of any bus. `Memory` is the console's: after each
+//! call it is the record of `specs/Contents.antt` that `specs/Access.antt` gives, and plain storage reads
+//! back what was written last (`plain_storage_reads_back`). Read this file first, then `memory` (what it
+//! holds), `access` (reads and writes) with `cartridge`, `hardware`, `registers`, `transfer`, and `picture`.
 #![tactic(auto)]
 
-ghost use Rattle.std.specs.Prelude.{◌≡◌, ◌≢◌, ◌<◌, ◌%◌, ℕ};
+ghost use Rattle.std.specs.Prelude.{◌≡◌, ◌<◌, ◌%◌, ℕ, bit_and};
 ghost use Rattle.std.specs.Bool.{OnFalse};
 ghost use Rattle.gb_ops.specs.Accesses.{Access};
 ghost use Rattle.gb_ops.specs.Accesses as access;
@@ -15,6 +20,7 @@ mod picture;
 mod registers;
 mod transfer;
 
+pub use access::plain_storage_reads_back;
 use gb_ops::machine::Place;
 pub use memory::Memory;
 
@@ -65,11 +71,11 @@ pub trait Bus {
         Taken { byte, is_free }
     }
 
-    /// Some of the interrupts that are enabled, those that are requested. It changes nothing.
+    /// The interrupts that are enabled and requested: some of the bits 0 to 4 of IE. It changes nothing.
     fn pending(&mut self) -> u8
         ensures same { self.new ≡ self.old }
         ensures value { result ≡ shared self.old }
-        ensures enabled { result ≢ 0 → (shows self.old).storage.ie % 32 ≢ 0 };
+        ensures bits { bit_and result ((shows self.old).storage.ie % 32) ≡ result };
 
     /// Takes a request back.
     fn acknowledge(&mut self, i: u8)
@@ -82,6 +88,3 @@ pub trait Bus {
         ensures joined { does self.old (access.Passes cycles) self.new }
         ensures view { shows self.new ≡ passed (shows self.old) cycles };
 }
-
-#[cfg(test)]
-mod tests;

@@ -2,27 +2,20 @@
 
 ghost use Rattle.std.specs.Prelude.{◌≡◌, ◌<◌, ◌≤◌, IfOk, vec_len};
 ghost use Rattle.gb_bus.specs.PowerUp.{at_power_up, zeros};
-ghost use Rattle.gb_bus.specs.Screen.{blank};
 
+use crate::picture::dark;
 use gb_dma::Transfer;
 use gb_header::Rom;
 use gb_mbc::{Clock, Controller, Mapper};
-use gb_ppu::line::WIDTH;
+use gb_ops::map::{HIGH_RAM, WORK_RAM};
+use gb_ppu::line::{HEIGHT, WIDTH};
 use gb_ppu::ppu::Ppu;
 use gb_ppu::scene::{OAM, VIDEO_RAM};
+use gb_timer::irqs::Irqs;
 use gb_timer::joypad::Joypad;
 use gb_timer::timer::Timer;
 use std::alloc::{AllocError, Global};
 use std::marker::Model;
-
-/// Bytes of work RAM.
-pub(crate) const WORK_RAM: usize = 0x2000;
-
-/// Bytes of high RAM.
-pub(crate) const HIGH_RAM: usize = 127;
-
-/// Lines of the screen.
-pub const HEIGHT: usize = 144;
 
 /// The console's memory: a cartridge, its controller, and everything that has an address.
 #[derive(Drop)]
@@ -45,8 +38,8 @@ pub struct Memory<'a> {
     pub(crate) ppu: Ppu,
     /// The shades of each line, as it was drawn last.
     pub(crate) screen: Box<[[u8; WIDTH]; HEIGHT]>,
-    /// The low five bits of IF.
-    pub(crate) requests: u8,
+    /// The interrupts that are requested: the low five bits of IF.
+    pub(crate) requests: Irqs,
     pub(crate) transfer: Transfer,
     /// A transfer starts as the event ends.
     pub(crate) is_starting: bool,
@@ -61,6 +54,7 @@ impl<'a> Model for Memory<'a> {
     ghost use Rattle.gb_mbc.specs.Controllers.{features_of};
     ghost use Rattle.gb_mbc.specs.Controllers as Shown;
     ghost use Rattle.gb_ops.specs.Cartridge.{ram_banks};
+    ghost use Rattle.gb_timer.specs.Interrupts.{irq_bits};
     ghost use Rattle.gb_bus.specs.Contents.{Contents};
 
     ghost Value = { Contents };
@@ -85,11 +79,11 @@ impl<'a> Model for Memory<'a> {
       pad = m.joypad;
       picture = m.ppu;
       screen = m.screen.value;
-      requests = m.requests;
+      requests = irq_bits m.requests;
       page = m.page;
     } };
 
-    ghost invariant = { λ m. IsCartridge m.rom.now × (features m.controller ≡ features_of m.rom.now) × (vec_len m.cartridge_ram ≡ 0x2000 * ram_banks m.rom.now) × (m.requests < 32) × (m.low_bank ≡ Shown.low_bank (features m.controller) (registers m.controller)) × (m.high_bank ≡ Shown.high_bank (features m.controller) (registers m.controller)) };
+    ghost invariant = { λ m. IsCartridge m.rom.now × (features m.controller ≡ features_of m.rom.now) × (vec_len m.cartridge_ram ≡ 0x2000 * ram_banks m.rom.now) × (irq_bits m.requests < 32) × (m.low_bank ≡ Shown.low_bank (features m.controller) (registers m.controller)) × (m.high_bank ≡ Shown.high_bank (features m.controller) (registers m.controller)) };
 }
 
 /// A boxed array of bytes 00.
@@ -98,14 +92,6 @@ fn zeros<const N: usize>(alloc: Global) -> Result<Box<[u8; N]>, AllocError>
     ensures { IfOk result (λ bytes. bytes.value ≡ zeros N) }
 {
     Ok(Box::new(alloc, [0; N])?)
-}
-
-/// A screen that shows nothing.
-#[tactic(auto, unfolding(crate::specs::Screen::blank))]
-fn dark(alloc: Global) -> Result<Box<[[u8; WIDTH]; HEIGHT]>, AllocError>
-    ensures { IfOk result (λ screen. screen.value ≡ blank) }
-{
-    Ok(Box::new(alloc, [[0; WIDTH]; HEIGHT])?)
 }
 
 /// So many bytes 00.
@@ -129,7 +115,7 @@ impl<'a> Memory<'a> {
         let work_ram = zeros(alloc)?;
         let oam = zeros(alloc)?;
         let high_ram = zeros(alloc)?;
-        let screen = dark(alloc)?;
+        let screen = Box::new(alloc, dark())?;
         let controller = Controller::of(rom);
         let low_bank = controller.low_bank();
         let high_bank = controller.high_bank();
@@ -149,7 +135,7 @@ impl<'a> Memory<'a> {
             joypad: Joypad::new(),
             ppu: Ppu::new(),
             screen,
-            requests: 1,
+            requests: Irqs::VBLANK,
             transfer: Transfer::new(),
             is_starting: false,
             page: 0,

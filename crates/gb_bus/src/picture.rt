@@ -5,20 +5,18 @@ ghost use Rattle.gb_timer.specs.Interrupts.{irq_bits};
 ghost use Rattle.gb_ppu.specs.Control.{is_on};
 ghost use Rattle.gb_ppu.specs.Picture.{line_of, mode_of, advanced, requested_in, IsNextDrawing};
 ghost use Rattle.gb_ppu.specs.Requests.{request_bits};
-ghost use Rattle.gb_bus.specs.Accessing as Accessing;
+ghost use Rattle.gb_bus.specs.Access as Access;
 ghost use Rattle.gb_bus.specs.Screen as Screen;
 
-use crate::memory::{HEIGHT, Memory};
-use crate::registers::with_requests;
-use bitflags::Flags;
+use crate::memory::Memory;
 use gb_ppu::control::is_on;
-use gb_ppu::line::{WIDTH, render_line};
+use gb_ppu::line::{HEIGHT, WIDTH, render_line};
 use gb_ppu::mode::Mode;
 use gb_ppu::registers::LcdRegister;
 
 /// A screen that shows nothing.
 #[tactic(auto, unfolding(crate::specs::Screen::blank))]
-fn dark() -> [[u8; WIDTH]; HEIGHT]
+pub(crate) fn dark() -> [[u8; WIDTH]; HEIGHT]
     ensures { result ≡ Screen.blank }
 {
     [[0; WIDTH]; HEIGHT]
@@ -27,21 +25,21 @@ fn dark() -> [[u8; WIDTH]; HEIGHT]
 impl Memory<'_> {
     /// Whether the picture uses video RAM.
     pub(crate) fn uses_video_ram(&self) -> bool
-        ensures { result ≡ Accessing.uses_video_ram (mode_of self.now.picture) }
+        ensures { result ≡ Access.uses_video_ram (mode_of self.now.picture) }
     {
         matches!(self.ppu.mode(), Mode::Drawing)
     }
 
     /// Whether the picture uses OAM.
     pub(crate) fn uses_oam(&self) -> bool
-        ensures { result ≡ Accessing.uses_oam (mode_of self.now.picture) }
+        ensures { result ≡ Access.uses_oam (mode_of self.now.picture) }
     {
         matches!(self.ppu.mode(), Mode::ObjectScan | Mode::Drawing)
     }
 
     /// What a write to the picture does to the screen.
     fn write_screen(&mut self, register: LcdRegister, value: u8)
-        ensures { self.new ≡ record self.old { screen = Accessing.screen_after register value self.old.screen } }
+        ensures { self.new ≡ record self.old { screen = Access.screen_after register value self.old.screen } }
     {
         if register == LcdRegister::Lcdc && !is_on(value) {
             *self.screen = dark();
@@ -49,12 +47,12 @@ impl Memory<'_> {
     }
 
     /// A write to a register of the picture.
-    #[tactic(auto, using(crate::proofs::Requests::few_bits), unfolding(crate::specs::Accessing::lcd_written))]
+    #[tactic(auto, using(crate::proofs::Requests::few_bits), unfolding(crate::specs::Access::lcd_written))]
     pub(crate) fn write_lcd(&mut self, register: LcdRegister, value: u8)
-        ensures { self.new ≡ Accessing.lcd_written register self.old value }
+        ensures { self.new ≡ Access.lcd_written register self.old value }
     {
         let irqs = self.ppu.write(register, value);
-        self.requests = with_requests(self.requests, irqs.bits());
+        self.request(irqs);
         self.write_screen(register, value);
     }
 
@@ -67,7 +65,7 @@ impl Memory<'_> {
         ensures small { self.old.requests < 32 }
     {
         let irqs = self.ppu.advance(n);
-        self.requests = with_requests(self.requests, irqs.bits());
+        self.request(irqs);
     }
 
     /// The shades of the line at which the picture stands.

@@ -2,7 +2,7 @@
 
 ghost use Rattle.std.specs.Prelude.{◌≡◌, ◌<◌, ◌≤◌, ◌+◌, ◌*◌, ◌++◌, map, drop, length};
 ghost use Rattle.std.specs.List.{range_with_len};
-ghost use Rattle.gb_bus.specs.Accessing as Accessing;
+ghost use Rattle.gb_bus.specs.Access as Access;
 
 use crate::memory::Memory;
 use gb_ops::machine::Mapped;
@@ -11,7 +11,7 @@ use gb_ppu::scene::OAM;
 
 /// The page that a transfer copies from: E0 to FF are copied from C0 to DF.
 fn source_page(page: u8) -> u8
-    ensures value { result ≡ Accessing.source_page page }
+    ensures value { result ≡ Access.source_page page }
     ensures most { result < 0xE0 }
 {
     if page >= 0xE0 { page - 0x20 } else { page }
@@ -19,10 +19,10 @@ fn source_page(page: u8) -> u8
 
 impl Memory<'_> {
     /// A byte as it is copied: neither the picture nor a transfer closes it.
-    #[tactic(auto, unfolding(crate::specs::Accessing::source_byte, gb_ops::specs::Memory::mapped_at))]
+    #[tactic(auto, unfolding(crate::specs::Access::source_byte, gb_ops::specs::Memory::mapped_at))]
     fn source_byte(&self, address: u16) -> u8
         requires { address < 0xE000 }
-        ensures { result ≡ Accessing.source_byte self.now address }
+        ensures { result ≡ Access.source_byte self.now address }
     {
         match mapped_at(address) {
             Mapped::Hardware => self.video_ram[usize::from(address - 0x8000)],
@@ -31,18 +31,18 @@ impl Memory<'_> {
     }
 
     /// Byte i of what a transfer from a page copies.
-    #[tactic(auto, unfolding(crate::specs::Accessing::transferred))]
+    #[tactic(auto, unfolding(crate::specs::Access::transferred))]
     fn transferred(&self, page: u8, i: u8) -> u8
         requires { i < 160 }
-        ensures { result ≡ Accessing.transferred self.now page i }
+        ensures { result ≡ Access.transferred self.now page i }
     {
         self.source_byte(256 * u16::from(source_page(page)) + u16::from(i))
     }
 
     /// The 160 bytes of a transfer from a page.
-    #[tactic(auto, using(crate::proofs::Copying::in_a_row, crate::proofs::Copying::one_more), unfolding(crate::specs::Accessing::copied))]
+    #[tactic(auto, using(crate::proofs::Copying::in_a_row, crate::proofs::Copying::one_more), unfolding(crate::specs::Access::copied))]
     pub(crate) fn copied(&self, page: u8) -> [u8; OAM]
-        ensures { result ≡ Accessing.copied self.now page }
+        ensures { result ≡ Access.copied self.now page }
     {
         let mut bytes = [0; OAM];
         for i in 0..160 {

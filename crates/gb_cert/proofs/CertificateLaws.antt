@@ -5,19 +5,18 @@ use Rattle.std.proofs.lemmas.Bool.Decides.{nat_tests}
 use Rattle.gb_ops.specs.declared.machine.Region.{Region}
 use Rattle.gb_cert.specs.declared.fault.CertFault.{CertFault}
 use Rattle.gb_cert.specs.declared.fault.CertFault.TheVariants as fault
-use Rattle.gb_cert.specs.declared.types.Node.{Node}
 use Rattle.gb_cert.specs.declared.head.Head.{Head}
-use Rattle.gb_cert.specs.Limits.{procedure_limit}
-use Rattle.gb_cert.specs.Types.{ProcedureParts}
+use Rattle.gb_cert.specs.Limits.{procedure_limit, node_limit}
+use Rattle.gb_cert.specs.Types.{ProcedureParts, Node}
 use Rattle.gb_cert.specs.Certificate.{Certificate}
 use Rattle.gb_cert.specs.Format.{Read, go_on, both, checked, followed, ended, byte}
-use Rattle.gb_cert.specs.Rules.{IsRegion, IsProcedure, IsNode, IsCertificate, is_area, is_after, key}
-use Rattle.gb_cert.specs.Reading.{word, is_one, count_within, procedure_at, node_at, is_magic, magic_at, is_region, to_region, region_at, is_any, to_head, head_at, procedures_at, nodes_at, have_entries_in, to_certificate, certificate_at, read_certificate}
+use Rattle.gb_cert.specs.Rules.{IsRegion, IsProcedure, IsNode, IsCertificate, is_area, is_after, is_version, key}
+use Rattle.gb_cert.specs.Reading.{word, is_between, node_number, count_within, procedure_at, node_at, is_magic, magic_at, is_region, to_region, region_at, is_any, to_head, version_at, node_count_at, head_at, procedures_at, nodes_at, have_entries_in, to_certificate, certificate_at, read_certificate}
 use Rattle.gb_cert.specs.Spelling as spelled
 use Rattle.gb_cert.specs.Spelling.{Spells}
 use Rattle.gb_cert.proofs.Formats.{IsBytes, IsFormat, AreSoMany, ok_is, IsFormat-byte, IsFormat-both, IsFormat-followed, IsFormat-checked, IsFormat-mapped, IsFormat-as, IsFormat-several}
-use Rattle.gb_cert.proofs.FieldLaws.{and_both, both_and, spelled_byte, IsFormat-word, IsFormat-count_within}
-use Rattle.gb_cert.proofs.StateLaws.{area_small, lt_is, is_lt, IsFormat-procedure, IsFormat-node}
+use Rattle.gb_cert.proofs.FieldLaws.{and_both, both_and, within, is_within, spelled_byte, node_numbers, IsFormat-node_number, IsFormat-word, IsFormat-count_within}
+use Rattle.gb_cert.proofs.StateLaws.{area_small, lt_is, is_lt, number_small, IsFormat-procedure, IsFormat-node}
 
 -- ---- the head
 
@@ -47,16 +46,16 @@ IsFormat-region =
     IsFormat-as region_at (λ r. spelled.word r.first ++ spelled.word r.last) IsRegionPair IsRegion region-is is-region
     (IsFormat-mapped to_region from_region _ _ _ (λ x h. refl) (λ y h. refl) (IsFormat-checked fault.Region is_region _ _ _ (IsFormat-both word word _ _ _ _ IsFormat-word IsFormat-word)))
 
-abbrev Letters : Type 0
+abbrev pub Letters : Type 0
 Letters = ℕ × (ℕ × (ℕ × ℕ))
 
-abbrev magic : Letters
+abbrev pub magic : Letters
 magic = (0x47, (0x42, (0x42, 0x43)))
 
 abbrev AreBytes : Letters → Type 0
 AreBytes p = (p.0 < 256) × ((p.1.0 < 256) × ((p.1.1.0 < 256) × (p.1.1.1 < 256)))
 
-abbrev spelled_letters : Letters → List ℕ
+abbrev pub spelled_letters : Letters → List ℕ
 spelled_letters p = p.0 ∷ p.1.0 ∷ p.1.1.0 ∷ p.1.1.1 ∷ []
 
 magic-is : (p : Letters) → is_magic p ≡ true → magic ≡ p
@@ -72,65 +71,78 @@ magic-is p h =
 IsFormat-magic : IsFormat magic_at spelled_letters (λ p. AreBytes p × (is_magic p ≡ true))
 IsFormat-magic = IsFormat-checked fault.Magic is_magic _ _ _ (IsFormat-both _ _ _ _ _ _ IsFormat-byte (IsFormat-both _ _ _ _ _ _ IsFormat-byte (IsFormat-both byte byte _ _ _ _ IsFormat-byte IsFormat-byte)))
 
-abbrev HeadParts : Type 0
+abbrev pub HeadParts : Type 0
 HeadParts = Letters × (ℕ × (Region × (ℕ × ℕ)))
 
-from_head : Head → HeadParts
-from_head h = (magic, (1, (h.region, (h.procedures, h.nodes))))
+pub from_head : Head → HeadParts
+from_head h = (magic, (h.version, (h.region, (h.procedures, h.nodes))))
 
 abbrev AreHeadParts : HeadParts → Type 0
-AreHeadParts p = (AreBytes p.0 × (is_magic p.0 ≡ true)) × (((p.1.0 < 256) × (is_one p.1.0 ≡ true)) × (IsRegion p.1.1.0 × (((p.1.1.1.0 ≤ procedure_limit) × (is_any p.1.1.1.0 ≡ true)) × ((p.1.1.1.1 < 65536) × (is_any p.1.1.1.1 ≡ true)))))
+AreHeadParts p = (AreBytes p.0 × (is_magic p.0 ≡ true)) × (((p.1.0 < 256) × (is_version p.1.0 ≡ true)) × (IsRegion p.1.1.0 × (((p.1.1.1.0 ≤ procedure_limit) × (is_any p.1.1.1.0 ≡ true)) × ((p.1.1.1.1 ≤ node_limit p.1.0) × (0 < p.1.1.1.1)))))
 
-abbrev spelled_parts : HeadParts → List ℕ
-spelled_parts p = spelled_letters p.0 ++ ((p.1.0 ∷ []) ++ ((spelled.word p.1.1.0.first ++ spelled.word p.1.1.0.last) ++ ((p.1.1.1.0 ∷ []) ++ spelled.word p.1.1.1.1)))
+abbrev pub spelled_parts : HeadParts → List ℕ
+spelled_parts p = spelled_letters p.0 ++ ((p.1.0 ∷ []) ++ ((spelled.word p.1.1.0.first ++ spelled.word p.1.1.0.last) ++ ((p.1.1.1.0 ∷ []) ++ spelled.node_number p.1.0 p.1.1.1.1)))
 
 head-there : (p : HeadParts) → AreHeadParts p → from_head (to_head p) ≡ p
 unfolding from_head
-head-there p h = parts p.0 p.1.0 p.1.1 (magic-is p.0 h.0.1) (same p.1.0 1 h.1.0.1)
+head-there p h = parts p.0 p.1 (magic-is p.0 h.0.1)
   where
-    parts : (m : Letters) (v : ℕ) (r : Region × (ℕ × ℕ)) → magic ≡ m → v ≡ 1 → (let q : HeadParts = (magic, (1, (r.0, (r.1.0, r.1.1)))) in q) ≡ (m, (v, r))
-    parts m v r e f = rw (← e, f) refl
+    parts : (m : Letters) (r : ℕ × (Region × (ℕ × ℕ))) → magic ≡ m → (let q : HeadParts = (magic, r) in q) ≡ (m, r)
+    parts m r e = rw (← e) refl
 
 head-again : (h : Head) → to_head (from_head h) ≡ h
 unfolding from_head
 head-again h = refl
 
-record IsHead (h : Head) : Type 0 where
+pub record IsHead (h : Head) : Type 0 where
+  pub version : is_version h.version ≡ true
   pub region : IsRegion h.region
   pub some_procedure : 0 < h.procedures
   pub few_procedures : h.procedures ≤ procedure_limit
   pub some_node : 0 < h.nodes
-  pub few_nodes : h.nodes < 65536
+  pub few_nodes : h.nodes ≤ node_limit h.version
+
+version_small : (n : ℕ) → is_version n ≡ true → n < 256
+version_small n h = grind (arith, nat_tests)
+
+IsFormat-node_count : (version : ℕ) → IsFormat (node_count_at version) (spelled.node_number version) (λ n. (n ≤ node_limit version) × (0 < n))
+unfolding node_count_at
+IsFormat-node_count version =
+    IsFormat-as (node_count_at version) (spelled.node_number version) (λ n. ((n < node_numbers (version == 1)) × (is_between 0 (node_limit version) n ≡ true)) × (is_any n ≡ true)) (λ n. (n ≤ node_limit version) × (0 < n))
+    (λ n h. (within (node_limit version) n h.0.1, lt_is 0 n h.1)) (λ n h. ((number_small version n h.0, is_within (node_limit version) n h.0), is_lt 0 n h.1))
+    (IsFormat-checked fault.Field is_any _ _ _ (IsFormat-checked fault.Count (is_between 0 (node_limit version)) (node_number version) (spelled.node_number version) (λ n. n < node_numbers (version == 1)) (IsFormat-node_number version)))
 
 head-is : (h : Head) → AreHeadParts (from_head h) → IsHead h
 unfolding from_head
-head-is h a = record { region = a.1.1.0; some_procedure = lt_is 0 h.procedures a.1.1.1.0.1; few_procedures = a.1.1.1.0.0; some_node = lt_is 0 h.nodes a.1.1.1.1.1; few_nodes = a.1.1.1.1.0 }
+head-is h a = record { version = a.1.0.1; region = a.1.1.0; some_procedure = lt_is 0 h.procedures a.1.1.1.0.1; few_procedures = a.1.1.1.0.0; some_node = a.1.1.1.1.1; few_nodes = a.1.1.1.1.0 }
 
 is-head : (h : Head) → IsHead h → AreHeadParts (from_head h)
 unfolding from_head
-is-head h a = (((omega arith, (omega arith, (omega arith, omega arith))), refl), ((omega arith, refl), (a.region, ((a.few_procedures, is_lt 0 h.procedures a.some_procedure), (a.few_nodes, is_lt 0 h.nodes a.some_node)))))
+is-head h a = (((omega arith, (omega arith, (omega arith, omega arith))), refl), ((version_small h.version a.version, a.version), (a.region, ((a.few_procedures, is_lt 0 h.procedures a.some_procedure), (a.few_nodes, a.some_node)))))
 
-abbrev spelled_head : Head → List ℕ
+abbrev pub spelled_head : Head → List ℕ
 spelled_head h = spelled_parts (from_head h)
 
-IsFormat-head : IsFormat head_at spelled_head IsHead
+pub IsFormat-head : IsFormat head_at spelled_head IsHead
 unfolding head_at
 IsFormat-head =
     IsFormat-as head_at spelled_head (λ h. AreHeadParts (from_head h)) IsHead head-is is-head
     (IsFormat-mapped to_head from_head _ spelled_parts AreHeadParts head-there (λ h a. head-again h)
     (IsFormat-both _ _ _ _ _ _ IsFormat-magic
-    (IsFormat-both _ _ _ _ _ _ (IsFormat-checked fault.Version is_one byte spelled_byte (λ b. b < 256) IsFormat-byte)
-    (IsFormat-both _ _ _ _ _ _ IsFormat-region
+    (IsFormat-followed version_at (λ v. both region_at (both (checked fault.Field is_any (count_within procedure_limit)) (node_count_at v))) spelled_byte (λ v p. (spelled.word p.0.first ++ spelled.word p.0.last) ++ ((p.1.0 ∷ []) ++ spelled.node_number v p.1.1))
+    (λ v. (v < 256) × (is_version v ≡ true)) (λ v p. IsRegion p.0 × (((p.1.0 ≤ procedure_limit) × (is_any p.1.0 ≡ true)) × ((p.1.1 ≤ node_limit v) × (0 < p.1.1))))
+    (IsFormat-checked fault.Version is_version byte spelled_byte (λ b. b < 256) IsFormat-byte)
+    (λ v h. IsFormat-both _ _ _ _ _ _ IsFormat-region
     (IsFormat-both _ _ _ _ _ _ (IsFormat-checked fault.Field is_any (count_within procedure_limit) spelled_byte (λ n. n ≤ procedure_limit) (IsFormat-count_within procedure_limit (omega arith)))
-    (IsFormat-checked fault.Field is_any word spelled.word (λ n. n < 65536) IsFormat-word))))))
+    (IsFormat-node_count v))))))
 
 -- ---- the procedures and the nodes
 
 abbrev Body : Type 0
 Body = List ProcedureParts × List Node
 
-abbrev spelled_body : Body → List ℕ
-spelled_body b = flat_map spelled.procedure b.0 ++ flat_map spelled.node b.1
+abbrev spelled_body : ℕ → Body → List ℕ
+spelled_body version b = flat_map (spelled.procedure version) b.0 ++ flat_map spelled.node b.1
 
 abbrev AreProcedures : Region → ℕ → ℕ → List ProcedureParts → Type 0
 AreProcedures region nodes count = AreSoMany (IsProcedure region nodes) is_after true count
@@ -138,11 +150,11 @@ AreProcedures region nodes count = AreSoMany (IsProcedure region nodes) is_after
 abbrev AreNodes : Region → ℕ → ℕ → List Node → Type 0
 AreNodes region procedures count = AreSoMany (IsNode region procedures) key (0, 0) count
 
-IsFormat-procedures : (region : Region) (nodes count : ℕ) → nodes < 65536 → IsFormat (procedures_at region nodes count) (flat_map spelled.procedure) (AreProcedures region nodes count)
+pub IsFormat-procedures : (version : ℕ) (region : Region) (nodes count : ℕ) → nodes ≤ node_limit version → IsFormat (procedures_at version region nodes count) (flat_map (spelled.procedure version)) (AreProcedures region nodes count)
 unfolding procedures_at
-IsFormat-procedures region nodes count few = IsFormat-several (procedure_at region nodes) is_after spelled.procedure (IsProcedure region nodes) true count (λ is_main. IsFormat-procedure region nodes is_main few)
+IsFormat-procedures version region nodes count few = IsFormat-several (procedure_at version region nodes) is_after (spelled.procedure version) (IsProcedure region nodes) true count (λ is_main. IsFormat-procedure version region nodes is_main few)
 
-IsFormat-nodes : (region : Region) (procedures count : ℕ) → procedures ≤ 256 → IsFormat (nodes_at region procedures count) (flat_map spelled.node) (AreNodes region procedures count)
+pub IsFormat-nodes : (region : Region) (procedures count : ℕ) → procedures ≤ 256 → IsFormat (nodes_at region procedures count) (flat_map spelled.node) (AreNodes region procedures count)
 unfolding nodes_at
 IsFormat-nodes region procedures count few = IsFormat-several (node_at region procedures) key spelled.node (IsNode region procedures) (0, 0) count (λ before. IsFormat-node region procedures before few)
 
@@ -150,17 +162,17 @@ abbrev AreBody : Head → Body → Type 0
 AreBody h b = AreProcedures h.region h.nodes h.procedures b.0 × AreNodes h.region h.procedures h.nodes b.1
 
 abbrev body_at : Head → Read Body
-body_at h = both (procedures_at h.region h.nodes h.procedures) (nodes_at h.region h.procedures h.nodes)
+body_at h = both (procedures_at h.version h.region h.nodes h.procedures) (nodes_at h.region h.procedures h.nodes)
 
-IsFormat-body : (h : Head) → IsHead h → IsFormat (body_at h) spelled_body (AreBody h)
+IsFormat-body : (h : Head) → IsHead h → IsFormat (body_at h) (spelled_body h.version) (AreBody h)
 IsFormat-body h is =
     let few : h.procedures ≤ 256 = omega (arith, is.few_procedures) in
-    IsFormat-both (procedures_at h.region h.nodes h.procedures) (nodes_at h.region h.procedures h.nodes) _ _ _ _ (IsFormat-procedures h.region h.nodes h.procedures is.few_nodes) (IsFormat-nodes h.region h.procedures h.nodes few)
+    IsFormat-both (procedures_at h.version h.region h.nodes h.procedures) (nodes_at h.region h.procedures h.nodes) _ _ _ _ (IsFormat-procedures h.version h.region h.nodes h.procedures is.few_nodes) (IsFormat-nodes h.region h.procedures h.nodes few)
 
 -- ---- certificates
 
 head_of : Certificate → Head
-head_of c = record { region = c.region; procedures = length c.procedures; nodes = length c.nodes }
+head_of c = record { version = c.version; region = c.region; procedures = length c.procedures; nodes = length c.nodes }
 
 from_certificate : Certificate → Head × Body
 from_certificate c = (head_of c, (c.procedures, c.nodes))
@@ -173,7 +185,7 @@ unfolding from_certificate head_of
 certificate-there p a = counts p.0.procedures p.0.nodes a.0.1.0.0 a.0.1.1.0
   where
     made : ℕ → ℕ → Head × Body
-    made i j = (record { region = p.0.region; procedures = i; nodes = j }, p.1)
+    made i j = (record { version = p.0.version; region = p.0.region; procedures = i; nodes = j }, p.1)
 
     counts : (i j : ℕ) → length p.1.0 ≡ i → length p.1.1 ≡ j → made (length p.1.0) (length p.1.1) ≡ made i j
     counts i j e f = rw (e, f) refl
@@ -181,6 +193,7 @@ certificate-there p a = counts p.0.procedures p.0.nodes a.0.1.0.0 a.0.1.1.0
 certificate-is : (c : Certificate) → AreParts (from_certificate c) → IsCertificate c
 unfolding from_certificate head_of
 certificate-is c a = record {
+  version = a.0.0.version;
   region = a.0.0.region;
   some_procedure = a.0.0.some_procedure;
   procedure_count = a.0.0.few_procedures;
@@ -193,15 +206,15 @@ certificate-is c a = record {
 
 is-certificate : (c : Certificate) → IsCertificate c → AreParts (from_certificate c)
 unfolding from_certificate head_of
-is-certificate c a = ((record { region = a.region; some_procedure = a.some_procedure; few_procedures = a.procedure_count; some_node = a.some_node; few_nodes = a.node_count }, ((refl, a.procedures), (refl, a.nodes))), a.entries)
+is-certificate c a = ((record { version = a.version; region = a.region; some_procedure = a.some_procedure; few_procedures = a.procedure_count; some_node = a.some_node; few_nodes = a.node_count }, ((refl, a.procedures), (refl, a.nodes))), a.entries)
 
 IsFormat-certificate : IsFormat certificate_at spelled.spelling IsCertificate
 unfolding certificate_at from_certificate head_of from_head spelled.spelling spelled.head
 IsFormat-certificate =
     IsFormat-as certificate_at spelled.spelling (λ c. AreParts (from_certificate c)) IsCertificate certificate-is is-certificate
-    (IsFormat-mapped to_certificate from_certificate (checked fault.Field have_entries_in (followed head_at body_at)) (λ p. spelled_head p.0 ++ spelled_body p.1) AreParts certificate-there (λ c h. refl)
-    (IsFormat-checked fault.Field have_entries_in (followed head_at body_at) (λ p. spelled_head p.0 ++ spelled_body p.1) (λ p. IsHead p.0 × AreBody p.0 p.1)
-    (IsFormat-followed head_at body_at spelled_head (λ h. spelled_body) IsHead AreBody IsFormat-head IsFormat-body)))
+    (IsFormat-mapped to_certificate from_certificate (checked fault.Field have_entries_in (followed head_at body_at)) (λ p. spelled_head p.0 ++ spelled_body p.0.version p.1) AreParts certificate-there (λ c h. refl)
+    (IsFormat-checked fault.Field have_entries_in (followed head_at body_at) (λ p. spelled_head p.0 ++ spelled_body p.0.version p.1) (λ p. IsHead p.0 × AreBody p.0 p.1)
+    (IsFormat-followed head_at body_at spelled_head (λ h. spelled_body h.version) IsHead AreBody IsFormat-head IsFormat-body)))
 
 -- ---- all of the bytes
 

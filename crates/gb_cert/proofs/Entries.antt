@@ -1,25 +1,60 @@
--- Asking the procedures for their entries, one after the other.
-use Rattle.std.proofs.Common.{◌≡◌, ℕ, ◌+◌, ◌<◌, ◌≤◌, Bool, true, false, ◌&&◌, List, ◌∷◌, length, drop, get_or, refl, ap, ◌∙◌, add-one, drop-cons}
+-- Asking the procedures for their entries, one after the other, by their places.
+use Rattle.std.proofs.Common.{◌≡◌, ℕ, zero, suc, ◌+◌, ◌<◌, ◌≤◌, Bool, true, false, ◌&&◌, List, [], ◌∷◌, ◌++◌, length, drop, get_or, Ok, refl, ap, ◌∙◌, append_assoc, add-one, drop-cons}
 use Rattle.std.specs.Prelude.{slice_get}
+use Rattle.std.specs.List.{flat_map, AllByRecursion}
 use Rattle.std.proofs.lemmas.List.{drop_all}
-use Rattle.gb_cert.specs.declared.types.Node.{Node}
-use Rattle.gb_cert.specs.Types.{ProcedureParts}
+use Rattle.std.proofs.lemmas.List.Concat.{flat_map-cons}
+use Rattle.gb_cert.specs.Format.{byte}
+use Rattle.gb_cert.specs.Limits.{node_limit}
+use Rattle.gb_cert.specs.Types.{ProcedureParts, Node}
 use Rattle.gb_cert.specs.Rules.{have_entries, is_of}
+use Rattle.gb_cert.specs.Reading.{node_number}
+use Rattle.gb_cert.specs.Spelling as spelled
+use Rattle.gb_cert.specs.Places.{AreAt, number_is, place_is_of, entry_is_of, has_entry_at, have_entries_at}
+use Rattle.gb_cert.proofs.FieldLaws.{IsFormat-node_number}
+use Rattle.gb_cert.proofs.StateLaws.{number_small}
 
 -- the first of those that are left, and the others
-pub one_entry : (number i : ℕ) (ps : List ProcedureParts) (nodes : List Node) (p : ProcedureParts) → i < length ps → p ≡ get_or ps i p
-    → have_entries number (drop i ps) nodes ≡ (is_of number (slice_get nodes p.entry) && have_entries (number + 1) (drop (i + 1) ps) nodes)
-unfolding have_entries
-one_entry number i ps nodes p lt is =
-    let e : drop i ps ≡ p ∷ drop (i + 1) ps = drop-cons ps i p lt ∙ (rw (add-one, ← is) refl) in
-    ap (λ (qs : List ProcedureParts). have_entries number qs nodes) e
+pub one_entry : (version number i : ℕ) (bytes ps nodes : List ℕ) → i < length ps
+    → have_entries_at version number bytes (drop i ps) nodes ≡ (has_entry_at version number bytes (get_or ps i 0) nodes && have_entries_at version (number + 1) bytes (drop (i + 1) ps) nodes)
+unfolding have_entries_at
+one_entry version number i bytes ps nodes lt =
+    let e : drop i ps ≡ get_or ps i 0 ∷ drop (i + 1) ps = drop-cons ps i 0 lt ∙ rw add-one refl in
+    ap (λ (qs : List ℕ). have_entries_at version number bytes qs nodes) e
 
-pub no_entry : (number i : ℕ) (ps : List ProcedureParts) (nodes : List Node) → length ps ≤ i → have_entries number (drop i ps) nodes ≡ true
-unfolding have_entries
-no_entry number i ps nodes le = ap (λ (qs : List ProcedureParts). have_entries number qs nodes) (drop_all i ps le)
+pub no_entry : (version number i : ℕ) (bytes ps nodes : List ℕ) → length ps ≤ i → have_entries_at version number bytes (drop i ps) nodes ≡ true
+unfolding have_entries_at
+no_entry version number i bytes ps nodes le = ap (λ (qs : List ℕ). have_entries_at version number bytes qs nodes) (drop_all i ps le)
 
 pub lacks : (a b total : Bool) → a ≡ false → (a && b) ≡ total → false ≡ total
 lacks a b total e h = rw e at h
 
 pub has : (a b total : Bool) → a ≡ true → (a && b) ≡ total → b ≡ total
 has a b total e h = rw e at h
+
+-- ---- the places are those of procedures and nodes
+
+place-of : (bytes rest ns : List ℕ) (nodes : List Node) (number i : ℕ) → AreAt spelled.node bytes rest ns nodes → place_is_of number bytes (slice_get ns i) ≡ is_of number (slice_get nodes i)
+unfolding spelled.node
+place-of bytes rest [] [] number i h = refl
+place-of bytes rest (q ∷ qs) (y ∷ ys) number zero h = ap (λ (d : List ℕ). number_is number (byte d)) (h.0 ∙ ap (λ (z : List ℕ). z ++ rest) (flat_map-cons spelled.node y ys))
+place-of bytes rest (q ∷ qs) (y ∷ ys) number (suc i) h = place-of bytes rest qs ys number i h.1
+place-of bytes rest [] (y ∷ ys) number i h = absurd h
+place-of bytes rest (q ∷ qs) [] number i h = absurd h
+
+entry-of : (version : ℕ) (bytes rest ns : List ℕ) (nodes : List Node) (number place : ℕ) (p : ProcedureParts) (tail : List ℕ) → p.entry ≤ node_limit version → drop place bytes ≡ spelled.procedure version p ++ tail → AreAt spelled.node bytes rest ns nodes
+    → has_entry_at version number bytes place ns ≡ is_of number (slice_get nodes p.entry)
+unfolding has_entry_at spelled.procedure
+entry-of version bytes rest ns nodes number place p tail few e h =
+    let read : node_number version (drop place bytes) ≡ Ok (p.entry, spelled.body p ++ tail) = ap (node_number version) (e ∙ append_assoc (spelled.node_number version p.entry) (spelled.body p) tail) ∙ (IsFormat-node_number version).again p.entry (spelled.body p ++ tail) (number_small version p.entry few) in
+    ap (entry_is_of number bytes ns) read ∙ place-of bytes rest ns nodes number p.entry h
+
+pub entries-of : (version : ℕ) (bytes behind rest ps ns : List ℕ) (procedures : List ProcedureParts) (nodes : List Node) (number : ℕ) → AllByRecursion (λ p. p.entry ≤ node_limit version) procedures
+    → AreAt (spelled.procedure version) bytes behind ps procedures → AreAt spelled.node bytes rest ns nodes → have_entries_at version number bytes ps ns ≡ have_entries number procedures nodes
+unfolding have_entries_at have_entries
+entries-of version bytes behind rest [] ns [] nodes number few h g = refl
+entries-of version bytes behind rest (q ∷ qs) ns (y ∷ ys) nodes number few h g =
+    let e : drop q bytes ≡ spelled.procedure version y ++ (flat_map (spelled.procedure version) ys ++ behind) = h.0 ∙ ap (λ (z : List ℕ). z ++ behind) (flat_map-cons (spelled.procedure version) y ys) ∙ append_assoc (spelled.procedure version y) (flat_map (spelled.procedure version) ys) behind in
+    rw (entry-of version bytes rest ns nodes number q y (flat_map (spelled.procedure version) ys ++ behind) few.0 e g, entries-of version bytes behind rest qs ns ys nodes (number + 1) few.1 h.1 g) refl
+entries-of version bytes behind rest [] ns (y ∷ ys) nodes number few h g = absurd h
+entries-of version bytes behind rest (q ∷ qs) ns [] nodes number few h g = absurd h

@@ -18,7 +18,7 @@ use Rattle.gb_cert.specs.declared.types.Core.{Core}
 use Rattle.gb_cert.specs.declared.role.Role.{Role}
 use Rattle.gb_cert.specs.Format.{both, mapped, checked, byte}
 use Rattle.gb_cert.specs.Rules.{has_value, IsVal, IsFlg, IsCtl, may_be_any, IsCore}
-use Rattle.gb_cert.specs.Reading.{is_between, is_ordered, word_of, word, byte_between, word_between, count_within, is_one, yes_no, origin_of, origin_at, to_val, val_at, to_may, may_at, to_ime, ime_at, is_test, to_test, test_at, to_flags, have_values, is_own_number, is_two, to_flg, flg_at, to_ctl, ctl_at, to_vals, vals_at, to_core, is_stack_right, core_at}
+use Rattle.gb_cert.specs.Reading.{is_between, is_ordered, word_of, word, quad_of, quad, node_number_by, node_number, byte_between, word_between, count_within, is_one, yes_no, origin_of, origin_at, to_val, val_at, to_may, may_at, to_ime, ime_at, is_test, to_test, test_at, to_flags, have_values, is_own_number, is_two, to_flg, flg_at, to_ctl, ctl_at, to_vals, vals_at, to_core, is_stack_right, core_at}
 use Rattle.gb_cert.specs.Spelling as spelled
 use Rattle.gb_cert.proofs.Formats.{IsFormat, IsFormat-byte, IsFormat-both, IsFormat-checked, IsFormat-mapped, IsFormat-as, IsFormat-spelled}
 
@@ -88,6 +88,45 @@ unfolding word split_word
 IsFormat-word =
     IsFormat-as (mapped word_of (both byte byte)) spelled.word (λ w. (w % 256 < 256) × (w / 256 < 256)) (λ w. w < 65536) (λ w h. omega arith) (λ w h. (omega arith, omega arith))
     (IsFormat-mapped word_of split_word (both byte byte) _ (λ p. (p.0 < 256) × (p.1 < 256)) split-word (λ w h. word-split w) (IsFormat-both byte byte _ _ _ _ IsFormat-byte IsFormat-byte))
+
+split_quad : ℕ → ℕ × ℕ
+split_quad q = (q % 65536, q / 65536)
+
+split-quad : (p : ℕ × ℕ) → (p.0 < 65536) × (p.1 < 65536) → split_quad (quad_of p) ≡ p
+unfolding split_quad
+split-quad p h = pair _ _ _ _ (low p.0 p.1 h.0) (top p.0 p.1 h.0)
+  where
+    pair : (a b c d : ℕ) → a ≡ c → b ≡ d → (let q : ℕ × ℕ = (a, b) in q) ≡ (c, d)
+    pair a b c d e f = cc
+
+    low : (a b : ℕ) → a < 65536 → (a + 65536 * b) % 65536 ≡ a
+    low a b h = omega arith
+
+    top : (a b : ℕ) → a < 65536 → (a + 65536 * b) / 65536 ≡ b
+    top a b h = omega arith
+
+quad-split : (q : ℕ) → quad_of (split_quad q) ≡ q
+unfolding split_quad
+quad-split q = omega arith
+
+IsFormat-quad : IsFormat quad spelled.quad (λ q. q < 4294967296)
+unfolding quad split_quad
+IsFormat-quad =
+    IsFormat-as (mapped quad_of (both word word)) spelled.quad (λ q. (q % 65536 < 65536) × (q / 65536 < 65536)) (λ q. q < 4294967296) (λ q h. omega arith) (λ q h. (omega arith, omega arith))
+    (IsFormat-mapped quad_of split_quad (both word word) _ (λ p. (p.0 < 65536) × (p.1 < 65536)) split-quad (λ q h. quad-split q) (IsFormat-both word word _ _ _ _ IsFormat-word IsFormat-word))
+
+-- numbers of nodes: how many there are, in version 1 or not
+abbrev pub node_numbers : Bool → ℕ
+node_numbers true = 65536
+node_numbers false = 4294967296
+
+IsFormat-node_number_by : (b : Bool) → IsFormat (node_number_by b) (spelled.node_number_by b) (λ n. n < node_numbers b)
+IsFormat-node_number_by true = IsFormat-word
+IsFormat-node_number_by false = IsFormat-quad
+
+pub IsFormat-node_number : (version : ℕ) → IsFormat (node_number version) (spelled.node_number version) (λ n. n < node_numbers (version == 1))
+unfolding node_number spelled.node_number
+IsFormat-node_number version = IsFormat-node_number_by (version == 1)
 
 abbrev pub spelled_byte : ℕ → List ℕ
 spelled_byte b = b ∷ []

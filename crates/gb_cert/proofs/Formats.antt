@@ -20,7 +20,7 @@ pub record IsFormat {X : Type 0} (read : Read X) (write : X → List ℕ) (good 
   pub takes : (bytes : List ℕ) (x : X) (rest : List ℕ) → IsBytes bytes → read bytes ≡ Ok (x, rest) → Takes write good bytes x rest
   pub again : (x : X) (rest : List ℕ) → good x → read (write x ++ rest) ≡ Ok (x, rest)
 
-went_on : {X Y : Type 0} (r : Result (X × List ℕ) CertFault) (f : X → List ℕ → Result Y CertFault) (y : Y) → go_on r f ≡ Ok y → (x : X) × (rest : List ℕ) × (r ≡ Ok (x, rest)) × (f x rest ≡ Ok y)
+pub went_on : {X Y : Type 0} (r : Result (X × List ℕ) CertFault) (f : X → List ℕ → Result Y CertFault) (y : Y) → go_on r f ≡ Ok y → (x : X) × (rest : List ℕ) × (r ≡ Ok (x, rest)) × (f x rest ≡ Ok y)
 went_on (Ok p) f y e = (p.0, p.1, refl, e)
 went_on (Err d) f y e = cc
 

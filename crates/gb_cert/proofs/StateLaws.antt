@@ -1,5 +1,5 @@
 -- States, procedures and nodes: what is read is spelled so, and what is spelled so is read.
-use Rattle.std.proofs.Common.{◌≡◌, ℕ, ◌<◌, ◌≤◌, Bool, true, false, ◌&&◌, nat_le, nat_lt, List, ◌∷◌, ◌++◌, length, Option, Some, None, refl, ap, arith}
+use Rattle.std.proofs.Common.{◌≡◌, ℕ, ◌<◌, ◌≤◌, Bool, true, false, ◌&&◌, ◌==◌, nat_le, nat_lt, List, ◌∷◌, ◌++◌, length, Option, Some, None, refl, ap, arith}
 use Rattle.std.specs.Prelude.{not, IfSome, is_some}
 use Rattle.std.specs.List.{AllByRecursion}
 use Rattle.std.proofs.lemmas.Bool.Decides.{nat_tests}
@@ -10,17 +10,16 @@ use Rattle.gb_cert.specs.declared.types.Core.{Core}
 use Rattle.gb_cert.specs.declared.types.Item.{Item}
 use Rattle.gb_cert.specs.declared.types.Cell.{Cell}
 use Rattle.gb_cert.specs.declared.types.Range.{Range}
-use Rattle.gb_cert.specs.declared.types.Node.{Node}
 use Rattle.gb_cert.specs.declared.role.Role.{Role}
 use Rattle.gb_cert.specs.declared.role.Role.TheVariants as role
-use Rattle.gb_cert.specs.Limits.{range_limit, cell_limit, item_limit}
-use Rattle.gb_cert.specs.Types.{AbsState, ProcedureParts}
+use Rattle.gb_cert.specs.Limits.{node_limit_by, node_limit, range_limit, cell_limit, item_limit}
+use Rattle.gb_cert.specs.Types.{AbsState, ProcedureParts, Node}
 use Rattle.gb_cert.specs.Format.{both, checked, followed, optional, byte}
 use Rattle.gb_cert.specs.Rules.{IsChain, IsVal, IsItem, IsCell, IsRange, IsState, IsProcedure, IsNode, is_area, meets, after_cell, after_range, role_of, may_be_pushed, fits, key, is_from}
-use Rattle.gb_cert.specs.Reading.{is_between, word, word_between, count_within, yes_no, core_at, to_item, item_at, items_at, is_free, is_free_byte, to_cell, cell_at, cells_at, to_state, state_at, to_range, range_at, ranges_at, may_return, exit_at, is_below, to_procedure, procedure_at, key_at, to_node, node_at}
+use Rattle.gb_cert.specs.Reading.{is_between, word, word_between, node_number, count_within, yes_no, core_at, to_item, item_at, items_at, is_free, is_free_byte, to_cell, cell_at, cells_at, to_state, state_at, to_range, range_at, ranges_at, may_return, returns_at, exit_at, is_below, entry_at, need_at, to_procedure, procedure_at, key_at, to_node, node_at}
 use Rattle.gb_cert.specs.Spelling as spelled
 use Rattle.gb_cert.proofs.Formats.{IsFormat, IsFormat-byte, IsFormat-both, IsFormat-followed, IsFormat-checked, IsFormat-mapped, IsFormat-as, IsFormat-spelled, IsFormat-optional, IsFormat-counted, spelled_option, is_there, all_of_chain, chain_of_all}
-use Rattle.gb_cert.proofs.FieldLaws.{le_is, is_le, and_both, both_and, within, is_within, spelled_byte, spelled_flag, IsFormat-word, IsFormat-word_between, IsFormat-count_within, IsFormat-yes_no, IsFormat-val, IsCoreFor, IsFormat-core}
+use Rattle.gb_cert.proofs.FieldLaws.{le_is, is_le, and_both, both_and, within, is_within, spelled_byte, spelled_flag, node_numbers, IsFormat-node_number, IsFormat-word, IsFormat-word_between, IsFormat-count_within, IsFormat-yes_no, IsFormat-val, IsCoreFor, IsFormat-core}
 
 not_is : (b : Bool) → not b ≡ true → b ≡ false
 not_is true h = cc
@@ -153,10 +152,10 @@ IsFormat-range region least =
     (IsFormat-mapped to_range from_range _ _ _ (λ x h. refl) (λ y h. refl)
     (IsFormat-checked fault.Field (is_free region) _ _ _ (IsFormat-both _ word _ _ _ _ (IsFormat-checked fault.Order (nat_le least) word spelled.word (λ a. a < 65536) IsFormat-word) IsFormat-word)))
 
-abbrev AreRanges : Region → List Range → Type 0
+abbrev pub AreRanges : Region → List Range → Type 0
 AreRanges region ranges = (length ranges ≤ range_limit) × IsChain (IsRange region) after_range 0 ranges
 
-IsFormat-ranges : (region : Region) → IsFormat (ranges_at region) (spelled.counted spelled.range) (AreRanges region)
+pub IsFormat-ranges : (region : Region) → IsFormat (ranges_at region) (spelled.counted spelled.range) (AreRanges region)
 unfolding ranges_at
 IsFormat-ranges region = IsFormat-counted (count_within range_limit) spelled_byte (λ n. n ≤ range_limit) (range_at region) after_range spelled.range (IsRange region) 0 (IsFormat-count_within range_limit (omega arith)) (IsFormat-range region)
 
@@ -170,7 +169,7 @@ exit-there : (region : Region) (is_main : Bool) (p : Bool × Option AbsState) �
 unfolding from_exit
 exit-there region is_main p h = ap (λ (b : Bool). (let q : Bool × Option AbsState = (b, p.1) in q)) h.1.0
 
-abbrev AreExit : Region → Bool → Option AbsState → Type 0
+abbrev pub AreExit : Region → Bool → Option AbsState → Type 0
 AreExit region is_main o = ((is_main && is_some o) ≡ false) × IfSome o (IsState role.Exit region)
 
 exit-is : (region : Region) (is_main : Bool) (o : Option AbsState) → IsExitPair region is_main (from_exit o) → AreExit region is_main o
@@ -195,24 +194,27 @@ unfolding from_exit spelled.exit
 exit-spelled None = refl
 exit-spelled (Some s) = refl
 
-IsFormat-exit : (region : Region) (is_main : Bool) → IsFormat (exit_at region is_main) spelled.exit (AreExit region is_main)
-unfolding exit_at
+pub IsFormat-exit : (region : Region) (is_main : Bool) → IsFormat (exit_at region is_main) spelled.exit (AreExit region is_main)
+unfolding returns_at exit_at
 IsFormat-exit region is_main =
     IsFormat-spelled (exit_at region is_main) spelled_exit spelled.exit (AreExit region is_main) (λ o h. exit-spelled o)
     (IsFormat-as (exit_at region is_main) spelled_exit (λ o. IsExitPair region is_main (from_exit o)) (AreExit region is_main) (exit-is region is_main) (is-exit region is_main)
-    (IsFormat-mapped (λ (p : Bool × Option AbsState). p.1) from_exit (followed (checked fault.Field (may_return is_main) yes_no) (λ returns. optional returns (state_at role.Exit region))) (λ p. spelled.flag p.0 ∷ spelled_option spelled.state p.1) (IsExitPair region is_main) (exit-there region is_main) (λ o h. exit-again o)
-    (IsFormat-followed (checked fault.Field (may_return is_main) yes_no) (λ returns. optional returns (state_at role.Exit region)) spelled_flag (λ b. spelled_option spelled.state) (λ b. Unit {0} × (may_return is_main b ≡ true)) (λ b o. (is_there o ≡ b) × IfSome o (IsState role.Exit region))
+    (IsFormat-mapped (λ (p : Bool × Option AbsState). p.1) from_exit (followed (returns_at is_main) (λ returns. optional returns (state_at role.Exit region))) (λ p. spelled.flag p.0 ∷ spelled_option spelled.state p.1) (IsExitPair region is_main) (exit-there region is_main) (λ o h. exit-again o)
+    (IsFormat-followed (returns_at is_main) (λ returns. optional returns (state_at role.Exit region)) spelled_flag (λ b. spelled_option spelled.state) (λ b. Unit {0} × (may_return is_main b ≡ true)) (λ b o. (is_there o ≡ b) × IfSome o (IsState role.Exit region))
     (IsFormat-checked fault.Field (may_return is_main) yes_no spelled_flag (λ b. Unit {0}) IsFormat-yes_no)
     (λ b h. IsFormat-optional b (state_at role.Exit region) spelled.state (IsState role.Exit region) (IsFormat-state role.Exit region)))))
+
+abbrev AreBody : Region → Bool → ProcedureParts → Type 0
+AreBody region is_main p = (((p.need < 65536) × (is_between 0 4096 p.need ≡ true)) × (fits is_main region p.need ≡ true)) × (AreRanges region p.ranges × AreExit region is_main p.exit)
 
 from_procedure : ProcedureParts → ℕ × (ℕ × (List Range × Option AbsState))
 from_procedure p = (p.entry, (p.need, (p.ranges, p.exit)))
 
-abbrev AreProcedure : Region → ℕ → Bool → ProcedureParts → Type 0
-AreProcedure region nodes is_main p = ((p.entry < 65536) × (is_below nodes p.entry ≡ true)) × ((((p.need < 65536) × (is_between 0 4096 p.need ≡ true)) × (fits is_main region p.need ≡ true)) × (AreRanges region p.ranges × AreExit region is_main p.exit))
+abbrev AreProcedure : ℕ → Region → ℕ → Bool → ProcedureParts → Type 0
+AreProcedure version region nodes is_main p = ((p.entry < node_numbers (version == 1)) × (is_below nodes p.entry ≡ true)) × AreBody region is_main p
 
-procedure-is : (region : Region) (nodes : ℕ) (is_main : Bool) (p : ProcedureParts) → AreProcedure region nodes is_main p → IsProcedure region nodes is_main p
-procedure-is region nodes is_main p h = record {
+procedure-is : (version : ℕ) (region : Region) (nodes : ℕ) (is_main : Bool) (p : ProcedureParts) → AreProcedure version region nodes is_main p → IsProcedure region nodes is_main p
+procedure-is version region nodes is_main p h = record {
   entry = lt_is p.entry nodes h.0.1;
   need = within 4096 p.need h.1.0.0.1;
   room = h.1.0.1;
@@ -222,18 +224,34 @@ procedure-is region nodes is_main p h = record {
   main = h.1.1.1.0;
 }
 
-is-procedure : (region : Region) (nodes : ℕ) (is_main : Bool) (p : ProcedureParts) → nodes < 65536 → IsProcedure region nodes is_main p → AreProcedure region nodes is_main p
-is-procedure region nodes is_main p few h =
-    let entry : p.entry < 65536 = omega (arith, h.entry) in
-    let need : p.need < 65536 = omega (arith, h.need) in
-    ((entry, is_lt p.entry nodes h.entry), (((need, is_within 4096 p.need h.need), h.room), ((h.range_count, h.ranges), (h.main, h.exit))))
+limit_small : (b : Bool) → node_limit_by b < node_numbers b
+limit_small true = omega arith
+limit_small false = omega arith
 
-pub IsFormat-procedure : (region : Region) (nodes : ℕ) (is_main : Bool) → nodes < 65536 → IsFormat (procedure_at region nodes is_main) spelled.procedure (IsProcedure region nodes is_main)
-unfolding procedure_at from_procedure spelled.procedure
-IsFormat-procedure region nodes is_main few =
-    IsFormat-as (procedure_at region nodes is_main) spelled.procedure (AreProcedure region nodes is_main) (IsProcedure region nodes is_main) (procedure-is region nodes is_main) (λ p h. is-procedure region nodes is_main p few h)
+limit_by_bound : (b : Bool) (n : ℕ) → n ≤ node_limit_by b → n ≤ 1048576
+limit_by_bound true n h = omega arith
+limit_by_bound false n h = h
+
+pub limit_bound : (version n : ℕ) → n ≤ node_limit version → n ≤ 1048576
+unfolding node_limit
+limit_bound version n h = limit_by_bound (version == 1) n h
+
+pub number_small : (version n : ℕ) → n ≤ node_limit version → n < node_numbers (version == 1)
+unfolding node_limit
+number_small version n h = omega (arith, limit_small (version == 1))
+
+is-procedure : (version : ℕ) (region : Region) (nodes : ℕ) (is_main : Bool) (p : ProcedureParts) → nodes ≤ node_limit version → IsProcedure region nodes is_main p → AreProcedure version region nodes is_main p
+is-procedure version region nodes is_main p few h =
+    let below : p.entry ≤ node_limit version = omega (arith, h.entry) in
+    let need : p.need < 65536 = omega (arith, h.need) in
+    ((number_small version p.entry below, is_lt p.entry nodes h.entry), (((need, is_within 4096 p.need h.need), h.room), ((h.range_count, h.ranges), (h.main, h.exit))))
+
+pub IsFormat-procedure : (version : ℕ) (region : Region) (nodes : ℕ) (is_main : Bool) → nodes ≤ node_limit version → IsFormat (procedure_at version region nodes is_main) (spelled.procedure version) (IsProcedure region nodes is_main)
+unfolding entry_at need_at procedure_at from_procedure spelled.procedure spelled.body
+IsFormat-procedure version region nodes is_main few =
+    IsFormat-as (procedure_at version region nodes is_main) (spelled.procedure version) (AreProcedure version region nodes is_main) (IsProcedure region nodes is_main) (procedure-is version region nodes is_main) (λ p h. is-procedure version region nodes is_main p few h)
     (IsFormat-mapped to_procedure from_procedure _ _ _ (λ x h. refl) (λ y h. refl)
-    (IsFormat-both _ _ _ _ _ _ (IsFormat-checked fault.Field (is_below nodes) word spelled.word (λ a. a < 65536) IsFormat-word)
+    (IsFormat-both _ _ _ _ _ _ (IsFormat-checked fault.Field (is_below nodes) (node_number version) (spelled.node_number version) (λ a. a < node_numbers (version == 1)) (IsFormat-node_number version))
     (IsFormat-both _ _ _ _ _ _ (IsFormat-checked fault.Region (fits is_main region) _ _ _ (IsFormat-word_between 0 4096))
     (IsFormat-both _ _ _ _ _ _ (IsFormat-ranges region) (IsFormat-exit region is_main)))))
 

@@ -1,11 +1,11 @@
 -- What contracts see of a certificate.
-use Rattle.std.specs.Prelude.{List}
+use Rattle.std.specs.Prelude.{ℕ, List}
 use Rattle.gb_ops.specs.declared.machine.Region.{Region}
-use Rattle.gb_cert.specs.declared.types.Node.{Node}
-use Rattle.gb_cert.specs.Types.{ProcedureParts}
+use Rattle.gb_cert.specs.Types.{ProcedureParts, Node}
 
--- a certificate
+-- a certificate; its version is 1 or 2
 pub record Certificate : Type 0 where
+  pub version : ℕ
   pub procedures : List ProcedureParts
   pub nodes : List Node
   pub region : Region

@@ -1,9 +1,11 @@
+pub mod Borrowed
 pub mod Certificate
 pub mod Fault
 pub mod Format
 pub mod Limits
-pub mod Parts
+pub mod Places
 pub mod Reading
 pub mod Rules
+pub mod Skipping
 pub mod Spelling
 pub mod Types

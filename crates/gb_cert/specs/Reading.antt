@@ -1,5 +1,5 @@
 -- Reading a certificate, field by field (own format). A test of two fields is made behind the later one.
-use Rattle.std.specs.Prelude.{ℕ, ◌+◌, ◌*◌, ◌-◌, ◌/◌, ◌%◌, Bool, true, ◌&&◌, ◌||◌, not, ◌==◌, nat_le, nat_lt, List, Option, Some, None, Result, if◌then◌else◌}
+use Rattle.std.specs.Prelude.{ℕ, ◌+◌, ◌*◌, ◌-◌, ◌/◌, ◌%◌, Bool, true, false, ◌&&◌, ◌||◌, not, ◌==◌, nat_le, nat_lt, List, Option, Some, None, Result, if◌then◌else◌}
 use Rattle.gb_ops.specs.declared.machine.Region.{Region}
 use Rattle.gb_ops.specs.declared.op.Register.TheVariants.{A, B, C, D, E, H, L}
 use Rattle.gb_ops.specs.declared.registers.Registers.{Registers}
@@ -16,15 +16,14 @@ use Rattle.gb_cert.specs.declared.types.Core.{Core}
 use Rattle.gb_cert.specs.declared.types.Item.{Item}
 use Rattle.gb_cert.specs.declared.types.Cell.{Cell}
 use Rattle.gb_cert.specs.declared.types.Range.{Range}
-use Rattle.gb_cert.specs.declared.types.Node.{Node}
 use Rattle.gb_cert.specs.declared.role.Role.{Role}
 use Rattle.gb_cert.specs.declared.role.Role.TheVariants as role
 use Rattle.gb_cert.specs.declared.head.Head.{Head}
-use Rattle.gb_cert.specs.Limits.{procedure_limit, range_limit, cell_limit, item_limit}
-use Rattle.gb_cert.specs.Types.{AbsState, ProcedureParts}
+use Rattle.gb_cert.specs.Limits.{procedure_limit, node_limit, range_limit, cell_limit, item_limit}
+use Rattle.gb_cert.specs.Types.{AbsState, ProcedureParts, Node}
 use Rattle.gb_cert.specs.Certificate.{Certificate}
 use Rattle.gb_cert.specs.Format.{Read, followed, both, mapped, checked, optional, several, counted, whole, byte}
-use Rattle.gb_cert.specs.Rules.{has_value, is_area, meets, after_cell, after_range, role_of, needs_stack, may_be_pushed, fits, is_after, key, is_from, have_entries}
+use Rattle.gb_cert.specs.Rules.{has_value, is_area, meets, after_cell, after_range, role_of, needs_stack, may_be_pushed, fits, is_after, key, is_from, is_version, have_entries}
 
 -- ---- numbers
 
@@ -40,6 +39,21 @@ word_of p = p.0 + 256 * p.1
 -- two bytes, the low one first
 unfoldable pub word : Read ℕ
 word = mapped word_of (both byte byte)
+
+abbrev pub quad_of : ℕ × ℕ → ℕ
+quad_of p = p.0 + 65536 * p.1
+
+-- two words, the low one first
+unfoldable pub quad : Read ℕ
+quad = mapped quad_of (both word word)
+
+abbrev pub node_number_by : Bool → Read ℕ
+node_number_by true = word
+node_number_by false = quad
+
+-- the number of a node, or of all nodes: two bytes in version 1, else four
+unfoldable pub node_number : ℕ → Read ℕ
+node_number version = node_number_by (version == 1)
 
 -- a number from low to high
 abbrev pub byte_between : ℕ → ℕ → Read ℕ
@@ -204,9 +218,13 @@ ranges_at region = counted (count_within range_limit) (range_at region) after_ra
 abbrev pub may_return : Bool → Bool → Bool
 may_return is_main returns = not (is_main && returns)
 
--- whether it returns, and in what state
+-- whether it returns, which main doesn't
+unfoldable pub returns_at : Bool → Read Bool
+returns_at is_main = checked fault.Field (may_return is_main) yes_no
+
+-- in what state it returns, if it does
 unfoldable pub exit_at : Region → Bool → Read (Option AbsState)
-exit_at region is_main = mapped (λ p. p.1) (followed (checked fault.Field (may_return is_main) yes_no) (λ returns. optional returns (state_at role.Exit region)))
+exit_at region is_main = mapped (λ p. p.1) (followed (returns_at is_main) (λ returns. optional returns (state_at role.Exit region)))
 
 abbrev pub is_below : ℕ → ℕ → Bool
 is_below limit n = nat_lt n limit
@@ -214,8 +232,16 @@ is_below limit n = nat_lt n limit
 abbrev pub to_procedure : ℕ × (ℕ × (List Range × Option AbsState)) → ProcedureParts
 to_procedure p = record { entry = p.0; need = p.1.0; ranges = p.1.1.0; exit = p.1.1.1 }
 
-unfoldable pub procedure_at : Region → ℕ → Bool → Read ProcedureParts
-procedure_at region nodes is_main = mapped to_procedure (both (checked fault.Field (is_below nodes) word) (both (checked fault.Region (fits is_main region) (word_between 0 4096)) (both (ranges_at region) (exit_at region is_main))))
+-- the number of its first node, one of so many
+unfoldable pub entry_at : ℕ → ℕ → Read ℕ
+entry_at version nodes = checked fault.Field (is_below nodes) (node_number version)
+
+-- the words of stack that it needs below its return word
+unfoldable pub need_at : Bool → Region → Read ℕ
+need_at is_main region = checked fault.Region (fits is_main region) (word_between 0 4096)
+
+unfoldable pub procedure_at : ℕ → Region → ℕ → Bool → Read ProcedureParts
+procedure_at version region nodes is_main = mapped to_procedure (both (entry_at version nodes) (both (need_at is_main region) (both (ranges_at region) (exit_at region is_main))))
 
 -- ---- nodes
 
@@ -239,7 +265,7 @@ abbrev pub magic_at : Read (ℕ × (ℕ × (ℕ × ℕ)))
 magic_at = checked fault.Magic is_magic (both byte (both byte (both byte byte)))
 
 abbrev pub version_at : Read ℕ
-version_at = checked fault.Version is_one byte
+version_at = checked fault.Version is_version byte
 
 abbrev pub is_region : ℕ × ℕ → Bool
 is_region p = is_area p.0 p.1 && (p.1 - p.0) % 2 == 1
@@ -254,13 +280,17 @@ abbrev pub is_any : ℕ → Bool
 is_any n = nat_lt 0 n
 
 abbrev pub to_head : (ℕ × (ℕ × (ℕ × ℕ))) × (ℕ × (Region × (ℕ × ℕ))) → Head
-to_head p = record { region = p.1.1.0; procedures = p.1.1.1.0; nodes = p.1.1.1.1 }
+to_head p = record { version = p.1.0; region = p.1.1.0; procedures = p.1.1.1.0; nodes = p.1.1.1.1 }
+
+-- how many nodes there are
+unfoldable pub node_count_at : ℕ → Read ℕ
+node_count_at version = checked fault.Field is_any (checked fault.Count (is_between 0 (node_limit version)) (node_number version))
 
 unfoldable pub head_at : Read Head
-head_at = mapped to_head (both magic_at (both version_at (both region_at (both (checked fault.Field is_any (count_within procedure_limit)) (checked fault.Field is_any word)))))
+head_at = mapped to_head (both magic_at (followed version_at (λ v. both region_at (both (checked fault.Field is_any (count_within procedure_limit)) (node_count_at v)))))
 
-unfoldable pub procedures_at : Region → ℕ → ℕ → Read (List ProcedureParts)
-procedures_at region nodes count = several (procedure_at region nodes) is_after true count
+unfoldable pub procedures_at : ℕ → Region → ℕ → ℕ → Read (List ProcedureParts)
+procedures_at version region nodes count = several (procedure_at version region nodes) is_after true count
 
 unfoldable pub nodes_at : Region → ℕ → ℕ → Read (List Node)
 nodes_at region procedures count = several (node_at region procedures) key (0, 0) count
@@ -269,11 +299,11 @@ abbrev pub have_entries_in : Head × (List ProcedureParts × List Node) → Bool
 have_entries_in p = have_entries 0 p.1.0 p.1.1
 
 abbrev pub to_certificate : Head × (List ProcedureParts × List Node) → Certificate
-to_certificate p = record { procedures = p.1.0; nodes = p.1.1; region = p.0.region }
+to_certificate p = record { version = p.0.version; procedures = p.1.0; nodes = p.1.1; region = p.0.region }
 
 -- the head, the procedures and the nodes; then each entry must be a node of its procedure
 unfoldable pub certificate_at : Read Certificate
-certificate_at = mapped to_certificate (checked fault.Field have_entries_in (followed head_at (λ h. both (procedures_at h.region h.nodes h.procedures) (nodes_at h.region h.procedures h.nodes))))
+certificate_at = mapped to_certificate (checked fault.Field have_entries_in (followed head_at (λ h. both (procedures_at h.version h.region h.nodes h.procedures) (nodes_at h.region h.procedures h.nodes))))
 
 -- a certificate that is all of the bytes
 unfoldable pub read_certificate : List ℕ → Result Certificate CertFault

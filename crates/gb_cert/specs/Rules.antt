@@ -13,11 +13,10 @@ use Rattle.gb_cert.specs.declared.types.Core.{Core}
 use Rattle.gb_cert.specs.declared.types.Item.{Item}
 use Rattle.gb_cert.specs.declared.types.Cell.{Cell}
 use Rattle.gb_cert.specs.declared.types.Range.{Range}
-use Rattle.gb_cert.specs.declared.types.Node.{Node}
 use Rattle.gb_cert.specs.declared.role.Role.{Role}
 use Rattle.gb_cert.specs.declared.role.Role.TheVariants as role
-use Rattle.gb_cert.specs.Limits.{procedure_limit, range_limit, cell_limit, item_limit}
-use Rattle.gb_cert.specs.Types.{AbsState, ProcedureParts}
+use Rattle.gb_cert.specs.Limits.{procedure_limit, node_limit, range_limit, cell_limit, item_limit}
+use Rattle.gb_cert.specs.Types.{AbsState, ProcedureParts, Node}
 use Rattle.gb_cert.specs.Certificate.{Certificate}
 
 -- Each element is right, by what the one before it leaves; s is what the first begins with.
@@ -192,12 +191,16 @@ have_entries number (p ∷ ps) nodes = is_of number (slice_get nodes p.entry) &&
 
 -- ---- certificates
 
+abbrev pub is_version : ℕ → Bool
+is_version n = n == 1 || n == 2
+
 pub record IsCertificate (c : Certificate) : Type 0 where
+  pub version : is_version c.version ≡ true
   pub region : IsRegion c.region
   pub some_procedure : 0 < length c.procedures
   pub procedure_count : length c.procedures ≤ procedure_limit
   pub some_node : 0 < length c.nodes
-  pub node_count : length c.nodes < 65536
+  pub node_count : length c.nodes ≤ node_limit c.version
   pub procedures : IsChain (IsProcedure c.region (length c.nodes)) is_after true c.procedures
   pub nodes : IsChain (IsNode c.region (length c.procedures)) key (0, 0) c.nodes
   pub entries : have_entries 0 c.procedures c.nodes ≡ true

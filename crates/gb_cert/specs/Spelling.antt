@@ -1,5 +1,5 @@
 -- The one spelling of each certificate, in bytes (own format). Words have their low byte first.
-use Rattle.std.specs.Prelude.{◌≡◌, ℕ, ◌+◌, ◌*◌, ◌/◌, ◌%◌, Bool, true, false, List, [], ◌∷◌, ◌++◌, length, Option, Some, None}
+use Rattle.std.specs.Prelude.{◌≡◌, ℕ, ◌+◌, ◌*◌, ◌/◌, ◌%◌, Bool, true, false, ◌==◌, List, [], ◌∷◌, ◌++◌, length, Option, Some, None}
 use Rattle.std.specs.List.{flat_map}
 use Rattle.gb_ops.specs.declared.op.Register.TheVariants.{A, B, C, D, E, H, L}
 use Rattle.gb_ops.specs.declared.registers.Registers.{Registers}
@@ -14,13 +14,23 @@ use Rattle.gb_cert.specs.declared.types.Core.{Core}
 use Rattle.gb_cert.specs.declared.types.Item.{Item}
 use Rattle.gb_cert.specs.declared.types.Cell.{Cell}
 use Rattle.gb_cert.specs.declared.types.Range.{Range}
-use Rattle.gb_cert.specs.declared.types.Node.{Node}
-use Rattle.gb_cert.specs.Types.{AbsState, ProcedureParts}
+use Rattle.gb_cert.specs.Types.{AbsState, ProcedureParts, Node}
 use Rattle.gb_cert.specs.Certificate.{Certificate}
 use Rattle.gb_cert.specs.Rules.{IsCertificate}
 
 abbrev pub word : ℕ → List ℕ
 word n = n % 256 ∷ n / 256 ∷ []
+
+abbrev pub quad : ℕ → List ℕ
+quad n = word (n % 65536) ++ word (n / 65536)
+
+abbrev pub node_number_by : Bool → ℕ → List ℕ
+node_number_by true = word
+node_number_by false = quad
+
+-- the number of a node, or of all nodes: two bytes in version 1, else four
+unfoldable pub node_number : ℕ → ℕ → List ℕ
+node_number version = node_number_by (version == 1)
 
 -- yes is 1, no is 0
 abbrev pub flag : Bool → ℕ
@@ -98,18 +108,22 @@ unfoldable pub exit : Option AbsState → List ℕ
 exit None = 0 ∷ []
 exit (Some s) = 1 ∷ state s
 
-unfoldable pub procedure : ProcedureParts → List ℕ
-procedure p = word p.entry ++ (word p.need ++ (counted range p.ranges ++ exit p.exit))
+-- all of a procedure but its entry
+unfoldable pub body : ProcedureParts → List ℕ
+body p = word p.need ++ (counted range p.ranges ++ exit p.exit)
+
+unfoldable pub procedure : ℕ → ProcedureParts → List ℕ
+procedure version p = node_number version p.entry ++ body p
 
 unfoldable pub node : Node → List ℕ
 node n = (n.procedure ∷ word n.address) ++ (word n.bank ++ state n.state)
 
 -- the letters GBBC, the version, the stack region, how many procedures and nodes there are
 unfoldable pub head : Certificate → List ℕ
-head c = (0x47 ∷ 0x42 ∷ 0x42 ∷ 0x43 ∷ 1 ∷ []) ++ (word c.region.first ++ (word c.region.last ++ (length c.procedures ∷ word (length c.nodes))))
+head c = (0x47 ∷ 0x42 ∷ 0x42 ∷ 0x43 ∷ c.version ∷ []) ++ (word c.region.first ++ (word c.region.last ++ (length c.procedures ∷ node_number c.version (length c.nodes))))
 
 unfoldable pub spelling : Certificate → List ℕ
-spelling c = head c ++ (flat_map procedure c.procedures ++ flat_map node c.nodes)
+spelling c = head c ++ (flat_map (procedure c.version) c.procedures ++ flat_map node c.nodes)
 
 -- The bytes are a certificate, and this one.
 pub record Spells (bytes : List ℕ) (c : Certificate) : Type 0 where

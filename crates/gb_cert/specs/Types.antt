@@ -1,4 +1,4 @@
--- What contracts see of states and procedures: plain lists.
+-- What contracts see of states, procedures and nodes: plain lists.
 use Rattle.std.specs.Prelude.{ℕ, List, [], Option, None}
 use Rattle.gb_cert.specs.declared.types.Val.{Val}
 use Rattle.gb_cert.specs.declared.types.Core.{Core}
@@ -22,6 +22,13 @@ pub record ProcedureParts : Type 0 where
   pub need : ℕ
   pub ranges : List Range
   pub exit : Option AbsState
+
+-- what a certificate claims for one address of a procedure: the bank shown there, and a state
+pub record Node : Type 0 where
+  pub procedure : ℕ
+  pub address : ℕ
+  pub bank : ℕ
+  pub state : AbsState
 
 -- any byte
 abbrev pub any_val : Val

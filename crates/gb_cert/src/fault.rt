@@ -18,7 +18,7 @@ pub enum CertFault {
     #[error("the first four bytes are not GBBC")]
     Magic,
     /// C3.
-    #[error("the version is not 1")]
+    #[error("the version is neither 1 nor 2")]
     Version,
     /// C4.
     #[error("a count is over its limit")]

@@ -1,9 +1,9 @@
 //! Reading the fields of a state, one after the other.
 
-ghost use Rattle.std.specs.Prelude.{◌≡◌, ◌&&◌, ◌||◌, nat_le};
+ghost use Rattle.std.specs.Prelude.{◌≡◌, ◌&&◌, ◌||◌, nat_le, drop};
 ghost use Rattle.gb_cert.specs.Format.{Gives, byte};
 ghost use Rattle.gb_cert.specs.Rules.{has_value};
-ghost use Rattle.gb_cert.specs.Reading.{word, byte_between, word_between, count_within, yes_no, origin_of, origin_at, val_at, may_at, ime_at, test_at, flg_at, ctl_at, vals_at, core_at};
+ghost use Rattle.gb_cert.specs.Reading.{word, quad, node_number, byte_between, word_between, count_within, yes_no, origin_of, origin_at, val_at, may_at, ime_at, test_at, flg_at, ctl_at, vals_at, core_at};
 
 use crate::fault::CertFault;
 use crate::role::Role;
@@ -12,6 +12,19 @@ use byteorder::{ByteOrder, LittleEndian};
 use gb_ops::op::Register;
 use gb_ops::registers::Registers;
 
+/// The bytes from a place on, none where it is behind their end.
+#[inline(always)]
+pub fn from_place(bytes: &[u8], place: usize) -> &[u8]
+    ensures { result.now ≡ drop place bytes.now }
+{
+    if place <= bytes.len() {
+        &bytes[place..]
+    } else {
+        &[]
+    }
+}
+
+#[inline(always)]
 pub fn byte(bytes: &[u8]) -> Result<(u8, &[u8]), CertFault>
     ensures { Gives (λ x. (x.0, x.1.now)) result (byte bytes.now) }
 {
@@ -21,6 +34,7 @@ pub fn byte(bytes: &[u8]) -> Result<(u8, &[u8]), CertFault>
     }
 }
 
+#[inline(always)]
 #[tactic(auto, unfolding(crate::specs::Reading::word))]
 pub fn word(bytes: &[u8]) -> Result<(u16, &[u8]), CertFault>
     ensures { Gives (λ x. (x.0, x.1.now)) result (word bytes.now) }
@@ -31,7 +45,31 @@ pub fn word(bytes: &[u8]) -> Result<(u16, &[u8]), CertFault>
     }
 }
 
+/// Two words, the low one first.
+#[tactic(auto, unfolding(crate::specs::Reading::quad))]
+fn quad(bytes: &[u8]) -> Result<(u32, &[u8]), CertFault>
+    ensures { Gives (λ x. (x.0, x.1.now)) result (quad bytes.now) }
+{
+    let (low, rest) = word(bytes)?;
+    let (high, rest) = word(rest)?;
+    Ok((low as u32 + 65536 * high as u32, rest))
+}
+
+/// The number of a node, or of all nodes: two bytes in version 1, else four.
+#[tactic(auto, unfolding(crate::specs::Reading::node_number))]
+pub fn node_number(version: u8, bytes: &[u8]) -> Result<(u32, &[u8]), CertFault>
+    ensures { Gives (λ x. (x.0, x.1.now)) result (node_number version bytes.now) }
+{
+    if version == 1 {
+        let (number, rest) = word(bytes)?;
+        Ok((number as u32, rest))
+    } else {
+        quad(bytes)
+    }
+}
+
 /// A byte from low to high.
+#[inline(always)]
 pub fn byte_between(low: u8, high: u8, bytes: &[u8]) -> Result<(u8, &[u8]), CertFault>
     ensures { Gives (λ x. (x.0, x.1.now)) result (byte_between low high bytes.now) }
 {
@@ -44,6 +82,7 @@ pub fn byte_between(low: u8, high: u8, bytes: &[u8]) -> Result<(u8, &[u8]), Cert
 }
 
 /// A word from low to high.
+#[inline(always)]
 pub fn word_between(low: u16, high: u16, bytes: &[u8]) -> Result<(u16, &[u8]), CertFault>
     ensures { Gives (λ x. (x.0, x.1.now)) result (word_between low high bytes.now) }
 {
@@ -55,7 +94,8 @@ pub fn word_between(low: u16, high: u16, bytes: &[u8]) -> Result<(u16, &[u8]), C
     }
 }
 
-/// How many there are.
+/// A count of at most the limit.
+#[inline(always)]
 pub fn count_within(limit: u8, bytes: &[u8]) -> Result<(u8, &[u8]), CertFault>
     ensures { Gives (λ x. (x.0, x.1.now)) result (count_within limit bytes.now) }
 {
@@ -67,6 +107,7 @@ pub fn count_within(limit: u8, bytes: &[u8]) -> Result<(u8, &[u8]), CertFault>
     }
 }
 
+#[inline(always)]
 #[tactic(auto, unfolding(crate::specs::Reading::yes_no))]
 pub fn yes_no(bytes: &[u8]) -> Result<(bool, &[u8]), CertFault>
     ensures { Gives (λ x. (x.0, x.1.now)) result (yes_no bytes.now) }
@@ -75,6 +116,7 @@ pub fn yes_no(bytes: &[u8]) -> Result<(bool, &[u8]), CertFault>
     Ok((number == 1, rest))
 }
 
+#[inline(always)]
 fn origin_of(number: u8) -> Option<Origin>
     ensures { result ≡ origin_of number }
 {
@@ -92,6 +134,7 @@ fn origin_of(number: u8) -> Option<Origin>
     }
 }
 
+#[inline(always)]
 #[tactic(auto, unfolding(crate::specs::Reading::origin_at))]
 fn origin_at(bytes: &[u8]) -> Result<(Option<Origin>, &[u8]), CertFault>
     ensures { Gives (λ x. (x.0, x.1.now)) result (origin_at bytes.now) }
@@ -100,6 +143,7 @@ fn origin_at(bytes: &[u8]) -> Result<(Option<Origin>, &[u8]), CertFault>
     Ok((origin_of(number), rest))
 }
 
+#[inline(always)]
 #[tactic(auto, unfolding(crate::specs::Reading::val_at))]
 pub fn val_at(bytes: &[u8]) -> Result<(Val, &[u8]), CertFault>
     ensures { Gives (λ x. (x.0, x.1.now)) result (val_at bytes.now) }
@@ -113,6 +157,7 @@ pub fn val_at(bytes: &[u8]) -> Result<(Val, &[u8]), CertFault>
     Ok((Val { lo, hi, origin }, rest))
 }
 
+#[inline(always)]
 #[tactic(auto, unfolding(crate::specs::Reading::may_at))]
 fn may_at(bytes: &[u8]) -> Result<(May, &[u8]), CertFault>
     ensures { Gives (λ x. (x.0, x.1.now)) result (may_at bytes.now) }
@@ -125,6 +170,7 @@ fn may_at(bytes: &[u8]) -> Result<(May, &[u8]), CertFault>
     Ok((may, rest))
 }
 
+#[inline(always)]
 #[tactic(auto, unfolding(crate::specs::Reading::ime_at))]
 fn ime_at(bytes: &[u8]) -> Result<(ImeSet, &[u8]), CertFault>
     ensures { Gives (λ x. (x.0, x.1.now)) result (ime_at bytes.now) }
@@ -138,6 +184,7 @@ fn ime_at(bytes: &[u8]) -> Result<(ImeSet, &[u8]), CertFault>
     Ok((ime, rest))
 }
 
+#[inline(always)]
 #[tactic(auto, unfolding(crate::specs::Reading::test_at))]
 fn test_at(bytes: &[u8]) -> Result<(Option<u8>, &[u8]), CertFault>
     ensures { Gives (λ x. (x.0, x.1.now)) result (test_at bytes.now) }
@@ -153,12 +200,14 @@ fn test_at(bytes: &[u8]) -> Result<(Option<u8>, &[u8]), CertFault>
     }
 }
 
+#[inline(always)]
 fn has_value(may: May) -> bool
     ensures { result ≡ has_value may }
 {
     may.clear || may.set
 }
 
+#[inline(always)]
 #[tactic(auto, unfolding(crate::specs::Reading::flg_at))]
 fn flg_at(bytes: &[u8]) -> Result<(Flg, &[u8]), CertFault>
     ensures { Gives (λ x. (x.0, x.1.now)) result (flg_at bytes.now) }
@@ -197,6 +246,7 @@ fn flg_at(bytes: &[u8]) -> Result<(Flg, &[u8]), CertFault>
     Ok((flags, rest))
 }
 
+#[inline(always)]
 #[tactic(auto, unfolding(crate::specs::Reading::ctl_at))]
 fn ctl_at(bytes: &[u8]) -> Result<(Ctl, &[u8]), CertFault>
     ensures { Gives (λ x. (x.0, x.1.now)) result (ctl_at bytes.now) }
@@ -226,6 +276,7 @@ fn ctl_at(bytes: &[u8]) -> Result<(Ctl, &[u8]), CertFault>
     Ok((ctl, rest))
 }
 
+#[inline(always)]
 #[tactic(auto, unfolding(crate::specs::Reading::vals_at))]
 fn vals_at(bytes: &[u8]) -> Result<(Registers<Val>, &[u8]), CertFault>
     ensures { Gives (λ x. (x.0, x.1.now)) result (vals_at bytes.now) }
@@ -249,6 +300,7 @@ fn vals_at(bytes: &[u8]) -> Result<(Registers<Val>, &[u8]), CertFault>
     Ok((registers, rest))
 }
 
+#[inline(always)]
 #[tactic(auto, unfolding(crate::specs::Reading::core_at))]
 pub fn core_at(role: Role, bytes: &[u8]) -> Result<(Core, &[u8]), CertFault>
     ensures { Gives (λ x. (x.0, x.1.now)) result (core_at role bytes.now) }

@@ -1,20 +1,30 @@
-//! Certificates: their types, their bytes read and written.
+//! Certificates, in the bytes of their files. `Cert::parse` walks over the bytes once, checks each
+//! field and keeps where each node stands; a `Cert` then lends its nodes and procedures. The key
+//! contract is `Cert::parse`: bytes are accepted exactly where they spell a certificate
+//! (`specs/Rules.antt`, `specs/Spelling.antt`), with the first fault else (`specs/Reading.antt`).
+//!
+//! To be read in this order: types, abs (values and states), fields and states (reading them),
+//! walk (passing over them), head, parse, then cert with node and procedure, and find.
 #![tactic(auto)]
 
-mod certificate;
+mod abs;
+mod cert;
 mod fault;
 mod fields;
+mod find;
 mod head;
 pub mod limits;
+mod node;
 mod parse;
+mod procedure;
 mod role;
 mod states;
 pub mod types;
-mod writing;
+mod walk;
 
+pub use cert::encode;
 pub use fault::CertFault;
+pub use gb_rows::Found;
+pub use node::NodeRef;
 pub use parse::one_spelling;
-pub use writing::encode;
-
-#[cfg(test)]
-mod tests;
+pub use procedure::ProcedureRef;

@@ -1,21 +1,22 @@
-//! Reading states, procedures and nodes.
+//! Reading states, and ranges.
 
 ghost use Rattle.std.specs.Prelude.{◌≡◌, ◌≤◌, ◌&&◌, ◌||◌, true, nat_le};
 ghost use Rattle.gb_cert.specs.Format.{Gives, several};
 ghost use Rattle.gb_cert.specs.Limits.{item_limit, cell_limit, range_limit};
-ghost use Rattle.gb_cert.specs.Rules.{is_area, meets, words, fits, after_cell, after_range, role_of};
-ghost use Rattle.gb_cert.specs.Reading.{item_at, items_at, is_free, cell_at, cells_at, state_at, range_at, ranges_at, exit_at, procedure_at, key_at, node_at};
+ghost use Rattle.gb_cert.specs.Rules.{is_area, meets, after_cell, after_range};
+ghost use Rattle.gb_cert.specs.Reading.{item_at, items_at, is_free, cell_at, cells_at, state_at, range_at, ranges_at};
 
 use crate::fault::CertFault;
-use crate::fields::{byte, core_at, count_within, val_at, word, word_between, yes_no};
+use crate::fields::{core_at, count_within, val_at, word};
 use crate::limits::{CELL_LIMIT, ITEM_LIMIT, RANGE_LIMIT};
 use crate::role::Role;
-use crate::types::{Abs, Cell, Item, Node, Procedure, Range};
+use crate::types::{Abs, Cell, Item, Range};
 use arrayvec::ArrayVec;
 use gb_ops::machine::Region;
 
+#[inline(always)]
 #[tactic(auto, unfolding(crate::specs::Reading::item_at))]
-fn item_at(bytes: &[u8]) -> Result<(Item, &[u8]), CertFault>
+pub fn item_at(bytes: &[u8]) -> Result<(Item, &[u8]), CertFault>
     ensures { Gives (λ x. (x.0, x.1.now)) result (item_at bytes.now) }
 {
     let (high, rest) = val_at(bytes)?;
@@ -23,7 +24,7 @@ fn item_at(bytes: &[u8]) -> Result<(Item, &[u8]), CertFault>
     Ok((Item { high, low }, rest))
 }
 
-/// So many items.
+/// Reads as many items as the count says.
 fn some_items(count: u8, bytes: &[u8]) -> Result<(ArrayVec<Item, 16>, &[u8]), CertFault>
     requires { count ≤ item_limit }
     ensures { Gives (λ x. (x.0.items, x.1.now)) result (several {S = Unit {0}} (λ s. item_at) (λ i. tt) tt count bytes.now) }
@@ -54,6 +55,7 @@ fn items_at(
 }
 
 /// Whether the addresses from first to last are in RAM, and outside the region.
+#[inline(always)]
 fn is_free(region: Region, first: u16, last: u16) -> bool
     ensures { result ≡ is_free region (first, last) }
 {
@@ -64,8 +66,9 @@ fn is_free(region: Region, first: u16, last: u16) -> bool
 }
 
 /// A cell, its address from the least one on.
+#[inline(always)]
 #[tactic(auto, unfolding(crate::specs::Reading::cell_at))]
-fn cell_at(region: Region, least: u32, bytes: &[u8]) -> Result<(Cell, &[u8]), CertFault>
+pub fn cell_at(region: Region, least: u32, bytes: &[u8]) -> Result<(Cell, &[u8]), CertFault>
     ensures { Gives (λ x. (x.0, x.1.now)) result (cell_at region least bytes.now) }
 {
     let (address, rest) = word(bytes)?;
@@ -79,7 +82,7 @@ fn cell_at(region: Region, least: u32, bytes: &[u8]) -> Result<(Cell, &[u8]), Ce
     Ok((Cell { address, val }, rest))
 }
 
-/// So many cells.
+/// Reads as many cells as the count says.
 fn some_cells(
     region: Region,
     count: u8,
@@ -109,7 +112,7 @@ fn cells_at(region: Region, bytes: &[u8]) -> Result<(ArrayVec<Cell, 32>, &[u8]),
 }
 
 #[tactic(auto, unfolding(crate::specs::Reading::state_at))]
-fn state_at(role: Role, region: Region, bytes: &[u8]) -> Result<(Abs, &[u8]), CertFault>
+pub fn state_at(role: Role, region: Region, bytes: &[u8]) -> Result<(Abs, &[u8]), CertFault>
     ensures { Gives (λ x. (x.0, x.1.now)) result (state_at role region bytes.now) }
 {
     let (core, rest) = core_at(role, bytes)?;
@@ -120,7 +123,7 @@ fn state_at(role: Role, region: Region, bytes: &[u8]) -> Result<(Abs, &[u8]), Ce
 
 /// A range, its first address from the least one on.
 #[tactic(auto, unfolding(crate::specs::Reading::range_at))]
-fn range_at(region: Region, least: u32, bytes: &[u8]) -> Result<(Range, &[u8]), CertFault>
+pub fn range_at(region: Region, least: u32, bytes: &[u8]) -> Result<(Range, &[u8]), CertFault>
     ensures { Gives (λ x. (x.0, x.1.now)) result (range_at region least bytes.now) }
 {
     let (first, rest) = word(bytes)?;
@@ -134,7 +137,7 @@ fn range_at(region: Region, least: u32, bytes: &[u8]) -> Result<(Range, &[u8]), 
     Ok((Range { first, last }, rest))
 }
 
-/// So many ranges.
+/// Reads as many ranges as the count says.
 fn some_ranges(
     region: Region,
     count: u8,
@@ -156,95 +159,9 @@ fn some_ranges(
 }
 
 #[tactic(auto, unfolding(crate::specs::Reading::ranges_at))]
-fn ranges_at(region: Region, bytes: &[u8]) -> Result<(ArrayVec<Range, 8>, &[u8]), CertFault>
+pub fn ranges_at(region: Region, bytes: &[u8]) -> Result<(ArrayVec<Range, 8>, &[u8]), CertFault>
     ensures { Gives (λ x. (x.0.items, x.1.now)) result (ranges_at region bytes.now) }
 {
     let (count, rest) = count_within(RANGE_LIMIT, bytes)?;
     some_ranges(region, count, rest)
-}
-
-#[tactic(auto, unfolding(crate::specs::Reading::exit_at))]
-fn exit_at(region: Region, is_main: bool, bytes: &[u8]) -> Result<(Option<Abs>, &[u8]), CertFault>
-    ensures { Gives (λ x. (x.0, x.1.now)) result (exit_at region is_main bytes.now) }
-{
-    let (returns, rest) = yes_no(bytes)?;
-    if !returns {
-        return Ok((None, rest));
-    }
-    if is_main {
-        return Err(CertFault::Field);
-    }
-    let (exit, rest) = state_at(Role::Exit, region, rest)?;
-    Ok((Some(exit), rest))
-}
-
-/// Whether a need fits the region, where it is main's.
-fn fits(is_main: bool, region: Region, need: u16) -> bool
-    ensures { result ≡ fits is_main region need }
-{
-    !is_main || need as u32 <= (region.last.saturating_sub(region.first) as u32 + 1) / 2
-}
-
-/// A procedure that begins at one of so many nodes.
-#[tactic(auto, unfolding(crate::specs::Reading::procedure_at))]
-pub fn procedure_at(
-    region: Region,
-    nodes: u16,
-    is_main: bool,
-    bytes: &[u8],
-) -> Result<(Procedure, &[u8]), CertFault>
-    ensures { Gives (λ x. (x.0, x.1.now)) result (procedure_at region nodes is_main bytes.now) }
-{
-    let (entry, rest) = word(bytes)?;
-    if entry >= nodes {
-        return Err(CertFault::Field);
-    }
-    let (need, rest) = word_between(0, 4096, rest)?;
-    if !fits(is_main, region, need) {
-        return Err(CertFault::Region);
-    }
-    let (ranges, rest) = ranges_at(region, rest)?;
-    let (exit, rest) = exit_at(region, is_main, rest)?;
-    Ok((Procedure::of_parts(entry, need, ranges, exit), rest))
-}
-
-/// The procedure's number, of so many, and the address of a node, behind those of the node before.
-#[tactic(auto, unfolding(crate::specs::Reading::key_at))]
-fn key_at(procedures: u8, before: (u8, u16), bytes: &[u8]) -> Result<((u8, u16), &[u8]), CertFault>
-    ensures { Gives (λ x. (x.0, x.1.now)) result (key_at procedures before bytes.now) }
-{
-    let (procedure, rest) = byte(bytes)?;
-    if procedure >= procedures {
-        return Err(CertFault::Field);
-    }
-    if procedure < before.0 {
-        return Err(CertFault::Order);
-    }
-    let (address, rest) = word(rest)?;
-    if procedure == before.0 && address < before.1 {
-        return Err(CertFault::Order);
-    }
-    Ok(((procedure, address), rest))
-}
-
-/// A node of one of so many procedures, behind a node with this key.
-#[tactic(auto, unfolding(crate::specs::Reading::node_at))]
-pub fn node_at(
-    region: Region,
-    procedures: u8,
-    before: (u8, u16),
-    bytes: &[u8],
-) -> Result<(Node, &[u8]), CertFault>
-    ensures { Gives (λ x. (x.0, x.1.now)) result (node_at region procedures before bytes.now) }
-{
-    let ((procedure, address), rest) = key_at(procedures, before, bytes)?;
-    let (bank, rest) = word_between(0, 511, rest)?;
-    let (state, rest) = state_at(Role::of(procedure), region, rest)?;
-    let node = Node {
-        procedure,
-        address,
-        bank,
-        state,
-    };
-    Ok((node, rest))
 }

@@ -1,6 +1,7 @@
 -- The lowest interrupt that IE and IF share.
 use Rattle.std.proofs.Common.{ℕ, ◌≡◌, ◌+◌, ◌*◌, ◌/◌, ◌%◌, ◌^◌, ◌<◌, Bool, true, false, not, ◌&&◌, ◌==◌, if◌then◌else◌, refl, sym, ap, bit_and, min, arith, [], ◌∷◌, Option, Some, None, nat_lt, rules}
 use Rattle.std.specs.Prelude.{find, IfSome}
+use Rattle.std.proofs.lemmas.Bool.{and_parts}
 use Rattle.std.proofs.lemmas.Bool.Decides.{nat_tests}
 use Rattle.std.specs.Int.{bit_at}
 use Rattle.std.proofs.lemmas.Nat.Bits.{and_pow, bit_at_and, bit_at_cat_low, bit_at-lt}
@@ -18,7 +19,7 @@ use Rattle.gb_cpu.specs.Step.{state, IsDispatchable}
 use Rattle.gb_timer.specs.Bits.{is_set}
 use Rattle.gb_timer.specs.Interrupts.{highest_pending, next_irq}
 use Rattle.gb_bus.specs.Contents.{Contents}
-use Rattle.gb_bus.specs.Accessing.{shared}
+use Rattle.gb_bus.specs.Access.{shared}
 
 times : (b m : ℕ) → b < 2 → 0 < m → not (b * m == 0) ≡ (b == 1)
 times b m h p = grind (arith, nat_tests)
@@ -69,14 +70,10 @@ shared_irq on c =
 all_true : (a b c d : Bool) → a ≡ true → b ≡ true → c ≡ true → d ≡ true → (a && b && c && d) ≡ true
 all_true a b c d ha hb hc hd = rw (ha, hb, hc, hd) refl
 
-left_true : (a b : Bool) → (a && b) ≡ true → a ≡ true
-left_true true b h = refl
-left_true false b h = h
-
 enabled : (p : Processor) (v : View) (i : ℕ) (b : Bool) → i < 5 → is_ime p.ime ime.On ≡ true → (is_set v.storage.ie i && b) ≡ true → IsDispatchable (state p v) i
 unfolding is_possible
 enabled p v i b small on set =
-    let bit : is_set v.storage.ie i ≡ true = left_true _ _ set in
+    let bit : is_set v.storage.ie i ≡ true = (and_parts (is_set v.storage.ie i) b set).0 in
     let test : has_enabled_bit (state p v) i ≡ true = rw (set_is v.storage.ie i) at bit in
     let below : nat_lt i 5 ≡ true = search rules in
     record { number = small; possible = λ running. all_true _ _ _ _ running on below test }

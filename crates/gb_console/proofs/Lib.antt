@@ -4,3 +4,4 @@ pub mod Stepping
 pub mod Cycles
 pub mod Idle
 pub mod Frames
+pub mod Running

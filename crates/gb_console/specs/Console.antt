@@ -1,6 +1,6 @@
 -- The console between two events, and one step of it (Pan Docs: Power Up Sequence; Interrupts; halt. Own: keys
 -- and seconds come before the event, and an interrupt is chosen before anything else).
-use Rattle.std.specs.Prelude.{◌≡◌, ℕ, ◌+◌, ◌%◌, Bool, true, false, List, Option, Some, None, if◌then◌else◌}
+use Rattle.std.specs.Prelude.{◌≡◌, ℕ, ◌+◌, ◌%◌, false, List, Option, Some, None, if◌then◌else◌}
 use Rattle.gb_ops.specs.declared.registers.Ime.TheVariants as ime
 use Rattle.gb_ops.specs.declared.machine.Event.{Event}
 use Rattle.gb_ops.specs.declared.machine.Event.TheVariants as event
@@ -13,18 +13,15 @@ use Rattle.gb_mbc.specs.Clock as Clock
 use Rattle.gb_timer.specs.declared.irqs.Keys.{Keys}
 use Rattle.gb_timer.specs.Joypad.{key_bits}
 use Rattle.gb_timer.specs.Interrupts.{next_irq}
+use Rattle.gb_ppu.specs.Picture.{frame_cycles}
 use Rattle.gb_bus.specs.Contents.{Contents}
 use Rattle.gb_bus.specs.Registers.{with_pad}
 use Rattle.gb_bus.specs.PowerUp as PowerUp
-use Rattle.gb_bus.specs.Accessing.{Does, shared}
+use Rattle.gb_bus.specs.Access.{IsAccessed, shared}
 use Rattle.gb_cpu.specs.declared.step.Cpu.{Cpu}
 use Rattle.gb_cpu.specs.Step.{state}
 use Rattle.gb_cpu.specs.Access.{HasFreeBytes}
 use Rattle.gb_cpu.specs.Choice.{IsChoice, is_idle, waits_after}
-
--- the M-cycles of a frame: 154 lines of 114
-abbrev pub frame_cycles : ℕ
-frame_cycles = 17556
 
 -- the processor and whether it waits, the memory, and the M-cycles since power-up, modulo a frame's
 pub record ConsoleState : Type 0 where
@@ -64,13 +61,9 @@ told c keys seconds =
     let pressed = with_pad c (record c.pad { keys = key_bits keys }) in
     record pressed { clock = Clock.advanced pressed.clock seconds }
 
-abbrev pub told_unless : Bool → Contents → Keys → ℕ → Contents
-told_unless true c keys seconds = c
-told_unless false c keys seconds = told c keys seconds
-
 -- what a step takes: a locked or stopped console takes nothing
 unfoldable pub taken : ConsoleState → Keys → ℕ → Contents
-taken s keys seconds = told_unless (is_idle s.cpu) s.contents keys seconds
+taken s keys seconds = if is_idle s.cpu then s.contents else told s.contents keys seconds
 
 -- the interrupt that is dispatched: with IME on the lowest that IE and IF share
 unfoldable pub interrupt : Cpu → Contents → Option ℕ
@@ -87,6 +80,6 @@ pub record IsConsoleStep (old : ConsoleState) (keys : Keys) (seconds : ℕ) (e :
   pub free : HasFreeBytes (shown old) e
   pub cartridge : rom_of new ≡ rom_of old
   pub machine : machine_of new ≡ Play.next (rom_of old) (machine_of old) e
-  pub joined : Joined Does (taken old keys seconds) (accesses_of (shown old) e) new.contents
+  pub joined : Joined IsAccessed (taken old keys seconds) (accesses_of (shown old) e) new.contents
   pub waiting : new.cpu.is_waiting ≡ waits_after old.cpu (shown old) e
   pub cycles : new.cycles ≡ (old.cycles + event_cycles (shown old) e) % frame_cycles

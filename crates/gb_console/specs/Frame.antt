@@ -6,7 +6,8 @@ use Rattle.gb_ops.specs.Accesses.{event_cycles}
 use Rattle.gb_timer.specs.declared.irqs.Keys.{Keys}
 use Rattle.gb_console.specs.declared.frame.Ending.{Ending}
 use Rattle.gb_console.specs.declared.frame.Ending.TheVariants as ending
-use Rattle.gb_console.specs.Console.{ConsoleState, IsConsoleStep, shown, frame_cycles}
+use Rattle.gb_ppu.specs.Picture.{frame_cycles}
+use Rattle.gb_console.specs.Console.{ConsoleState, IsConsoleStep, shown}
 
 -- how a step ends a frame: locked and stopped win over whole
 abbrev pub ending_by : Bool → Bool → Bool → Option Ending

@@ -1,16 +1,16 @@
 //! The event of a step: what is taken before it, and which one it is.
 
-ghost use Rattle.std.specs.Prelude.{◌≡◌, false, IfSome};
+ghost use Rattle.std.specs.Prelude.{◌≡◌, false, if◌then◌else◌, IfSome};
 ghost use Rattle.gb_ops.specs.Accesses.{Joined, accesses_of, event_cycles};
 ghost use Rattle.gb_ops.specs.Machine.{is_ime};
 ghost use Rattle.gb_ops.specs.Play.{IsStep};
 ghost use Rattle.gb_ops.specs.declared.registers.Ime.TheVariants as ime;
 ghost use Rattle.gb_timer.specs.Interrupts.{next_irq};
-ghost use Rattle.gb_bus.specs.Accessing.{Does};
+ghost use Rattle.gb_bus.specs.Access.{IsAccessed};
 ghost use Rattle.gb_cpu.specs.Access.{HasFreeBytes};
 ghost use Rattle.gb_cpu.specs.Choice.{waits_after, is_idle};
 ghost use Rattle.gb_cpu.specs.Step.{state, IsDispatchable};
-ghost use Rattle.gb_console.specs.Console.{IsChosen, interrupt, told, told_unless};
+ghost use Rattle.gb_console.specs.Console.{IsChosen, interrupt, told};
 
 use bitflags::Flags;
 use gb_bus::{Bus, Memory};
@@ -35,7 +35,7 @@ fn is_idle(cpu: Cpu) -> bool
 
 /// What a step takes before its event; a locked or stopped processor takes nothing.
 pub(crate) fn take(cpu: Cpu, memory: &mut Memory<'_>, keys: Keys, seconds: u32)
-    ensures { memory.new ≡ told_unless (is_idle cpu) memory.old keys seconds }
+    ensures { memory.new ≡ (if is_idle cpu then memory.old else told memory.old keys seconds) }
 {
     if !is_idle(cpu) {
         tell(memory, keys, seconds);
@@ -68,7 +68,7 @@ fn interrupt(cpu: Cpu, memory: &mut Memory<'_>) -> Option<u8>
 /// The next event: its effect on the processor and the memory.
 pub(crate) fn act(cpu: &mut Cpu, memory: &mut Memory<'_>) -> Stepped
     ensures machine { IsStep (state cpu.old.processor memory.old.view) result.event (state cpu.new.processor memory.new.view) }
-    ensures joined { Joined Does memory.old (accesses_of (state cpu.old.processor memory.old.view) result.event) memory.new }
+    ensures joined { Joined IsAccessed memory.old (accesses_of (state cpu.old.processor memory.old.view) result.event) memory.new }
     ensures choice { IsChosen (interrupt cpu.old memory.old) cpu.old memory.old result.event }
     ensures cycles { result.cycles ≡ event_cycles (state cpu.old.processor memory.old.view) result.event }
     ensures free { HasFreeBytes (state cpu.old.processor memory.old.view) result.event }

@@ -3,25 +3,22 @@
 ghost use Rattle.std.specs.Prelude.{◌≡◌, ◌<◌, true, IfOk};
 ghost use Rattle.gb_ops.specs.Accesses.{event_cycles};
 ghost use Rattle.gb_ops.specs.Play.{IsStart};
-ghost use Rattle.gb_ops.specs.Play as Play;
 ghost use Rattle.gb_ops.specs.declared.machine.Event.TheVariants as event;
 ghost use Rattle.gb_cpu.specs.Choice.{is_idle};
-ghost use Rattle.gb_console.specs.Console.{IsConsoleStep, IsReachable, at_power_up, machine_of, rom_of, shown, frame_cycles};
+ghost use Rattle.gb_console.specs.Console.{IsConsoleStep, IsReachable, at_power_up, machine_of, rom_of, shown};
+ghost use Rattle.gb_ppu.specs.Picture.{frame_cycles};
 
 use crate::choice::{act, take};
 use gb_bus::Memory;
-use gb_bus::memory::HEIGHT;
 use gb_cpu::step::{Cpu, Stepped};
 use gb_header::Rom;
 use gb_ops::machine::Event;
-use gb_ops::registers::{Flags, Ime, Processor, Registers};
-use gb_ppu::line::WIDTH;
+use gb_ops::registers::Processor;
+use gb_ppu::line::{HEIGHT, WIDTH};
+use gb_ppu::picture::FRAME_CYCLES;
 use gb_timer::irqs::Keys;
 use std::alloc::{AllocError, Global};
 use std::marker::Model;
-
-/// The M-cycles of a frame: 154 lines of 114.
-pub(crate) const FRAME: u16 = 17_556;
 
 /// A console that a cartridge runs in.
 #[derive(Drop)]
@@ -34,44 +31,14 @@ pub struct Console<'a> {
 
 impl<'a> Model for Console<'a> {
     ghost use Rattle.std.specs.Prelude.{◌≡◌, ◌<◌, false};
-    ghost use Rattle.gb_console.specs.Console.{ConsoleState, IsReachable, frame_cycles};
+    ghost use Rattle.gb_ppu.specs.Picture.{frame_cycles};
+    ghost use Rattle.gb_console.specs.Console.{ConsoleState, IsReachable};
 
     ghost Value = { ConsoleState };
 
     ghost view = { λ c. record { cpu = c.cpu; contents = c.memory; cycles = c.cycles } };
 
     ghost invariant = { λ c. (c.cycles < frame_cycles) × (c.memory.view.starting ≡ false) × IsReachable c.memory.view.rom (record { processor = c.cpu.processor; storage = c.memory.view.storage }) };
-}
-
-/// The processor at power-up.
-#[tactic(auto, unfolding(gb_ops::specs::Play::processor_at_power_up))]
-fn processor_at_power_up(rom: &Rom<'_>) -> Processor
-    ensures { result ≡ Play.processor_at_power_up rom.now }
-{
-    let others = rom.checksum() != 0;
-    Processor {
-        registers: Registers {
-            a: 0x01,
-            b: 0x00,
-            c: 0x13,
-            d: 0x00,
-            e: 0xD8,
-            h: 0x01,
-            l: 0x4D,
-        },
-        flags: Flags {
-            zero: true,
-            subtract: false,
-            half_carry: others,
-            carry: others,
-        },
-        sp: 0xFFFE,
-        pc: 0x0100,
-        ime: Ime::Off,
-        halt_mark: false,
-        locked: false,
-        stopped: false,
-    }
 }
 
 impl<'a> Console<'a> {
@@ -83,10 +50,7 @@ impl<'a> Console<'a> {
         ensures start { IfOk result (λ console. IsStart rom.now (machine_of console)) }
     {
         let memory = Memory::new(alloc, rom)?;
-        let cpu = Cpu {
-            processor: processor_at_power_up(rom),
-            is_waiting: false,
-        };
+        let cpu = Cpu::at_power_up(rom.bytes());
         Ok(Console {
             memory,
             cpu,
@@ -102,7 +66,7 @@ impl<'a> Console<'a> {
     {
         take(self.cpu, &mut self.memory, keys, seconds);
         let stepped = act(&mut self.cpu, &mut self.memory);
-        self.cycles = (self.cycles + u16::from(stepped.cycles)) % FRAME;
+        self.cycles = (self.cycles + u16::from(stepped.cycles)) % FRAME_CYCLES;
         stepped
     }
 
@@ -149,15 +113,18 @@ impl<'a> Console<'a> {
         self.memory.screen()
     }
 
-    /// The address of the next instruction. Some start and some list of events lead to each
-    /// console's state.
+    /// The address of the next instruction.
     pub fn pc(&self) -> u16
         ensures address { result ≡ self.now.cpu.processor.pc }
-        ensures reached { IsReachable (rom_of self.now) (machine_of self.now) }
     {
         self.cpu.processor.pc
     }
-}
 
-#[cfg(test)]
-mod tests;
+    /// The law of every console, whatever was called before: some start and some list of events lead to
+    /// its state, whatever region is declared.
+    pub fn reached(&self)
+        ensures { IsReachable (rom_of self.now) (machine_of self.now) }
+    {
+        let _ = &self.memory;
+    }
+}

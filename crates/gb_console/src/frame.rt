@@ -4,7 +4,8 @@ ghost use Rattle.std.specs.Prelude.{◌≡◌, true};
 ghost use Rattle.gb_cpu.specs.Choice.{is_idle};
 ghost use Rattle.gb_console.specs.Frame.{IsFrame, IsFrameStep, idle_ending};
 
-use crate::console::{Console, FRAME};
+use crate::console::Console;
+use gb_ppu::picture::FRAME_CYCLES;
 use gb_timer::irqs::Keys;
 
 /// How a frame ended.
@@ -34,7 +35,7 @@ impl Console<'_> {
         if processor.stopped {
             return Some(Ending::Stopped);
         }
-        if before + u16::from(stepped.cycles) >= FRAME {
+        if before + u16::from(stepped.cycles) >= FRAME_CYCLES {
             return Some(Ending::Whole);
         }
         None

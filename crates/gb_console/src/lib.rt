@@ -1,9 +1,16 @@
 //! The console: a cartridge runs, step by step and frame by frame.
+//!
+//! `Console::step` answers the event that `specs/Console.antt` chooses and leads to the machine's next state,
+//! so that each state is one that some start and some events lead to (`Console::reached`), and any steps are
+//! the machine's run over the events that they answered (`run::steps_are_played`). `Console::frame` is steps
+//! (`specs/Frame.antt`). Read `console` first, then `choice`, `run` and `frame`.
 #![tactic(auto)]
 
 mod choice;
 pub mod console;
 pub mod frame;
+pub mod run;
 
 pub use console::Console;
 pub use frame::Ending;
+pub use run::Input;

@@ -2,3 +2,4 @@ pub mod Fetching
 pub mod Halting
 pub mod Joining
 pub mod Kept
+pub mod Pending

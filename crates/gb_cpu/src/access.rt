@@ -1,6 +1,6 @@
 //! Accesses of the bus.
 
-ghost use Rattle.std.specs.Prelude.{[], ◌∷◌, ◌≡◌, ◌<◌, ◌≤◌, ◌^◌, ◌&&◌, true};
+ghost use Rattle.std.specs.Prelude.{[], ◌∷◌, ◌≡◌, ◌<◌, ◌≤◌, ◌^◌, ◌%◌, ◌≢◌, ◌&&◌, true};
 ghost use Rattle.gb_ops.specs.Memory.{is_free, stored};
 ghost use Rattle.gb_ops.specs.Machine.{fetched, loaded, is_bytes};
 ghost use Rattle.gb_ops.specs.Accesses.{Joined, where_wanted, fetch_log, load_log, store_log};
@@ -56,7 +56,7 @@ fn queue(taken: Taken, free: [u8; 3]) -> [u8; 3]
     }
 }
 
-/// The same of two bytes.
+/// Two free bytes with one before them, if it was free.
 fn queue_two(taken: Taken, free: [u8; 2]) -> [u8; 2]
     requires { is_bytes 2 free ≡ true }
     ensures value { result ≡ queued_two taken.is_free taken.byte free }
@@ -161,4 +161,15 @@ pub fn store<B: Bus>(bus: &mut B, write: Write)
             bus.write(sp.wrapping_sub(2), (word % 256) as u8);
         }
     }
+}
+
+/// The interrupts that are enabled and requested.
+#[inline(always)]
+#[tactic(auto, using(crate::proofs::Pending::enabled_is))]
+pub fn pending<B: Bus>(bus: &mut B) -> u8
+    ensures same { bus.new ≡ bus.old }
+    ensures value { result ≡ B.shared bus.old }
+    ensures enabled { result ≢ 0 → (B.shows bus.old).storage.ie % 32 ≢ 0 }
+{
+    bus.pending()
 }

@@ -10,7 +10,7 @@ ghost use Rattle.gb_ops.specs.Play.{IsStep};
 ghost use Rattle.gb_cpu.specs.Access.{row_free_reads, HasFreeBytes};
 ghost use Rattle.gb_cpu.specs.Step.{state, IsSpecial, IsDispatchable};
 
-use crate::access::{fetch, load, store};
+use crate::access::{fetch, load, pending, store};
 use gb_bus::Bus;
 use gb_effects::advance::{advance, cycles_of, mark_of, settled};
 use gb_effects::effect::{perform, read_of, with_pc, with_sp};
@@ -172,7 +172,7 @@ impl Cpu {
         if processor.locked || processor.stopped {
             return answer(Event::Wait(0), 0);
         }
-        let shared = bus.pending();
+        let shared = pending(bus);
         if self.is_waiting && shared == 0 {
             bus.pass(1);
             return answer(Event::Wait(1), 1);
@@ -203,6 +203,7 @@ impl Cpu {
     #[inline(always)]
     pub fn step<B: Bus>(&mut self, bus: &mut B) -> Stepped
         ensures machine { IsStep (state self.old.processor (B.shows bus.old)) result.event (state self.new.processor (B.shows bus.new)) }
+        ensures next { state self.new.processor (B.shows bus.new) ≡ Machine.next (state self.old.processor (B.shows bus.old)) result.event }
         ensures joined { Joined B.does bus.old (accesses_of (state self.old.processor (B.shows bus.old)) result.event) bus.new }
         ensures choice { IsChoice self.old (B.shared bus.old) (state self.old.processor (B.shows bus.old)) result.event }
         ensures cycles { result.cycles ≡ event_cycles (state self.old.processor (B.shows bus.old)) result.event }
@@ -217,6 +218,7 @@ impl Cpu {
     pub fn dispatch<B: Bus>(&mut self, bus: &mut B, i: u8) -> Stepped
         requires { IsDispatchable (state self.old.processor (B.shows bus.old)) i }
         ensures machine { IsStep (state self.old.processor (B.shows bus.old)) result.event (state self.new.processor (B.shows bus.new)) }
+        ensures next { state self.new.processor (B.shows bus.new) ≡ Machine.next (state self.old.processor (B.shows bus.old)) result.event }
         ensures joined { Joined B.does bus.old (accesses_of (state self.old.processor (B.shows bus.old)) result.event) bus.new }
         ensures choice { result.event ≡ (if is_idle self.old then Event.Wait 0 else Event.Irq i) }
         ensures cycles { result.cycles ≡ event_cycles (state self.old.processor (B.shows bus.old)) result.event }

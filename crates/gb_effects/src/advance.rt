@@ -89,18 +89,6 @@ pub fn settled(processor: Processor) -> Processor
     }
 }
 
-/// The processor as an instruction begins its work, its bytes fetched.
-#[tactic(auto, unfolding(gb_ops::specs::Machine::advanced))]
-pub fn advanced(processor: Processor, row: Row) -> Processor
-    ensures { result ≡ Machine.advanced processor row }
-{
-    let way = way_of(row.op, u16::from(row.length), mark_of(processor));
-    Processor {
-        pc: processor.pc.wrapping_add(way),
-        ..settled(processor)
-    }
-}
-
 /// An instruction begins its work, its bytes fetched: PC goes on.
 #[tactic(auto, unfolding(gb_ops::specs::Machine::advanced))]
 pub fn advance(processor: &mut Processor, row: Row)

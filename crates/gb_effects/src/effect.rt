@@ -14,7 +14,7 @@ use crate::arithmetic::{
 };
 use crate::flags::is_met;
 use crate::pairs::{pair_value, set_pair, set_stack_pair, stack_pair_value, word};
-use gb_ops::machine::{Computed, Effect, Read, Write};
+use gb_ops::machine::{Computed, Read, Write};
 use gb_ops::op::{Indirect, Op, Operand, Pair};
 use gb_ops::registers::{Flags, Ime, Processor};
 
@@ -436,18 +436,5 @@ pub fn perform(op: Op, processor: &mut Processor, low: u8, high: u8) -> Outcome
             let value = operand_value(*p, operand, low);
             store_operand(p, operand, bit_set(n, value))
         }
-    }
-}
-
-/// The same of a processor by value.
-pub fn effect_of(op: Op, processor: Processor, low: u8, high: u8) -> Effect
-    ensures { result ≡ Effects.effect_of op processor low high }
-{
-    let mut changed = processor;
-    let outcome = perform(op, &mut changed, low, high);
-    Effect {
-        processor: changed,
-        write: outcome.write,
-        is_taken: outcome.is_taken,
     }
 }

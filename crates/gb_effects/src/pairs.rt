@@ -5,23 +5,13 @@ ghost use Rattle.gb_ops.specs.Pairs as Pairs;
 
 use crate::flags::{flags_byte, flags_of};
 use gb_ops::op::{Pair, StackPair};
-use gb_ops::registers::{Processor, Registers};
+use gb_ops::registers::Processor;
 
 /// The word of two bytes.
 pub fn word(high: u8, low: u8) -> u16
     ensures { result ≡ Pairs.word high low }
 {
     256 * u16::from(high) + u16::from(low)
-}
-
-/// The processor with other registers.
-pub fn with_registers(processor: Processor, registers: Registers<u8>) -> Processor
-    ensures { result ≡ Pairs.with_registers processor registers }
-{
-    Processor {
-        registers,
-        ..processor
-    }
 }
 
 /// The value of a pair.

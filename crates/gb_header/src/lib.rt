@@ -8,6 +8,3 @@ pub mod rom;
 
 pub use fault::HeaderFault;
 pub use rom::Rom;
-
-#[cfg(test)]
-mod tests;

@@ -7,7 +7,8 @@ use Rattle.gb_console.specs.declared.frame.Ending.{Ending}
 use Rattle.gb_console.specs.Console.{ConsoleState, at_power_up}
 use Rattle.gb_main.specs.HeaderLine.{header_text}
 use Rattle.gb_main.specs.Script.{IsWrittenRun, IsBegunRun}
-use Rattle.gb_main.specs.Commands.{fault_text, file_text, IsRunFile, IsRunBegun}
+use Rattle.gb_text.specs.Cartridge.{cartridge_text}
+use Rattle.gb_main.specs.Commands.{file_text, IsRunFile, IsRunBegun}
 
 taken_same : (o : Option HeaderFault) (file parsed : List ℕ) → Ok parsed ≡ taken_or o file → (parsed ≡ file) × (None ≡ o)
 taken_same None file parsed h = (cc, refl)
@@ -31,7 +32,7 @@ lowest_fault file f h = taken_fault (fault_of file) file f h
 pub header_file : (file parsed : List ℕ) → Ok parsed ≡ Header.parsed file → header_text parsed ≡ file_text file
 header_file file parsed h = let same = parsed_same file parsed h in rw (← same.1) (ap header_text same.0)
 
-pub fault_file : (file : List ℕ) (f : HeaderFault) → Err f ≡ Header.parsed file → fault_text f ≡ file_text file
+pub fault_file : (file : List ℕ) (f : HeaderFault) → Err f ≡ Header.parsed file → cartridge_text f ≡ file_text file
 fault_file file f h = rw (← lowest_fault file f h) refl
 
 pub run_file : (file parsed script : List ℕ) (frames : ℕ) (s new : ConsoleState) (end : Ending) (before after : Option (List ℕ)) → Ok parsed ≡ Header.parsed file → IsCartridge file

@@ -1,10 +1,3 @@
-pub mod PlainWords
-pub mod LeafWalk
-pub mod Leaves
-pub mod CommandWalk
-pub mod CommandTaken
-pub mod Frames
-pub mod Given
 pub mod Lines
 pub mod Packing
 pub mod Playing

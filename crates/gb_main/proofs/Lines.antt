@@ -2,7 +2,7 @@
 use Rattle.std.proofs.Common.{◌≡◌, ℕ, ◌+◌, ◌<◌, List, [], ◌∷◌, ◌++◌, length, get_or, take, drop, Option, sym, ◌∙◌, ap, subst, take-append-drop}
 use Rattle.std.proofs.lemmas.List.{append-nil, take_more}
 use Rattle.std.proofs.lemmas.List.Concat.{flat_map-append}
-use Rattle.gb_ops.specs.Sink.{Gains}
+use Rattle.gb_text.specs.Sink.{Gains}
 use Rattle.gb_text.specs.Text.{GainsBeginning}
 use Rattle.gb_text.proofs.Gained.{gains_both, begins_first, begins_second}
 use Rattle.gb_main.specs.Screen.{line_text, screen_text}

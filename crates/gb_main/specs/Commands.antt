@@ -1,25 +1,22 @@
 -- What the commands write of the bytes of their files (own texts).
-use Rattle.std.specs.Prelude.{◌≡◌, ℕ, List, ◌++◌, codes, decimal, Option, Some, None, ◌⊎◌}
-use Rattle.gb_ops.specs.Sink.{Gains}
+use Rattle.std.specs.Prelude.{◌≡◌, ℕ, List, Option, Some, None, ◌⊎◌}
+use Rattle.gb_text.specs.Sink.{Gains}
 use Rattle.gb_header.specs.declared.fault.HeaderFault.{HeaderFault}
-use Rattle.gb_header.specs.Header.{IsCartridge, IsLowestFault, fault_of, fault_number}
+use Rattle.gb_header.specs.Header.{IsCartridge, IsLowestFault, fault_of}
 use Rattle.gb_console.specs.declared.frame.Ending.{Ending}
 use Rattle.gb_console.specs.Console.{ConsoleState, at_power_up}
-use Rattle.gb_text.specs.Text.{line_feed, GainsBeginning}
+use Rattle.gb_text.specs.Cartridge.{cartridge_text}
+use Rattle.gb_text.specs.Text.{GainsBeginning}
 use Rattle.gb_main.specs.HeaderLine.{header_text}
 use Rattle.gb_main.specs.Script.{IsWrittenRun, IsBegunRun}
 use Rattle.gb_main.specs.declared.commands.RunOutcome.{RunOutcome}
 use Rattle.gb_main.specs.declared.commands.RunOutcome.TheVariants as outcome
 
--- the line of a file that is no cartridge
-abbrev pub fault_text : HeaderFault → List ℕ
-fault_text fault = codes "CARTRIDGE H" ++ decimal (fault_number fault) ++ line_feed
-
 -- ---- header
 
 abbrev pub header_or_fault : Option HeaderFault → List ℕ → List ℕ
 header_or_fault None file = header_text file
-header_or_fault (Some fault) file = fault_text fault
+header_or_fault (Some fault) file = cartridge_text fault
 
 -- the header's line of a file, or the line of its lowest fault
 abbrev pub file_text : List ℕ → List ℕ
@@ -42,14 +39,14 @@ pub record IsBegunFile (file script : List ℕ) (frames : ℕ) (before after : O
 -- what was written, by the outcome: where memory ran out, nothing
 abbrev pub IsRunWritten : RunOutcome → List ℕ → List ℕ → ℕ → Option (List ℕ) → Option (List ℕ) → Type 0
 IsRunWritten (outcome.Ended end) file script frames before after = IsRunFile file script frames end before after
-IsRunWritten (outcome.NoCartridge fault) file script frames before after = IsLowestFault file fault × Gains before (fault_text fault) after
+IsRunWritten (outcome.NoCartridge fault) file script frames before after = IsLowestFault file fault × Gains before (cartridge_text fault) after
 IsRunWritten outcome.NoMemory file script frames before after = IsCartridge file × (after ≡ before)
 
 -- a file's lowest fault, and a beginning of its line
 pub record IsBegunFault (file : List ℕ) (before after : Option (List ℕ)) : Type 0 where
   pub fault : HeaderFault
   pub lowest : IsLowestFault file fault
-  pub begun : GainsBeginning before (fault_text fault) after
+  pub begun : GainsBeginning before (cartridge_text fault) after
 
 -- a beginning of what is to be written
 abbrev pub IsRunBegun : List ℕ → List ℕ → ℕ → Option (List ℕ) → Option (List ℕ) → Type 0

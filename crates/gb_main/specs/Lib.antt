@@ -1,6 +1,4 @@
-pub mod CommandLine
 pub mod Commands
 pub mod HeaderLine
 pub mod Screen
 pub mod Script
-pub mod Words

@@ -1,18 +1,19 @@
 //! From the bytes of files to what the commands write.
 
 ghost use Rattle.std.specs.Prelude.{◌≡◌, false, is_err, IfOk, OnOk, OnErr};
-ghost use Rattle.gb_ops.specs.Sink.{Gains};
+ghost use Rattle.gb_text.specs.Sink.{Gains};
 ghost use Rattle.gb_header.specs.Header.{fault_of};
 ghost use Rattle.gb_text.specs.Text.{GainsBeginning};
-ghost use Rattle.gb_main.specs.Commands.{fault_text, file_text, IsRunWritten, IsRunBegun};
+ghost use Rattle.gb_main.specs.Commands.{file_text, IsRunWritten, IsRunBegun};
 
 use crate::header::text_of;
 use crate::script::{Progress, run_script_shown};
 use gb_console::{Console, Ending};
 use gb_header::{HeaderFault, Rom};
-use gb_ops::sink::{OutFault, Sink};
+use gb_text::cartridge::cartridge_line;
 use gb_text::line::Line;
 use gb_text::put::put_all;
+use gb_text::sink::{OutFault, Sink};
 use std::alloc::Global;
 
 /// What became of a run.
@@ -26,17 +27,6 @@ pub enum RunOutcome {
     NoMemory,
 }
 
-/// The line of a file that is no cartridge.
-fn fault_line(fault: HeaderFault) -> Line
-    ensures { result ≡ fault_text fault }
-{
-    let mut line = Line::new();
-    line.push_text(b"CARTRIDGE H");
-    line.push_number(u64::from(fault.number()));
-    line.end();
-    line
-}
-
 /// What a file says of itself, and its fault where it is no cartridge.
 #[tactic(auto, using(crate::proofs::Files::header_file, crate::proofs::Files::fault_file, crate::proofs::Files::no_fault))]
 fn file_line(file: &[u8]) -> (Line, Option<HeaderFault>)
@@ -45,7 +35,7 @@ fn file_line(file: &[u8]) -> (Line, Option<HeaderFault>)
 {
     match Rom::parse(file) {
         Ok(rom) => (text_of(&rom), None),
-        Err(fault) => (fault_line(fault), Some(fault)),
+        Err(fault) => (cartridge_line(fault), Some(fault)),
     }
 }
 
@@ -89,7 +79,7 @@ pub fn run_bytes<W: Sink, P: Progress>(
     let rom = match Rom::parse(file) {
         Ok(rom) => rom,
         Err(fault) => {
-            put_all(out, fault_line(fault).as_slice())?;
+            put_all(out, cartridge_line(fault).as_slice())?;
             return Ok(RunOutcome::NoCartridge(fault));
         }
     };

@@ -1,15 +1,15 @@
 //! What a cartridge's header says, in one line.
 
 ghost use Rattle.std.specs.Prelude.{◌≡◌, ◌≤◌, false, is_err, OnOk, OnErr, length};
-ghost use Rattle.gb_ops.specs.Sink.{Gains};
+ghost use Rattle.gb_text.specs.Sink.{Gains};
 ghost use Rattle.gb_text.specs.Text.{GainsBeginning};
 ghost use Rattle.gb_main.specs.HeaderLine.{kind_name, yes_or_no, header_text};
 
 use gb_header::Rom;
 use gb_ops::machine::Kind;
-use gb_ops::sink::{OutFault, Sink};
 use gb_text::line::Line;
 use gb_text::put::put_all;
+use gb_text::sink::{OutFault, Sink};
 
 fn kind_name(kind: Kind) -> &'static [u8]
     ensures text { result.now ≡ kind_name kind }

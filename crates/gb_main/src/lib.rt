@@ -1,18 +1,14 @@
-//! The program's parts that a test can call: what its words ask for, and the lines that it prints.
+//! The lines that the program prints: of a cartridge's header, and of a run by a script.
+//!
+//! `run_bytes` says that what is written is the run of the file's cartridge, and `header_bytes` that it is its header's
+//! line. Read `commands` first, and below it `header`, `script` and `screen`.
 #![tactic(auto)]
 
 pub mod commands;
 pub mod header;
 mod screen;
 pub mod script;
-pub mod words;
 
 pub use commands::{RunOutcome, header_bytes, run_bytes};
 pub use header::header_line;
 pub use script::{Progress, run_script, run_script_shown};
-pub use words::{Task, read_words};
-
-#[cfg(test)]
-mod script_tests;
-#[cfg(test)]
-mod tests;

@@ -1,15 +1,14 @@
 //! The lines of a screen.
 
 ghost use Rattle.std.specs.Prelude.{◌≡◌, false, is_err, OnOk, OnErr, slice_index};
-ghost use Rattle.gb_ops.specs.Sink.{Gains};
+ghost use Rattle.gb_text.specs.Sink.{Gains};
 ghost use Rattle.gb_text.specs.Text.{GainsBeginning};
 ghost use Rattle.gb_main.specs.Screen.{byte_of, packed, line_text, screen_text};
 
-use gb_bus::memory::HEIGHT;
-use gb_ops::sink::{OutFault, Sink};
-use gb_ppu::line::WIDTH;
+use gb_ppu::line::{HEIGHT, WIDTH};
 use gb_text::line::Line;
 use gb_text::put::put_all;
+use gb_text::sink::{OutFault, Sink};
 
 /// Four shades in a byte, the leftmost in the high bits.
 fn byte_of(four: &[u8; 4]) -> u8

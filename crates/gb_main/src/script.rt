@@ -1,16 +1,16 @@
 //! Running a cartridge by a script.
 
 ghost use Rattle.std.specs.Prelude.{◌≡◌, false, is_err, IfOk, OnOk, OnErr};
-ghost use Rattle.gb_ops.specs.Sink.{Gains};
+ghost use Rattle.gb_text.specs.Sink.{Gains};
 ghost use Rattle.gb_text.specs.Text.{GainsBeginning};
 ghost use Rattle.gb_main.specs.Script.{keys_at, seconds_of, IsRun, ending_text, run_text, IsWrittenRun, IsBegunRun};
 
 use crate::screen::put_screen;
 use bitflags::Flags;
 use gb_console::{Console, Ending};
-use gb_ops::sink::{OutFault, Sink};
 use gb_text::line::Line;
 use gb_text::put::put_all;
+use gb_text::sink::{OutFault, Sink};
 use gb_timer::irqs::Keys;
 
 /// Hears how far a run has come.

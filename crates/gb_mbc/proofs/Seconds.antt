@@ -1,8 +1,8 @@
 -- Many seconds at once are as many single ones.
-use Rattle.std.proofs.Common.{◌≡◌, ℕ, zero, suc, ◌+◌, ◌%◌, ◌<◌, Bool, true, false, ◌==◌, ◌||◌, nat_le, refl, ap, sym, ◌∙◌, arith}
+use Rattle.std.proofs.Common.{◌≡◌, ℕ, zero, suc, ◌+◌, ◌%◌, ◌<◌, Bool, true, false, cond, ◌==◌, ◌||◌, nat_le, refl, ap, sym, ◌∙◌, arith}
 use Rattle.std.proofs.lemmas.Bool.Decides.{nat_tests}
 use Rattle.gb_mbc.specs.declared.clock.Time.{Time}
-use Rattle.gb_mbc.specs.Clock.{IsTime, seconds_later, ticked, choose, second_later, minute_later, hour_later, day_later}
+use Rattle.gb_mbc.specs.Clock.{IsTime, seconds_later, ticked, second_later, minute_later, hour_later, day_later}
 use Rattle.gb_mbc.specs.Counting.{value_after, carries_after}
 
 -- ---- one count more of a field
@@ -63,27 +63,27 @@ hour_by false n t e h d = let went = went24 t.hours n h e in rw (e, went.0, went
 
 -- ---- a field that stays
 
-choose-minutes : (b : Bool) (t u : Time) (x : ℕ) → choose b (record t { minutes = x }) (record u { minutes = x }) ≡ record (choose b t u) { minutes = x }
-choose-minutes true t u x = refl
-choose-minutes false t u x = refl
+either-minutes : (b : Bool) (t u : Time) (x : ℕ) → cond b (record t { minutes = x }) (record u { minutes = x }) ≡ record (cond b t u) { minutes = x }
+either-minutes true t u x = refl
+either-minutes false t u x = refl
 
-choose-seconds : (b : Bool) (t u : Time) (x : ℕ) → choose b (record t { seconds = x }) (record u { seconds = x }) ≡ record (choose b t u) { seconds = x }
-choose-seconds true t u x = refl
-choose-seconds false t u x = refl
+either-seconds : (b : Bool) (t u : Time) (x : ℕ) → cond b (record t { seconds = x }) (record u { seconds = x }) ≡ record (cond b t u) { seconds = x }
+either-seconds true t u x = refl
+either-seconds false t u x = refl
 
 hour-minutes : (t : Time) (x : ℕ) → hour_later (record t { minutes = x }) ≡ record (hour_later t) { minutes = x }
 unfolding hour_later day_later
-hour-minutes t x = choose-minutes (t.hours == 23) (day_later (record t { hours = 0 })) (record t { hours = (t.hours + 1) % 32 }) x
+hour-minutes t x = either-minutes (t.hours == 23) (day_later (record t { hours = 0 })) (record t { hours = (t.hours + 1) % 32 }) x
 
 hour-seconds : (t : Time) (x : ℕ) → hour_later (record t { seconds = x }) ≡ record (hour_later t) { seconds = x }
 unfolding hour_later day_later
-hour-seconds t x = choose-seconds (t.hours == 23) (day_later (record t { hours = 0 })) (record t { hours = (t.hours + 1) % 32 }) x
+hour-seconds t x = either-seconds (t.hours == 23) (day_later (record t { hours = 0 })) (record t { hours = (t.hours + 1) % 32 }) x
 
 minute-seconds : (t : Time) (x : ℕ) → minute_later (record t { seconds = x }) ≡ record (minute_later t) { seconds = x }
 unfolding minute_later
 minute-seconds t x =
     rw (hour-seconds (record t { minutes = 0 }) x)
-    (choose-seconds (t.minutes == 59) (hour_later (record t { minutes = 0 })) (record t { minutes = (t.minutes + 1) % 64 }) x)
+    (either-seconds (t.minutes == 59) (hour_later (record t { minutes = 0 })) (record t { minutes = (t.minutes + 1) % 64 }) x)
 
 minute_by :
     (b : Bool) (n : ℕ) (t : Time) → (value_after 60 64 t.minutes n == 59) ≡ b → IsTime t → minute_later (minutes_on n t) ≡ minutes_on (suc n) t

@@ -1,6 +1,6 @@
 -- The clock of MBC3 (Pan Docs: MBC3, The Clock Counter Registers). Own: a field counts up within its
 -- mask, and carries only from 59, 59, 23 and day 511; the latch copies all five registers.
-use Rattle.std.specs.Prelude.{ℕ, zero, suc, ◌+◌, ◌*◌, ◌/◌, ◌%◌, ◌<◌, Bool, true, false, ◌==◌, ◌&&◌, ◌||◌}
+use Rattle.std.specs.Prelude.{ℕ, zero, suc, ◌+◌, ◌*◌, ◌/◌, ◌%◌, ◌<◌, Bool, false, ◌==◌, ◌&&◌, ◌||◌, if◌then◌else◌}
 use Rattle.gb_ops.specs.Flags.{bit_of}
 use Rattle.gb_mbc.specs.declared.clock.Time.{Time}
 use Rattle.gb_mbc.specs.declared.clock.ClockRegister.{ClockRegister}
@@ -20,26 +20,22 @@ clock_at_power_up = record { running = midnight; latched = midnight; is_armed = 
 
 -- ---- time
 
-abbrev pub choose : Bool → Time → Time → Time
-choose true t u = t
-choose false t u = u
-
 -- a day later: day 511 sets the carry
 unfoldable pub day_later : Time → Time
 day_later t = record t { days = (t.days + 1) % 512; has_carried = t.has_carried || (t.days == 511) }
 
 unfoldable pub hour_later : Time → Time
-hour_later t = choose (t.hours == 23) (day_later (record t { hours = 0 })) (record t { hours = (t.hours + 1) % 32 })
+hour_later t = if t.hours == 23 then day_later (record t { hours = 0 }) else record t { hours = (t.hours + 1) % 32 }
 
 unfoldable pub minute_later : Time → Time
-minute_later t = choose (t.minutes == 59) (hour_later (record t { minutes = 0 })) (record t { minutes = (t.minutes + 1) % 64 })
+minute_later t = if t.minutes == 59 then hour_later (record t { minutes = 0 }) else record t { minutes = (t.minutes + 1) % 64 }
 
 unfoldable pub second_later : Time → Time
-second_later t = choose (t.seconds == 59) (minute_later (record t { seconds = 0 })) (record t { seconds = (t.seconds + 1) % 64 })
+second_later t = if t.seconds == 59 then minute_later (record t { seconds = 0 }) else record t { seconds = (t.seconds + 1) % 64 }
 
 -- a second of a clock that may be halted
 unfoldable pub ticked : Time → Time
-ticked t = choose t.is_halted t (second_later t)
+ticked t = if t.is_halted then t else second_later t
 
 -- so many seconds later
 unfoldable pub seconds_later : ℕ → Time → Time
@@ -76,13 +72,9 @@ latched c = record c { latched = c.running }
 unfoldable pub put : ClockState → ClockRegister → ℕ → ClockState
 put c r v = record c { running = with_field r v c.running }
 
-abbrev pub latched_where : Bool → ClockState → ClockState
-latched_where true c = latched c
-latched_where false c = c
-
 -- a write to 6000-7FFF: 01 behind 00 latches
 unfoldable pub commanded : ClockState → ℕ → ClockState
-commanded c v = record (latched_where (c.is_armed && (v == 1)) c) { is_armed = v == 0 }
+commanded c v = record (if c.is_armed && (v == 1) then latched c else c) { is_armed = v == 0 }
 
 -- the fields lie within their masks
 pub record IsTime (t : Time) : Type 0 where

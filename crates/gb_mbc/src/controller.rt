@@ -12,7 +12,7 @@ use crate::mbc1::Mbc1;
 use crate::mbc3::Mbc3;
 use crate::mbc5::Mbc5;
 use gb_header::Rom;
-use gb_ops::machine::Kind;
+use gb_ops::machine::{Banks, Kind};
 
 /// The controller of any cartridge.
 #[derive(Drop)]
@@ -35,6 +35,18 @@ impl Controller {
             Kind::Mbc1 => Controller::Mbc1(Mbc1::new(rom)),
             Kind::Mbc3 => Controller::Mbc3(Mbc3::new(rom)),
             Kind::Mbc5 => Controller::Mbc5(Mbc5::new(rom)),
+        }
+    }
+
+    /// A controller like it, for what a write would lead to.
+    pub fn copied(&self) -> Controller
+        ensures { result ≡ self.now }
+    {
+        match self {
+            Controller::Flat(flat) => Controller::Flat(*flat),
+            Controller::Mbc1(mbc1) => Controller::Mbc1(mbc1.copied()),
+            Controller::Mbc3(mbc3) => Controller::Mbc3(mbc3.copied()),
+            Controller::Mbc5(mbc5) => Controller::Mbc5(mbc5.copied()),
         }
     }
 
@@ -106,6 +118,15 @@ impl Mapper for Controller {
             Controller::Mbc1(mbc1) => mbc1.gate(),
             Controller::Mbc3(mbc3) => mbc3.gate(),
             Controller::Mbc5(mbc5) => mbc5.gate(),
+        }
+    }
+
+    fn banks(&self) -> Banks {
+        match self {
+            Controller::Flat(flat) => flat.banks(),
+            Controller::Mbc1(mbc1) => mbc1.banks(),
+            Controller::Mbc3(mbc3) => mbc3.banks(),
+            Controller::Mbc5(mbc5) => mbc5.banks(),
         }
     }
 }

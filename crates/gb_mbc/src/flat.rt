@@ -3,6 +3,7 @@
 ghost use Rattle.std.specs.Prelude.{◌≡◌, false};
 
 use crate::mapper::Mapper;
+use gb_ops::machine::Banks;
 
 /// A cartridge without a controller: two ROM banks, no registers, no gate.
 #[derive(Clone, Copy, Debug, PartialEq, Eq)]
@@ -36,5 +37,14 @@ impl Mapper for Flat {
 
     fn gate(&self) -> bool {
         false
+    }
+
+    fn banks(&self) -> Banks {
+        Banks {
+            bank: 1,
+            second: 0,
+            gate: false,
+            mode: false,
+        }
     }
 }

@@ -1,4 +1,8 @@
 //! The cartridge's controllers, the banks that they show, and the clock of MBC3.
+//!
+//! The trait `Mapper` is the contract of each controller: its banks follow `specs/Controllers.antt` and lie
+//! below the cartridge's counts, and writes outside its windows change nothing. Read `mapper` first, then
+//! `flat`, `mbc1`, `mbc3` and `mbc5`, then `controller`, which is any of them, and `clock`.
 #![tactic(auto)]
 
 pub mod clock;
@@ -16,6 +20,3 @@ pub use mapper::Mapper;
 pub use mbc1::Mbc1;
 pub use mbc3::Mbc3;
 pub use mbc5::Mbc5;
-
-#[cfg(test)]
-mod tests;

@@ -5,6 +5,8 @@ ghost use Rattle.gb_ops.specs.declared.machine.Banks.{Banks};
 ghost use Rattle.gb_ops.specs.Cartridge.{cut_to};
 ghost use Rattle.gb_mbc.specs.Controllers.{Features, low_bank, high_bank, ram_bank, registers_after, is_window};
 
+use gb_ops::machine::Banks;
+
 /// A bank's number, cut to the bits that so many banks need.
 pub(crate) fn cut(number: u16, banks: u16) -> u16
     requires { 0 < banks }
@@ -46,4 +48,8 @@ pub trait Mapper {
     /// Whether the gate to cartridge RAM is open.
     fn gate(&self) -> bool
         ensures { result ≡ (registers self.now).gate };
+
+    /// Its registers.
+    fn banks(&self) -> Banks
+        ensures { result ≡ registers self.now };
 }

@@ -6,6 +6,7 @@ ghost use Rattle.gb_mbc.specs.Controllers as Controllers;
 
 use crate::mapper::{Mapper, cut};
 use gb_header::Rom;
+use gb_ops::machine::Banks;
 use std::marker::Model;
 
 /// MBC1: a bank of five bits, a second register of two, a gate and a mode.
@@ -46,6 +47,22 @@ impl Mbc1 {
             second: 0,
             gate: false,
             mode: false,
+        }
+    }
+}
+
+impl Mbc1 {
+    /// A controller like it.
+    pub(crate) fn copied(&self) -> Mbc1
+        ensures { result ≡ self.now }
+    {
+        Mbc1 {
+            rom_banks: self.rom_banks,
+            ram_banks: self.ram_banks,
+            bank: self.bank,
+            second: self.second,
+            gate: self.gate,
+            mode: self.mode,
         }
     }
 }
@@ -97,5 +114,14 @@ impl Mapper for Mbc1 {
 
     fn gate(&self) -> bool {
         self.gate
+    }
+
+    fn banks(&self) -> Banks {
+        Banks {
+            bank: u16::from(self.bank),
+            second: self.second,
+            gate: self.gate,
+            mode: self.mode,
+        }
     }
 }

@@ -7,9 +7,10 @@ ghost use Rattle.gb_mbc.specs.Controllers as Controllers;
 use crate::clock::ClockRegister;
 use crate::mapper::{Mapper, cut};
 use gb_header::Rom;
+use gb_ops::machine::Banks;
 use std::marker::Model;
 
-/// MBC1: a bank of five bits, a second register of two, a gate and a mode.
+/// MBC3: a bank of seven bits, a second register that chooses a RAM bank or a clock register, and a gate.
 #[derive(Drop)]
 pub struct Mbc3 {
     rom_banks: u16,
@@ -70,6 +71,22 @@ impl Mbc3 {
     }
 }
 
+impl Mbc3 {
+    /// A controller like it.
+    pub(crate) fn copied(&self) -> Mbc3
+        ensures { result ≡ self.now }
+    {
+        Mbc3 {
+            rom_banks: self.rom_banks,
+            ram_banks: self.ram_banks,
+            bank: self.bank,
+            second: self.second,
+            gate: self.gate,
+            has_clock: self.has_clock,
+        }
+    }
+}
+
 impl Mapper for Mbc3 {
     ghost use Rattle.gb_mbc.specs.Controllers.{mbc3_features};
 
@@ -107,5 +124,14 @@ impl Mapper for Mbc3 {
 
     fn gate(&self) -> bool {
         self.gate
+    }
+
+    fn banks(&self) -> Banks {
+        Banks {
+            bank: u16::from(self.bank),
+            second: self.second,
+            gate: self.gate,
+            mode: false,
+        }
     }
 }

@@ -6,9 +6,10 @@ ghost use Rattle.gb_mbc.specs.Controllers as Controllers;
 
 use crate::mapper::{Mapper, cut};
 use gb_header::Rom;
+use gb_ops::machine::Banks;
 use std::marker::Model;
 
-/// MBC1: a bank of five bits, a second register of two, a gate and a mode.
+/// MBC5: a bank of nine bits, written in two parts, a second register of four, and a gate.
 #[derive(Drop)]
 pub struct Mbc5 {
     rom_banks: u16,
@@ -47,6 +48,22 @@ impl Mbc5 {
             second: 0,
             gate: false,
             has_rumble: rom.has_rumble(),
+        }
+    }
+}
+
+impl Mbc5 {
+    /// A controller like it.
+    pub(crate) fn copied(&self) -> Mbc5
+        ensures { result ≡ self.now }
+    {
+        Mbc5 {
+            rom_banks: self.rom_banks,
+            ram_banks: self.ram_banks,
+            bank: self.bank,
+            second: self.second,
+            gate: self.gate,
+            has_rumble: self.has_rumble,
         }
     }
 }
@@ -94,5 +111,14 @@ impl Mapper for Mbc5 {
 
     fn gate(&self) -> bool {
         self.gate
+    }
+
+    fn banks(&self) -> Banks {
+        Banks {
+            bank: self.bank,
+            second: self.second,
+            gate: self.gate,
+            mode: false,
+        }
     }
 }

@@ -1,5 +1,8 @@
-//! Applies events to machine states by the definitions, as the lines of standard input ask for it,
-//! so that another implementation can be compared with them.
+//! Applies events to machine states, as the lines of standard input ask for it, and prints what the
+//! definitions say of each, so that another implementation can be compared with them.
+//!
+//! What an event leads to, its faults and its places are `gb_plain`'s. `setup.rt` reads the lines, `fields.rt`
+//! their words, and `report.rt` prints the answers.
 #![tactic(auto)]
 
 mod fields;
@@ -33,6 +36,8 @@ fn main(rt: HostRuntime) -> io::Result<()> {
     for (number, line) in (1u64..).zip(lines) {
         let line = line?;
         answer(rt.alloc(), &mut out, &mut setup, &line, number)?;
+        // A peer at a pipe may wait for this line before it writes the next.
+        out.flush()?;
     }
-    out.flush()
+    Ok(())
 }

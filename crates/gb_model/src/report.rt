@@ -2,12 +2,11 @@
 
 use crate::setup::Setup;
 use gb_effects::flags::flags_byte;
-use gb_next::faults::faults;
-use gb_next::next::{cycles, is_possible, next};
-use gb_next::places::places;
-use gb_next::state::MachineState;
 use gb_ops::machine::{Event, Faults};
 use gb_ops::registers::Ime;
+use gb_plain::faults::faults;
+use gb_plain::places::places;
+use gb_plain::state::MachineState;
 use std::io::{self, Write};
 
 fn ime_number(ime: Ime) -> u8 {
@@ -77,16 +76,11 @@ fn write_changes<W: Write>(
 
 /// Applies an event, and prints its line.
 pub fn report<W: Write>(out: &mut W, setup: &mut Setup, event: Event) -> io::Result<()> {
-    let is_possible = is_possible(&setup.rom, &setup.state, event);
-    let faults = faults(&setup.rom, setup.region, &setup.state, event);
-    let fetched = places(&setup.rom, &setup.state, event);
-    let cycles = if is_possible {
-        cycles(&setup.rom, &setup.state, event)
-    } else {
-        0
-    };
-    next(&setup.rom, &mut setup.state, event);
-    write_state(out, &setup.state)?;
+    let machine = &setup.machine;
+    let faults = faults(setup.region, &machine.state, event);
+    let fetched = places(&machine.state, event);
+    let cycles = setup.machine.apply(event);
+    write_state(out, &setup.machine.state)?;
     write_faults(out, faults)?;
     write!(out, " places")?;
     for place in fetched.as_slice() {
@@ -96,8 +90,8 @@ pub fn report<W: Write>(out: &mut W, setup: &mut Setup, event: Event) -> io::Res
         write!(out, " -")?;
     }
     write!(out, " cycles {:X} ram", cycles)?;
-    let in_work = write_changes(out, 0xC000, &mut setup.work, setup.state.work())?;
-    let in_high = write_changes(out, 0xFF80, &mut setup.high, setup.state.high())?;
+    let in_work = write_changes(out, 0xC000, &mut setup.work, setup.machine.state.work())?;
+    let in_high = write_changes(out, 0xFF80, &mut setup.high, setup.machine.state.high())?;
     if in_work || in_high {
         writeln!(out)
     } else {

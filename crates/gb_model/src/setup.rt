@@ -4,9 +4,11 @@ ghost use Rattle.std.specs.Prelude.{◌≡◌, ◌<◌, ◌≤◌};
 
 use crate::fields::{address, byte, byte_of, bytes, flag, number};
 use gb_effects::flags::flags_of;
-use gb_next::state::MachineState;
 use gb_ops::machine::{Banks, Event, Region};
 use gb_ops::registers::{Ime, Processor, Registers};
+use gb_plain::cartridge::Cartridge;
+use gb_plain::machine::PlainMachine;
+use gb_plain::state::{HIGH_SIZE, MachineState, WORK_SIZE, longest_transfer};
 use std::alloc::{AllocError, Global};
 use std::str::{self, SplitWhitespace};
 
@@ -24,12 +26,11 @@ pub enum Line {
     Happens(Event),
 }
 
-/// A cartridge, a declared region, and a state.
+/// A cartridge with a machine state, and a declared region.
 #[derive(Drop)]
 pub struct Setup {
-    pub rom: Vec<u8>,
+    pub machine: PlainMachine,
     pub region: Region,
-    pub state: MachineState,
     /// The bytes of work RAM and high RAM as they were last reported.
     pub work: Vec<u8>,
     pub high: Vec<u8>,
@@ -109,17 +110,16 @@ fn processor(words: &mut SplitWhitespace<'_>) -> Option<Processor> {
 impl Setup {
     /// The smallest cartridge, all bytes 00, at power-up.
     pub fn new(alloc: Global) -> Result<Setup, AllocError> {
-        let rom = vec![in alloc; 0; SMALLEST_ROM]?;
-        let state = MachineState::at_power_up(alloc, &rom)?;
+        let cartridge = Cartridge::blank(alloc)?;
+        let state = MachineState::at_power_up(alloc, cartridge)?;
         Ok(Setup {
-            rom,
+            machine: PlainMachine::new(state),
             region: Region {
                 first: 0xDF00,
                 last: 0xDFFF,
             },
-            state,
-            work: vec![in alloc; 0; 8192]?,
-            high: vec![in alloc; 0; 127]?,
+            work: vec![in alloc; 0; WORK_SIZE]?,
+            high: vec![in alloc; 0; HIGH_SIZE]?,
         })
     }
 
@@ -145,7 +145,8 @@ impl Setup {
         }
     }
 
-    /// A cartridge of zeros, of a type, a ROM size and a RAM size.
+    /// A cartridge of zeros, of a type, a ROM size and a RAM size. Its controller takes the registers as its
+    /// windows hold them.
     fn set_cartridge(
         &mut self,
         alloc: Global,
@@ -161,15 +162,23 @@ impl Setup {
         if rom_size > 8 {
             return Ok(None);
         }
-        self.rom = cartridge_of(alloc, type_byte, rom_size, ram_size)?;
+        let rom = cartridge_of(alloc, type_byte, rom_size, ram_size)?;
+        let Some(cartridge) = Cartridge::new(alloc, rom)? else {
+            return Ok(None);
+        };
+        let banks = self.machine.state.banks();
+        self.machine.state.set_cartridge(cartridge);
+        self.machine.state.set_banks(banks);
         Ok(Some(Line::Nothing))
     }
 
-    /// Bytes of the cartridge from an offset on.
+    /// Bytes of the cartridge from an offset on; the bytes that its controller rests on stay.
     fn patch_rom(&mut self, words: &mut SplitWhitespace<'_>) -> Option<Line> {
         let mut at = number(words, 0x7F_FFFF)? as usize;
         for digits in words.next()?.as_bytes().chunks(2) {
-            *self.rom.get_mut(at)? = byte_of(digits)?;
+            if !self.machine.state.set_rom_byte(at, byte_of(digits)?) {
+                return None;
+            }
             at = at.wrapping_add(1);
         }
         Some(Line::Nothing)
@@ -194,17 +203,19 @@ impl Setup {
             mode: flag(words)?,
         };
         let ie = byte(words)?;
-        let count = number(words, 161)?;
+        let count = number(words, u64::from(longest_transfer()))?;
         let locked = flag(words)?;
         let stopped = flag(words)?;
-        self.state.set_processor(Processor {
+        if !self.machine.state.set_banks(banks) {
+            return None;
+        }
+        self.machine.state.set_processor(Processor {
             locked,
             stopped,
             ..processor
         });
-        self.state.set_banks(banks);
-        self.state.set_ie(ie);
-        self.state.set_count(count as u8);
+        self.machine.state.set_ie(ie);
+        self.machine.state.set_count(count as u8);
         Some(Line::Nothing)
     }
 
@@ -226,7 +237,7 @@ impl Setup {
     fn set_work(&mut self, i: u16, value: u8)
         requires { i < 8192 }
     {
-        self.state.set_work_byte(i, value);
+        self.machine.state.set_work_byte(i, value);
         if let Some(byte) = self.work.get_mut(usize::from(i)) {
             *byte = value;
         }
@@ -235,7 +246,7 @@ impl Setup {
     fn set_high(&mut self, i: u16, value: u8)
         requires { i < 127 }
     {
-        self.state.set_high_byte(i, value);
+        self.machine.state.set_high_byte(i, value);
         if let Some(byte) = self.high.get_mut(usize::from(i)) {
             *byte = value;
         }

@@ -8,8 +8,7 @@ pub mod Flags
 pub mod Machine
 pub mod Memory
 pub mod Pairs
-pub mod Plain
 pub mod Play
+pub mod ReadsBack
 pub mod Registers
-pub mod Sink
 pub mod Table

@@ -1,4 +1,8 @@
-//! The opcode table, the machine's definitions, and sinks of text.
+//! The machine: its definitions in `specs/`, and the opcode table and the types of its states in code.
+//!
+//! `decode` is the table, row by row, and `map::plain_storage_reads_back` is the law of its memory. Read
+//! `op` and `decode` first, then `machine` and `registers` with `specs/Machine.antt` (one event) and
+//! `specs/Play.antt` (runs), and `map` with `specs/Memory.antt` and `specs/ReadsBack.antt`.
 #![tactic(auto)]
 
 pub mod decode;
@@ -6,6 +10,3 @@ pub mod machine;
 pub mod map;
 pub mod op;
 pub mod registers;
-pub mod sink;
-#[cfg(test)]
-mod tests;

@@ -1,9 +1,16 @@
-//! The memory map.
+//! The memory map, and what memory gives back.
 
 ghost use Rattle.std.specs.Prelude.{◌≡◌};
 ghost use Rattle.gb_ops.specs.Memory as Memory;
+ghost use Rattle.gb_ops.specs.ReadsBack.{WritesAreStored, ReadsBack, RomStays};
 
 use crate::machine::Mapped;
+
+/// Bytes of work RAM.
+pub const WORK_RAM: usize = 8_192;
+
+/// Bytes of high RAM.
+pub const HIGH_RAM: usize = 127;
 
 /// What the memory map has at an address (Pan Docs: Memory Map).
 #[tactic(auto, unfolding(crate::specs::Memory::mapped_at))]
@@ -22,3 +29,13 @@ pub fn mapped_at(address: u16) -> Mapped
         0xFFFF => Mapped::InterruptEnable,
     }
 }
+
+/// The law of plain storage (C000-FDFF, FF80-FFFE, FFFF; E000-FDFF are the bytes of C000-DDFF): each byte
+/// reads what was written to it last, and a write changes no other byte and leaves the controller.
+/// It is stated over the definitions that the machine and each bus are described by.
+#[tactic(auto, using(crate::proofs::ReadingBack::laws))]
+pub fn plain_storage_reads_back()
+    ensures stored { WritesAreStored }
+    ensures last { ReadsBack }
+    ensures rom { RomStays }
+{}

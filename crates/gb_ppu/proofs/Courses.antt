@@ -6,9 +6,9 @@ use Rattle.gb_ppu.specs.declared.picture.Picture.{Picture}
 use Rattle.gb_ppu.specs.declared.picture.Requests.{Requests}
 use Rattle.gb_ppu.specs.Control.{is_on}
 use Rattle.gb_ppu.specs.Picture.{line_of, mode_at, mode_of, signal, rises, begins_drawing, arrived, ticked, requested, nothing, both, advanced, requested_in}
-use Rattle.gb_ppu.specs.Quiet.{quiet_at}
-use Rattle.gb_ppu.specs.Sound.{IsSound}
-use Rattle.gb_ppu.proofs.Sounds.{IsSound-ticked}
+use Rattle.gb_ppu.specs.QuietCycles.{quiet_at}
+use Rattle.gb_ppu.specs.WellFormed.{IsWellFormed}
+use Rattle.gb_ppu.proofs.WellFormed.{IsWellFormed-ticked}
 
 -- one after another
 pub advanced-zero : (n : ℕ) (p : Picture) → n ≡ 0 → advanced n p ≡ p
@@ -29,12 +29,12 @@ unfolding requested_in
 requested_in-more zero p h = absurd (h refl)
 requested_in-more (suc n) p h = let e : suc n - 1 ≡ n = omega arith in rw e refl
 
-pub ruleset steps = (advanced-zero, requested_in-zero, advanced-more, requested_in-more, IsSound-ticked)
+pub ruleset steps = (advanced-zero, requested_in-zero, advanced-more, requested_in-more, IsWellFormed-ticked)
 
-pub IsSound-advanced : (n : ℕ) (p : Picture) → IsSound p → IsSound (advanced n p)
+pub IsWellFormed-advanced : (n : ℕ) (p : Picture) → IsWellFormed p → IsWellFormed (advanced n p)
 unfolding advanced
-IsSound-advanced zero p h = h
-IsSound-advanced (suc n) p h = IsSound-advanced n (ticked p) (IsSound-ticked p h)
+IsWellFormed-advanced zero p h = h
+IsWellFormed-advanced (suc n) p h = IsWellFormed-advanced n (ticked p) (IsWellFormed-ticked p h)
 
 advanced-split : (a b : ℕ) (p : Picture) → advanced (a + suc b) p ≡ advanced b (ticked (advanced a p))
 unfolding advanced
@@ -170,8 +170,8 @@ quiet-requested_in (suc n) p within on quiet =
     let h = quiet-goes-on p n within quiet in
     rw (quiet-requested p within on h.0, quiet-ticked p within on h.0, quiet-requested_in n (next p) h.1 on h.2) refl
 
-pub IsSound-quiet : (n : ℕ) (p : Picture) → IsSound p → is_on p.lcdc ≡ true → n ≤ quiet_at p.position → IsSound (record p { position = p.position + n })
-IsSound-quiet n p h on quiet = rw (quiet-advanced n p h.within on quiet) at (IsSound-advanced n p h)
+pub IsWellFormed-quiet : (n : ℕ) (p : Picture) → IsWellFormed p → is_on p.lcdc ≡ true → n ≤ quiet_at p.position → IsWellFormed (record p { position = p.position + n })
+IsWellFormed-quiet n p h on quiet = rw (quiet-advanced n p h.within on quiet) at (IsWellFormed-advanced n p h)
 
 pub quiet_at-small : (position : ℕ) → quiet_at position < 114
 unfolding quiet_at
@@ -191,4 +191,4 @@ requested_in-past a n p h silent =
     let e : n ≡ a + suc (n - 1 - a) = omega arith in
     ap (λ k. requested_in k p) e ∙ requested_in-split a (n - 1 - a) p silent
 
-pub ruleset course = (quiet_at-small, off-advanced, off-requested_in, IsSound-advanced, IsSound-ticked, advanced-past, requested_in-past)
+pub ruleset course = (quiet_at-small, off-advanced, off-requested_in, IsWellFormed-advanced, IsWellFormed-ticked, advanced-past, requested_in-past)

@@ -5,11 +5,13 @@ pub mod Objects
 pub mod Pixel
 pub mod Picture
 pub mod LcdRegisters
-pub mod Sound
-pub mod Strips
+pub mod WellFormed
+pub mod Layers
 pub mod Window
-pub mod Quiet
+pub mod QuietCycles
 pub mod Requests
 pub mod PowerUp
 pub mod Seen
-pub mod Kept
+pub mod SameRegisters
+pub mod Frames
+pub mod FrontObject

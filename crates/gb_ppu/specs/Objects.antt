@@ -34,7 +34,7 @@ unfoldable pub object_row : ℕ → ℕ → Object → ℕ
 object_row lcdc y object =
     let row = y + 16 - object.y in if has_bit 6 object.attributes then object_height lcdc - 1 - row else row
 
--- likewise its column: attribute bit 5 turns columns round
+-- the column of the object's tile that stands at x: attribute bit 5 turns columns round
 unfoldable pub object_column : ℕ → Object → ℕ
 object_column x object = let column = x + 8 - object.x in if has_bit 5 object.attributes then 7 - column else column
 

@@ -8,9 +8,12 @@ use Rattle.gb_ppu.specs.declared.mode.Mode.TheVariants as mode
 use Rattle.gb_ppu.specs.Window.{counted, kept, compared}
 use Rattle.gb_ppu.specs.Control.{has_bit, is_on, has_background, has_window}
 
--- M-cycles of a line, and of a frame of 154 lines
+-- M-cycles of a line, lines that are drawn, and M-cycles of a frame of 154 lines
 abbrev pub line_cycles : ℕ
 line_cycles = 114
+
+abbrev pub drawn_lines : ℕ
+drawn_lines = 144
 
 abbrev pub frame_cycles : ℕ
 frame_cycles = 154 * line_cycles
@@ -22,7 +25,7 @@ line_of p = p.position / line_cycles
 -- the mode at a position of the frame
 unfoldable pub mode_at : ℕ → Mode
 mode_at position =
-    if nat_le 144 (position / line_cycles) then mode.VBlank
+    if nat_le drawn_lines (position / line_cycles) then mode.VBlank
     else if nat_lt (position % line_cycles) 20 then mode.ObjectScan
     else if nat_lt (position % line_cycles) 63 then mode.Drawing
     else mode.HBlank
@@ -31,9 +34,9 @@ mode_at position =
 unfoldable pub mode_of : Picture → Mode
 mode_of p = if is_on p.lcdc then mode_at p.position else mode.HBlank
 
--- mode 3 of one of the 144 lines begins at a position
+-- mode 3 of a drawn line begins at a position
 unfoldable pub begins_drawing : ℕ → Bool
-begins_drawing position = position % line_cycles == 20 && nat_lt (position / line_cycles) 144
+begins_drawing position = position % line_cycles == 20 && nat_lt (position / line_cycles) drawn_lines
 
 -- a line begins
 unfoldable pub line_begun : Picture → Picture
@@ -79,7 +82,7 @@ rises old new = not (signal old) && signal new
 -- what one M-cycle requests; VBlank as line 144 begins
 unfoldable pub requested : Picture → Requests
 requested p = record {
-  vblank = is_on p.lcdc && (ticked p).position == 144 * line_cycles;
+  vblank = is_on p.lcdc && (ticked p).position == drawn_lines * line_cycles;
   stat = rises p (ticked p);
 }
 

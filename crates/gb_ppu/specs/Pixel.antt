@@ -1,5 +1,5 @@
 -- The shade of one pixel (Pan Docs: Rendering, Window, OAM).
-use Rattle.std.specs.Prelude.{ℕ, ◌≡◌, ◌<◌, ◌≤◌, ◌++◌, ◌∷◌, [], All, Bool, not, ◌&&◌, ◌==◌, ◌+◌, ◌-◌, ◌%◌, if◌then◌else◌, nat_le, nat_lt, List, Option, Some, None, fold}
+use Rattle.std.specs.Prelude.{ℕ, Bool, not, ◌&&◌, ◌==◌, ◌+◌, ◌-◌, ◌%◌, if◌then◌else◌, nat_le, nat_lt, List, Option, Some, None, fold}
 use Rattle.std.specs.List.{filter_map}
 use Rattle.gb_ppu.specs.declared.objects.Object.{Object}
 use Rattle.gb_ppu.specs.Seen.{Seen}
@@ -25,7 +25,7 @@ layer_colour scene x y (Some row) =
 unfoldable pub background_colour : Seen → ℕ → ℕ → ℕ
 background_colour scene x y = if has_background scene.lcdc then layer_colour scene x y (window_row scene x) else 0
 
--- and have shade 0, whatever the palette
+-- the shade of a colour of background and window: 0 where they are off, whatever the palette
 unfoldable pub background_shade : Seen → ℕ → ℕ
 background_shade scene colour = if has_background scene.lcdc then shade_of scene.bgp colour else 0
 
@@ -43,34 +43,21 @@ object_pixel scene x y object =
       is_behind = has_bit 7 object.attributes;
     }) else None
 
--- of two pixels, the one whose object has the smaller X, the earlier one where they have the same
+-- of a pixel that may be missing and a later one, the one whose object has the smaller X, the earlier one where both have the same
 abbrev pub nearer : Option ObjectPixel → ObjectPixel → Option ObjectPixel
 nearer None later = Some later
 nearer (Some earlier) later = if nat_lt later.x earlier.x then Some later else Some earlier
 
--- the same with a later pixel that may be missing
+-- of two pixels that may be missing, the one in front
 abbrev pub joined : Option ObjectPixel → Option ObjectPixel → Option ObjectPixel
 joined front None = front
 joined front (Some later) = nearer front later
 
--- of pixels in OAM's order, the one in front
+-- of pixels in OAM's order, the one in front: `ShowsFront` says what that is
 unfoldable pub foremost : List ObjectPixel → Option ObjectPixel
 foremost pixels = fold nearer None pixels
 
--- the least by X and place in OAM: those before it have a greater X, those after it no smaller one
-pub record IsLeast (pixels : List ObjectPixel) (least : ObjectPixel) : Type 0 where
-  pub earlier : List ObjectPixel
-  pub later : List ObjectPixel
-  pub whole : pixels ≡ earlier ++ least ∷ later
-  pub before : All (λ p. least.x < p.x) earlier
-  pub after : All (λ p. least.x ≤ p.x) later
-
--- what `foremost` means
-abbrev pub IsInFront : List ObjectPixel → Option ObjectPixel → Type 0
-IsInFront pixels None = pixels ≡ []
-IsInFront pixels (Some front) = IsLeast pixels front
-
--- among so many objects of the line
+-- the pixel in front among some objects, where objects are drawn
 unfoldable pub front_pixel : Seen → ℕ → ℕ → List Object → Option ObjectPixel
 front_pixel scene x y objects =
     if has_objects scene.lcdc then foremost (filter_map (object_pixel scene x y) objects) else None

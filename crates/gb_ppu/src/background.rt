@@ -4,22 +4,22 @@ ghost use Rattle.std.specs.Prelude.{◌≡◌, ◌<◌, ◌≤◌, ◌+◌, ◌-
 ghost use Rattle.gb_ppu.specs.Maps.{map_colour};
 ghost use Rattle.gb_ppu.specs.Pixel.{background_colour, window_row};
 ghost use Rattle.gb_ppu.specs.Seen.{seen};
-ghost use Rattle.gb_ppu.specs.Strips.{or_below};
+ghost use Rattle.gb_ppu.specs.Layers.{or_below};
 
 use crate::control::{has_background, has_bit, has_window};
-use crate::line::WIDTH;
+use crate::line::{HEIGHT, WIDTH};
 use crate::maps::tile_row;
 use crate::scene::Scene;
 
 /// Draws the colours of a map from a column of the line on: there stands column u of the map's row v.
-#[tactic(auto, using(crate::proofs::Strips::strips))]
+#[tactic(auto, using(crate::proofs::MapRows::strips))]
 fn draw_map(scene: &Scene<'_>, is_second: bool, u: u8, v: u8, from: u8, colours: &mut [u8; WIDTH])
     ensures drawn { (x : ℕ) → from ≤ x → x < WIDTH → slice_index colours.new x ≡ map_colour scene.now.video_ram.now scene.now.lcdc is_second ((u + (x - from)) % 256) v }
     ensures kept { (x : ℕ) → x < from → slice_index colours.new x ≡ slice_index colours.old x }
 {
     let mut column = u;
     let mut row = tile_row(scene.video_ram, scene.lcdc, is_second, column, v);
-    for x in from..160 {
+    for x in from..WIDTH as u8 {
         colours[usize::from(x)] = row.colour(column % 8);
         column = column.wrapping_add(1);
         if column % 8 == 0 {
@@ -47,14 +47,14 @@ fn draw_window(scene: &Scene<'_>, colours: &mut [u8; WIDTH])
 
 /// A line of colour 0.
 fn blank_line() -> [u8; WIDTH]
-    ensures { result ≡ replicate 160 0 }
+    ensures { result ≡ replicate WIDTH 0 }
 {
     [0; WIDTH]
 }
 
 /// The colours of background and window along a line, 0 where they're off.
 pub(crate) fn background_line(scene: &Scene<'_>, y: u8) -> [u8; WIDTH]
-    requires { y < 144 }
+    requires { y < HEIGHT }
     ensures { (x : ℕ) → x < WIDTH → slice_index result x ≡ background_colour (seen scene.now) x y }
 {
     let mut colours = blank_line();

@@ -13,6 +13,7 @@ pub fn bit(n: u8, byte: u8) -> u8
     (byte >> n) % 2
 }
 
+/// Whether bit n of a byte is set.
 #[tactic(auto, unfolding(crate::specs::Control::has_bit))]
 pub fn has_bit(n: u8, byte: u8) -> bool
     requires { n < 8 }

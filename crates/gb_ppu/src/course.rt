@@ -1,48 +1,27 @@
-//! The picture's course over several M-cycles.
+//! The picture's course over several M-cycles: quiet ones are passed at once.
 
 ghost use Rattle.std.specs.Prelude.{◌≡◌, ◌<◌, ◌≤◌, true, IsTrue};
 ghost use Rattle.gb_ppu.specs.Control.{is_on};
 ghost use Rattle.gb_ppu.specs.Picture.{advanced, requested_in, nothing};
-ghost use Rattle.gb_ppu.specs.Quiet.{quiet_at};
-ghost use Rattle.gb_ppu.specs.Sound.{IsSound};
+ghost use Rattle.gb_ppu.specs.QuietCycles.{quiet_at};
+ghost use Rattle.gb_ppu.specs.WellFormed.{IsWellFormed};
 
 use crate::control::is_on;
 use crate::picture::{LINE_CYCLES, Passed, Picture, Requests};
 
-/// So many M-cycles, one after another. `advance` gives the same faster.
-#[tactic(auto, using(crate::proofs::Courses::steps))]
-pub fn advance_slowly(picture: Picture, n: u8) -> Passed
-    requires { IsSound picture }
-    ensures picture { result.picture ≡ advanced n picture }
-    ensures requests { result.requests ≡ requested_in n picture }
-{
-    if n == 0 {
-        return Passed {
-            picture,
-            requests: Requests::NOTHING,
-        };
-    }
-    let first = picture.tick();
-    let rest = advance_slowly(first.picture, n - 1);
-    Passed {
-        picture: rest.picture,
-        requests: first.requests.both(rest.requests),
-    }
-}
-
 /// M-cycles from a position on that reach neither a line's start nor another mode.
-#[tactic(auto, unfolding(crate::specs::Quiet::quiet_at))]
+#[tactic(auto, unfolding(crate::specs::QuietCycles::quiet_at))]
 fn quiet_at(position: u16) -> u16
     ensures { result ≡ quiet_at position }
 {
     match position % LINE_CYCLES {
         column @ 0..20 => 19 - column,
         column @ 20..63 => 62 - column,
-        column => 113 - column,
+        column => LINE_CYCLES - 1 - column,
     }
 }
 
-/// Whether nothing but the position changes in so many M-cycles, the LCD being on.
+/// Whether the LCD is on and nothing but the position changes in n M-cycles.
 #[inline]
 pub(crate) fn is_quiet(picture: &Picture, n: u8) -> bool
     ensures { IsTrue result → (is_on picture.now.lcdc ≡ true) × (n ≤ quiet_at picture.now.position) }
@@ -50,10 +29,10 @@ pub(crate) fn is_quiet(picture: &Picture, n: u8) -> bool
     is_on(picture.lcdc) && u16::from(n) <= quiet_at(picture.position)
 }
 
-/// So many M-cycles in which nothing but the position changes.
+/// Lets n M-cycles pass in which nothing but the position changes.
 #[tactic(auto, using(crate::proofs::Courses::quiet))]
 fn advance_quietly(picture: Picture, n: u16) -> Picture
-    requires sound { IsSound picture }
+    requires formed { IsWellFormed picture }
     requires on { is_on picture.lcdc ≡ true }
     requires quiet { n ≤ quiet_at picture.position }
     ensures picture { result ≡ advanced n picture }
@@ -65,10 +44,10 @@ fn advance_quietly(picture: Picture, n: u16) -> Picture
     }
 }
 
-/// So many M-cycles: from one change to the next.
+/// Lets n M-cycles pass, by going from one change to the next.
 #[tactic(auto, using(crate::proofs::Courses::course))]
 pub fn advance(picture: Picture, n: u8) -> Passed
-    requires { IsSound picture }
+    requires { IsWellFormed picture }
     ensures picture { result.picture ≡ advanced n picture }
     ensures requests { result.requests ≡ requested_in n picture }
 {

@@ -1,4 +1,12 @@
-//! The picture: its modes and requests, and lines that are their pixels.
+//! The picture unit: its registers, its modes and requests M-cycle by M-cycle, and its lines (Pan Docs: Rendering).
+//!
+//! A bus drives `ppu::Ppu`. `Ppu::advance` is n single M-cycles and answers what they request; `Ppu::window_line` is the
+//! number of earlier lines of the frame that showed the window, whatever was written meanwhile. `line::render_line` gives
+//! each pixel of a line its shade (`pixels`), and says which object is in front there (`front`).
+//!
+//! Read `picture` (the state and one M-cycle), `course` (several), `registers` and `ppu`; then `tiles`, `maps`, `objects`
+//! and `pixel` (one pixel), `background` and `line` (a whole line). The definitions are in `specs/Picture.antt`,
+//! `Frames.antt` (the window's own line), `LcdRegisters.antt`, `Pixel.antt` and `FrontObject.antt` (the object in front).
 #![tactic(auto)]
 
 mod background;
@@ -13,6 +21,4 @@ pub mod pixel;
 pub mod ppu;
 pub mod registers;
 pub mod scene;
-#[cfg(test)]
-mod tests;
 mod tiles;

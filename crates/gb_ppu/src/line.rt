@@ -3,6 +3,7 @@
 ghost use Rattle.std.specs.Prelude.{◌≡◌, ◌<◌, ℕ, slice_index};
 ghost use Rattle.gb_ppu.specs.Objects.{line_objects};
 ghost use Rattle.gb_ppu.specs.Seen.{seen};
+ghost use Rattle.gb_ppu.specs.FrontObject.{ShowsFront};
 ghost use Rattle.gb_ppu.specs.Pixel.{shade, background_colour};
 
 use crate::background::background_line;
@@ -13,6 +14,9 @@ use std::marker::Model;
 
 /// Pixels of a line.
 pub const WIDTH: usize = 160;
+
+/// Lines of the screen.
+pub const HEIGHT: usize = 144;
 
 /// Objects of a line, in OAM's order.
 #[derive(Drop)]
@@ -73,9 +77,9 @@ impl LineObjects {
 }
 
 /// The first ten objects in OAM's order that meet the line.
-#[tactic(auto, using(crate::proofs::Choosing::choosing))]
+#[tactic(auto, using(crate::proofs::LineObjects::choosing))]
 fn line_objects(oam: &[u8; OAM], lcdc: u8, y: u8) -> LineObjects
-    requires { y < 144 }
+    requires { y < HEIGHT }
     ensures { result ≡ line_objects lcdc oam.now y }
 {
     let mut chosen = LineObjects::new();
@@ -91,8 +95,8 @@ fn line_objects(oam: &[u8; OAM], lcdc: u8, y: u8) -> LineObjects
 /// The shade at (x, y), given the background's colour there and the line's objects.
 #[tactic(auto, unfolding(crate::specs::Pixel::shade))]
 fn shade_among(scene: &Scene<'_>, objects: &LineObjects, colour: u8, x: u8, y: u8) -> u8
-    requires x_within { x < 160 }
-    requires y_within { y < 144 }
+    requires x_within { x < WIDTH }
+    requires y_within { y < HEIGHT }
     requires chosen { objects.now ≡ line_objects scene.now.lcdc scene.now.oam.now y }
     requires below { colour ≡ background_colour (seen scene.now) x y }
     requires small { colour < 4 }
@@ -102,14 +106,16 @@ fn shade_among(scene: &Scene<'_>, objects: &LineObjects, colour: u8, x: u8, y: u
     mix(scene, colour, front)
 }
 
-/// Draws line y: the shades 0 to 3 of its pixels (Pan Docs: Rendering).
+/// Draws line y: the shades 0 to 3 of its pixels (Pan Docs: Rendering). At each the object in front is the one with the
+/// smallest X, the earliest in OAM where several have it, among those of the line's first ten that are opaque there.
 pub fn render_line(scene: &Scene<'_>, y: u8, line: &mut [u8; WIDTH])
-    requires { y < 144 }
+    requires { y < HEIGHT }
     ensures pixels { (x : ℕ) → x < WIDTH → slice_index line.new x ≡ shade (seen scene.now) x y }
+    ensures front { (x : ℕ) → x < WIDTH → ShowsFront (seen scene.now) x y (slice_index line.new x) }
 {
     let objects = line_objects(scene.oam, scene.lcdc, y);
     let colours = background_line(scene, y);
-    for x in 0..160 {
+    for x in 0..WIDTH as u8 {
         let colour = colours[usize::from(x)];
         line[usize::from(x)] = shade_among(scene, &objects, colour, x, y);
     }

@@ -3,6 +3,7 @@
 ghost use Rattle.std.specs.Prelude.{◌≡◌, ◌<◌, ◌≤◌, ◌+◌, true};
 
 use crate::control::{has_bit, object_height};
+use crate::line::{HEIGHT, WIDTH};
 use crate::scene::{OAM, VIDEO_RAM};
 use crate::tiles::tile_colour;
 
@@ -42,7 +43,7 @@ impl Object {
     /// Whether it has a row on the line.
     #[tactic(auto, unfolding(crate::specs::Objects::meets_line))]
     pub(crate) fn meets_line(self, lcdc: u8, y: u8) -> bool
-        requires { y < 144 }
+        requires { y < HEIGHT }
         ensures { result ≡ meets_line lcdc y self }
     {
         self.y <= y + 16 && u16::from(y) + 16 < u16::from(self.y) + u16::from(object_height(lcdc))
@@ -51,8 +52,8 @@ impl Object {
     /// Whether it has a pixel at (x, y).
     #[tactic(auto, unfolding(crate::specs::Objects::contains))]
     pub(crate) fn contains(self, lcdc: u8, x: u8, y: u8) -> bool
-        requires x_within { x < 160 }
-        requires y_within { y < 144 }
+        requires x_within { x < WIDTH }
+        requires y_within { y < HEIGHT }
         ensures { result ≡ contains lcdc x y self }
     {
         self.x <= x + 8 && x < self.x && self.meets_line(lcdc, y)
@@ -61,7 +62,7 @@ impl Object {
     /// The row of its tile that stands on the line.
     #[tactic(auto, unfolding(crate::specs::Objects::object_row, crate::specs::Objects::meets_line, crate::specs::Control::object_height))]
     fn row(self, lcdc: u8, y: u8) -> u8
-        requires y_within { y < 144 }
+        requires y_within { y < HEIGHT }
         requires met { meets_line lcdc y self ≡ true }
         ensures value { result ≡ object_row lcdc y self }
         ensures within { result < 16 }
@@ -77,7 +78,7 @@ impl Object {
     /// The column of its tile that stands at x.
     #[tactic(auto, unfolding(crate::specs::Objects::object_column, crate::specs::Objects::contains))]
     fn column(self, lcdc: u8, x: u8, y: u8) -> u8
-        requires x_within { x < 160 }
+        requires x_within { x < WIDTH }
         requires contained { contains lcdc x y self ≡ true }
         ensures value { result ≡ object_column x self }
         ensures within { result < 8 }
@@ -105,8 +106,8 @@ impl Object {
     /// Its colour at a pixel that it has.
     #[tactic(auto, unfolding(crate::specs::Objects::object_colour, crate::specs::Objects::contains))]
     pub(crate) fn colour(self, video_ram: &[u8; VIDEO_RAM], lcdc: u8, x: u8, y: u8) -> u8
-        requires x_within { x < 160 }
-        requires y_within { y < 144 }
+        requires x_within { x < WIDTH }
+        requires y_within { y < HEIGHT }
         requires contained { contains lcdc x y self ≡ true }
         ensures value { result ≡ object_colour video_ram.now lcdc x y self }
         ensures small { result < 4 }

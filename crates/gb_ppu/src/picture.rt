@@ -5,16 +5,23 @@ ghost use Rattle.std.specs.Option.{ForSome};
 ghost use Rattle.gb_ppu.specs.Window.{counted, kept, compared};
 
 use crate::control::{has_background, has_bit, has_window, is_on};
+use crate::line::HEIGHT;
 use crate::mode::Mode;
 
 /// M-cycles of a line.
-pub(crate) const LINE_CYCLES: u16 = 114;
+pub const LINE_CYCLES: u16 = 114;
 
-/// M-cycles of a frame.
-pub(crate) const FRAME_CYCLES: u16 = 17_556;
+/// Lines of a frame, the 10 of VBlank among them.
+pub const LINES: u16 = 154;
 
-/// Where line 144 begins.
-const VBLANK: u16 = 144 * LINE_CYCLES;
+/// M-cycles of a frame, 17,556.
+pub const FRAME_CYCLES: u16 = LINES * LINE_CYCLES;
+
+/// Lines that are drawn, those before VBlank.
+pub(crate) const DRAWN_LINES: u16 = HEIGHT as u16;
+
+/// Where the first line of VBlank begins.
+const VBLANK: u16 = DRAWN_LINES * LINE_CYCLES;
 
 /// The picture's registers, and where it stands.
 #[derive(Clone, Copy)]
@@ -82,14 +89,14 @@ fn counted(shown: bool, window: Option<u8>) -> Option<u8>
     }
 }
 
-/// The same, given whether a frame begins.
+/// A frame begins without a window.
 fn kept(is_first: bool, window: Option<u8>) -> Option<u8>
     ensures { result ≡ kept is_first window }
 {
     if is_first { None } else { window }
 }
 
-/// The same, given whether LY equals WY.
+/// From the first line on at whose start LY equals WY there is a window, at its line 0.
 fn compared(is_equal: bool, window: Option<u8>) -> Option<u8>
     ensures { result ≡ compared is_equal window }
 {
@@ -104,14 +111,14 @@ impl Picture {
     ghost use Rattle.std.specs.Prelude.{◌≡◌, ◌<◌, ◌≤◌, ◌/◌, true};
     ghost use Rattle.gb_ppu.specs.Control.{is_on};
     ghost use Rattle.gb_ppu.specs.Picture.{line_of, mode_at, mode_of, begins_drawing, line_begun, drawing_begun, arrived, ticked, chooses, signal, rises, requested};
-    ghost use Rattle.gb_ppu.specs.Sound.{IsSound};
+    ghost use Rattle.gb_ppu.specs.WellFormed.{IsWellFormed};
 
     /// LY.
     #[tactic(auto, unfolding(crate::specs::Picture::line_of))]
     pub(crate) fn line(self) -> u8
-        requires { IsSound self }
+        requires { IsWellFormed self }
         ensures value { result ≡ line_of self }
-        ensures small { result < 154 }
+        ensures small { result < LINES }
     {
         (self.position / LINE_CYCLES) as u8
     }
@@ -124,7 +131,7 @@ impl Picture {
         if !is_on(self.lcdc) {
             return Mode::HBlank;
         }
-        if self.position / LINE_CYCLES >= 144 {
+        if self.position / LINE_CYCLES >= DRAWN_LINES {
             return Mode::VBlank;
         }
         match self.position % LINE_CYCLES {
@@ -139,7 +146,7 @@ impl Picture {
     fn begins_drawing(self) -> bool
         ensures { result ≡ begins_drawing self.position }
     {
-        self.position % LINE_CYCLES == 20 && self.position / LINE_CYCLES < 144
+        self.position % LINE_CYCLES == 20 && self.position / LINE_CYCLES < DRAWN_LINES
     }
 
     /// A line begins.
@@ -185,7 +192,7 @@ impl Picture {
     /// The OR of STAT's sources.
     #[tactic(auto, unfolding(crate::specs::Picture::signal))]
     fn signal(self) -> bool
-        requires { IsSound self }
+        requires { IsWellFormed self }
         ensures { result ≡ signal self }
     {
         if !is_on(self.lcdc) {
@@ -213,7 +220,7 @@ impl Picture {
     /// One M-cycle.
     #[tactic(auto, unfolding(crate::specs::Picture::ticked))]
     fn ticked(self) -> Picture
-        requires { IsSound self }
+        requires { IsWellFormed self }
         ensures { result ≡ ticked self }
     {
         if !is_on(self.lcdc) {
@@ -226,17 +233,17 @@ impl Picture {
     /// Whether STAT's request comes as this picture becomes another.
     #[tactic(auto, unfolding(crate::specs::Picture::rises))]
     pub(crate) fn rises(self, new: Picture) -> bool
-        requires old { IsSound self }
-        requires new { IsSound new }
+        requires old { IsWellFormed self }
+        requires new { IsWellFormed new }
         ensures { result ≡ rises self new }
     {
         !self.signal() && new.signal()
     }
 
     /// One M-cycle, with what it requests.
-    #[tactic(auto, unfolding(crate::specs::Picture::requested), using(crate::proofs::Sounds::sounds))]
+    #[tactic(auto, unfolding(crate::specs::Picture::requested), using(crate::proofs::WellFormed::well_formed))]
     pub(crate) fn tick(self) -> Passed
-        requires { IsSound self }
+        requires { IsWellFormed self }
         ensures picture { result.picture ≡ ticked self }
         ensures requests { result.requests ≡ requested self }
     {

@@ -1,13 +1,13 @@
 //! One pixel.
 
-ghost use Rattle.std.specs.Prelude.{◌≡◌, ◌<◌, ◌≤◌, ◌+◌, IfSome, true};
-ghost use Rattle.gb_ppu.specs.Control.{has_objects};
+ghost use Rattle.std.specs.Prelude.{◌≡◌, ◌<◌, ◌≤◌, ◌+◌, IfSome};
 ghost use Rattle.gb_ppu.specs.Seen.{seen};
-ghost use Rattle.gb_ppu.specs.Pixel.{window_row, background_colour, background_shade, object_pixel, nearer, joined, foremost, IsInFront, front_pixel, mixed, shade};
+ghost use Rattle.gb_ppu.specs.Pixel.{window_row, background_colour, background_shade, object_pixel, nearer, joined, foremost, front_pixel, mixed, shade};
 ghost use Rattle.gb_ppu.specs.Objects.{line_objects};
 ghost use Rattle.std.specs.List.{filter_map};
 
 use crate::control::{has_background, has_bit, has_objects, has_window};
+use crate::line::{HEIGHT, WIDTH};
 use crate::maps::map_colour;
 use crate::objects::{LINE_OBJECTS, OBJECTS, Object};
 use crate::scene::Scene;
@@ -26,7 +26,7 @@ pub struct ObjectPixel {
 /// The window's row at column x of the line, where the window shows there.
 #[tactic(auto, unfolding(crate::specs::Pixel::window_row))]
 fn window_row(scene: &Scene<'_>, x: u8) -> Option<u8>
-    requires { x < 160 }
+    requires { x < WIDTH }
     ensures value { result ≡ window_row (seen scene.now) x }
     ensures begun { IfSome result (λ _. scene.now.wx ≤ x + 7) }
 {
@@ -40,8 +40,8 @@ fn window_row(scene: &Scene<'_>, x: u8) -> Option<u8>
 /// The colour of background or window, 0 where they're off.
 #[tactic(auto, unfolding(crate::specs::Pixel::background_colour))]
 pub(crate) fn background_colour(scene: &Scene<'_>, x: u8, y: u8) -> u8
-    requires x_within { x < 160 }
-    requires y_within { y < 144 }
+    requires x_within { x < WIDTH }
+    requires y_within { y < HEIGHT }
     ensures value { result ≡ background_colour (seen scene.now) x y }
     ensures small { result < 4 }
 {
@@ -80,8 +80,8 @@ fn background_shade(scene: &Scene<'_>, colour: u8) -> u8
 /// An object's pixel at (x, y), where it has one that is opaque.
 #[tactic(auto, unfolding(crate::specs::Pixel::object_pixel, crate::specs::Pixel::is_opaque))]
 fn object_pixel(scene: &Scene<'_>, x: u8, y: u8, object: Object) -> Option<ObjectPixel>
-    requires x_within { x < 160 }
-    requires y_within { y < 144 }
+    requires x_within { x < WIDTH }
+    requires y_within { y < HEIGHT }
     ensures { result ≡ object_pixel (seen scene.now) x y object }
 {
     if !object.contains(scene.lcdc, x, y) {
@@ -103,7 +103,7 @@ fn object_pixel(scene: &Scene<'_>, x: u8, y: u8, object: Object) -> Option<Objec
     })
 }
 
-/// Of two pixels the one in front, given in OAM's order.
+/// Of a pixel that may be missing and a later one, the one in front, given in OAM's order.
 fn nearer(earlier: Option<ObjectPixel>, later: ObjectPixel) -> Option<ObjectPixel>
     ensures { result ≡ nearer earlier later }
 {
@@ -113,11 +113,11 @@ fn nearer(earlier: Option<ObjectPixel>, later: ObjectPixel) -> Option<ObjectPixe
     }
 }
 
-/// Of the opaque pixels that objects in OAM's order have at (x, y), the one in front.
+/// Of the opaque pixels that objects in OAM's order have at (x, y), the one in front, whether objects are drawn or not.
 #[tactic(auto, unfolding(crate::specs::Pixel::foremost))]
 fn foremost_of(scene: &Scene<'_>, x: u8, y: u8, objects: &[Object]) -> Option<ObjectPixel>
-    requires x_within { x < 160 }
-    requires y_within { y < 144 }
+    requires x_within { x < WIDTH }
+    requires y_within { y < HEIGHT }
     ensures { result ≡ foremost (filter_map (object_pixel (seen scene.now) x y) objects.now) }
 {
     objects
@@ -126,7 +126,7 @@ fn foremost_of(scene: &Scene<'_>, x: u8, y: u8, objects: &[Object]) -> Option<Ob
         .fold(None, |front, pixel| nearer(front, pixel))
 }
 
-/// The same, where objects are drawn.
+/// Of the opaque pixels that objects in OAM's order have at (x, y), the one in front, where objects are drawn.
 #[tactic(auto, unfolding(crate::specs::Pixel::front_pixel))]
 pub(crate) fn front_pixel(
     scene: &Scene<'_>,
@@ -134,10 +134,9 @@ pub(crate) fn front_pixel(
     y: u8,
     objects: &[Object],
 ) -> Option<ObjectPixel>
-    requires x_within { x < 160 }
-    requires y_within { y < 144 }
-    ensures value { result ≡ front_pixel (seen scene.now) x y objects.now }
-    ensures least { has_objects scene.now.lcdc ≡ true → IsInFront (filter_map (object_pixel (seen scene.now) x y) objects.now) result }
+    requires x_within { x < WIDTH }
+    requires y_within { y < HEIGHT }
+    ensures { result ≡ front_pixel (seen scene.now) x y objects.now }
 {
     if has_objects(scene.lcdc) {
         foremost_of(scene, x, y, objects)
@@ -157,7 +156,7 @@ pub(crate) fn mix(scene: &Scene<'_>, colour: u8, front: Option<ObjectPixel>) -> 
     }
 }
 
-/// The same with a later pixel that may be missing.
+/// Of two pixels that may be missing the one in front, given in OAM's order.
 fn join(front: Option<ObjectPixel>, later: Option<ObjectPixel>) -> Option<ObjectPixel>
     ensures { result ≡ joined front later }
 {
@@ -168,10 +167,10 @@ fn join(front: Option<ObjectPixel>, later: Option<ObjectPixel>) -> Option<Object
 }
 
 /// The pixel in front at (x, y), by a walk through OAM.
-#[tactic(auto, using(crate::proofs::Fronts::fronts))]
+#[tactic(auto, using(crate::proofs::FrontPixels::fronts))]
 fn front_in(scene: &Scene<'_>, x: u8, y: u8) -> Option<ObjectPixel>
-    requires x_within { x < 160 }
-    requires y_within { y < 144 }
+    requires x_within { x < WIDTH }
+    requires y_within { y < HEIGHT }
     ensures { result ≡ foremost (filter_map (object_pixel (seen scene.now) x y) (line_objects scene.now.lcdc scene.now.oam.now y)) }
 {
     let mut met = 0usize;
@@ -186,11 +185,11 @@ fn front_in(scene: &Scene<'_>, x: u8, y: u8) -> Option<ObjectPixel>
     front
 }
 
-/// The shade at (x, y), by itself. `render_line` gives the same, line by line and faster.
+/// The shade at (x, y), by itself: the plain body beside which `render_line` can be held.
 #[tactic(auto, unfolding(crate::specs::Pixel::shade, crate::specs::Pixel::front_pixel))]
 pub fn pixel(scene: &Scene<'_>, x: u8, y: u8) -> u8
-    requires x_within { x < 160 }
-    requires y_within { y < 144 }
+    requires x_within { x < WIDTH }
+    requires y_within { y < HEIGHT }
     ensures { result ≡ shade (seen scene.now) x y }
 {
     let colour = background_colour(scene, x, y);

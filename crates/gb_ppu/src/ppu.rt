@@ -6,17 +6,17 @@ ghost use Rattle.gb_ppu.specs.Picture.{IsNextDrawing};
 ghost use Rattle.gb_timer.specs.Interrupts.{irq_bits};
 
 use crate::control::is_on;
-use crate::course::{advance, advance_slowly, is_quiet};
+use crate::course::{advance, is_quiet};
 use crate::mode::Mode;
-use crate::picture::{FRAME_CYCLES, LINE_CYCLES, Picture, Requests};
+use crate::picture::{DRAWN_LINES, FRAME_CYCLES, LINE_CYCLES, LINES, Picture, Requests};
 use crate::registers::LcdRegister;
 use crate::scene::{OAM, Scene, VIDEO_RAM};
 use bitflags::Flags;
 use gb_timer::irqs::Irqs;
 use std::marker::Model;
 
-/// Where mode 3 of line 143 begins.
-const LAST_DRAWING: u16 = 143 * LINE_CYCLES + 20;
+/// Where mode 3 of the last drawn line begins.
+const LAST_DRAWING: u16 = (DRAWN_LINES - 1) * LINE_CYCLES + 20;
 
 /// The picture: its registers, and where in the frame it stands.
 #[derive(Drop)]
@@ -26,13 +26,14 @@ pub struct Ppu {
 
 impl Model for Ppu {
     ghost use Rattle.gb_ppu.specs.declared.picture.Picture.{Picture};
-    ghost use Rattle.gb_ppu.specs.Sound.{IsSound};
+    ghost use Rattle.gb_ppu.specs.Frames.{IsFramed};
+    ghost use Rattle.gb_ppu.specs.WellFormed.{IsWellFormed};
 
     ghost Value = { Picture };
 
     ghost view = { λ s. s.picture };
 
-    ghost invariant = { λ s. IsSound s.picture };
+    ghost invariant = { λ s. IsWellFormed s.picture × IsFramed s.picture };
 }
 
 /// The interrupts that were requested.
@@ -56,10 +57,11 @@ impl Ppu {
     ghost use Rattle.gb_ppu.specs.Picture.{advanced, requested_in, line_of, mode_of, IsNextDrawing};
     ghost use Rattle.gb_ppu.specs.LcdRegisters.{register_read, register_written, requested_by};
     ghost use Rattle.gb_ppu.specs.Requests.{request_bits};
-    ghost use Rattle.gb_ppu.specs.Kept.{HasSameRegisters};
-    ghost use Rattle.gb_ppu.specs.Sound.{IsSound};
+    ghost use Rattle.gb_ppu.specs.SameRegisters.{HasSameRegisters};
+    ghost use Rattle.gb_ppu.specs.WellFormed.{IsWellFormed};
     ghost use Rattle.gb_ppu.specs.PowerUp.{power_up};
     ghost use Rattle.gb_ppu.specs.Seen.{seen, seen_by};
+    ghost use Rattle.gb_ppu.specs.Frames.{IsFramed, IsWindowLine};
 
     /// The picture at power-up: all registers 00 but LCDC 91 and BGP FC (Pan Docs: Power-Up Sequence), at the start
     /// of a frame (own).
@@ -102,7 +104,7 @@ impl Ppu {
     fn pass(&mut self, n: u8) -> Requests
         ensures picture { self.new ≡ advanced n self.old }
         ensures requests { result ≡ requested_in n self.old }
-        ensures sound { IsSound self.old }
+        ensures formed { IsWellFormed self.old }
     {
         if is_quiet(&self.picture, n) {
             self.picture.position += u16::from(n);
@@ -111,7 +113,7 @@ impl Ppu {
         self.pass_changes(n)
     }
 
-    /// The same, wherever they lead.
+    /// Lets n M-cycles pass, wherever they lead; kept out of the callers of `pass`.
     #[inline(never)]
     fn pass_changes(&mut self, n: u8) -> Requests
         ensures picture { self.new ≡ advanced n self.old }
@@ -120,16 +122,6 @@ impl Ppu {
         let passed = advance(self.picture, n);
         self.picture = passed.picture;
         passed.requests
-    }
-
-    /// The same, one M-cycle after another: slower, and with nothing clever.
-    pub fn advance_slowly(&mut self, n: u8) -> Irqs
-        ensures picture { self.new ≡ advanced n self.old }
-        ensures requests { irq_bits result ≡ request_bits (requested_in n self.old) }
-    {
-        let passed = advance_slowly(self.picture, n);
-        self.picture = passed.picture;
-        irqs_of(passed.requests)
     }
 
     /// What a register reads as (Pan Docs: LCD Control, LCD Status).
@@ -164,7 +156,7 @@ impl Ppu {
     #[tactic(auto, unfolding(crate::specs::Picture::line_of))]
     pub fn line(&self) -> u8
         ensures value { result ≡ line_of self.now }
-        ensures small { result < 154 }
+        ensures small { result < LINES }
         ensures off { is_on self.now.lcdc ≡ false → result ≡ 0 }
     {
         self.picture.line()
@@ -175,6 +167,17 @@ impl Ppu {
         ensures { result ≡ is_on self.now.lcdc }
     {
         is_on(self.picture.lcdc)
+    }
+
+    /// The window's own line, for the line that the picture stands at: none until LY equals WY at a line's start in this
+    /// frame, then the number of earlier lines of the frame that showed the window, whatever was written meanwhile
+    /// (Pan Docs: Window; own: whether a line shows it is decided as its mode 3 begins).
+    pub fn window_line(&self) -> Option<u8>
+        ensures value { result ≡ self.now.window }
+        ensures framed { IsFramed self.now }
+        ensures counted { IsWindowLine self.now result }
+    {
+        self.picture.window
     }
 
     /// What a line is drawn from whose mode 3 begins now.
@@ -192,7 +195,7 @@ impl Ppu {
             bgp: picture.bgp,
             obp0: picture.obp0,
             obp1: picture.obp1,
-            window_line: picture.window,
+            window_line: self.window_line(),
         }
     }
 

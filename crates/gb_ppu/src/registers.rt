@@ -25,13 +25,13 @@ pub enum LcdRegister {
 
 impl Picture {
     ghost use Rattle.std.specs.Prelude.{◌≡◌};
-    ghost use Rattle.gb_ppu.specs.Sound.{IsSound};
+    ghost use Rattle.gb_ppu.specs.WellFormed.{IsWellFormed};
     ghost use Rattle.gb_ppu.specs.LcdRegisters.{mode_number, stat_read, register_read, lcdc_written, register_written};
 
     /// What STAT reads as.
     #[tactic(auto, unfolding(crate::specs::LcdRegisters::stat_read))]
     fn stat_read(self) -> u8
-        requires { IsSound self }
+        requires { IsWellFormed self }
         ensures { result ≡ stat_read self }
     {
         let is_equal = if self.line() == self.lyc { 4 } else { 0 };
@@ -40,7 +40,7 @@ impl Picture {
 
     /// What a register reads as.
     pub(crate) fn read(self, register: LcdRegister) -> u8
-        requires { IsSound self }
+        requires { IsWellFormed self }
         ensures { result ≡ register_read register self }
     {
         match register {
@@ -61,7 +61,7 @@ impl Picture {
     /// The picture with LCDC written.
     #[tactic(auto, unfolding(crate::specs::LcdRegisters::lcdc_written))]
     fn lcdc_written(self, lcdc: u8) -> Picture
-        requires { IsSound self }
+        requires { IsWellFormed self }
         ensures { result ≡ lcdc_written lcdc self }
     {
         let written = Picture { lcdc, ..self };
@@ -86,7 +86,7 @@ impl Picture {
 
     /// The picture with a register written.
     pub(crate) fn written(self, register: LcdRegister, value: u8) -> Picture
-        requires { IsSound self }
+        requires { IsWellFormed self }
         ensures { result ≡ register_written register value self }
     {
         match register {

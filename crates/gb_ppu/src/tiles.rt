@@ -51,7 +51,7 @@ pub fn tile_colour(video_ram: &[u8; VIDEO_RAM], offset: usize, row: u8, column: 
 }
 
 /// The shade that a palette gives a colour.
-#[tactic(auto, using(crate::proofs::Shades::two_bits))]
+#[tactic(auto, using(crate::proofs::PaletteBits::two_bits))]
 pub fn shade_of(palette: u8, colour: u8) -> u8
     requires { colour < 4 }
     ensures { result ≡ shade_of palette colour }

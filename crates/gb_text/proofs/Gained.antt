@@ -1,7 +1,7 @@
 -- Bytes that a sink took, piece by piece.
 use Rattle.std.proofs.Common.{◌≡◌, ℕ, zero, suc, ◌+◌, ◌-◌, ◌≤◌, List, [], ◌∷◌, ◌++◌, take, drop, length, Option, Some, None, refl, sym, ◌∙◌, ap, subst, arith, length-drop}
 use Rattle.std.proofs.lemmas.List.{append_assoc, append-nil, take_all, take-append-le, length-append}
-use Rattle.gb_ops.specs.Sink.{Gains}
+use Rattle.gb_text.specs.Sink.{Gains}
 use Rattle.gb_text.specs.Text.{GainsBeginning}
 
 take_nil : (n : ℕ) → take {A = ℕ} n [] ≡ []

@@ -1,2 +1,5 @@
-pub mod Keeper
+pub mod Cartridge
+pub mod KeptBytes
+pub mod Plain
+pub mod Sink
 pub mod Text

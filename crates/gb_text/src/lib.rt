@@ -1,6 +1,11 @@
-//! Lines of text, and writing them.
+//! Lines of text, sinks that take them, and writing them.
+//!
+//! `put::put_all` writes a text whole, or a beginning of it where the sink failed. Read `sink` first, then `put`, `line`
+//! and `cartridge`; `kept_bytes` is a sink for tests.
 #![tactic(auto)]
 
-pub mod keeper;
+pub mod cartridge;
+pub mod kept_bytes;
 pub mod line;
 pub mod put;
+pub mod sink;

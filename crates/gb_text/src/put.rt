@@ -1,10 +1,10 @@
 //! Writing whole texts to a sink.
 
 ghost use Rattle.std.specs.Prelude.{◌≡◌, false, is_err, OnOk, OnErr, length};
-ghost use Rattle.gb_ops.specs.Sink.{Gains};
+ghost use Rattle.gb_text.specs.Sink.{Gains};
 ghost use Rattle.gb_text.specs.Text.{GainsBeginning};
 
-use gb_ops::sink::{OutFault, Sink};
+use crate::sink::{OutFault, Sink};
 
 /// Writes all of the bytes.
 ///

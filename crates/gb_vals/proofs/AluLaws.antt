@@ -15,65 +15,65 @@ use Rattle.gb_vals.specs.Vals.{single}
 use Rattle.gb_vals.specs.Flags.{known}
 use Rattle.gb_vals.specs.Meaning.{In, FlagsIn, Gives, IsSound, IsSoundOfTwo, IsOutcome}
 use Rattle.gb_vals.specs.Alu.{alu, alu_itself, nothing_left, result_with_itself}
-use Rattle.gb_vals.proofs.MeaningLaws.{may-is, In-single, IsOutcome-sound, IsOutcome-sound_of_two}
-use Rattle.gb_vals.proofs.SumLaws.{sum-gives, difference-gives, sum-byte, difference-byte}
-use Rattle.gb_vals.proofs.LogicLaws.{conjunction-gives, disjunction-gives, exclusion-gives, of_itself-gives, conjunction-byte, disjunction-byte, exclusion-byte, of_itself-byte}
+use Rattle.gb_vals.proofs.MeaningLaws.{known-may_be_same, In-single, IsOutcome-sound, IsOutcome-sound_of_two}
+use Rattle.gb_vals.proofs.SumLaws.{Gives-sum, Gives-difference, sum-byte, difference-byte}
+use Rattle.gb_vals.proofs.LogicLaws.{Gives-conjunction, Gives-disjunction, Gives-exclusion, Gives-of_itself, conjunction-byte, disjunction-byte, exclusion-byte, of_itself-byte}
 
-alu-gives :
+Gives-alu :
     (how : AluOp) (a v : Val) (f : Flg) (x y : ℕ) (g : Flags)
     → a.hi < 256 → v.hi < 256 → In a x → In v y → FlagsIn f g → Gives (alu how a v f) (alu_result how x y g)
 unfolding alu alu_result bit_of
-alu-gives op.Add a v f x y g p q m n h = sum-gives a v (known false) x y false m n refl
-alu-gives op.Adc a v f x y g p q m n h = sum-gives a v f.carry x y g.carry m n h.carry
-alu-gives op.Sub a v f x y g p q m n h = difference-gives a v (known false) x y false m n refl
-alu-gives op.Sbc a v f x y g p q m n h = difference-gives a v f.carry x y g.carry m n h.carry
-alu-gives op.And a v f x y g p q m n h = conjunction-gives a v x y m n
-alu-gives op.Xor a v f x y g p q m n h = exclusion-gives a v x y p q m n
-alu-gives op.Or a v f x y g p q m n h = disjunction-gives a v x y p q m n
-alu-gives op.Cp a v f x y g p q m n h =
-    record { value = m; flags = (difference-gives a v (known false) x y false m n refl).flags }
+Gives-alu op.Add a v f x y g p q m n h = Gives-sum a v (known false) x y false m n refl
+Gives-alu op.Adc a v f x y g p q m n h = Gives-sum a v f.carry x y g.carry m n h.carry
+Gives-alu op.Sub a v f x y g p q m n h = Gives-difference a v (known false) x y false m n refl
+Gives-alu op.Sbc a v f x y g p q m n h = Gives-difference a v f.carry x y g.carry m n h.carry
+Gives-alu op.And a v f x y g p q m n h = Gives-conjunction a v x y m n
+Gives-alu op.Xor a v f x y g p q m n h = Gives-exclusion a v x y p q m n
+Gives-alu op.Or a v f x y g p q m n h = Gives-disjunction a v x y p q m n
+Gives-alu op.Cp a v f x y g p q m n h =
+    record { value = m; flags = (Gives-difference a v (known false) x y false m n refl).flags }
 
 pub alu_sound :
     (how : AluOp) (a v : Val) (f : Flg) (o : Outcome)
     → o ≡ alu how a v f → a.hi < 256 → v.hi < 256 → IsSoundOfTwo (alu_result how) a v f o
 alu_sound how a v f o e p q =
-    subst (λ r. IsSoundOfTwo (alu_result how) a v f r) (sym e) (record { gives = λ x y g. alu-gives how a v f x y g p q })
+    subst (λ r. IsSoundOfTwo (alu_result how) a v f r) (sym e) (record { gives = λ x y g. Gives-alu how a v f x y g p q })
 
 -- ---- A with A
 
 -- what a byte leaves with itself
-difference_with_itself : (x : ℕ) (subtract : Bool) (o : Val) → In o x → Gives (record { val = single 0; flags = nothing_left true }) (subtracted x x 0)
+Gives-difference_with_itself : (x : ℕ) (subtract : Bool) (o : Val) → In o x → Gives (record { val = single 0; flags = nothing_left true }) (subtracted x x 0)
 unfolding subtracted
-difference_with_itself x subtract o m =
+Gives-difference_with_itself x subtract o m =
     let nothing : (x + 256 - (x + 0)) % 256 ≡ 0 = omega arith in
     record {
       value = record { least = omega arith; most = omega arith };
       flags = record {
-        zero = may-is true ((x + 256 - (x + 0)) % 256 == 0) (grind (arith, nat_tests));
+        zero = known-may_be_same true ((x + 256 - (x + 0)) % 256 == 0) (grind (arith, nat_tests));
         subtract = refl;
-        half_carry = may-is false (nat_lt (x % 16) (x % 16 + 0)) (grind (arith, nat_tests));
-        carry = may-is false (nat_lt x (x + 0)) (grind (arith, nat_tests));
+        half_carry = known-may_be_same false (nat_lt (x % 16) (x % 16 + 0)) (grind (arith, nat_tests));
+        carry = known-may_be_same false (nat_lt x (x + 0)) (grind (arith, nat_tests));
       };
     }
 
-alu_itself-gives :
+Gives-alu_itself :
     (how : AluOp) (a : Val) (f : Flg) (x : ℕ) (g : Flags)
     → In a x → FlagsIn f g → Gives (alu_itself how a f) (result_with_itself how x g)
 unfolding alu_itself alu_result bit_of logical
-alu_itself-gives op.Add a f x g m h = sum-gives a a (known false) x x false m m refl
-alu_itself-gives op.Adc a f x g m h = sum-gives a a f.carry x x g.carry m m h.carry
-alu_itself-gives op.Sub a f x g m h = difference_with_itself x true a m
-alu_itself-gives op.Sbc a f x g m h = difference-gives a a f.carry x x g.carry m m h.carry
-alu_itself-gives op.And a f x g m h = rw (and_self x) (of_itself-gives a x true m)
-alu_itself-gives op.Xor a f x g m h =
+Gives-alu_itself op.Add a f x g m h = Gives-sum a a (known false) x x false m m refl
+Gives-alu_itself op.Adc a f x g m h = Gives-sum a a f.carry x x g.carry m m h.carry
+Gives-alu_itself op.Sub a f x g m h = Gives-difference_with_itself x true a m
+Gives-alu_itself op.Sbc a f x g m h = Gives-difference a a f.carry x x g.carry m m h.carry
+Gives-alu_itself op.And a f x g m h = rw (and_self x) (Gives-of_itself a x true m)
+Gives-alu_itself op.Xor a f x g m h =
     rw (xor_self x) (record { value = In-single 0; flags = record { zero = refl; subtract = refl; half_carry = refl; carry = refl } })
-alu_itself-gives op.Or a f x g m h = rw (or_self x) (of_itself-gives a x false m)
-alu_itself-gives op.Cp a f x g m h = record { value = m; flags = (difference_with_itself x true a m).flags }
+Gives-alu_itself op.Or a f x g m h = rw (or_self x) (Gives-of_itself a x false m)
+Gives-alu_itself op.Cp a f x g m h = record { value = m; flags = (Gives-difference_with_itself x true a m).flags }
 
 pub alu_itself_sound :
     (how : AluOp) (a : Val) (f : Flg) (o : Outcome) → o ≡ alu_itself how a f → IsSound (result_with_itself how) a f o
 alu_itself_sound how a f o e =
-    subst (λ r. IsSound (result_with_itself how) a f r) (sym e) (record { gives = alu_itself-gives how a f })
+    subst (λ r. IsSound (result_with_itself how) a f r) (sym e) (record { gives = Gives-alu_itself how a f })
 
 -- ---- results are bytes
 

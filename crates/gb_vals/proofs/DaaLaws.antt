@@ -1,5 +1,6 @@
 -- DAA stands for that of the machine.
 use Rattle.std.proofs.Common.{◌≡◌, ℕ, ◌%◌, ◌<◌, Bool, true, false, ◌&&◌, cond, refl, sym, subst, arith}
+use Rattle.std.proofs.lemmas.Bool.{and_parts}
 use Rattle.gb_ops.specs.declared.registers.Flags.{Flags}
 use Rattle.gb_ops.specs.Arithmetic.{adjusted}
 use Rattle.gb_cert.specs.declared.types.Val.{Val}
@@ -11,7 +12,7 @@ use Rattle.gb_vals.specs.Flags.{is_known, greatest_flags}
 use Rattle.gb_vals.specs.Outcomes.{exact}
 use Rattle.gb_vals.specs.Meaning.{In, FlagsIn, Gives, IsSound, IsOutcome}
 use Rattle.gb_vals.specs.Daa.{adjusted_any, adjustment_of}
-use Rattle.gb_vals.proofs.MeaningLaws.{and_both, may-either, known-is, single-is, byte_in_any, Gives-exact, IsOutcome-sound}
+use Rattle.gb_vals.proofs.MeaningLaws.{either-may_be, known-is, single-is, In-any, Gives-exact, IsOutcome-sound}
 
 adjusted-byte : (a : ℕ) (f : Flags) → (adjusted a f).value < 256
 unfolding adjusted
@@ -33,31 +34,31 @@ same_adjusted a a' z z' n n' h h' c c' e p q r =
     let z : adjusted a (record { zero = z; subtract = n; half_carry = h; carry = c }) ≡ adjusted a (record { zero = z'; subtract = n; half_carry = h; carry = c }) = without_z a z z' n h c in
     cc
 
-adjusted_any-gives : (f : Flg) (x : ℕ) (g : Flags) → FlagsIn f g → Gives (adjusted_any f) (adjusted x g)
+Gives-adjusted_any : (f : Flg) (x : ℕ) (g : Flags) → FlagsIn f g → Gives (adjusted_any f) (adjusted x g)
 unfolding adjusted
-adjusted_any-gives f x g h =
+Gives-adjusted_any f x g h =
     record {
-      value = byte_in_any (adjusted x g).value (adjusted-byte x g);
-      flags = record { zero = may-either _; subtract = h.subtract; half_carry = refl; carry = may-either _ };
+      value = In-any (adjusted x g).value (adjusted-byte x g);
+      flags = record { zero = either-may_be _; subtract = h.subtract; half_carry = refl; carry = either-may_be _ };
     }
 
-adjustment_of-gives : (a : Val) (f : Flg) (x : ℕ) (g : Flags) → In a x → FlagsIn f g → Gives (adjustment_of a f) (adjusted x g)
+Gives-adjustment_of : (a : Val) (f : Flg) (x : ℕ) (g : Flags) → In a x → FlagsIn f g → Gives (adjustment_of a f) (adjusted x g)
 unfolding adjustment_of
-adjustment_of-gives a f x g m h = choose (is_single a && (is_known f.subtract && is_known f.half_carry && is_known f.carry)) refl
+Gives-adjustment_of a f x g m h = choose (is_single a && (is_known f.subtract && is_known f.half_carry && is_known f.carry)) refl
   where
     choose :
         (b : Bool) → (is_single a && (is_known f.subtract && is_known f.half_carry && is_known f.carry)) ≡ b
         → Gives (cond b (exact (adjusted a.lo (greatest_flags f))) (adjusted_any f)) (adjusted x g)
     choose true e =
-        let both = and_both _ _ e in
-        let read = and_both _ _ both.1 in
-        let first = and_both _ _ read.0 in
+        let both = and_parts _ _ e in
+        let read = and_parts _ _ both.1 in
+        let first = and_parts _ _ read.0 in
         Gives-exact (adjusted a.lo (greatest_flags f)) (adjusted x g)
         (same_adjusted x a.lo g.zero f.zero.set g.subtract f.subtract.set g.half_carry f.half_carry.set g.carry f.carry.set (single-is a x both.0 m) (known-is f.subtract g.subtract first.0 h.subtract) (known-is f.half_carry g.half_carry first.1 h.half_carry) (known-is f.carry g.carry read.1 h.carry))
-    choose false e = adjusted_any-gives f x g h
+    choose false e = Gives-adjusted_any f x g h
 
 pub adjust_sound : (a : Val) (f : Flg) (o : Outcome) → o ≡ adjustment_of a f → IsSound adjusted a f o
-adjust_sound a f o e = subst (λ r. IsSound adjusted a f r) (sym e) (record { gives = adjustment_of-gives a f })
+adjust_sound a f o e = subst (λ r. IsSound adjusted a f r) (sym e) (record { gives = Gives-adjustment_of a f })
 
 adjustment_of-byte : (a : Val) (f : Flg) → (adjustment_of a f).val.hi < 256
 unfolding adjustment_of

@@ -8,11 +8,11 @@ use Rattle.gb_cert.specs.Rules.{IsVal, IsFlg}
 use Rattle.gb_vals.specs.Vals.{is_single}
 use Rattle.gb_vals.specs.Flags.{any_flags, with_own, known_flags, greatest_flags, is_own_origin, flags_val, flags_of_val}
 use Rattle.gb_vals.specs.Meaning.{In, FlagsIn}
-use Rattle.gb_vals.proofs.MeaningLaws.{may-either, bit-weight, bit-least, bit-greatest, single-is, FlagsIn-known, FlagsIn-greatest, IsFlg-from, IsVal-from, In-least}
+use Rattle.gb_vals.proofs.MeaningLaws.{either-may_be, bit-weight, bit-least, bit-greatest, single-is, FlagsIn-known, FlagsIn-greatest, IsFlg-from, IsVal-from, In-least}
 
-flags_val-holds : (f : Flg) (x : Flags) → FlagsIn f x → In (flags_val f) (flags_byte x)
+In-flags_val : (f : Flg) (x : Flags) → FlagsIn f x → In (flags_val f) (flags_byte x)
 unfolding flags_val flags_byte
-flags_val-holds f x h =
+In-flags_val f x h =
     let z : bit_of (not f.zero.clear) 128 ≤ bit_of x.zero 128 = bit-least f.zero x.zero 128 h.zero in
     let n : bit_of (not f.subtract.clear) 64 ≤ bit_of x.subtract 64 = bit-least f.subtract x.subtract 64 h.subtract in
     let d : bit_of (not f.half_carry.clear) 32 ≤ bit_of x.half_carry 32 = bit-least f.half_carry x.half_carry 32 h.half_carry in
@@ -23,9 +23,9 @@ flags_val-holds f x h =
     let c' : bit_of x.carry 16 ≤ bit_of f.carry.set 16 = bit-greatest f.carry x.carry 16 h.carry in
     record { least = omega arith; most = omega arith }
 
-flags_of_val-holds : (v : Val) (x : ℕ) → In v x → FlagsIn (flags_of_val v) (flags_of x)
+FlagsIn-flags_of_val : (v : Val) (x : ℕ) → In v x → FlagsIn (flags_of_val v) (flags_of x)
 unfolding flags_of_val
-flags_of_val-holds v x m = choose (is_single v) refl
+FlagsIn-flags_of_val v x m = choose (is_single v) refl
   where
     choose :
         (b : Bool) → is_single v ≡ b
@@ -34,7 +34,7 @@ flags_of_val-holds v x m = choose (is_single v) refl
         let k : FlagsIn (known_flags (flags_of v.lo)) (flags_of x) = subst (λ n. FlagsIn (known_flags (flags_of n)) (flags_of x)) (single-is v x e m) (FlagsIn-known (flags_of x)) in
         record { zero = k.zero; subtract = k.subtract; half_carry = k.half_carry; carry = k.carry }
     choose false e =
-        record { zero = may-either _; subtract = may-either _; half_carry = may-either _; carry = may-either _ }
+        record { zero = either-may_be _; subtract = either-may_be _; half_carry = either-may_be _; carry = either-may_be _ }
 
 flags_val-byte : (f : Flg) → (flags_val f).hi < 256
 unfolding flags_val flags_byte
@@ -46,15 +46,15 @@ flags_val-byte f =
     omega arith
 
 pub flags_val_sound : (f : Flg) (v : Val) (x : Flags) → v ≡ flags_val f → FlagsIn f x → In v (flags_byte x)
-flags_val_sound f v x e h = subst (λ r. In r (flags_byte x)) (sym e) (flags_val-holds f x h)
+flags_val_sound f v x e h = subst (λ r. In r (flags_byte x)) (sym e) (In-flags_val f x h)
 
 pub flags_val_inhabited : (f : Flg) (v : Val) → v ≡ flags_val f → IsFlg f → IsVal v
 flags_val_inhabited f v e h =
-    subst (λ r. IsVal r) (sym e) (IsVal-from (flags_val f) _ (flags_val-holds f (greatest_flags f) (FlagsIn-greatest f h)) (flags_val-byte f))
+    subst (λ r. IsVal r) (sym e) (IsVal-from (flags_val f) _ (In-flags_val f (greatest_flags f) (FlagsIn-greatest f h)) (flags_val-byte f))
 
 pub flags_of_val_sound : (v : Val) (f : Flg) (x : ℕ) → f ≡ flags_of_val v → In v x → FlagsIn f (flags_of x)
-flags_of_val_sound v f x e m = subst (λ r. FlagsIn r (flags_of x)) (sym e) (flags_of_val-holds v x m)
+flags_of_val_sound v f x e m = subst (λ r. FlagsIn r (flags_of x)) (sym e) (FlagsIn-flags_of_val v x m)
 
 pub flags_of_val_inhabited : (v : Val) (f : Flg) → f ≡ flags_of_val v → IsVal v → IsFlg f
 flags_of_val_inhabited v f e h =
-    subst (λ r. IsFlg r) (sym e) (IsFlg-from (flags_of_val v) _ (flags_of_val-holds v v.lo (In-least v h)))
+    subst (λ r. IsFlg r) (sym e) (IsFlg-from (flags_of_val v) _ (FlagsIn-flags_of_val v v.lo (In-least v h)))

@@ -1,5 +1,6 @@
 -- Bitwise operations stand for those of the machine.
 use Rattle.std.proofs.Common.{◌≡◌, ℕ, ◌+◌, ◌*◌, ◌<◌, ◌≤◌, Bool, true, false, ◌&&◌, cond, bit_and, bit_or, refl, sym, subst, arith}
+use Rattle.std.proofs.lemmas.Bool.{and_parts}
 use Rattle.std.specs.Prelude.{bit_xor}
 use Rattle.std.proofs.lemmas.Bool.Decides.{nat_tests}
 use Rattle.std.proofs.lemmas.Nat.{and_le_l, and_le_r, le_or_l, le_or_r, or_lt}
@@ -14,7 +15,7 @@ use Rattle.gb_vals.specs.Vals.{between, any_val, is_single}
 use Rattle.gb_vals.specs.Outcomes.{exact}
 use Rattle.gb_vals.specs.Meaning.{In, FlagsIn, Gives, IsSound, IsOutcome}
 use Rattle.gb_vals.specs.Logic.{smaller, larger, logical, conjunction, disjunction, exclusion, of_itself, complement_result, complement}
-use Rattle.gb_vals.proofs.MeaningLaws.{and_both, may-known, single-is, zero-holds, byte_in_any, Gives-exact, IsOutcome-sound}
+use Rattle.gb_vals.proofs.MeaningLaws.{known-may_be, single-is, zero_by-may_be, In-any, Gives-exact, IsOutcome-sound}
 
 -- ---- bounds of bits
 
@@ -48,89 +49,89 @@ or-holds x y p q low high =
 
 -- ---- AND, OR and XOR
 
-logical-gives : (v : Val) (x : ℕ) (half : Bool) → In v x → Gives (logical v half) (machine.logical x half)
+Gives-logical : (v : Val) (x : ℕ) (half : Bool) → In v x → Gives (logical v half) (machine.logical x half)
 unfolding machine.logical
-logical-gives v x half m =
+Gives-logical v x half m =
     record {
       value = m;
-      flags = record { zero = zero-holds v x m; subtract = refl; half_carry = may-known half; carry = refl };
+      flags = record { zero = zero_by-may_be v x m; subtract = refl; half_carry = known-may_be half; carry = refl };
     }
 
-pub conjunction-gives : (a v : Val) (x y : ℕ) → In a x → In v y → Gives (conjunction a v) (machine.logical (bit_and x y) true)
+pub Gives-conjunction : (a v : Val) (x y : ℕ) → In a x → In v y → Gives (conjunction a v) (machine.logical (bit_and x y) true)
 unfolding conjunction
-conjunction-gives a v x y m n = choose (is_single a && is_single v) refl
+Gives-conjunction a v x y m n = choose (is_single a && is_single v) refl
   where
     choose :
         (b : Bool) → (is_single a && is_single v) ≡ b
         → Gives (cond b (exact (machine.logical (bit_and a.lo v.lo) true)) (logical (between 0 (smaller a.hi v.hi)) true)) (machine.logical (bit_and x y) true)
     choose true e =
-        let singles = and_both _ _ e in
+        let singles = and_parts _ _ e in
         let p : x ≡ a.lo = single-is a x singles.0 m in
         let q : y ≡ v.lo = single-is v y singles.1 n in
         let same : machine.logical (bit_and x y) true ≡ machine.logical (bit_and a.lo v.lo) true = cc in
         Gives-exact (machine.logical (bit_and a.lo v.lo) true) (machine.logical (bit_and x y) true) same
     choose false e =
-        logical-gives (between 0 (smaller a.hi v.hi)) (bit_and x y) true
+        Gives-logical (between 0 (smaller a.hi v.hi)) (bit_and x y) true
         (record { least = omega arith; most = and-holds a.hi v.hi x y m.most n.most })
 
-pub disjunction-gives :
+pub Gives-disjunction :
     (a v : Val) (x y : ℕ) → a.hi < 256 → v.hi < 256 → In a x → In v y → Gives (disjunction a v) (machine.logical (bit_or x y) false)
 unfolding disjunction
-disjunction-gives a v x y p q m n = choose (is_single a && is_single v) refl
+Gives-disjunction a v x y p q m n = choose (is_single a && is_single v) refl
   where
     choose :
         (b : Bool) → (is_single a && is_single v) ≡ b
         → Gives (cond b (exact (machine.logical (bit_or a.lo v.lo) false)) (logical (between (larger a.lo v.lo) 255) false)) (machine.logical (bit_or x y) false)
     choose true e =
-        let singles = and_both _ _ e in
+        let singles = and_parts _ _ e in
         let p : x ≡ a.lo = single-is a x singles.0 m in
         let q : y ≡ v.lo = single-is v y singles.1 n in
         let same : machine.logical (bit_or x y) false ≡ machine.logical (bit_or a.lo v.lo) false = cc in
         Gives-exact (machine.logical (bit_or a.lo v.lo) false) (machine.logical (bit_or x y) false) same
     choose false e =
         let byte : bit_or x y < 256 = or-byte x y (omega arith) (omega arith) in
-        logical-gives (between (larger a.lo v.lo) 255) (bit_or x y) false
+        Gives-logical (between (larger a.lo v.lo) 255) (bit_or x y) false
         (record { least = or-holds a.lo v.lo x y m.least n.least; most = omega arith })
 
-pub exclusion-gives :
+pub Gives-exclusion :
     (a v : Val) (x y : ℕ) → a.hi < 256 → v.hi < 256 → In a x → In v y → Gives (exclusion a v) (machine.logical (bit_xor x y) false)
 unfolding exclusion
-exclusion-gives a v x y p q m n = choose (is_single a && is_single v) refl
+Gives-exclusion a v x y p q m n = choose (is_single a && is_single v) refl
   where
     choose :
         (b : Bool) → (is_single a && is_single v) ≡ b
         → Gives (cond b (exact (machine.logical (bit_xor a.lo v.lo) false)) (logical any_val false)) (machine.logical (bit_xor x y) false)
     choose true e =
-        let singles = and_both _ _ e in
+        let singles = and_parts _ _ e in
         let p : x ≡ a.lo = single-is a x singles.0 m in
         let q : y ≡ v.lo = single-is v y singles.1 n in
         let same : machine.logical (bit_xor x y) false ≡ machine.logical (bit_xor a.lo v.lo) false = cc in
         Gives-exact (machine.logical (bit_xor a.lo v.lo) false) (machine.logical (bit_xor x y) false) same
-    choose false e = logical-gives any_val (bit_xor x y) false (byte_in_any (bit_xor x y) (xor-byte x y (omega arith) (omega arith)))
+    choose false e = Gives-logical any_val (bit_xor x y) false (In-any (bit_xor x y) (xor-byte x y (omega arith) (omega arith)))
 
-pub of_itself-gives : (a : Val) (x : ℕ) (half : Bool) → In a x → Gives (of_itself a half) (machine.logical x half)
+pub Gives-of_itself : (a : Val) (x : ℕ) (half : Bool) → In a x → Gives (of_itself a half) (machine.logical x half)
 unfolding of_itself
-of_itself-gives a x half m = choose (is_single a) refl
+Gives-of_itself a x half m = choose (is_single a) refl
   where
     choose : (b : Bool) → is_single a ≡ b → Gives (cond b (exact (machine.logical a.lo half)) (logical a half)) (machine.logical x half)
     choose true e =
         let p : x ≡ a.lo = single-is a x e m in
         let same : machine.logical x half ≡ machine.logical a.lo half = cc in
         Gives-exact (machine.logical a.lo half) (machine.logical x half) same
-    choose false e = logical-gives a x half m
+    choose false e = Gives-logical a x half m
 
 -- ---- CPL
 
-complement-gives : (a : Val) (f : Flg) (x : ℕ) (g : Flags) → In a x → FlagsIn f g → Gives (complement a f) (complement_result x g)
+Gives-complement : (a : Val) (f : Flg) (x : ℕ) (g : Flags) → In a x → FlagsIn f g → Gives (complement a f) (complement_result x g)
 unfolding complement
-complement-gives a f x g m h =
+Gives-complement a f x g m h =
     record {
       value = record { least = omega arith; most = omega arith };
       flags = record { zero = h.zero; subtract = refl; half_carry = refl; carry = h.carry };
     }
 
 pub complement_sound : (a : Val) (f : Flg) (o : Outcome) → o ≡ complement a f → IsSound complement_result a f o
-complement_sound a f o e = subst (λ r. IsSound complement_result a f r) (sym e) (record { gives = complement-gives a f })
+complement_sound a f o e = subst (λ r. IsSound complement_result a f r) (sym e) (record { gives = Gives-complement a f })
 
 complement-byte : (a : Val) (f : Flg) → (complement a f).val.hi < 256
 unfolding complement

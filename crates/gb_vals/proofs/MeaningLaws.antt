@@ -1,5 +1,6 @@
 -- What known and unknown bits, bytes and outcomes stand for.
-use Rattle.std.proofs.Common.{◌≡◌, ℕ, ◌≤◌, ◌<◌, Bool, true, false, not, ◌&&◌, ◌||◌, ◌==◌, cond, refl, sym, subst, arith}
+use Rattle.std.proofs.Common.{◌≡◌, ℕ, ◌≤◌, ◌<◌, Bool, true, false, not, ◌||◌, ◌==◌, cond, refl, sym, subst, arith}
+use Rattle.std.proofs.lemmas.Bool.{not-true, or_left, or_right}
 use Rattle.std.proofs.lemmas.Bool.Decides.{nat_tests}
 use Rattle.gb_ops.specs.declared.registers.Flags.{Flags}
 use Rattle.gb_ops.specs.declared.machine.Computed.{Computed}
@@ -14,35 +15,27 @@ use Rattle.gb_vals.specs.Flags.{known, either, is_known, zero_by, known_flags, g
 use Rattle.gb_vals.specs.Outcomes.{exact}
 use Rattle.gb_vals.specs.Meaning.{In, FlagsIn, may_be, Gives, IsSound, IsSoundOfTwo, IsOutcome}
 
-pub and_both : (a b : Bool) → (a && b) ≡ true → (a ≡ true) × (b ≡ true)
-and_both true b h = (refl, h)
-and_both false b h = cc
-
 -- ---- bits
 
-pub may-known : (b : Bool) → may_be (known b) b ≡ true
-may-known true = refl
-may-known false = refl
+pub known-may_be : (b : Bool) → may_be (known b) b ≡ true
+known-may_be true = refl
+known-may_be false = refl
 
-pub may-either : (b : Bool) → may_be either b ≡ true
-may-either true = refl
-may-either false = refl
+pub either-may_be : (b : Bool) → may_be either b ≡ true
+either-may_be true = refl
+either-may_be false = refl
 
-pub may-is : (b c : Bool) → b ≡ c → may_be (known b) c ≡ true
-may-is b c e = subst (λ k. may_be (known b) k ≡ true) e (may-known b)
+pub known-may_be_same : (b c : Bool) → b ≡ c → may_be (known b) c ≡ true
+known-may_be_same b c e = subst (λ k. may_be (known b) k ≡ true) e (known-may_be b)
 
-pub may-by : (m : May) (b : Bool) → (b ≡ true → m.set ≡ true) → (b ≡ false → m.clear ≡ true) → may_be m b ≡ true
-may-by m true set clear = set refl
-may-by m false set clear = clear refl
-
-pub clear_from : (b : Bool) → not b ≡ true → b ≡ false
-clear_from true h = cc
-clear_from false h = refl
+pub may_be-by : (m : May) (b : Bool) → (b ≡ true → m.set ≡ true) → (b ≡ false → m.clear ≡ true) → may_be m b ≡ true
+may_be-by m true set clear = set refl
+may_be-by m false set clear = clear refl
 
 -- a known bit is what its set says
 pub known-is : (m : May) (b : Bool) → is_known m ≡ true → may_be m b ≡ true → b ≡ m.set
 known-is m true k h = sym h
-known-is m false k h = sym (clear_from m.set (subst (λ c. cond c (not m.set) m.set ≡ true) h k))
+known-is m false k h = sym (not-true m.set (subst (λ c. cond c (not m.set) m.set ≡ true) h k))
 
 pub bit-weight : (b : Bool) (weight : ℕ) → bit_of b weight ≤ weight
 unfolding bit_of
@@ -60,14 +53,6 @@ unfolding bit_of
 bit-greatest m true weight h = rw h (omega arith)
 bit-greatest m false weight h = omega arith
 
-or_right : (a b : Bool) → b ≡ true → (a || b) ≡ true
-or_right true b h = refl
-or_right false b h = h
-
-or_left : (a b : Bool) → a ≡ true → (a || b) ≡ true
-or_left true b h = refl
-or_left false b h = cc
-
 or_other : (a b : Bool) → (a || b) ≡ true → b ≡ false → a ≡ true
 or_other true b h e = refl
 or_other false b h e = cc
@@ -77,8 +62,8 @@ has_value-from m true h = or_right m.clear m.set h
 has_value-from m false h = or_left m.clear m.set h
 
 -- a bit that has a value may be its greatest
-may-greatest : (m : May) → has_value m ≡ true → may_be m m.set ≡ true
-may-greatest m h = choose m.set refl
+greatest-may_be : (m : May) → has_value m ≡ true → may_be m m.set ≡ true
+greatest-may_be m h = choose m.set refl
   where
     choose : (b : Bool) → m.set ≡ b → may_be m b ≡ true
     choose true e = e
@@ -86,8 +71,8 @@ may-greatest m h = choose m.set refl
 
 -- ---- bytes
 
-pub byte_in_any : (x : ℕ) → x < 256 → In any_val x
-byte_in_any x h = record { least = omega arith; most = omega arith }
+pub In-any : (x : ℕ) → x < 256 → In any_val x
+In-any x h = record { least = omega arith; most = omega arith }
 
 pub single-is : (v : Val) (x : ℕ) → is_single v ≡ true → In v x → x ≡ v.lo
 single-is v x h m = grind (arith, nat_tests)
@@ -96,18 +81,18 @@ pub In-single : (x : ℕ) → In (single x) x
 In-single x = record { least = omega arith; most = omega arith }
 
 -- Z by the bounds of a result
-pub zero-holds : (v : Val) (x : ℕ) → In v x → may_be (zero_by v) (x == 0) ≡ true
-zero-holds v x m = may-by (zero_by v) (x == 0) (λ e. grind (arith, nat_tests)) (λ e. grind (arith, nat_tests))
+pub zero_by-may_be : (v : Val) (x : ℕ) → In v x → may_be (zero_by v) (x == 0) ≡ true
+zero_by-may_be v x m = may_be-by (zero_by v) (x == 0) (λ e. grind (arith, nat_tests)) (λ e. grind (arith, nat_tests))
 
 -- ---- flags and outcomes
 
 pub FlagsIn-known : (f : Flags) → FlagsIn (known_flags f) f
 FlagsIn-known f =
     record {
-      zero = may-known f.zero;
-      subtract = may-known f.subtract;
-      half_carry = may-known f.half_carry;
-      carry = may-known f.carry;
+      zero = known-may_be f.zero;
+      subtract = known-may_be f.subtract;
+      half_carry = known-may_be f.half_carry;
+      carry = known-may_be f.carry;
     }
 
 pub Gives-exact : (c d : Computed) → d ≡ c → Gives (exact c) d
@@ -116,10 +101,10 @@ Gives-exact c d e = subst (λ k. Gives (exact k) d) e (record { value = In-singl
 pub FlagsIn-greatest : (f : Flg) → IsFlg f → FlagsIn f (greatest_flags f)
 FlagsIn-greatest f h =
     record {
-      zero = may-greatest f.zero h.zero;
-      subtract = may-greatest f.subtract h.subtract;
-      half_carry = may-greatest f.half_carry h.half_carry;
-      carry = may-greatest f.carry h.carry;
+      zero = greatest-may_be f.zero h.zero;
+      subtract = greatest-may_be f.subtract h.subtract;
+      half_carry = greatest-may_be f.half_carry h.half_carry;
+      carry = greatest-may_be f.carry h.carry;
     }
 
 pub IsFlg-from : (f : Flg) (x : Flags) → FlagsIn f x → IsFlg f

@@ -19,78 +19,78 @@ use Rattle.gb_vals.specs.Sums.{cut, sum_of, difference_of, least_bit, greatest_b
 use Rattle.gb_vals.specs.Logic.{smaller, larger, logical, conjunction, disjunction, exclusion, of_itself, complement}
 use Rattle.gb_vals.specs.Alu.{alu, alu_itself, alu_origin, itself_origin}
 use Rattle.gb_vals.specs.Shifts.{is_carry_known, shifted_val, shifted_any, shift_of, rotation_of_a}
-use Rattle.gb_vals.specs.Bits.{tested, tested_any, bit_test, bit_reset, bit_set}
+use Rattle.gb_vals.specs.Bits.{tested, tested_any, test_bit, reset_bit, set_bit}
 use Rattle.gb_vals.specs.Daa.{are_read_known, adjusted_any, adjustment_of}
 
 -- a choice of two computed outcomes
-either-computed : (b : Bool) (o p : Outcome) → IsComputed o → IsComputed p → IsComputed (cond b o p)
-either-computed true o p h k = h
-either-computed false o p h k = k
+IsComputed-either : (b : Bool) (o p : Outcome) → IsComputed o → IsComputed p → IsComputed (cond b o p)
+IsComputed-either true o p h k = h
+IsComputed-either false o p h k = k
 
 either-origin : (b : Bool) (v w : Val) → v.origin ≡ None → w.origin ≡ None → (cond b v w).origin ≡ None
 either-origin true v w h k = h
 either-origin false v w h k = k
 
-exact-computed : (c : Computed) → IsComputed (exact c)
-exact-computed c = record { origin = refl; own = refl }
+IsComputed-exact : (c : Computed) → IsComputed (exact c)
+IsComputed-exact c = record { origin = refl; own = refl }
 
 -- ---- sums
 
 cut-origin : (least most : ℕ) → (cut least most).origin ≡ None
 cut-origin least most = either-origin (least / 256 == most / 256) (between (least % 256) (most % 256)) any_val refl refl
 
-sum_of-computed : (least most : ℕ) → IsComputed (sum_of least most)
+IsComputed-sum_of : (least most : ℕ) → IsComputed (sum_of least most)
 unfolding sum_of
-sum_of-computed least most = record { origin = cut-origin least most; own = refl }
+IsComputed-sum_of least most = record { origin = cut-origin least most; own = refl }
 
-difference_of-computed : (least most : ℕ) → IsComputed (difference_of least most)
+IsComputed-difference_of : (least most : ℕ) → IsComputed (difference_of least most)
 unfolding difference_of
-difference_of-computed least most = record { origin = cut-origin least most; own = refl }
+IsComputed-difference_of least most = record { origin = cut-origin least most; own = refl }
 
-sum-computed : (a v : Val) (carry : May) → IsComputed (sum a v carry)
+IsComputed-sum : (a v : Val) (carry : May) → IsComputed (sum a v carry)
 unfolding sum
-sum-computed a v carry =
+IsComputed-sum a v carry =
     let least = a.lo + v.lo + least_bit carry in
     let most = a.hi + v.hi + greatest_bit carry in
     let known_sum = machine.added a.lo v.lo (greatest_bit carry) in
-    either-computed (are_known a v carry) (exact known_sum) (sum_of least most) (exact-computed known_sum) (sum_of-computed least most)
+    IsComputed-either (are_known a v carry) (exact known_sum) (sum_of least most) (IsComputed-exact known_sum) (IsComputed-sum_of least most)
 
-difference-computed : (a v : Val) (borrow : May) → IsComputed (difference a v borrow)
+IsComputed-difference : (a v : Val) (borrow : May) → IsComputed (difference a v borrow)
 unfolding difference
-difference-computed a v borrow =
+IsComputed-difference a v borrow =
     let least = a.lo + 256 - (v.hi + greatest_bit borrow) in
     let most = a.hi + 256 - (v.lo + least_bit borrow) in
     let known_difference = machine.subtracted a.lo v.lo (greatest_bit borrow) in
-    either-computed (are_known a v borrow) (exact known_difference) (difference_of least most) (exact-computed known_difference) (difference_of-computed least most)
+    IsComputed-either (are_known a v borrow) (exact known_difference) (difference_of least most) (IsComputed-exact known_difference) (IsComputed-difference_of least most)
 
 pub increment_computed : (v : Val) (f : Flg) (o : Outcome) → o ≡ increment v f → IsComputed o
 unfolding increment
 increment_computed v f o e =
     let next = either-origin (nat_lt v.hi 255) (between ((v.lo + 1) % 256) (v.hi + 1)) any_val refl refl in
-    subst (λ r. IsComputed r) (sym e) (either-computed (is_single v) (keeping_carry f.carry (exact (machine.incremented v.lo (greatest_flags f)))) (counted (next_val v) false f.carry) (record { origin = refl; own = refl }) (record { origin = next; own = refl }))
+    subst (λ r. IsComputed r) (sym e) (IsComputed-either (is_single v) (keeping_carry f.carry (exact (machine.incremented v.lo (greatest_flags f)))) (counted (next_val v) false f.carry) (record { origin = refl; own = refl }) (record { origin = next; own = refl }))
 
 pub decrement_computed : (v : Val) (f : Flg) (o : Outcome) → o ≡ decrement v f → IsComputed o
 unfolding decrement
 decrement_computed v f o e =
     let previous = either-origin (nat_lt 0 v.lo) (between (v.lo - 1) (v.hi - 1)) any_val refl refl in
-    subst (λ r. IsComputed r) (sym e) (either-computed (is_single v) (keeping_carry f.carry (exact (machine.decremented v.lo (greatest_flags f)))) (counted (previous_val v) true f.carry) (record { origin = refl; own = refl }) (record { origin = previous; own = refl }))
+    subst (λ r. IsComputed r) (sym e) (IsComputed-either (is_single v) (keeping_carry f.carry (exact (machine.decremented v.lo (greatest_flags f)))) (counted (previous_val v) true f.carry) (record { origin = refl; own = refl }) (record { origin = previous; own = refl }))
 
 -- ---- logic
 
-conjunction-computed : (a v : Val) → IsComputed (conjunction a v)
+IsComputed-conjunction : (a v : Val) → IsComputed (conjunction a v)
 unfolding conjunction
-conjunction-computed a v =
-    either-computed (is_single a && is_single v) (exact (machine.logical (bit_and a.lo v.lo) true)) (logical (between 0 (smaller a.hi v.hi)) true) (exact-computed _) (record { origin = refl; own = refl })
+IsComputed-conjunction a v =
+    IsComputed-either (is_single a && is_single v) (exact (machine.logical (bit_and a.lo v.lo) true)) (logical (between 0 (smaller a.hi v.hi)) true) (IsComputed-exact _) (record { origin = refl; own = refl })
 
-disjunction-computed : (a v : Val) → IsComputed (disjunction a v)
+IsComputed-disjunction : (a v : Val) → IsComputed (disjunction a v)
 unfolding disjunction
-disjunction-computed a v =
-    either-computed (is_single a && is_single v) (exact (machine.logical (bit_or a.lo v.lo) false)) (logical (between (larger a.lo v.lo) 255) false) (exact-computed _) (record { origin = refl; own = refl })
+IsComputed-disjunction a v =
+    IsComputed-either (is_single a && is_single v) (exact (machine.logical (bit_or a.lo v.lo) false)) (logical (between (larger a.lo v.lo) 255) false) (IsComputed-exact _) (record { origin = refl; own = refl })
 
-exclusion-computed : (a v : Val) → IsComputed (exclusion a v)
+IsComputed-exclusion : (a v : Val) → IsComputed (exclusion a v)
 unfolding exclusion
-exclusion-computed a v =
-    either-computed (is_single a && is_single v) (exact (machine.logical (bit_xor a.lo v.lo) false)) (logical any_val false) (exact-computed _) (record { origin = refl; own = refl })
+IsComputed-exclusion a v =
+    IsComputed-either (is_single a && is_single v) (exact (machine.logical (bit_xor a.lo v.lo) false)) (logical any_val false) (IsComputed-exact _) (record { origin = refl; own = refl })
 
 of_itself-origin : (a : Val) (half : Bool) → (of_itself a half).val.origin ≡ (if is_single a then None else a.origin)
 unfolding of_itself
@@ -116,32 +116,32 @@ complement_computed a f o e = subst (λ r. IsComputed r) (sym e) (record { origi
 
 alu-origin : (how : AluOp) (a v : Val) (f : Flg) → (alu how a v f).val.origin ≡ alu_origin how a
 unfolding alu
-alu-origin op.Add a v f = (sum-computed a v (known false)).origin
-alu-origin op.Adc a v f = (sum-computed a v f.carry).origin
-alu-origin op.Sub a v f = (difference-computed a v (known false)).origin
-alu-origin op.Sbc a v f = (difference-computed a v f.carry).origin
-alu-origin op.And a v f = (conjunction-computed a v).origin
-alu-origin op.Xor a v f = (exclusion-computed a v).origin
-alu-origin op.Or a v f = (disjunction-computed a v).origin
+alu-origin op.Add a v f = (IsComputed-sum a v (known false)).origin
+alu-origin op.Adc a v f = (IsComputed-sum a v f.carry).origin
+alu-origin op.Sub a v f = (IsComputed-difference a v (known false)).origin
+alu-origin op.Sbc a v f = (IsComputed-difference a v f.carry).origin
+alu-origin op.And a v f = (IsComputed-conjunction a v).origin
+alu-origin op.Xor a v f = (IsComputed-exclusion a v).origin
+alu-origin op.Or a v f = (IsComputed-disjunction a v).origin
 alu-origin op.Cp a v f = refl
 
 alu-own : (how : AluOp) (a v : Val) (f : Flg) → (alu how a v f).flags.is_own ≡ false
 unfolding alu
-alu-own op.Add a v f = (sum-computed a v (known false)).own
-alu-own op.Adc a v f = (sum-computed a v f.carry).own
-alu-own op.Sub a v f = (difference-computed a v (known false)).own
-alu-own op.Sbc a v f = (difference-computed a v f.carry).own
-alu-own op.And a v f = (conjunction-computed a v).own
-alu-own op.Xor a v f = (exclusion-computed a v).own
-alu-own op.Or a v f = (disjunction-computed a v).own
-alu-own op.Cp a v f = (difference-computed a v (known false)).own
+alu-own op.Add a v f = (IsComputed-sum a v (known false)).own
+alu-own op.Adc a v f = (IsComputed-sum a v f.carry).own
+alu-own op.Sub a v f = (IsComputed-difference a v (known false)).own
+alu-own op.Sbc a v f = (IsComputed-difference a v f.carry).own
+alu-own op.And a v f = (IsComputed-conjunction a v).own
+alu-own op.Xor a v f = (IsComputed-exclusion a v).own
+alu-own op.Or a v f = (IsComputed-disjunction a v).own
+alu-own op.Cp a v f = (IsComputed-difference a v (known false)).own
 
 alu_itself-origin : (how : AluOp) (a : Val) (f : Flg) → (alu_itself how a f).val.origin ≡ itself_origin how a
 unfolding alu_itself
-alu_itself-origin op.Add a f = (sum-computed a a (known false)).origin
-alu_itself-origin op.Adc a f = (sum-computed a a f.carry).origin
+alu_itself-origin op.Add a f = (IsComputed-sum a a (known false)).origin
+alu_itself-origin op.Adc a f = (IsComputed-sum a a f.carry).origin
 alu_itself-origin op.Sub a f = refl
-alu_itself-origin op.Sbc a f = (difference-computed a a f.carry).origin
+alu_itself-origin op.Sbc a f = (IsComputed-difference a a f.carry).origin
 alu_itself-origin op.And a f = of_itself-origin a true
 alu_itself-origin op.Xor a f = refl
 alu_itself-origin op.Or a f = of_itself-origin a false
@@ -149,10 +149,10 @@ alu_itself-origin op.Cp a f = refl
 
 alu_itself-own : (how : AluOp) (a : Val) (f : Flg) → (alu_itself how a f).flags.is_own ≡ false
 unfolding alu_itself
-alu_itself-own op.Add a f = (sum-computed a a (known false)).own
-alu_itself-own op.Adc a f = (sum-computed a a f.carry).own
+alu_itself-own op.Add a f = (IsComputed-sum a a (known false)).own
+alu_itself-own op.Adc a f = (IsComputed-sum a a f.carry).own
 alu_itself-own op.Sub a f = refl
-alu_itself-own op.Sbc a f = (difference-computed a a f.carry).own
+alu_itself-own op.Sbc a f = (IsComputed-difference a a f.carry).own
 alu_itself-own op.And a f = of_itself-own a true
 alu_itself-own op.Xor a f = refl
 alu_itself-own op.Or a f = of_itself-own a false
@@ -182,39 +182,39 @@ shifted_val-origin shift.Sla v = refl
 shifted_val-origin shift.Sra v = refl
 shifted_val-origin shift.Swap v = refl
 
-shift-computed : (how : Shift) (v : Val) (f : Flg) → IsComputed (shift_of how v f)
+IsComputed-shift : (how : Shift) (v : Val) (f : Flg) → IsComputed (shift_of how v f)
 unfolding shift_of
-shift-computed how v f =
-    either-computed (is_single v && is_carry_known how f.carry) (exact (machine.shifted how v.lo f.carry.set)) (shifted_any how v) (exact-computed _) (record { origin = shifted_val-origin how v; own = refl })
+IsComputed-shift how v f =
+    IsComputed-either (is_single v && is_carry_known how f.carry) (exact (machine.shifted how v.lo f.carry.set)) (shifted_any how v) (IsComputed-exact _) (record { origin = shifted_val-origin how v; own = refl })
 
 pub shift_computed : (how : Shift) (v : Val) (f : Flg) (o : Outcome) → o ≡ shift_of how v f → IsComputed o
-shift_computed how v f o e = subst (λ r. IsComputed r) (sym e) (shift-computed how v f)
+shift_computed how v f o e = subst (λ r. IsComputed r) (sym e) (IsComputed-shift how v f)
 
-pub rotation_computed : (how : Shift) (a : Val) (f : Flg) (o : Outcome) → o ≡ rotation_of_a how a f → IsComputed o
+pub rotate_a_computed : (how : Shift) (a : Val) (f : Flg) (o : Outcome) → o ≡ rotation_of_a how a f → IsComputed o
 unfolding rotation_of_a
-rotation_computed how a f o e =
-    let k : IsComputed (shift_of how a f) = shift-computed how a f in
+rotate_a_computed how a f o e =
+    let k : IsComputed (shift_of how a f) = IsComputed-shift how a f in
     subst (λ r. IsComputed r) (sym e) (record { origin = k.origin; own = k.own })
 
 pub adjust_computed : (a : Val) (f : Flg) (o : Outcome) → o ≡ adjustment_of a f → IsComputed o
 unfolding adjustment_of
 adjust_computed a f o e =
-    subst (λ r. IsComputed r) (sym e) (either-computed (is_single a && are_read_known f) (exact (machine.adjusted a.lo (greatest_flags f))) (adjusted_any f) (exact-computed _) (record { origin = refl; own = refl }))
+    subst (λ r. IsComputed r) (sym e) (IsComputed-either (is_single a && are_read_known f) (exact (machine.adjusted a.lo (greatest_flags f))) (adjusted_any f) (IsComputed-exact _) (record { origin = refl; own = refl }))
 
-pub bit_test_written : (n : ℕ) (v : Val) (f o : Flg) → o ≡ bit_test n v f → o.is_own ≡ false
-unfolding bit_test
-bit_test_written n v f o e = subst (λ r. r.is_own ≡ false) (sym e) (choose (is_single v))
+pub test_bit_written : (n : ℕ) (v : Val) (f o : Flg) → o ≡ test_bit n v f → o.is_own ≡ false
+unfolding test_bit
+test_bit_written n v f o e = subst (λ r. r.is_own ≡ false) (sym e) (choose (is_single v))
   where
     choose : (b : Bool) → (cond b (tested n v.lo f) (tested_any f.carry)).is_own ≡ false
     choose true = refl
     choose false = refl
 
-pub bit_reset_computed : (n : ℕ) (v o : Val) → o ≡ bit_reset n v → o.origin ≡ None
-unfolding bit_reset
-bit_reset_computed n v o e =
+pub reset_bit_computed : (n : ℕ) (v o : Val) → o ≡ reset_bit n v → o.origin ≡ None
+unfolding reset_bit
+reset_bit_computed n v o e =
     subst (λ r. r.origin ≡ None) (sym e) (either-origin (is_single v) (single (machine.bit_reset n v.lo)) (between 0 v.hi) refl refl)
 
-pub bit_set_computed : (n : ℕ) (v o : Val) → o ≡ bit_set n v → o.origin ≡ None
-unfolding bit_set
-bit_set_computed n v o e =
+pub set_bit_computed : (n : ℕ) (v o : Val) → o ≡ set_bit n v → o.origin ≡ None
+unfolding set_bit
+set_bit_computed n v o e =
     subst (λ r. r.origin ≡ None) (sym e) (either-origin (is_single v) (single (machine.bit_set n v.lo)) (between v.lo 255) refl refl)

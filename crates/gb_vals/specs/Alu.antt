@@ -56,7 +56,7 @@ abbrev pub alu_origin : AluOp → Val → Option Origin
 alu_origin op.Cp a = a.origin
 alu_origin _ a = None
 
--- and after an operation with itself: AND and OR leave an A that isn't known
+-- the origin of A after an operation with itself: AND and OR leave an A that isn't known
 abbrev pub itself_origin : AluOp → Val → Option Origin
 itself_origin op.And a = if is_single a then None else a.origin
 itself_origin op.Or a = if is_single a then None else a.origin

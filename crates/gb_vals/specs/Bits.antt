@@ -16,11 +16,11 @@ tested_any carry =
 abbrev pub tested : ℕ → ℕ → Flg → Flg
 tested n x f = record (known_flags (machine.bit_tested n x (greatest_flags f))) { carry = f.carry }
 
-unfoldable pub bit_test : ℕ → Val → Flg → Flg
-bit_test n v f = if is_single v then tested n v.lo f else tested_any f.carry
+unfoldable pub test_bit : ℕ → Val → Flg → Flg
+test_bit n v f = if is_single v then tested n v.lo f else tested_any f.carry
 
-unfoldable pub bit_reset : ℕ → Val → Val
-bit_reset n v = if is_single v then single (machine.bit_reset n v.lo) else between 0 v.hi
+unfoldable pub reset_bit : ℕ → Val → Val
+reset_bit n v = if is_single v then single (machine.bit_reset n v.lo) else between 0 v.hi
 
-unfoldable pub bit_set : ℕ → Val → Val
-bit_set n v = if is_single v then single (machine.bit_set n v.lo) else between v.lo 255
+unfoldable pub set_bit : ℕ → Val → Val
+set_bit n v = if is_single v then single (machine.bit_set n v.lo) else between v.lo 255

@@ -9,11 +9,11 @@ use Rattle.gb_vals.specs.Flags.{known, either, is_known}
 abbrev pub with_carry : May → Flg → Flg
 with_carry carry f = record f { subtract = known false; half_carry = known false; carry = carry; is_own = false }
 
-unfoldable pub carry_set : Flg → Flg
-carry_set f = with_carry (known true) f
+unfoldable pub set_carry : Flg → Flg
+set_carry f = with_carry (known true) f
 
-unfoldable pub carry_turned : Flg → Flg
-carry_turned f = with_carry (if is_known f.carry then known (not f.carry.set) else either) f
+unfoldable pub complement_carry : Flg → Flg
+complement_carry f = with_carry (if is_known f.carry then known (not f.carry.set) else either) f
 
 -- what the machine's SCF and CCF make of the flags
 abbrev pub set_carry_result : Flags → Flags

@@ -34,19 +34,19 @@ pub record Gives (o : Outcome) (c : Computed) : Type 0 where
 pub record IsSound (machine : ℕ → Flags → Computed) (v : Val) (f : Flg) (o : Outcome) : Type 0 where
   pub gives : (x : ℕ) (g : Flags) → In v x → FlagsIn f g → Gives o (machine x g)
 
--- the same of two operands
+-- an outcome stands for what the machine computes of each two values and flags that a, v and f stand for
 pub record IsSoundOfTwo (machine : ℕ → ℕ → Flags → Computed) (a v : Val) (f : Flg) (o : Outcome) : Type 0 where
   pub gives : (x y : ℕ) (g : Flags) → In a x → In v y → FlagsIn f g → Gives o (machine x y g)
 
--- the same of an operation that leaves the flags
+-- a value stands for what the machine computes of each value that v stands for, by an operation that leaves the flags
 pub record IsSoundOfVal (machine : ℕ → ℕ) (v o : Val) : Type 0 where
   pub gives : (x : ℕ) → In v x → In o (machine x)
 
--- the same of one that makes flags alone of a value and the flags
+-- flags stand for those that the machine computes of each value and flags that v and f stand for
 pub record IsSoundOfTest (machine : ℕ → Flags → Flags) (v : Val) (f o : Flg) : Type 0 where
   pub gives : (x : ℕ) (g : Flags) → In v x → FlagsIn f g → FlagsIn o (machine x g)
 
--- the same of one that makes flags of the flags alone
+-- flags stand for those that the machine computes of each flags that f stands for
 pub record IsSoundOfFlags (machine : Flags → Flags) (f o : Flg) : Type 0 where
   pub gives : (g : Flags) → FlagsIn f g → FlagsIn o (machine g)
 

@@ -101,7 +101,7 @@ keeping_carry carry o = record o { flags = record o.flags { carry = carry } }
 abbrev pub next_val : Val → Val
 next_val v = if nat_lt v.hi 255 then between ((v.lo + 1) % 256) (v.hi + 1) else any_val
 
--- one less, where that is a byte
+-- DEC of an interval: one less, where that is a byte
 abbrev pub previous_val : Val → Val
 previous_val v = if nat_lt 0 v.lo then between (v.lo - 1) (v.hi - 1) else any_val
 

@@ -25,9 +25,9 @@ fn tested_any(carry: May) -> Flg
 }
 
 /// BIT: Z is known of a known byte alone; the carry stays. Of `n` the low three bits count.
-#[tactic(auto, using(crate::proofs::BitLaws::bit_test_sound, crate::proofs::BitLaws::bit_test_inhabited, crate::proofs::OriginLaws::bit_test_written), unfolding(crate::specs::Bits::bit_test))]
+#[tactic(auto, using(crate::proofs::BitLaws::test_bit_sound, crate::proofs::BitLaws::test_bit_inhabited, crate::proofs::OriginLaws::test_bit_written), unfolding(crate::specs::Bits::test_bit))]
 pub fn test_bit(n: u8, val: Val, flags: Flg) -> Flg
-    ensures exact { result ≡ Bits.bit_test n val flags }
+    ensures exact { result ≡ Bits.test_bit n val flags }
     ensures sound { IsSoundOfTest (machine.bit_tested n) val flags result }
     ensures inhabited { IsVal val → IsFlg flags → IsFlg result }
     ensures written { result.is_own ≡ false }
@@ -43,9 +43,9 @@ pub fn test_bit(n: u8, val: Val, flags: Flg) -> Flg
 }
 
 /// RES: from 0, where the byte isn't known. Of `n` the low three bits count.
-#[tactic(auto, using(crate::proofs::BitLaws::bit_reset_sound, crate::proofs::BitLaws::bit_reset_inhabited, crate::proofs::OriginLaws::bit_reset_computed), unfolding(crate::specs::Bits::bit_reset))]
+#[tactic(auto, using(crate::proofs::BitLaws::reset_bit_sound, crate::proofs::BitLaws::reset_bit_inhabited, crate::proofs::OriginLaws::reset_bit_computed), unfolding(crate::specs::Bits::reset_bit))]
 pub fn reset_bit(n: u8, val: Val) -> Val
-    ensures exact { result ≡ Bits.bit_reset n val }
+    ensures exact { result ≡ Bits.reset_bit n val }
     ensures sound { IsSoundOfVal (machine.bit_reset n) val result }
     ensures inhabited { IsVal val → IsVal result }
     ensures computed { result.origin ≡ None }
@@ -58,9 +58,9 @@ pub fn reset_bit(n: u8, val: Val) -> Val
 }
 
 /// SET: up to FF, where the byte isn't known. Of `n` the low three bits count.
-#[tactic(auto, using(crate::proofs::BitLaws::bit_set_sound, crate::proofs::BitLaws::bit_set_inhabited, crate::proofs::OriginLaws::bit_set_computed), unfolding(crate::specs::Bits::bit_set))]
+#[tactic(auto, using(crate::proofs::BitLaws::set_bit_sound, crate::proofs::BitLaws::set_bit_inhabited, crate::proofs::OriginLaws::set_bit_computed), unfolding(crate::specs::Bits::set_bit))]
 pub fn set_bit(n: u8, val: Val) -> Val
-    ensures exact { result ≡ Bits.bit_set n val }
+    ensures exact { result ≡ Bits.set_bit n val }
     ensures sound { IsSoundOfVal (machine.bit_set n) val result }
     ensures inhabited { IsVal val → IsVal result }
     ensures computed { result.origin ≡ None }

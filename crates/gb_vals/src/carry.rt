@@ -21,9 +21,9 @@ fn with_carry(carry: May, flags: Flg) -> Flg
 }
 
 /// SCF; Z stays.
-#[tactic(auto, using(crate::proofs::CarryLaws::carry_set_sound, crate::proofs::CarryLaws::carry_set_inhabited), unfolding(crate::specs::Carry::carry_set))]
+#[tactic(auto, using(crate::proofs::CarryLaws::set_carry_sound, crate::proofs::CarryLaws::set_carry_inhabited), unfolding(crate::specs::Carry::set_carry))]
 pub fn set_carry(flags: Flg) -> Flg
-    ensures exact { result ≡ Carry.carry_set flags }
+    ensures exact { result ≡ Carry.set_carry flags }
     ensures sound { IsSoundOfFlags Carry.set_carry_result flags result }
     ensures inhabited { IsFlg flags → IsFlg result }
     ensures written { result.is_own ≡ false }
@@ -32,9 +32,9 @@ pub fn set_carry(flags: Flg) -> Flg
 }
 
 /// CCF: a known carry is turned over; Z stays.
-#[tactic(auto, using(crate::proofs::CarryLaws::carry_turned_sound, crate::proofs::CarryLaws::carry_turned_inhabited), unfolding(crate::specs::Carry::carry_turned))]
+#[tactic(auto, using(crate::proofs::CarryLaws::complement_carry_sound, crate::proofs::CarryLaws::complement_carry_inhabited), unfolding(crate::specs::Carry::complement_carry))]
 pub fn complement_carry(flags: Flg) -> Flg
-    ensures exact { result ≡ Carry.carry_turned flags }
+    ensures exact { result ≡ Carry.complement_carry flags }
     ensures sound { IsSoundOfFlags Carry.complement_carry_result flags result }
     ensures inhabited { IsFlg flags → IsFlg result }
     ensures written { result.is_own ≡ false }

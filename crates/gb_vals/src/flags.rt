@@ -31,6 +31,7 @@ pub fn either() -> May
     }
 }
 
+/// Whether a bit is known.
 pub(crate) fn is_known(may: May) -> bool
     ensures { result ≡ Sets.is_known may }
 {
@@ -47,6 +48,7 @@ pub(crate) fn zero_by(val: Val) -> May
     }
 }
 
+/// Flags that are all known, no copy of F as the procedure was entered.
 pub fn known_flags(flags: Flags) -> Flg
     ensures { result ≡ Sets.known_flags flags }
 {

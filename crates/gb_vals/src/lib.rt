@@ -1,5 +1,11 @@
-//! Operations on intervals of bytes and on sets of flags: each stands for what the machine does to
-//! all the values that its operands stand for.
+//! Operations on intervals of bytes and on sets of flags (abstract interpretation: the interval
+//! domain). Each is exact where all its operands are known, and else gives the bounds of a formula of
+//! our own (`exact`); what the machine computes of any values that the operands stand for, the result
+//! stands for (`sound`); and a result stands for something (`inhabited`).
+//!
+//! Read `vals` and `flags`, then `sums`, `logic`, `shifts`, `bits`, `daa` and `carry`, then `alu`, and
+//! last `branch`, which narrows A and the flags by a condition. `Meaning` of the definitions says what
+//! an interval stands for.
 #![tactic(auto)]
 
 pub mod alu;
@@ -12,6 +18,4 @@ pub mod logic;
 pub mod outcome;
 pub mod shifts;
 pub mod sums;
-#[cfg(test)]
-mod tests;
 pub mod vals;

@@ -1,4 +1,4 @@
-//! What an operation may give.
+//! The outcome of an operation: a value, and the flags after it.
 
 ghost use Rattle.std.specs.Prelude.{◌≡◌};
 ghost use Rattle.gb_vals.specs.Outcomes.{exact};
@@ -8,7 +8,7 @@ use crate::vals::single;
 use gb_cert::types::{Flg, Val};
 use gb_ops::machine::Computed;
 
-/// What an operation may give: a value, and the flags after it.
+/// What an operation may give: an interval of values, and the flags after it.
 #[derive(Clone, Copy, Debug, PartialEq, Eq)]
 pub struct Outcome {
     pub val: Val,

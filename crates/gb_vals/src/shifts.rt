@@ -72,7 +72,7 @@ pub fn shift(how: Shift, val: Val, flags: Flg) -> Outcome
 }
 
 /// RLCA, RRCA, RLA and RRA: as the rotation, with Z clear.
-#[tactic(auto, using(crate::proofs::ShiftLaws::rotation_sound, crate::proofs::ShiftLaws::rotation_inhabited, crate::proofs::OriginLaws::rotation_computed), unfolding(crate::specs::Shifts::rotation_of_a))]
+#[tactic(auto, using(crate::proofs::ShiftLaws::rotate_a_sound, crate::proofs::ShiftLaws::rotate_a_inhabited, crate::proofs::OriginLaws::rotate_a_computed), unfolding(crate::specs::Shifts::rotation_of_a))]
 pub fn rotate_a(how: Shift, a: Val, flags: Flg) -> Outcome
     ensures exact { result ≡ Shifts.rotation_of_a how a flags }
     ensures sound { IsSound (Shifts.rotation_result how) a flags result }

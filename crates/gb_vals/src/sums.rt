@@ -24,7 +24,7 @@ fn cut(least: u16, most: u16) -> Val
     }
 }
 
-/// Z of the numbers from least to most.
+/// Z of the low bytes of the numbers from least to most.
 fn zero_of(least: u16, most: u16) -> May
     ensures { result ≡ Sums.zero_of least most }
 {

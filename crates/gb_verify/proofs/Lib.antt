@@ -1,4 +1,4 @@
-pub mod Answers
-pub mod Runs
-pub mod Starts
-pub mod Verdicts
+pub mod AnswerLaws
+pub mod RunLaws
+pub mod StartLaws
+pub mod VerdictLaws

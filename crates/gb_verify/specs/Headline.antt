@@ -11,7 +11,7 @@ use Rattle.gb_verify.specs.declared.verdict.Verdict.TheVariants.{Accepted, Refus
 
 -- In every run from power-up, whatever is read and whichever events come: no undefined opcode is executed, no byte
 -- of an instruction comes from outside ROM, work RAM and high RAM, no push, call or dispatch stores outside the
--- region, cartridge RAM is met only while enabled, and during a transfer high RAM alone is met; every place that
+-- region, cartridge RAM is met only while enabled, and during an OAM transfer high RAM alone is met; every place that
 -- is fetched is certified; and the machine is never locked and never stopped.
 pub record IsSafe (rom : List ℕ) (cert : Certificate) : Type 0 where
   pub faults : (s : MState) (events : List Event) → IsStart rom s → (play rom cert.region s events).faults ≡ no_faults

@@ -1,21 +1,17 @@
 -- Power-up as an abstract state (Power-up sequence).
-use Rattle.std.specs.Prelude.{ℕ, Bool, true, false, not, ◌==◌, List, slice_index, Some, None}
+use Rattle.std.specs.Prelude.{ℕ, true, false, not, ◌==◌, List, slice_index, Some, None}
 use Rattle.gb_ops.specs.declared.op.Register.{Register}
 use Rattle.gb_ops.specs.declared.op.Register.TheVariants.{A, B, C, D, E, H, L}
 use Rattle.gb_ops.specs.declared.machine.Region.{Region}
 use Rattle.gb_cert.specs.declared.types.Origin.TheVariants as origin
 use Rattle.gb_cert.specs.declared.types.Val.{Val}
-use Rattle.gb_cert.specs.declared.types.May.{May}
 use Rattle.gb_cert.specs.declared.types.Core.{Core}
 use Rattle.gb_cert.specs.Types.{AbsState, state_of}
+use Rattle.gb_vals.specs.Flags.{known}
 
 -- a register's value at power-up, which is its own origin
 abbrev pub own : Register → ℕ → Val
 own r x = record { lo = x; hi = x; origin = Some (origin.Register r) }
-
--- a bit that is known
-abbrev pub may_only : Bool → May
-may_only b = record { clear = not b; set = b }
 
 -- H and C are clear where the header's checksum is 00
 unfoldable pub core_at_power_up : List ℕ → Region → Core
@@ -26,8 +22,8 @@ core_at_power_up rom region =
       bound = 0;
       stack_set = region.last == 0xFFFD;
       test = None;
-      ctl = record { bank_lo = 1; bank_hi = 1; second_lo = 0; second_hi = 0; gate = may_only false; mode = may_only false; is_kept = true };
-      flags = record { zero = may_only true; subtract = may_only false; half_carry = may_only others; carry = may_only others; is_own = true };
+      ctl = record { bank_lo = 1; bank_hi = 1; second_lo = 0; second_hi = 0; gate = known false; mode = known false; is_kept = true };
+      flags = record { zero = known true; subtract = known false; half_carry = known others; carry = known others; is_own = true };
       ie = record { lo = 0; hi = 0; origin = Some origin.Ie };
       registers = record { a = own A 0x01; b = own B 0x00; c = own C 0x13; d = own D 0x00; e = own E 0xD8; h = own H 0x01; l = own L 0x4D };
     }

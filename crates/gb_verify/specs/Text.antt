@@ -9,6 +9,7 @@ use Rattle.gb_cert.specs.Certificate.{Certificate}
 use Rattle.gb_cert.specs.Reading.{read_certificate}
 use Rattle.gb_cert.specs.Spelling.{Spells}
 use Rattle.gb_abs.specs.Reason.{reason_number}
+use Rattle.gb_text.specs.Cartridge.{cartridge_text}
 use Rattle.gb_text.specs.Text.{line_feed, GainsBeginning}
 use Rattle.gb_verify.specs.Verdict.{verdict_of, IsRight}
 use Rattle.gb_verify.specs.Headline.{IsSafe}
@@ -20,9 +21,6 @@ use Rattle.gb_verify.specs.declared.verify.Outcome.{Outcome}
 use Rattle.gb_verify.specs.declared.verify.Outcome.TheVariants as outcome
 
 -- ---- the lines
-
-abbrev pub cartridge_text : HeaderFault → List ℕ
-cartridge_text fault = codes "CARTRIDGE H" ++ decimal (Header.fault_number fault) ++ line_feed
 
 abbrev pub certificate_text : CertFault → List ℕ
 certificate_text fault = codes "CERTIFICATE C" ++ decimal (CertFaults.number_of fault) ++ line_feed

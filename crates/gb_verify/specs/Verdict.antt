@@ -1,12 +1,11 @@
 -- When a certificate is right for a cartridge, and the verdict (own rules).
-use Rattle.std.specs.Prelude.{◌≡◌, ℕ, ◌+◌, ◌%◌, ◌<◌, Bool, true, false, not, ◌&&◌, ◌||◌, ◌==◌, nat_lt, if◌then◌else◌, List, [], ◌∷◌, length, ◌⊎◌, slice_get, Option, Some, None}
+use Rattle.std.specs.Prelude.{◌≡◌, ℕ, ◌+◌, ◌%◌, ◌<◌, Bool, true, false, not, ◌&&◌, ◌||◌, ◌==◌, nat_lt, if◌then◌else◌, List, [], ◌∷◌, length, ◌⊎◌, slice_get, Option, Some, None, option_and_then}
 use Rattle.std.specs.List.{All}
 use Rattle.gb_ops.specs.declared.machine.Kind.{Kind}
 use Rattle.gb_ops.specs.declared.machine.Kind.TheVariants as kind
 use Rattle.gb_ops.specs.Cartridge.{kind_of}
 use Rattle.gb_cert.specs.declared.types.Core.{Core}
-use Rattle.gb_cert.specs.declared.types.Node.{Node}
-use Rattle.gb_cert.specs.Types.{ProcedureParts}
+use Rattle.gb_cert.specs.Types.{ProcedureParts, Node}
 use Rattle.gb_cert.specs.Certificate.{Certificate}
 use Rattle.gb_abs.specs.declared.reason.Reason.{Reason}
 use Rattle.gb_abs.specs.declared.reason.Reason.TheVariants as reason
@@ -68,13 +67,9 @@ pub record IsRight (rom : List ℕ) (cert : Certificate) : Type 0 where
   pub entry : is_bad_entry rom cert ≡ false
   pub nodes : All (λ n. reason_against rom cert n ≡ None) cert.nodes
 
-abbrev pub reason_against_some : List ℕ → Certificate → Option Node → Option Reason
-reason_against_some rom cert None = None
-reason_against_some rom cert (Some n) = reason_against rom cert n
-
 -- the lowest reason against the node with a number
 abbrev pub reason_against_at : List ℕ → Certificate → ℕ → Option Reason
-reason_against_at rom cert i = reason_against_some rom cert (slice_get cert.nodes i)
+reason_against_at rom cert i = option_and_then (reason_against rom cert) (slice_get cert.nodes i)
 
 -- the first node that isn't right, with its lowest reason
 pub record IsFirstWrong (rom : List ℕ) (cert : Certificate) (i : ℕ) (r : Reason) : Type 0 where
@@ -95,11 +90,14 @@ IsVerdict rom cert (Accepted nodes procedures) =
     IsRight rom cert × (nodes ≡ length cert.nodes) × (procedures ≡ length cert.procedures)
 IsVerdict rom cert (Refused i r) = IsWrongEntry rom cert i r ⊎ IsFirstWrong rom cert i r
 
--- the same as a function: the verdict from node i on
+-- ---- the verdict as a function
+
+-- the verdict where node i is refused for a reason, or where it is not
 abbrev pub refusal_or : Option Reason → ℕ → Verdict → Verdict
 refusal_or None i v = v
 refusal_or (Some r) i v = Refused i r
 
+-- the verdict from node i on
 abbrev pub verdict_from : List ℕ → Certificate → ℕ → List Node → Verdict
 verdict_from rom cert i [] = Accepted (length cert.nodes) (length cert.procedures)
 verdict_from rom cert i (n ∷ rest) = refusal_or (reason_against rom cert n) i (verdict_from rom cert (i + 1) rest)
@@ -107,3 +105,7 @@ verdict_from rom cert i (n ∷ rest) = refusal_or (reason_against rom cert n) i 
 unfoldable pub verdict_of : List ℕ → Certificate → Verdict
 verdict_of rom cert =
     if is_bad_entry rom cert then Refused (main_entry cert) reason.Entry else verdict_from rom cert 0 cert.nodes
+
+-- Certificates that differ in their versions alone have equal verdicts.
+abbrev pub IgnoresVersion : Type 0
+IgnoresVersion = (rom : List ℕ) (cert : Certificate) (version : ℕ) → verdict_of rom (record cert { version = version }) ≡ verdict_of rom cert

@@ -3,19 +3,20 @@
 ghost use Rattle.std.specs.Prelude.{◌≡◌, ◌<◌, length, Option};
 ghost use Rattle.gb_ops.specs.declared.machine.Region.{Region};
 ghost use Rattle.gb_blocks.specs.Rules.{reason_at};
-ghost use Rattle.gb_verify.specs.PowerUp.{own, may_only, core_at_power_up, state_at_power_up};
-ghost use Rattle.gb_verify.specs.Verdict.{IsVerdict, verdict_of, is_bad_entry, main_entry, may_be_interrupted, has_controller, reason_against_at, entry_of, is_bad_node};
+ghost use Rattle.gb_verify.specs.PowerUp.{own, core_at_power_up, state_at_power_up};
+ghost use Rattle.gb_verify.specs.Verdict.{IsVerdict, verdict_of, IgnoresVersion, is_bad_entry, main_entry, may_be_interrupted, has_controller, reason_against_at, entry_of, is_bad_node};
 ghost use Rattle.gb_verify.specs.Headline.{IfAccepted, IsSafe};
 
 use crate::verdict::Verdict;
 use gb_abs::covering::covers;
 use gb_abs::reason::Reason;
 use gb_blocks::rules::check_node;
-use gb_cert::types::{Abs, Cert, Core, Ctl, Flg, ImeSet, May, Origin, Val};
+use gb_cert::types::{Abs, Cert, Core, Ctl, Flg, ImeSet, Origin, Val};
 use gb_header::Rom;
 use gb_ops::machine::{Kind, Region};
 use gb_ops::op::Register;
 use gb_ops::registers::Registers;
+use gb_vals::flags::known;
 
 /// A register's value at power-up, which is its own origin.
 fn own(register: Register, value: u8) -> Val
@@ -28,22 +29,12 @@ fn own(register: Register, value: u8) -> Val
     }
 }
 
-/// A bit that is known.
-fn may_only(bit: bool) -> May
-    ensures { result ≡ may_only bit }
-{
-    May {
-        clear: !bit,
-        set: bit,
-    }
-}
-
-/// Power-up as an abstract state.
+/// The core at power-up (Power-up sequence): each value is known, and each is its own origin.
 #[tactic(auto, unfolding(crate::specs::PowerUp::core_at_power_up))]
 fn core_at_power_up(rom: &Rom<'_>, region: Region) -> Core
     ensures { result ≡ core_at_power_up rom.now region }
 {
-    let others = may_only(rom.checksum() != 0);
+    let others = known(rom.checksum() != 0);
     Core {
         ime: ImeSet {
             off: true,
@@ -58,13 +49,13 @@ fn core_at_power_up(rom: &Rom<'_>, region: Region) -> Core
             bank_hi: 1,
             second_lo: 0,
             second_hi: 0,
-            gate: may_only(false),
-            mode: may_only(false),
+            gate: known(false),
+            mode: known(false),
             is_kept: true,
         },
         flags: Flg {
-            zero: may_only(true),
-            subtract: may_only(false),
+            zero: known(true),
+            subtract: known(false),
             half_carry: others,
             carry: others,
             is_own: true,
@@ -86,14 +77,14 @@ fn core_at_power_up(rom: &Rom<'_>, region: Region) -> Core
     }
 }
 
-/// The number of the node where main begins.
-fn main_entry(cert: &Cert) -> usize
+/// The number of the node where main, procedure 0, begins.
+fn main_entry(cert: &Cert<'_>) -> u32
     ensures { result ≡ main_entry cert.now }
 {
     if cert.procedures() == 0 {
         0
     } else {
-        usize::from(cert.procedure(0).entry())
+        cert.procedure(0).entry()
     }
 }
 
@@ -106,7 +97,7 @@ fn has_controller(kind: Kind) -> bool
 
 /// Whether main doesn't begin at 0100 in bank 0, or not in a state that covers power-up.
 #[tactic(auto, unfolding(crate::specs::Verdict::is_bad_entry))]
-fn is_bad_entry(rom: &Rom<'_>, cert: &Cert, entry: usize) -> bool
+fn is_bad_entry(rom: &Rom<'_>, cert: &Cert<'_>, entry: u32) -> bool
     requires { entry ≡ main_entry cert.now }
     ensures { result ≡ is_bad_entry rom.now cert.now }
 {
@@ -114,11 +105,13 @@ fn is_bad_entry(rom: &Rom<'_>, cert: &Cert, entry: usize) -> bool
         return true;
     }
     let node = cert.node(entry);
+    let state = node.state();
     let start = Abs::new(core_at_power_up(rom, cert.region()));
-    node.address != 0x100 || node.bank != 0 || !covers(&start, &node.state)
+    node.address() != 0x100 || node.bank() != 0 || !covers(&start, &state)
 }
 
-/// Whether an interrupt may come, which has no rules yet.
+/// Whether an interrupt may come, which has no rules yet: IME may be on, and IE may have one of bits 0
+/// to 4.
 #[tactic(auto, unfolding(crate::specs::Verdict::may_be_interrupted))]
 fn may_be_interrupted(core: &Core) -> bool
     ensures { result ≡ may_be_interrupted core.now }
@@ -128,19 +121,20 @@ fn may_be_interrupted(core: &Core) -> bool
 
 /// The lowest reason against the node with a number.
 #[tactic(auto, unfolding(crate::specs::Verdict::reason_against))]
-fn reason_against(rom: &Rom<'_>, cert: &Cert, i: usize) -> Option<Reason>
+fn reason_against(rom: &Rom<'_>, cert: &Cert<'_>, i: u32) -> Option<Reason>
     requires { i < length cert.now.nodes }
     ensures { result ≡ reason_against_at rom.now cert.now i }
 {
     match check_node(rom, cert, i) {
         Err(reason) => Some(reason),
-        Ok(()) if may_be_interrupted(cert.node(i).state.core()) => Some(Reason::Interrupt),
+        Ok(()) if may_be_interrupted(cert.node(i).state().core()) => Some(Reason::Interrupt),
         Ok(()) => None,
     }
 }
 
-#[tactic(auto, using(crate::proofs::Verdicts::verdict_at), unfolding(crate::specs::Verdict::verdict_of))]
-fn verdict(rom: &Rom<'_>, cert: &Cert) -> Verdict
+/// The verdict, as a function.
+#[tactic(auto, using(crate::proofs::VerdictLaws::verdict_at), unfolding(crate::specs::Verdict::verdict_of))]
+fn verdict(rom: &Rom<'_>, cert: &Cert<'_>) -> Verdict
     ensures { result ≡ verdict_of rom.now cert.now }
 {
     let entry = main_entry(cert);
@@ -157,19 +151,26 @@ fn verdict(rom: &Rom<'_>, cert: &Cert) -> Verdict
     }
     Verdict::Accepted {
         nodes: cert.nodes(),
-        procedures: cert.procedures(),
+        procedures: u32::from(cert.procedures()),
     }
 }
 
-/// The verdict on a certificate for a cartridge.
-pub fn check(rom: &Rom<'_>, cert: &Cert) -> Verdict
+/// The verdict on a certificate for a cartridge: accepted, or the first wrong node with its lowest
+/// reason (own rules).
+pub fn check(rom: &Rom<'_>, cert: &Cert<'_>) -> Verdict
     // Accepted exactly where the certificate is right, with its counts; else main's entry node
     // where that is wrong, else the first wrong node with its lowest reason.
     ensures exact { IsVerdict rom.now cert.now result }
-    // The same as a function.
+    // The verdict as a function of the cartridge and the certificate.
     ensures verdict { result ≡ verdict_of rom.now cert.now }
     // Where it accepts, every run from power-up is safe.
     ensures safe { IfAccepted result (IsSafe rom.now cert.now) }
 {
     verdict(rom, cert)
 }
+
+/// States that a verdict doesn't look at the version: two certificates that differ in it alone have
+/// equal verdicts.
+pub fn verdict_ignores_version()
+    ensures { IgnoresVersion }
+{}

@@ -6,7 +6,7 @@ use gb_abs::reason::Reason;
 #[derive(Clone, Copy, Debug, PartialEq, Eq)]
 pub enum Verdict {
     /// The certificate is right; with its numbers of nodes and procedures.
-    Accepted { nodes: usize, procedures: usize },
+    Accepted { nodes: u32, procedures: u32 },
     /// The first node that isn't right, with its lowest reason.
-    Refused { node: usize, reason: Reason },
+    Refused { node: u32, reason: Reason },
 }

@@ -1,7 +1,7 @@
 //! From the bytes of two files to the printed line.
 
 ghost use Rattle.std.specs.Prelude.{◌≡◌, ◌+◌, ◌≤◌, false, is_err, IfOk, OnErr, length};
-ghost use Rattle.gb_ops.specs.Sink.{Gains};
+ghost use Rattle.gb_text.specs.Sink.{Gains};
 ghost use Rattle.gb_verify.specs.Text.{IsAnswer, IfAcceptedAnswer, IsVerified, IfVerified, IsOutcome, HasBeginning, written};
 
 use crate::check::check;
@@ -9,9 +9,10 @@ use crate::verdict::Verdict;
 use gb_cert::CertFault;
 use gb_cert::types::Cert;
 use gb_header::{HeaderFault, Rom};
-use gb_ops::sink::{OutFault, Sink};
+use gb_text::cartridge::cartridge_line;
 use gb_text::line::Line;
 use gb_text::put::put_all;
+use gb_text::sink::{OutFault, Sink};
 use std::alloc::Global;
 
 /// What there is to say of a cartridge and a certificate.
@@ -51,23 +52,20 @@ impl Answer {
     {
         let mut line = Line::new();
         match self {
-            Answer::Cartridge(fault) => {
-                line.push_text(b"CARTRIDGE H");
-                line.push_number(u64::from(fault.number()));
-            }
+            Answer::Cartridge(fault) => return cartridge_line(fault),
             Answer::Certificate(fault) => {
                 line.push_text(b"CERTIFICATE C");
                 line.push_number(u64::from(fault.number()));
             }
             Answer::Judged(Verdict::Accepted { nodes, procedures }) => {
                 line.push_text(b"ACCEPTED nodes ");
-                line.push_number(nodes as u64);
+                line.push_number(u64::from(nodes));
                 line.push_text(b" procedures ");
-                line.push_number(procedures as u64);
+                line.push_number(u64::from(procedures));
             }
             Answer::Judged(Verdict::Refused { node, reason }) => {
                 line.push_text(b"REFUSED node ");
-                line.push_number(node as u64);
+                line.push_number(u64::from(node));
                 line.push_text(b" reason ");
                 line.push_number(u64::from(reason.number()));
             }
@@ -98,7 +96,7 @@ fn examine(alloc: Global, rom: &[u8], cert: &[u8]) -> Answer
 /// # Errors
 ///
 /// OutFault where the sink failed during the call.
-#[tactic(auto, using(crate::proofs::Answers::written_is, crate::proofs::Answers::outcome_is, crate::proofs::Answers::beginning_is, crate::proofs::Answers::verified_is))]
+#[tactic(auto, using(crate::proofs::AnswerLaws::verify_bytes_line, crate::proofs::AnswerLaws::verify_bytes_outcome, crate::proofs::AnswerLaws::verify_bytes_beginning, crate::proofs::AnswerLaws::verify_bytes_accepted))]
 pub fn verify_bytes<W: Sink>(
     alloc: Global,
     rom: &[u8],

@@ -1,10 +1,26 @@
--- The node at hand doesn't cover, so what is left of the search stays the same.
-use Rattle.std.proofs.Common.{sym, ◌∙◌}
-use Rattle.gb_blocks.specs.Rules.{is_cover}
-use Rattle.gb_blocks.proofs.Found.{not_yet}
+use Rattle.std.proofs.Common.{◌≡◌, ◌≤◌, ◌<◌, true, false, sym, ◌∙◌, ap, arith}
+use Rattle.gb_abs.specs.Covering.{covers}
+use Rattle.gb_blocks.proofs.SearchLaws.{none_before, none_yet, none_covers, one_covers}
 use Rattle.gb_blocks.proofs.covered.covered_at.Goals as goal
+
+pub loop-i-init : goal.loop-i-init
+loop-i-init c = none_before c.args.cert.now.nodes c.args.procedure c.args.address c.args.state.now c.find-found.result.first c.find-found.result.after c.find-found.ensures
 
 pub loop-i-preserved : goal.loop-i-preserved
 loop-i-preserved c =
-    let test = is_cover c.args.procedure c.args.address c.args.state.now in
-    sym (not_yet test c.args.cert.now.nodes c.loop-i.i c.node.result.now c.node.ensures (sym c.if-is_cover.ensures)) ∙ c.loop-i.invariant
+    let told : covers c.args.state.now c.state-claimed.result ≡ false = sym c.covers.ensures.exact ∙ c.if-covers.false in
+    let apart : covers c.args.state.now c.node.result.state ≡ false = ap (covers c.args.state.now) (sym c.state-claimed.ensures) ∙ told in
+    none_yet c.args.cert.now.nodes c.args.procedure c.args.address c.args.state.now c.loop-i.i c.node.result c.node.ensures apart c.loop-i.invariant
+
+pub returns-then-covers : goal.returns-then-covers
+returns-then-covers c =
+    let told : covers c.args.state.now c.state-claimed.result ≡ true = sym c.covers.ensures.exact ∙ c.if-covers.true in
+    let covering : covers c.args.state.now c.node.result.state ≡ true = ap (covers c.args.state.now) (sym c.state-claimed.ensures) ∙ told in
+    let least : c.find-found.result.first ≤ c.loop-i.i = omega arith in
+    let most : c.loop-i.i < c.find-found.result.after = omega arith in
+    one_covers c.args.cert.now.nodes c.args.procedure c.args.address c.args.state.now c.find-found.result.first c.find-found.result.after c.loop-i.i c.node.result c.find-found.ensures least most c.node.ensures covering
+
+pub returns : goal.returns
+returns c =
+    let least : c.find-found.result.after ≤ c.loop-i.i = omega arith in
+    none_covers c.args.cert.now.nodes c.args.procedure c.args.address c.args.state.now c.find-found.result.first c.find-found.result.after c.loop-i.i c.find-found.ensures least c.loop-i.invariant

@@ -1,5 +1,5 @@
 use Rattle.std.proofs.Common.{◌≡◌, false, take}
-use Rattle.gb_ops.specs.Sink.{Gains}
+use Rattle.gb_text.specs.Sink.{Gains}
 use Rattle.gb_main.specs.Screen.{screen_text}
 use Rattle.gb_main.proofs.screen.put_screen.Given as goal
 

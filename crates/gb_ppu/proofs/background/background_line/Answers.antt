@@ -3,7 +3,7 @@ use Rattle.std.proofs.lemmas.List.{get_or-replicate}
 use Rattle.gb_ppu.specs.Control.{has_bit}
 use Rattle.gb_ppu.specs.Maps.{map_colour}
 use Rattle.gb_ppu.specs.Seen.{seen}
-use Rattle.gb_ppu.proofs.Strips.{whole, off}
+use Rattle.gb_ppu.proofs.MapRows.{whole, off}
 use Rattle.gb_ppu.proofs.background.background_line.Goals as goal
 
 pub returns-then-has_background : goal.returns-then-has_background

@@ -2,7 +2,7 @@ use Rattle.std.proofs.Common.{◌+◌, ◌-◌, ◌%◌, sym, ap, ◌∙◌, ari
 use Rattle.gb_ppu.specs.declared.tiles.TileRow.{TileRow}
 use Rattle.gb_ppu.specs.Tiles.{colour_in}
 use Rattle.gb_ppu.specs.Maps.{map_colour}
-use Rattle.gb_ppu.proofs.Strips.{colour_of_row, row_stays, one_more, others_stay}
+use Rattle.gb_ppu.proofs.MapRows.{colour_of_row, row_stays, one_more, others_stay}
 use Rattle.gb_ppu.proofs.background.draw_map.Goals as goal
 use Rattle.gb_ppu.proofs.background.draw_map.Goals.{then-column-eq0, else-column-eq0}
 

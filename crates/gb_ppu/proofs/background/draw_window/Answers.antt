@@ -3,7 +3,7 @@ use Rattle.std.proofs.lemmas.Bool.{cases_lt}
 use Rattle.gb_ppu.specs.Control.{has_bit}
 use Rattle.gb_ppu.specs.Maps.{map_colour}
 use Rattle.gb_ppu.specs.Seen.{seen}
-use Rattle.gb_ppu.proofs.Strips.{hidden, hidden_beyond, hidden_before, without_row, shown}
+use Rattle.gb_ppu.proofs.MapRows.{hidden, hidden_beyond, hidden_before, without_row, shown}
 use Rattle.gb_ppu.proofs.background.draw_window.Goals as goal
 
 pub returns-then-not-has_window : goal.returns-then-not-has_window

@@ -1,5 +1,5 @@
 use Rattle.std.proofs.Common.{◌≡◌}
-use Rattle.gb_ppu.proofs.Choosing.{chosen_before}
+use Rattle.gb_ppu.proofs.LineObjects.{chosen_before}
 use Rattle.gb_ppu.proofs.line.line_objects.Given as goal
 
 abbrev pub invariant-loop-i : goal.invariant-loop-i

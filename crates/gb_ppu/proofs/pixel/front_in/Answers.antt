@@ -1,9 +1,9 @@
 use Rattle.gb_ppu.specs.Seen.{seen}
-use Rattle.gb_ppu.proofs.Fronts.{front_of-all}
+use Rattle.gb_ppu.proofs.FrontPixels.{front_of-all}
 use Rattle.std.proofs.Common.{sym, ap, ◌∙◌, arith}
 use Rattle.gb_ppu.specs.Objects.{meets_line}
-use Rattle.gb_ppu.proofs.Choosing.{chosen_before-apart, chosen_before-full}
-use Rattle.gb_ppu.proofs.Fronts.{IsWalked-met, IsWalked-same}
+use Rattle.gb_ppu.proofs.LineObjects.{chosen_before-apart, chosen_before-full}
+use Rattle.gb_ppu.proofs.FrontPixels.{IsWalked-met, IsWalked-same}
 use Rattle.gb_ppu.proofs.pixel.front_in.Goals as goal
 use Rattle.gb_ppu.proofs.pixel.front_in.Goals.{then-met-lt-LINE_OBJECTS+then-meets_line, else-met-lt-LINE_OBJECTS, else-met-lt-LINE_OBJECTS-via-then-met-lt-LINE_OBJECTS+else-meets_line, else-met-lt-LINE_OBJECTS-via-else-met-lt-LINE_OBJECTS}
 

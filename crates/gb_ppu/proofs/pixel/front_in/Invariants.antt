@@ -1,5 +1,5 @@
 use Rattle.gb_ppu.specs.Seen.{seen}
-use Rattle.gb_ppu.proofs.Fronts.{IsWalked}
+use Rattle.gb_ppu.proofs.FrontPixels.{IsWalked}
 use Rattle.gb_ppu.proofs.pixel.front_in.Given as goal
 
 abbrev pub invariant-loop-i : goal.invariant-loop-i

@@ -1,5 +1,5 @@
 use Rattle.std.proofs.Common.{arith}
-use Rattle.gb_ppu.proofs.Drawings.{this-line, next-line, next-frame}
+use Rattle.gb_ppu.proofs.NextDrawing.{this-line, next-line, next-frame}
 use Rattle.gb_ppu.proofs.ppu.until_drawing.Goals as goal
 
 pub returns-then-column-lt20 : goal.returns-then-column-lt20

@@ -1,5 +1,5 @@
 use Rattle.std.proofs.Common.{◌≡◌, ◌-◌, ◌≤◌, false, length, take}
-use Rattle.gb_ops.specs.Sink.{Gains}
+use Rattle.gb_text.specs.Sink.{Gains}
 use Rattle.gb_text.proofs.put.put_all.Given as goal
 
 abbrev pub invariant-loop-done : goal.invariant-loop-done

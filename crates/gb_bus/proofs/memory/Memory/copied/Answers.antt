@@ -1,5 +1,5 @@
 use Rattle.std.proofs.Common.{◌≤◌, arith}
-use Rattle.gb_bus.specs.Accessing.{copied}
+use Rattle.gb_bus.specs.Access.{copied}
 use Rattle.gb_bus.proofs.Copying.{in_a_row}
 use Rattle.gb_bus.proofs.memory.Memory.copied.Goals as goal
 

@@ -1,5 +1,5 @@
 use Rattle.std.proofs.Common.{◌≡◌, ℕ, ◌<◌, get_or, length}
-use Rattle.gb_bus.specs.Accessing.{transferred}
+use Rattle.gb_bus.specs.Access.{transferred}
 use Rattle.gb_bus.proofs.memory.Memory.copied.Given as goal
 
 abbrev pub invariant-loop-i : goal.invariant-loop-i

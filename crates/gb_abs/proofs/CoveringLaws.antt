@@ -1,0 +1,238 @@
+-- What covers an abstract state stands for its machine states, part by part.
+use Rattle.std.proofs.Common.{◌≡◌, ℕ, suc, length, ◌+◌, ◌*◌, ◌-◌, ◌≤◌, Bool, true, false, ◌==◌, if◌then◌else◌, cond, List, [], ◌∷◌, Option, Some, None, refl, sym, ◌∙◌, ap, subst, arith}
+use Rattle.std.proofs.lemmas.Bool.{and_parts, eqb-true, leb-true}
+use Rattle.std.specs.List.{AllByRecursion, list_all}
+use Rattle.gb_ops.specs.declared.op.Register.{Register}
+use Rattle.gb_ops.specs.declared.op.Register.TheVariants.{A, B, C, D, E, H, L}
+use Rattle.gb_ops.specs.declared.registers.Registers.{Registers}
+use Rattle.gb_ops.specs.declared.registers.Flags.{Flags}
+use Rattle.gb_ops.specs.declared.registers.Ime.{Ime}
+use Rattle.gb_ops.specs.declared.registers.Ime.TheVariants.{Off, Pending, On}
+use Rattle.gb_ops.specs.declared.machine.Banks.{Banks}
+use Rattle.gb_ops.specs.Registers.{get}
+use Rattle.gb_ops.specs.Memory.{Storage}
+use Rattle.gb_ops.specs.Play.{MState}
+use Rattle.gb_cert.specs.declared.types.Origin.{Origin}
+use Rattle.gb_cert.specs.declared.types.Origin.TheVariants as origin
+use Rattle.gb_cert.specs.declared.types.Val.{Val}
+use Rattle.gb_cert.specs.declared.types.May.{May}
+use Rattle.gb_cert.specs.declared.types.Flg.{Flg}
+use Rattle.gb_cert.specs.declared.types.ImeSet.{ImeSet}
+use Rattle.gb_cert.specs.declared.types.Ctl.{Ctl}
+use Rattle.gb_cert.specs.declared.types.Item.{Item}
+use Rattle.gb_cert.specs.declared.types.Cell.{Cell}
+use Rattle.gb_cert.specs.declared.types.Core.{Core}
+use Rattle.gb_cert.specs.Types.{AbsState}
+use Rattle.gb_abs.specs.Storage.{peek}
+use Rattle.gb_abs.specs.Meaning.{Holds, HoldsFlags, HoldsController, MeansCore, AreItems, Means, IsMemory, ime_may_be}
+use Rattle.gb_abs.specs.Covering.{origin_number, covers_origin, covers_val, covers_may, covers_flags, covers_ime, covers_controller, covers_registers, covers_test, covers_core, covers_items, cell_at, covers_cells, covers, implied}
+use Rattle.gb_abs.specs.Sound.{IsPartOf}
+use Rattle.gb_vals.specs.Vals.{any_val}
+use Rattle.gb_vals.specs.Meaning.{may_be}
+use Rattle.gb_vals.specs.Tests.{IsTested}
+
+-- ---- tests and what they say
+
+pub implied_use : (a b : Bool) → implied a b ≡ true → a ≡ true → b ≡ true
+implied_use true b h p = h
+implied_use false b h p = cc
+
+-- ---- origins
+
+origin_at : ℕ → Origin
+origin_at n =
+    if n == 0 then origin.Register A
+    else if n == 1 then origin.Register B
+    else if n == 2 then origin.Register C
+    else if n == 3 then origin.Register D
+    else if n == 4 then origin.Register E
+    else if n == 5 then origin.Register H
+    else if n == 6 then origin.Register L
+    else if n == 7 then origin.F
+    else origin.Ie
+
+origin_at-number : (o : Origin) → origin_at (origin_number o) ≡ o
+unfolding origin_at
+origin_at-number (origin.Register A) = refl
+origin_at-number (origin.Register B) = refl
+origin_at-number (origin.Register C) = refl
+origin_at-number (origin.Register D) = refl
+origin_at-number (origin.Register E) = refl
+origin_at-number (origin.Register H) = refl
+origin_at-number (origin.Register L) = refl
+origin_at-number origin.F = refl
+origin_at-number origin.Ie = refl
+
+pub same_origin : (s t : Origin) → (origin_number s == origin_number t) ≡ true → s ≡ t
+same_origin s t h = sym (origin_at-number s) ∙ ap origin_at (eqb-true (origin_number s) (origin_number t) h) ∙ origin_at-number t
+
+origin_from : (from to : Option Origin) (o : Origin) → covers_origin from to ≡ true → to ≡ Some o → from ≡ Some o
+origin_from from None o h e = cc
+origin_from None (Some to) o h e = cc
+origin_from (Some from) (Some to) o h e = ap Some (same_origin from to h) ∙ e
+
+-- ---- the parts
+
+pub Holds-covered : (s t : Val) (entry : MState) (x : ℕ) → covers_val s t ≡ true → Holds s entry x → Holds t entry x
+unfolding covers_val
+Holds-covered s t entry x h m =
+    let p = and_parts _ _ h in
+    let q = and_parts _ _ p.0 in
+    let lo : t.lo ≤ s.lo = leb-true _ _ q.0 in
+    let hi : s.hi ≤ t.hi = leb-true _ _ q.1 in
+    record {
+      least = let a = m.least in omega arith;
+      most = let a = m.most in omega arith;
+      origin = λ o e. m.origin o (origin_from s.origin t.origin o p.1 e);
+    }
+
+may_covered : (s t : May) (b : Bool) → covers_may s t ≡ true → may_be s b ≡ true → may_be t b ≡ true
+may_covered s t true h m = implied_use _ _ (and_parts _ _ h).0 m
+may_covered s t false h m = implied_use _ _ (and_parts _ _ h).1 m
+
+flags_covered : (s t : Flg) (entry : MState) (x : Flags) → covers_flags s t ≡ true → HoldsFlags s entry x → HoldsFlags t entry x
+unfolding covers_flags
+flags_covered s t entry x h m =
+    let p = and_parts _ _ h in
+    let c = and_parts _ _ p.0 in
+    let f = and_parts _ _ c.0 in
+    let n = and_parts _ _ f.0 in
+    record {
+      zero = may_covered s.zero t.zero x.zero n.0 m.zero;
+      subtract = may_covered s.subtract t.subtract x.subtract n.1 m.subtract;
+      half_carry = may_covered s.half_carry t.half_carry x.half_carry f.1 m.half_carry;
+      carry = may_covered s.carry t.carry x.carry c.1 m.carry;
+      own = λ e. m.own (implied_use _ _ p.1 e);
+    }
+
+ime_covered : (s t : ImeSet) (i : Ime) → covers_ime s t ≡ true → ime_may_be s i ≡ true → ime_may_be t i ≡ true
+unfolding covers_ime
+ime_covered s t Off h m = implied_use _ _ (and_parts _ _ (and_parts _ _ h).0).0 m
+ime_covered s t Pending h m = implied_use _ _ (and_parts _ _ (and_parts _ _ h).0).1 m
+ime_covered s t On h m = implied_use _ _ (and_parts _ _ h).1 m
+
+controller_covered : (s t : Ctl) (entry : MState) (x : Banks) → covers_controller s t ≡ true → HoldsController s entry x → HoldsController t entry x
+unfolding covers_controller
+controller_covered s t entry x h m =
+    let kept = and_parts _ _ h in
+    let mode = and_parts _ _ kept.0 in
+    let gate = and_parts _ _ mode.0 in
+    let hi = and_parts _ _ gate.0 in
+    let lo = and_parts _ _ hi.0 in
+    let bank = and_parts _ _ lo.0 in
+    let f1 : t.bank_lo ≤ s.bank_lo = leb-true _ _ bank.0 in
+    let f2 : s.bank_hi ≤ t.bank_hi = leb-true _ _ bank.1 in
+    let f3 : t.second_lo ≤ s.second_lo = leb-true _ _ lo.1 in
+    let f4 : s.second_hi ≤ t.second_hi = leb-true _ _ hi.1 in
+    record {
+      bank_least = let a = m.bank_least in omega arith;
+      bank_most = let a = m.bank_most in omega arith;
+      second_least = let a = m.second_least in omega arith;
+      second_most = let a = m.second_most in omega arith;
+      gate = may_covered s.gate t.gate x.gate gate.1 m.gate;
+      mode = may_covered s.mode t.mode x.mode mode.1 m.mode;
+      kept = λ e. m.kept (implied_use _ _ kept.1 e);
+    }
+
+pub register_covered : (s t : Registers Val) (r : Register) → covers_registers s t ≡ true → covers_val (get r s) (get r t) ≡ true
+unfolding covers_registers
+register_covered s t r h =
+    let l = and_parts _ _ h in
+    let h' = and_parts _ _ l.0 in
+    let e = and_parts _ _ h'.0 in
+    let d = and_parts _ _ e.0 in
+    let c = and_parts _ _ d.0 in
+    let b = and_parts _ _ c.0 in
+    elim r as (λ q. covers_val (get q s) (get q t) ≡ true) [ A ↦ b.0 | B ↦ b.1 | C ↦ c.1 | D ↦ d.1 | E ↦ e.1 | H ↦ h'.1 | L ↦ l.1 ]
+
+test_covered : (s t : Option ℕ) (a : ℕ) (f : Flags) → covers_test s t ≡ true → IsTested s a f → IsTested t a f
+test_covered s None a f h m = tt
+test_covered None (Some t) a f h m = cc
+test_covered (Some s) (Some t) a f h m = subst (λ n. IsTested (Some n) a f) (eqb-true s t h) m
+
+core_covered : (s t : Core) (entry x : MState) → covers_core s t ≡ true → MeansCore s entry x → MeansCore t entry x
+unfolding covers_core
+core_covered s t entry x h m =
+    let test = and_parts _ _ h in
+    let stack = and_parts _ _ test.0 in
+    let bound = and_parts _ _ stack.0 in
+    let controller = and_parts _ _ bound.0 in
+    let ime = and_parts _ _ controller.0 in
+    let ie = and_parts _ _ ime.0 in
+    let flags = and_parts _ _ ie.0 in
+    let low : s.bound ≤ t.bound = leb-true _ _ bound.1 in
+    record {
+      registers = λ r. Holds-covered _ _ _ _ (register_covered s.registers t.registers r flags.0) (m.registers r);
+      flags = flags_covered s.flags t.flags entry x.processor.flags flags.1 m.flags;
+      ie = Holds-covered _ _ _ _ ie.1 m.ie;
+      ime = ime_covered s.ime t.ime x.processor.ime ime.1 m.ime;
+      controller = controller_covered s.ctl t.ctl entry x.storage.banks controller.1 m.controller;
+      count = let a = m.count in omega arith;
+      test = test_covered s.test t.test _ _ test.1 m.test;
+      mark = m.mark;
+      locked = m.locked;
+      stopped = m.stopped;
+    }
+
+stack_covered : (s t : Core) → covers_core s t ≡ true → t.stack_set ≡ true → s.stack_set ≡ true
+unfolding covers_core
+stack_covered s t h e =
+    let test = and_parts _ _ h in
+    let stack = and_parts _ _ test.0 in
+    implied_use _ _ stack.1 e
+
+-- ---- items and cells
+
+items_covered : (ss ts : List Item) (entry : MState) (top : ℕ) (m : Storage) → covers_items ss ts ≡ true → AreItems ss entry top m → AreItems ts entry top m
+items_covered [] [] entry top m h a = tt
+items_covered [] (t ∷ ts) entry top m h a = cc
+items_covered (s ∷ ss) [] entry top m h a = cc
+items_covered (s ∷ ss) (t ∷ ts) entry top m h a =
+    let p = and_parts _ _ h in
+    let q = and_parts _ _ p.0 in
+    (Holds-covered _ _ _ _ q.0 a.0, Holds-covered _ _ _ _ q.1 a.1, items_covered ss ts entry (top - 2) m p.1 a.2)
+
+abbrev pub AreCells : List Cell → MState → Storage → Type 0
+AreCells cells entry m = AllByRecursion (λ c. Holds c.val entry (peek m c.address)) cells
+
+Holds-any : (entry : MState) (x : ℕ) → x ≤ 255 → Holds any_val entry x
+Holds-any entry x h = record { least = omega arith; most = h; origin = λ o e. cc }
+
+-- what is known of a byte holds of it
+pub Holds-cell : (cells : List Cell) (a : ℕ) (entry : MState) (m : Storage) → IsMemory m → AreCells cells entry m → Holds (cell_at a cells) entry (peek m a)
+Holds-cell [] a entry m k h = Holds-any entry _ (k.bytes a)
+Holds-cell (c ∷ cs) a entry m k h =
+    choose (c.address == a) refl (λ e. subst (λ n. Holds c.val entry (peek m n)) (eqb-true c.address a e) h.0) (Holds-cell cs a entry m k h.1)
+  where
+    choose : (b : Bool) → (c.address == a) ≡ b → ((c.address == a) ≡ true → Holds c.val entry (peek m a)) → Holds (cell_at a cs) entry (peek m a) → Holds (cond b c.val (cell_at a cs)) entry (peek m a)
+    choose true e here rest = here e
+    choose false e here rest = rest
+
+cells_covered : (ss ts : List Cell) (entry : MState) (m : Storage) → IsMemory m → list_all (λ c. covers_val (cell_at c.address ss) c.val) ts ≡ true → AreCells ss entry m → AreCells ts entry m
+cells_covered ss [] entry m k h a = tt
+cells_covered ss (t ∷ ts) entry m k h a =
+    let p = and_parts _ _ h in
+    (Holds-covered _ _ _ _ p.0 (Holds-cell ss t.address entry m k a), cells_covered ss ts entry m k p.1 a)
+
+-- what covers an abstract state stands for each of its machine states
+pub Means-covered : (s t : AbsState) (entry : MState) (base : ℕ) (x : MState) → covers s t ≡ true → Means s entry base x → Means t entry base x
+unfolding covers covers_cells
+Means-covered s t entry base x h m =
+    let cells = and_parts _ _ h in
+    let items = and_parts _ _ cells.0 in
+    record {
+      core = core_covered s.core t.core entry x items.0 m.core;
+      memory = m.memory;
+      stack = λ e. ap (λ n. x.processor.sp + 2 * n) (sym (lengths s.items t.items items.1)) ∙ m.stack (stack_covered s.core t.core items.0 e);
+      items = items_covered s.items t.items entry base x.storage items.1 m.items;
+      cells = cells_covered s.cells t.cells entry x.storage m.memory cells.1 m.cells;
+    }
+  where
+    lengths : (ss ts : List Item) → covers_items ss ts ≡ true → length ss ≡ length ts
+    lengths [] [] h = refl
+    lengths [] (t ∷ ts) h = cc
+    lengths (s ∷ ss) [] h = cc
+    lengths (s ∷ ss) (t ∷ ts) h = ap suc (lengths ss ts (and_parts _ _ h).1)
+
+pub covers_sound : (s t : AbsState) (o : Bool) → o ≡ covers s t → o ≡ true → IsPartOf s t
+covers_sound s t o e h = record { gives = λ entry base x m. Means-covered s t entry base x (sym e ∙ h) m }

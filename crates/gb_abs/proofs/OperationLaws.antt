@@ -1,0 +1,235 @@
+-- Each operation follows its change of the machine.
+use Rattle.std.proofs.Common.{◌≡◌, ℕ, ◌-◌, Bool, true, false, ◌||◌, List, Option, refl, sym, ◌∙◌, ap, subst, arith}
+use Rattle.gb_ops.specs.declared.op.Register.{Register}
+use Rattle.gb_ops.specs.declared.op.Register.TheVariants.{A, B, C, D, E, H, L}
+use Rattle.gb_ops.specs.declared.registers.Registers.{Registers}
+use Rattle.gb_ops.specs.declared.registers.Flags.{Flags}
+use Rattle.gb_ops.specs.declared.registers.Ime.{Ime}
+use Rattle.gb_ops.specs.declared.registers.Ime.TheVariants.{Off, Pending, On}
+use Rattle.gb_ops.specs.Registers.{get, set}
+use Rattle.gb_ops.specs.Machine.{ime_after, settled}
+use Rattle.gb_ops.specs.Pairs.{with_registers}
+use Rattle.gb_ops.specs.Memory.{passed}
+use Rattle.gb_ops.specs.Effects.{with_pc}
+use Rattle.gb_ops.specs.Play.{MState}
+use Rattle.gb_cert.specs.declared.types.Val.{Val}
+use Rattle.gb_cert.specs.declared.types.ImeSet.{ImeSet}
+use Rattle.gb_cert.specs.declared.types.Core.{Core}
+use Rattle.gb_cert.specs.Types.{AbsState}
+use Rattle.gb_abs.specs.Meaning.{Holds, MeansCore, Means, ime_may_be}
+use Rattle.gb_abs.specs.Sound.{IsSoundSet, IsSoundValue, IsSoundSettling, IsSoundEnd}
+use Rattle.gb_vals.specs.Vals.{single}
+use Rattle.gb_vals.specs.Tests.{IsTested}
+use Rattle.gb_abs.specs.Operations.{test_after, core_set_register, core_with_value, ime_set_after, core_settle, core_end, with_core}
+
+-- a fact about two records of registers, after a write to both
+pub set_both :
+    {X Y : Type 0} (P : X → Y → Type 0) (r q : Register) (v : X) (x : Y) (vs : Registers X) (xs : Registers Y)
+    → P v x → ((p : Register) → P (get p vs) (get p xs)) → P (get q (set r v vs)) (get q (set r x xs))
+set_both P A A v x vs xs n o = n
+set_both P A q v x vs xs n o = o q
+set_both P B B v x vs xs n o = n
+set_both P B q v x vs xs n o = o q
+set_both P C C v x vs xs n o = n
+set_both P C q v x vs xs n o = o q
+set_both P D D v x vs xs n o = n
+set_both P D q v x vs xs n o = o q
+set_both P E E v x vs xs n o = n
+set_both P E q v x vs xs n o = o q
+set_both P H H v x vs xs n o = n
+set_both P H q v x vs xs n o = o q
+set_both P L L v x vs xs n o = n
+set_both P L q v x vs xs n o = o q
+
+tested_after : (r : Register) (n : ℕ) (test : Option ℕ) (xs : Registers ℕ) (f : Flags) → IsTested test xs.a f → IsTested (test_after r test) (set r n xs).a f
+tested_after A n test xs f h = tt
+tested_after B n test xs f h = h
+tested_after C n test xs f h = h
+tested_after D n test xs f h = h
+tested_after E n test xs f h = h
+tested_after H n test xs f h = h
+tested_after L n test xs f h = h
+
+-- the machine with a register changed
+abbrev pub register_set : Register → ℕ → MState → MState
+register_set r n s = record s { processor = with_registers s.processor (set r n s.processor.registers) }
+
+pub MeansCore-set_register :
+    (s : Core) (entry x : MState) (r : Register) (v : Val) (n : ℕ)
+    → Holds v entry n → MeansCore s entry x → MeansCore (core_set_register r v s) entry (register_set r n x)
+unfolding core_set_register
+MeansCore-set_register s entry x r v n h m =
+    record {
+      registers = λ q. set_both (λ w y. Holds w entry y) r q v n s.registers x.processor.registers h m.registers;
+      flags = m.flags;
+      ie = m.ie;
+      ime = m.ime;
+      controller = m.controller;
+      count = m.count;
+      test = tested_after r n s.test x.processor.registers x.processor.flags m.test;
+      mark = m.mark;
+      locked = m.locked;
+      stopped = m.stopped;
+    }
+
+ime_settled : (s : ImeSet) (i : Ime) → ime_may_be s i ≡ true → ime_may_be (ime_set_after s) (ime_after i) ≡ true
+unfolding ime_after
+ime_settled s Off h = h
+ime_settled s Pending h = ap (λ b. b || s.on) h
+ime_settled s On h = ap (λ b. s.pending || b) h ∙ true_right s.pending
+  where
+    true_right : (b : Bool) → (b || true) ≡ true
+    true_right true = refl
+    true_right false = refl
+
+-- the machine with an instruction executed, PC where it goes on
+abbrev pub moved : ℕ → MState → MState
+moved pc s = record s { processor = with_pc (settled s.processor) pc }
+
+pub MeansCore-settle : (s : Core) (entry x : MState) (pc : ℕ) → MeansCore s entry x → MeansCore (core_settle s) entry (moved pc x)
+unfolding core_settle
+MeansCore-settle s entry x pc m =
+    record {
+      registers = m.registers;
+      flags = m.flags;
+      ie = m.ie;
+      ime = ime_settled s.ime x.processor.ime m.ime;
+      controller = m.controller;
+      count = m.count;
+      test = m.test;
+      mark = refl;
+      locked = m.locked;
+      stopped = m.stopped;
+    }
+
+-- the machine with a smaller count
+abbrev pub counted : ℕ → MState → MState
+counted count s = record s { storage = record s.storage { count = count } }
+
+-- time passes, and the bound falls
+pub MeansCore-pass : (s : Core) (entry x : MState) (n : ℕ) → MeansCore s entry x → MeansCore (core_end false n s) entry (counted (x.storage.count - n) x)
+unfolding core_end
+MeansCore-pass s entry x n m =
+    record {
+      registers = m.registers;
+      flags = m.flags;
+      ie = m.ie;
+      ime = m.ime;
+      controller = m.controller;
+      count = let a = m.count in omega arith;
+      test = m.test;
+      mark = m.mark;
+      locked = m.locked;
+      stopped = m.stopped;
+    }
+
+-- time alone only makes the count smaller
+pub MeansCore-wait : (s : Core) (entry x : MState) (n : ℕ) → MeansCore s entry x → MeansCore s entry (counted (x.storage.count - n) x)
+MeansCore-wait s entry x n m =
+    record {
+      registers = m.registers;
+      flags = m.flags;
+      ie = m.ie;
+      ime = m.ime;
+      controller = m.controller;
+      count = let a = m.count in omega arith;
+      test = m.test;
+      mark = m.mark;
+      locked = m.locked;
+      stopped = m.stopped;
+    }
+
+pub Holds-single : (n : ℕ) (entry : MState) → Holds (single n) entry n
+Holds-single n entry = record { least = omega arith; most = omega arith; origin = λ o e. cc }
+
+-- ---- covering value by value
+
+-- a fact about two records of registers, after a write to the first
+set_first :
+    {X Y : Type 0} (P : X → Y → Type 0) (r q : Register) (v : X) (vs : Registers X) (xs : Registers Y)
+    → P v (get r xs) → ((p : Register) → P (get p vs) (get p xs)) → P (get q (set r v vs)) (get q xs)
+set_first P A A v vs xs n o = n
+set_first P A q v vs xs n o = o q
+set_first P B B v vs xs n o = n
+set_first P B q v vs xs n o = o q
+set_first P C C v vs xs n o = n
+set_first P C q v vs xs n o = o q
+set_first P D D v vs xs n o = n
+set_first P D q v vs xs n o = o q
+set_first P E E v vs xs n o = n
+set_first P E q v vs xs n o = o q
+set_first P H H v vs xs n o = n
+set_first P H q v vs xs n o = o q
+set_first P L L v vs xs n o = n
+set_first P L q v vs xs n o = o q
+
+-- with the machine's own value of a register for its bounds, a core holds of that machine still
+pub MeansCore-with_value :
+    (r : Register) (s : Core) (entry x : MState) → MeansCore s entry x → MeansCore (core_with_value r (get r x.processor.registers) s) entry x
+unfolding core_with_value
+MeansCore-with_value r s entry x m =
+    let own = m.registers r in
+    record {
+      registers = λ q. set_first (λ w y. Holds w entry y) r q (record (get r s.registers) { lo = get r x.processor.registers; hi = get r x.processor.registers })
+          s.registers x.processor.registers (record { least = omega arith; most = omega arith; origin = own.origin }) m.registers;
+      flags = m.flags;
+      ie = m.ie;
+      ime = m.ime;
+      controller = m.controller;
+      count = m.count;
+      test = m.test;
+      mark = m.mark;
+      locked = m.locked;
+      stopped = m.stopped;
+    }
+
+pub Means-with_value :
+    (r : Register) (s : AbsState) (entry : MState) (base : ℕ) (x : MState)
+    → Means s entry base x → Means (with_core s (core_with_value r (get r x.processor.registers) s.core)) entry base x
+unfolding core_with_value
+Means-with_value r s entry base x m =
+    record { core = MeansCore-with_value r s.core entry x m.core; memory = m.memory; stack = m.stack; items = m.items; cells = m.cells }
+
+-- ---- the operations
+
+pub set_register_sound : (r : Register) (v : Val) (s o : Core) → o ≡ core_set_register r v s → IsSoundSet r v s o
+set_register_sound r v s o e =
+    record { gives = λ entry x n h m. subst (λ c. MeansCore c entry (register_set r n x)) (sym e) (MeansCore-set_register s entry x r v n h m) }
+
+pub with_value_sound : (r : Register) (n : ℕ) (s o : Core) → o ≡ core_with_value r n s → IsSoundValue r n s o
+with_value_sound r n s o e =
+    record { gives = λ entry x is m. subst (λ c. MeansCore c entry x) (sym e) (subst (λ k. MeansCore (core_with_value r k s) entry x) is (MeansCore-with_value r s entry x m)) }
+
+pub settle_sound : (s o : Core) → o ≡ core_settle s → IsSoundSettling s o
+settle_sound s o e =
+    record { gives = λ entry x m. subst (λ c. MeansCore c entry (record x { processor = settled x.processor })) (sym e) (MeansCore-settle s entry x x.processor.pc m) }
+
+MeansCore-start : (s : Core) (entry x : MState) → MeansCore s entry x → MeansCore (record s { bound = 161 }) entry (counted 161 x)
+MeansCore-start s entry x m =
+    record {
+      registers = m.registers;
+      flags = m.flags;
+      ie = m.ie;
+      ime = m.ime;
+      controller = m.controller;
+      count = omega arith;
+      test = m.test;
+      mark = m.mark;
+      locked = m.locked;
+      stopped = m.stopped;
+    }
+
+MeansCore-end :
+    (starts : Bool) (n : ℕ) (rom : List ℕ) (s : Core) (entry x : MState) → MeansCore s entry x
+    → MeansCore (core_end starts n s) entry (record x { storage = (passed (record { rom = rom; storage = x.storage; starting = starts }) n).storage })
+unfolding core_end passed
+MeansCore-end true n rom s entry x m = MeansCore-start s entry x m
+MeansCore-end false n rom s entry x m = MeansCore-pass s entry x n m
+
+pub end_sound : (starts : Bool) (n : ℕ) (s o : Core) → o ≡ core_end starts n s → IsSoundEnd starts n s o
+end_sound starts n s o e =
+    record {
+      gives = λ rom entry x m. subst
+          (λ c. MeansCore c entry (record x { storage = (passed (record { rom = rom; storage = x.storage; starting = starts }) n).storage })) (sym e)
+          (MeansCore-end starts n rom s entry x m);
+    }

@@ -1,0 +1,226 @@
+-- The lines of the opcode table: what each does to the machine is followed.
+use Rattle.std.proofs.Common.{◌≡◌, ℕ, ◌+◌, ◌%◌, ◌≤◌, ◌<◌, Bool, true, false, ◌||◌, refl, arith}
+use Rattle.gb_ops.specs.declared.op.Register.TheVariants.{A}
+use Rattle.gb_ops.specs.declared.op.Pair.{Pair}
+use Rattle.gb_ops.specs.declared.op.Pair.TheVariants as pair
+use Rattle.gb_ops.specs.declared.op.Indirect.{Indirect}
+use Rattle.gb_ops.specs.declared.op.Indirect.TheVariants as indirect
+use Rattle.gb_ops.specs.declared.op.Operand.{Operand}
+use Rattle.gb_ops.specs.declared.op.Shift.{Shift}
+use Rattle.gb_ops.specs.declared.op.Op.TheVariants as op
+use Rattle.gb_ops.specs.declared.registers.Flags.{Flags}
+use Rattle.gb_ops.specs.declared.registers.Ime.{Ime}
+use Rattle.gb_ops.specs.declared.registers.Ime.TheVariants.{Off, Pending, On}
+use Rattle.gb_ops.specs.declared.machine.Effect.{Effect}
+use Rattle.gb_ops.specs.declared.machine.Write.TheVariants as write
+use Rattle.gb_ops.specs.Arithmetic as arithmetic
+use Rattle.gb_ops.specs.Pairs as machine
+use Rattle.gb_ops.specs.Effects as Effects
+use Rattle.gb_ops.specs.Play.{MState}
+use Rattle.gb_cert.specs.declared.types.Val.{Val}
+use Rattle.gb_cert.specs.declared.types.Flg.{Flg}
+use Rattle.gb_cert.specs.declared.types.ImeSet.{ImeSet}
+use Rattle.gb_cert.specs.declared.types.Core.{Core}
+use Rattle.gb_cert.specs.Rules.{IsVal, IsCore}
+use Rattle.gb_vals.specs.Meaning.{FlagsIn}
+use Rattle.gb_vals.specs.Sums.{increment, decrement}
+use Rattle.gb_vals.specs.Shifts.{shift_of, shift_result}
+use Rattle.gb_vals.specs.Bits.{reset_bit, set_bit}
+use Rattle.gb_vals.proofs.MeaningLaws.{either-may_be}
+use Rattle.gb_vals.proofs.SumLaws.{increment_sound, decrement_sound, increment_inhabited, decrement_inhabited}
+use Rattle.gb_vals.proofs.ShiftLaws.{shift_sound, shift_inhabited}
+use Rattle.gb_vals.proofs.BitLaws.{reset_bit_sound, set_bit_sound, reset_bit_inhabited, set_bit_inhabited}
+use Rattle.gb_vals.proofs.OriginLaws.{increment_computed, decrement_computed, shift_computed, reset_bit_computed, set_bit_computed}
+use Rattle.gb_abs.specs.Meaning.{Holds, MeansCore, ime_may_be}
+use Rattle.gb_abs.specs.Operations.{core_set_register}
+use Rattle.gb_abs.proofs.OperationLaws.{MeansCore-set_register}
+use Rattle.gb_abs_effects.specs.declared.pairs.Halves.{Halves}
+use Rattle.gb_abs_effects.specs.declared.writes.AbsEffect.{AbsEffect}
+use Rattle.gb_abs_effects.specs.Pairs.{any_word, next_word, previous_word, word_sum, word_sum_flags, pair_halves, with_pair, with_indirect}
+use Rattle.gb_abs_effects.specs.Transfer.{quiet, pushes, with_flags, operand_val, store_operand, update_operand, add_hl, enabled, sp_sum_flags}
+use Rattle.gb_abs_effects.specs.Sound.{Follows}
+use Rattle.gb_abs_effects.proofs.CoreLaws.{FlagsIn-from, HoldsFlags-written, byte-of, MeansCore-at, MeansCore-flags}
+use Rattle.gb_abs_effects.proofs.PairLaws.{HoldsWord, HoldsWord-any, HoldsWord-next, HoldsWord-previous, HoldsWord-sum, FlagsIn-word_sum_flags, word_sum_flags-written, HoldsWord-pair, pair-small, MeansCore-with_pair}
+use Rattle.gb_abs_effects.proofs.OperandLaws.{Holds-operand, operand-byte, Follows-store_operand, Follows-update_operand, Follows-change_operand}
+
+-- ---- parts
+
+-- the core stays, wherever the machine goes on
+pub Follows-moved :
+    (s : Core) (entry x : MState) (sp pc : ℕ)
+    → MeansCore s entry x → Follows (quiet s) entry x (Effects.quiet (record x.processor { sp = sp; pc = pc }))
+Follows-moved s entry x sp pc m = record { core = MeansCore-at s entry x sp pc m; write = tt }
+
+pub a-byte : (s : Core) (entry x : MState) → IsCore s → MeansCore s entry x → x.processor.registers.a ≤ 255
+a-byte s entry x is m = byte-of s.registers.a entry x.processor.registers.a (is.registers A) (m.registers A)
+
+-- a word goes on the stack, and the machine goes on at pc
+pub Follows-pushed :
+    (s : Core) (entry x : MState) (w : Halves) (n pc : ℕ)
+    → HoldsWord w entry n → MeansCore s entry x
+    → Follows (pushes s w) entry x (Effects.writes (record x.processor { sp = (x.processor.sp + 65534) % 65536; pc = pc }) (write.Push x.processor.sp n))
+Follows-pushed s entry x w n pc h m =
+    record { core = MeansCore-at s entry x ((x.processor.sp + 65534) % 65536) pc m; write = (refl, h.high, h.low) }
+
+-- A gets what was read
+pub Follows-loaded :
+    (s : Core) (entry x : MState) (v : Val) (n : ℕ)
+    → Holds v entry n → MeansCore s entry x → Follows (quiet (core_set_register A v s)) entry x (Effects.quiet (Effects.with_a x.processor n))
+Follows-loaded s entry x v n h m = record { core = MeansCore-set_register s entry x A v n h m; write = tt }
+
+-- ---- pairs
+
+pub MeansCore-with_indirect :
+    (which : Indirect) (s : Core) (entry x : MState)
+    → x.processor.sp < 65536 → IsCore s → MeansCore s entry x
+    → MeansCore (with_indirect which s) entry (record x { processor = Effects.with_indirect x.processor which })
+unfolding with_indirect Effects.with_indirect
+MeansCore-with_indirect indirect.Bc s entry x sp is m = m
+MeansCore-with_indirect indirect.De s entry x sp is m = m
+MeansCore-with_indirect indirect.HlIncrement s entry x sp is m =
+    MeansCore-with_pair pair.Hl s entry x (next_word (pair_halves pair.Hl s)) ((Effects.hl x.processor + 1) % 65536) (HoldsWord-next (pair_halves pair.Hl s) entry (Effects.hl x.processor) (pair-small pair.Hl s entry x sp is m) (HoldsWord-pair pair.Hl s entry x sp is m)) m
+MeansCore-with_indirect indirect.HlDecrement s entry x sp is m =
+    MeansCore-with_pair pair.Hl s entry x (previous_word (pair_halves pair.Hl s)) ((Effects.hl x.processor + 65535) % 65536) (HoldsWord-previous (pair_halves pair.Hl s) entry (Effects.hl x.processor) (pair-small pair.Hl s entry x sp is m) (HoldsWord-pair pair.Hl s entry x sp is m)) m
+
+pub Follows-next :
+    (which : Pair) (s : Core) (entry x : MState)
+    → x.processor.sp < 65536 → IsCore s → MeansCore s entry x
+    → Follows (quiet (with_pair which (next_word (pair_halves which s)) s)) entry x (Effects.quiet (machine.with_pair x.processor which ((machine.pair_value x.processor which + 1) % 65536)))
+Follows-next which s entry x sp is m =
+    let n = machine.pair_value x.processor which in
+    record { core = MeansCore-with_pair which s entry x (next_word (pair_halves which s)) ((n + 1) % 65536) (HoldsWord-next (pair_halves which s) entry n (pair-small which s entry x sp is m) (HoldsWord-pair which s entry x sp is m)) m; write = tt }
+
+pub Follows-previous :
+    (which : Pair) (s : Core) (entry x : MState)
+    → x.processor.sp < 65536 → IsCore s → MeansCore s entry x
+    → Follows (quiet (with_pair which (previous_word (pair_halves which s)) s)) entry x (Effects.quiet (machine.with_pair x.processor which ((machine.pair_value x.processor which + 65535) % 65536)))
+Follows-previous which s entry x sp is m =
+    let n = machine.pair_value x.processor which in
+    record { core = MeansCore-with_pair which s entry x (previous_word (pair_halves which s)) ((n + 65535) % 65536) (HoldsWord-previous (pair_halves which s) entry n (pair-small which s entry x sp is m) (HoldsWord-pair which s entry x sp is m)) m; write = tt }
+
+-- flags and HL change together
+MeansCore-summed :
+    (s : Core) (entry x : MState) (w : Halves) (n : ℕ) (f : Flg) (g : Flags)
+    → HoldsWord w entry n → FlagsIn f g → f.is_own ≡ false → MeansCore s entry x
+    → MeansCore (with_flags f (with_pair pair.Hl w s)) entry (record x { processor = Effects.with_flags (machine.with_pair x.processor pair.Hl n) g })
+MeansCore-summed s entry x w n f g h flags written m =
+    MeansCore-flags (with_pair pair.Hl w s) entry (record x { processor = machine.with_pair x.processor pair.Hl n }) f g (HoldsFlags-written f entry g flags written) (MeansCore-with_pair pair.Hl s entry x w n h m)
+
+pub Follows-add_hl :
+    (which : Pair) (s : Core) (entry x : MState)
+    → x.processor.sp < 65536 → IsCore s → MeansCore s entry x
+    → Follows (add_hl which s) entry x (Effects.effect_of (op.AddHl which) x.processor 0 0)
+unfolding Effects.effect_of
+Follows-add_hl which s entry x sp is m =
+    let hl = Effects.hl x.processor in
+    let n = machine.pair_value x.processor which in
+    let h : HoldsWord (pair_halves pair.Hl s) entry hl = HoldsWord-pair pair.Hl s entry x sp is m in
+    let k : HoldsWord (pair_halves which s) entry n = HoldsWord-pair which s entry x sp is m in
+    let f = word_sum_flags (pair_halves pair.Hl s) (pair_halves which s) s.flags in
+    record { core = MeansCore-summed s entry x (word_sum (pair_halves pair.Hl s) (pair_halves which s)) ((hl + n) % 65536) f (arithmetic.word_sum_flags hl n x.processor.flags) (HoldsWord-sum (pair_halves pair.Hl s) (pair_halves which s) entry hl n h k) (FlagsIn-word_sum_flags (pair_halves pair.Hl s) (pair_halves which s) entry hl n s.flags x.processor.flags h k (FlagsIn-from s.flags entry x.processor.flags m.flags)) (word_sum_flags-written (pair_halves pair.Hl s) (pair_halves which s) s.flags) m; write = tt }
+
+-- ---- sums with SP
+
+FlagsIn-sp_sum : (sp e8 : ℕ) → FlagsIn sp_sum_flags (arithmetic.sp_sum_flags sp e8)
+unfolding arithmetic.sp_sum_flags
+FlagsIn-sp_sum sp e8 =
+    record { zero = refl; subtract = refl; half_carry = either-may_be _; carry = either-may_be _ }
+
+pub Follows-add_sp :
+    (e8 : ℕ) (s : Core) (entry x : MState) → MeansCore s entry x
+    → Follows (quiet (with_flags sp_sum_flags s)) entry x (Effects.effect_of (op.AddSp e8) x.processor 0 0)
+unfolding Effects.effect_of
+Follows-add_sp e8 s entry x m =
+    let to = arithmetic.displaced x.processor.sp e8 in
+    record { core = MeansCore-flags s entry (record x { processor = record x.processor { sp = to; pc = x.processor.pc } }) sp_sum_flags (arithmetic.sp_sum_flags x.processor.sp e8) (HoldsFlags-written sp_sum_flags entry (arithmetic.sp_sum_flags x.processor.sp e8) (FlagsIn-sp_sum x.processor.sp e8) refl) (MeansCore-at s entry x to x.processor.pc m); write = tt }
+
+displaced-small : (from e8 : ℕ) → arithmetic.displaced from e8 < 65536
+unfolding arithmetic.displaced
+displaced-small from e8 = omega arith
+
+pub Follows-load_hl :
+    (e8 : ℕ) (s : Core) (entry x : MState) → MeansCore s entry x
+    → Follows (quiet (with_flags sp_sum_flags (with_pair pair.Hl any_word s))) entry x (Effects.effect_of (op.LoadHlSp e8) x.processor 0 0)
+unfolding Effects.effect_of
+Follows-load_hl e8 s entry x m =
+    let to = arithmetic.displaced x.processor.sp e8 in
+    record { core = MeansCore-summed s entry x any_word to sp_sum_flags (arithmetic.sp_sum_flags x.processor.sp e8) (HoldsWord-any entry to (displaced-small x.processor.sp e8)) (FlagsIn-sp_sum x.processor.sp e8) refl m; write = tt }
+
+-- ---- interrupts
+
+pub enabled-holds : (i : ImeSet) (ime : Ime) → ime_may_be i ime ≡ true → ime_may_be (enabled i) (Effects.enabled ime) ≡ true
+unfolding Effects.enabled
+enabled-holds i Off h = h
+enabled-holds i Pending h = or-left i.pending i.on h
+  where
+    or-left : (b c : Bool) → b ≡ true → (b || c) ≡ true
+    or-left true c e = refl
+    or-left false c e = cc
+enabled-holds i On h = or-right i.pending i.on h
+  where
+    or-right : (b c : Bool) → c ≡ true → (b || c) ≡ true
+    or-right true c e = refl
+    or-right false c e = e
+
+-- ---- instructions on a byte
+
+pub Follows-increment :
+    (which : Operand) (s : Core) (entry x : MState) (low : Val) (l : ℕ)
+    → IsVal low → Holds low entry l → IsCore s → MeansCore s entry x
+    → Follows (update_operand which (increment (operand_val which s low) s.flags) s) entry x (Effects.update_operand x.processor which (arithmetic.incremented (Effects.operand_value x.processor which l) x.processor.flags))
+Follows-increment which s entry x low l is_low h is m =
+    let v = operand_val which s low in
+    Follows-update_operand arithmetic.incremented which s entry x low l (increment v s.flags) (increment_sound v s.flags _ refl) (increment_computed v s.flags _ refl) (increment_inhabited v s.flags _ refl (operand-byte which s low is_low is) is.flags) h m
+
+pub Follows-decrement :
+    (which : Operand) (s : Core) (entry x : MState) (low : Val) (l : ℕ)
+    → IsVal low → Holds low entry l → IsCore s → MeansCore s entry x
+    → Follows (update_operand which (decrement (operand_val which s low) s.flags) s) entry x (Effects.update_operand x.processor which (arithmetic.decremented (Effects.operand_value x.processor which l) x.processor.flags))
+Follows-decrement which s entry x low l is_low h is m =
+    let v = operand_val which s low in
+    let is_v : IsVal v = operand-byte which s low is_low is in
+    Follows-update_operand arithmetic.decremented which s entry x low l (decrement v s.flags) (decrement_sound v s.flags _ refl is_v.hi) (decrement_computed v s.flags _ refl) (decrement_inhabited v s.flags _ refl is_v is.flags) h m
+
+pub Follows-shift :
+    (how : Shift) (which : Operand) (s : Core) (entry x : MState) (low : Val) (l : ℕ)
+    → IsVal low → Holds low entry l → IsCore s → MeansCore s entry x
+    → Follows (update_operand which (shift_of how (operand_val which s low) s.flags) s) entry x (Effects.update_operand x.processor which (arithmetic.shifted how (Effects.operand_value x.processor which l) x.processor.flags.carry))
+Follows-shift how which s entry x low l is_low h is m =
+    let v = operand_val which s low in
+    let is_v : IsVal v = operand-byte which s low is_low is in
+    Follows-update_operand (shift_result how) which s entry x low l (shift_of how v s.flags) (shift_sound how v s.flags _ refl is_v.hi) (shift_computed how v s.flags _ refl) (shift_inhabited how v s.flags _ refl is_v is.flags) h m
+
+pub Follows-reset :
+    (n : ℕ) (which : Operand) (s : Core) (entry x : MState) (low : Val) (l : ℕ)
+    → IsVal low → Holds low entry l → IsCore s → MeansCore s entry x
+    → Follows (store_operand which (reset_bit n (operand_val which s low)) s) entry x (Effects.store_operand x.processor which (arithmetic.bit_reset n (Effects.operand_value x.processor which l)))
+Follows-reset n which s entry x low l is_low h is m =
+    let v = operand_val which s low in
+    Follows-change_operand (arithmetic.bit_reset n) which s entry x low l (reset_bit n v) (reset_bit_sound n v _ refl) (reset_bit_computed n v _ refl) (reset_bit_inhabited n v _ refl (operand-byte which s low is_low is)) h m
+
+pub Follows-set :
+    (n : ℕ) (which : Operand) (s : Core) (entry x : MState) (low : Val) (l : ℕ)
+    → IsVal low → Holds low entry l → IsCore s → MeansCore s entry x
+    → Follows (store_operand which (set_bit n (operand_val which s low)) s) entry x (Effects.store_operand x.processor which (arithmetic.bit_set n (Effects.operand_value x.processor which l)))
+Follows-set n which s entry x low l is_low h is m =
+    let v = operand_val which s low in
+    let is_v : IsVal v = operand-byte which s low is_low is in
+    Follows-change_operand (arithmetic.bit_set n) which s entry x low l (set_bit n v) (set_bit_sound n v _ refl is_v.hi) (set_bit_computed n v _ refl) (set_bit_inhabited n v _ refl is_v) h m
+
+pub Follows-load :
+    (to from : Operand) (s : Core) (entry x : MState) (low : Val) (l : ℕ)
+    → IsVal low → Holds low entry l → IsCore s → MeansCore s entry x
+    → Follows (store_operand to (operand_val from s low) s) entry x (Effects.store_operand x.processor to (Effects.operand_value x.processor from l))
+Follows-load to from s entry x low l is_low h is m =
+    let n = Effects.operand_value x.processor from l in
+    let held : Holds (operand_val from s low) entry n = Holds-operand from s entry x low l h m in
+    Follows-store_operand to s entry x (operand_val from s low) n held (byte-of (operand_val from s low) entry n (operand-byte from s low is_low is) held) m
+
+-- ---- taken
+
+pub Follows-only_if :
+    (b : Bool) (t : AbsEffect) (entry x : MState) (e : Effect)
+    → (Effects.only_if b e x.processor).is_taken ≡ true → Follows t entry x e → Follows t entry x (Effects.only_if b e x.processor)
+unfolding Effects.only_if
+Follows-only_if true t entry x e taken f = f
+Follows-only_if false t entry x e taken f = cc

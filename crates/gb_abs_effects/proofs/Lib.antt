@@ -1,0 +1,9 @@
+pub mod AluLaws
+pub mod CoreLaws
+pub mod InstructionLaws
+pub mod OperandLaws
+pub mod PairLaws
+pub mod RangeLaws
+pub mod ReadLaws
+pub mod SideLaws
+pub mod TransferLaws

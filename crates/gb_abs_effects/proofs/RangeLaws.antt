@@ -1,0 +1,257 @@
+-- What instructions leave and write lies in its range.
+use Rattle.std.proofs.Common.{◌≡◌, ℕ, ◌+◌, ◌-◌, ◌/◌, ◌%◌, ◌≤◌, ◌<◌, Bool, true, false, ◌||◌, cond, nat_lt, None, refl, sym, subst, arith}
+use Rattle.std.proofs.lemmas.Bool.Decides.{nat_tests}
+use Rattle.gb_ops.specs.declared.op.Register.{Register}
+use Rattle.gb_ops.specs.declared.op.Register.TheVariants.{A, B, C, D, E, H, L}
+use Rattle.gb_ops.specs.declared.op.Pair.{Pair}
+use Rattle.gb_ops.specs.declared.op.Pair.TheVariants as pair
+use Rattle.gb_ops.specs.declared.op.StackPair.{StackPair}
+use Rattle.gb_ops.specs.declared.op.StackPair.TheVariants as stack
+use Rattle.gb_ops.specs.declared.op.Indirect.{Indirect}
+use Rattle.gb_ops.specs.declared.op.Indirect.TheVariants as indirect
+use Rattle.gb_ops.specs.declared.op.Op.{Op}
+use Rattle.gb_ops.specs.declared.op.Op.TheVariants as op
+use Rattle.gb_cert.specs.declared.types.Val.{Val}
+use Rattle.gb_cert.specs.declared.types.Flg.{Flg}
+use Rattle.gb_cert.specs.declared.types.ImeSet.{ImeSet}
+use Rattle.gb_cert.specs.declared.types.Core.{Core}
+use Rattle.gb_cert.specs.Rules.{IsVal, IsFlg, IsCore, may_be_any}
+use Rattle.gb_vals.specs.Vals.{single, between, any_val}
+use Rattle.gb_ops.specs.Arithmetic as arithmetic
+use Rattle.gb_vals.specs.Flags.{known_flags, greatest_flags, flags_val, flags_of_val}
+use Rattle.gb_vals.proofs.MeaningLaws.{FlagsIn-known, IsFlg-from}
+use Rattle.gb_vals.proofs.FlagLaws.{flags_val_inhabited, flags_of_val_inhabited}
+use Rattle.gb_vals.proofs.SumLaws.{increment_inhabited, decrement_inhabited}
+use Rattle.gb_vals.proofs.LogicLaws.{complement_inhabited}
+use Rattle.gb_vals.proofs.ShiftLaws.{shift_inhabited, rotate_a_inhabited}
+use Rattle.gb_vals.proofs.BitLaws.{test_bit_inhabited, reset_bit_inhabited, set_bit_inhabited}
+use Rattle.gb_vals.proofs.DaaLaws.{adjust_inhabited}
+use Rattle.gb_vals.proofs.CarryLaws.{set_carry_inhabited, complement_carry_inhabited}
+use Rattle.gb_abs.specs.Operations.{core_set_register}
+use Rattle.gb_abs_effects.specs.declared.pairs.Halves.{Halves}
+use Rattle.gb_abs_effects.specs.declared.writes.AbsEffect.{AbsEffect}
+use Rattle.gb_abs_effects.specs.Pairs.{known_word, any_word, is_word_known, least_word, raised, lowered, next_word, previous_word, are_words_known, word_sum, word_sum_flags, sum_flags_any, sum_flags_known, pair_halves, with_pair, with_indirect, stack_pair_halves, with_stack_pair}
+use Rattle.gb_abs_effects.specs.Transfer.{quiet, pushes, add_hl, only_off, only_on, enabled, operand_val, sp_sum_flags, transfer, untaken}
+use Rattle.gb_abs_effects.specs.Sound.{HasBytes, IsAbsEffect}
+use Rattle.gb_abs_effects.proofs.CoreLaws.{IsCore-set_register, IsCore-ime, IsCore-a}
+use Rattle.gb_abs_effects.proofs.PairLaws.{moved_up, moved_down, carried, borrowed}
+use Rattle.gb_abs_effects.proofs.OperandLaws.{operand-byte, IsAbsEffect-store_operand, IsAbsEffect-update_operand, IsAbsEffect-update_a, IsAbsEffect-flags}
+use Rattle.gb_abs_effects.proofs.AluLaws.{IsAbsEffect-immediate, IsAbsEffect-apply_alu}
+
+-- ---- words
+
+-- both bytes are bytes
+record IsWord (w : Halves) : Type 0 where
+  high : IsVal w.high
+  low : IsVal w.low
+
+any-byte : IsVal any_val
+any-byte = record { order = omega arith; hi = omega arith }
+
+single-byte : (n : ℕ) → n < 256 → IsVal (single n)
+single-byte n h = record { order = omega arith; hi = h }
+
+IsWord-any : IsWord any_word
+IsWord-any = record { high = any-byte; low = any-byte }
+
+IsWord-known : (n : ℕ) → n < 65536 → IsWord (known_word n)
+IsWord-known n h =
+    record { high = single-byte (n / 256) (omega arith); low = single-byte (n % 256) (omega arith) }
+
+raised-byte : (v : Val) → IsVal v → IsVal (raised v)
+raised-byte v h = choose (nat_lt v.hi 255) refl
+  where
+    choose : (b : Bool) → nat_lt v.hi 255 ≡ b → IsVal (cond b (between v.lo (v.hi + 1)) any_val)
+    choose true e =
+        let below : v.hi < 255 = grind (arith, nat_tests) in
+        let p : v.lo ≤ v.hi = h.order in
+        record { order = omega arith; hi = omega arith }
+    choose false e = any-byte
+
+lowered-byte : (v : Val) → IsVal v → IsVal (lowered v)
+lowered-byte v h = choose (nat_lt 0 v.lo)
+  where
+    choose : (b : Bool) → IsVal (cond b (between (v.lo - 1) v.hi) any_val)
+    choose true = let p : v.lo ≤ v.hi = h.order in record { order = omega arith; hi = h.hi }
+    choose false = any-byte
+
+IsWord-next : (w : Halves) → IsWord w → IsWord (next_word w)
+unfolding next_word
+IsWord-next w h = choose (is_word_known w) (nat_lt w.low.hi 255) refl
+  where
+    choose : (b c : Bool) → nat_lt w.low.hi 255 ≡ c → IsWord (cond b (known_word ((least_word w + 1) % 65536)) (cond c (moved_up w) (carried w)))
+    choose true c f = IsWord-known ((least_word w + 1) % 65536) (omega arith)
+    choose false true f =
+        let below : w.low.hi < 255 = grind (arith, nat_tests) in
+        let p : w.low.lo ≤ w.low.hi = h.low.order in
+        record { high = record { order = h.high.order; hi = h.high.hi }; low = record { order = omega arith; hi = omega arith } }
+    choose false false f = record { high = raised-byte w.high h.high; low = any-byte }
+
+IsWord-previous : (w : Halves) → IsWord w → IsWord (previous_word w)
+unfolding previous_word
+IsWord-previous w h = choose (is_word_known w) (nat_lt 0 w.low.lo)
+  where
+    choose : (b c : Bool) → IsWord (cond b (known_word ((least_word w + 65535) % 65536)) (cond c (moved_down w) (borrowed w)))
+    choose true c = IsWord-known ((least_word w + 65535) % 65536) (omega arith)
+    choose false true =
+        let p : w.low.lo ≤ w.low.hi = h.low.order in
+        let q : w.low.hi < 256 = h.low.hi in
+        record { high = record { order = h.high.order; hi = h.high.hi }; low = record { order = omega arith; hi = omega arith } }
+    choose false false = record { high = lowered-byte w.high h.high; low = any-byte }
+
+IsWord-sum : (v w : Halves) → IsWord (word_sum v w)
+unfolding word_sum
+IsWord-sum v w = choose (are_words_known v w)
+  where
+    choose : (b : Bool) → IsWord (cond b (known_word ((least_word v + least_word w) % 65536)) any_word)
+    choose true = IsWord-known ((least_word v + least_word w) % 65536) (omega arith)
+    choose false = IsWord-any
+
+IsFlg-word_sum_flags : (v w : Halves) (f : Flg) → IsFlg f → IsFlg (word_sum_flags v w f)
+unfolding word_sum_flags
+IsFlg-word_sum_flags v w f h = choose (are_words_known v w)
+  where
+    choose : (b : Bool) → IsFlg (cond b (sum_flags_known (least_word v) (least_word w) f) (sum_flags_any f))
+    choose true =
+        let g = arithmetic.word_sum_flags (least_word v) (least_word w) (greatest_flags f) in
+        let k : IsFlg (known_flags g) = IsFlg-from (known_flags g) g (FlagsIn-known g) in
+        record { zero = h.zero; subtract = k.subtract; half_carry = k.half_carry; carry = k.carry }
+    choose false = record { zero = h.zero; subtract = refl; half_carry = refl; carry = refl }
+
+-- ---- the pairs of a core
+
+IsWord-pair : (which : Pair) (s : Core) → IsCore s → IsWord (pair_halves which s)
+unfolding pair_halves
+IsWord-pair pair.Bc s is = record { high = is.registers B; low = is.registers C }
+IsWord-pair pair.De s is = record { high = is.registers D; low = is.registers E }
+IsWord-pair pair.Hl s is = record { high = is.registers H; low = is.registers L }
+IsWord-pair pair.Sp s is = IsWord-any
+
+IsCore-set_two : (q r : Register) (s : Core) (w : Halves) → IsWord w → IsCore s → IsCore (core_set_register r w.low (core_set_register q w.high s))
+IsCore-set_two q r s w h is =
+    IsCore-set_register (core_set_register q w.high s) r w.low h.low (IsCore-set_register s q w.high h.high is)
+
+IsCore-with_pair : (which : Pair) (s : Core) (w : Halves) → IsWord w → IsCore s → IsCore (with_pair which w s)
+unfolding with_pair core_set_register
+IsCore-with_pair pair.Bc s w h is = IsCore-set_two B C s w h is
+IsCore-with_pair pair.De s w h is = IsCore-set_two D E s w h is
+IsCore-with_pair pair.Hl s w h is = IsCore-set_two H L s w h is
+IsCore-with_pair pair.Sp s w h is = is
+
+IsCore-with_indirect : (which : Indirect) (s : Core) → IsCore s → IsCore (with_indirect which s)
+unfolding with_indirect
+IsCore-with_indirect indirect.Bc s is = is
+IsCore-with_indirect indirect.De s is = is
+IsCore-with_indirect indirect.HlIncrement s is = IsCore-with_pair pair.Hl s _ (IsWord-next _ (IsWord-pair pair.Hl s is)) is
+IsCore-with_indirect indirect.HlDecrement s is = IsCore-with_pair pair.Hl s _ (IsWord-previous _ (IsWord-pair pair.Hl s is)) is
+
+IsWord-stack_pair : (which : StackPair) (s : Core) → IsCore s → IsWord (stack_pair_halves which s)
+unfolding stack_pair_halves
+IsWord-stack_pair stack.Bc s is = record { high = is.registers B; low = is.registers C }
+IsWord-stack_pair stack.De s is = record { high = is.registers D; low = is.registers E }
+IsWord-stack_pair stack.Hl s is = record { high = is.registers H; low = is.registers L }
+IsWord-stack_pair stack.Af s is =
+    record { high = is.registers A; low = flags_val_inhabited s.flags (flags_val s.flags) refl is.flags }
+
+IsCore-with_stack_pair : (which : StackPair) (s : Core) (w : Halves) → IsWord w → IsCore s → IsCore (with_stack_pair which w s)
+unfolding with_stack_pair
+IsCore-with_stack_pair stack.Bc s w h is = IsCore-with_pair pair.Bc s w h is
+IsCore-with_stack_pair stack.De s w h is = IsCore-with_pair pair.De s w h is
+IsCore-with_stack_pair stack.Hl s w h is = IsCore-with_pair pair.Hl s w h is
+IsCore-with_stack_pair stack.Af s w h is =
+    IsCore-a s w.high (flags_of_val w.low) None h.high (flags_of_val_inhabited w.low (flags_of_val w.low) refl h.low) tt is
+
+-- ---- interrupts
+
+enabled-any : (i : ImeSet) → may_be_any i ≡ true → may_be_any (enabled i) ≡ true
+enabled-any i h = any i.off i.pending i.on h
+  where
+    any : (a b c : Bool) → (a || b || c) ≡ true → (false || a || (b || c)) ≡ true
+    any true b c e = refl
+    any false b c e = e
+
+-- ---- instructions
+
+-- nothing but the core changes
+IsAbsEffect-quiet : (s : Core) → IsCore s → IsAbsEffect (quiet s)
+IsAbsEffect-quiet s is = record { core = is; write = tt }
+
+IsAbsEffect-pushes : (s : Core) (w : Halves) → IsWord w → IsCore s → IsAbsEffect (pushes s w)
+IsAbsEffect-pushes s w h is = record { core = is; write = (h.high, h.low) }
+
+IsAbsEffect-loaded : (s : Core) (v : Val) → IsVal v → IsCore s → IsAbsEffect (quiet (core_set_register A v s))
+IsAbsEffect-loaded s v h is = IsAbsEffect-quiet (core_set_register A v s) (IsCore-set_register s A v h is)
+
+IsAbsEffect-add_hl : (which : Pair) (s : Core) → IsCore s → IsAbsEffect (add_hl which s)
+IsAbsEffect-add_hl which s is =
+    let hl = pair_halves pair.Hl s in
+    let w = pair_halves which s in
+    IsAbsEffect-flags (with_pair pair.Hl (word_sum hl w) s) (word_sum_flags hl w s.flags) (IsFlg-word_sum_flags hl w s.flags is.flags) (IsCore-with_pair pair.Hl s (word_sum hl w) (IsWord-sum hl w) is)
+
+IsFlg-sp_sum : IsFlg sp_sum_flags
+IsFlg-sp_sum = record { zero = refl; subtract = refl; half_carry = refl; carry = refl }
+
+IsAbsEffect-transfer :
+    (o : Op) (next : ℕ) (s : Core) (low high : Val)
+    → HasBytes o → next < 65536 → IsCore s → IsVal low → IsVal high → IsAbsEffect (transfer o next s low high)
+unfolding transfer
+IsAbsEffect-transfer (op.LoadPair to w) next s low high bytes small is l h = IsAbsEffect-quiet _ (IsCore-with_pair to s (known_word w) (IsWord-known w bytes) is)
+IsAbsEffect-transfer (op.StoreA to) next s low high bytes small is l h = record { core = IsCore-with_indirect to s is; write = is.registers A }
+IsAbsEffect-transfer (op.LoadA from) next s low high bytes small is l h = IsAbsEffect-loaded (with_indirect from s) low l (IsCore-with_indirect from s is)
+IsAbsEffect-transfer (op.IncrementPair which) next s low high bytes small is l h = IsAbsEffect-quiet _ (IsCore-with_pair which s _ (IsWord-next _ (IsWord-pair which s is)) is)
+IsAbsEffect-transfer (op.DecrementPair which) next s low high bytes small is l h = IsAbsEffect-quiet _ (IsCore-with_pair which s _ (IsWord-previous _ (IsWord-pair which s is)) is)
+IsAbsEffect-transfer (op.Increment which) next s low high bytes small is l h =
+    IsAbsEffect-update_operand which s _ (increment_inhabited (operand_val which s low) s.flags _ refl (operand-byte which s low l is) is.flags) is
+IsAbsEffect-transfer (op.Decrement which) next s low high bytes small is l h =
+    IsAbsEffect-update_operand which s _ (decrement_inhabited (operand_val which s low) s.flags _ refl (operand-byte which s low l is) is.flags) is
+IsAbsEffect-transfer (op.LoadImmediate to v) next s low high bytes small is l h = IsAbsEffect-store_operand to s (single v) (single-byte v bytes) is
+IsAbsEffect-transfer (op.RotateA how) next s low high bytes small is l h =
+    IsAbsEffect-update_a s _ None (rotate_a_inhabited how s.registers.a s.flags _ refl (is.registers A) is.flags) tt is
+IsAbsEffect-transfer (op.StoreSp w) next s low high bytes small is l h = record { core = is; write = (any-byte, any-byte) }
+IsAbsEffect-transfer (op.AddHl which) next s low high bytes small is l h = IsAbsEffect-add_hl which s is
+IsAbsEffect-transfer op.DecimalAdjust next s low high bytes small is l h =
+    IsAbsEffect-update_a s _ None (adjust_inhabited s.registers.a s.flags _ refl (is.registers A) is.flags) tt is
+IsAbsEffect-transfer op.Complement next s low high bytes small is l h =
+    IsAbsEffect-update_a s _ None (complement_inhabited s.registers.a s.flags _ refl (is.registers A) is.flags) tt is
+IsAbsEffect-transfer op.SetCarry next s low high bytes small is l h = IsAbsEffect-flags s _ (set_carry_inhabited s.flags _ refl is.flags) is
+IsAbsEffect-transfer op.ComplementCarry next s low high bytes small is l h = IsAbsEffect-flags s _ (complement_carry_inhabited s.flags _ refl is.flags) is
+IsAbsEffect-transfer (op.Load to from) next s low high bytes small is l h = IsAbsEffect-store_operand to s _ (operand-byte from s low l is) is
+IsAbsEffect-transfer (op.Alu how from) next s low high bytes small is l h = IsAbsEffect-apply_alu how from s low l is
+IsAbsEffect-transfer (op.AluImmediate how v) next s low high bytes small is l h = IsAbsEffect-immediate how s v bytes is
+IsAbsEffect-transfer op.ReturnFromInterrupt next s low high bytes small is l h = IsAbsEffect-quiet _ (IsCore-ime s only_on refl is)
+IsAbsEffect-transfer (op.Pop to) next s low high bytes small is l h =
+    IsAbsEffect-quiet _ (IsCore-with_stack_pair to s (record { high = high; low = low }) (record { high = h; low = l }) is)
+IsAbsEffect-transfer (op.Push from) next s low high bytes small is l h = IsAbsEffect-pushes s _ (IsWord-stack_pair from s is) is
+IsAbsEffect-transfer (op.CallIf c w) next s low high bytes small is l h = IsAbsEffect-pushes s _ (IsWord-known next small) is
+IsAbsEffect-transfer (op.Call w) next s low high bytes small is l h = IsAbsEffect-pushes s _ (IsWord-known next small) is
+IsAbsEffect-transfer (op.Restart w) next s low high bytes small is l h = IsAbsEffect-pushes s _ (IsWord-known next small) is
+IsAbsEffect-transfer (op.StoreHigh n) next s low high bytes small is l h = record { core = is; write = is.registers A }
+IsAbsEffect-transfer (op.LoadHigh n) next s low high bytes small is l h = IsAbsEffect-loaded s low l is
+IsAbsEffect-transfer op.StoreHighC next s low high bytes small is l h = record { core = is; write = is.registers A }
+IsAbsEffect-transfer op.LoadHighC next s low high bytes small is l h = IsAbsEffect-loaded s low l is
+IsAbsEffect-transfer (op.StoreAbsolute w) next s low high bytes small is l h = record { core = is; write = is.registers A }
+IsAbsEffect-transfer (op.LoadAbsolute w) next s low high bytes small is l h = IsAbsEffect-loaded s low l is
+IsAbsEffect-transfer (op.AddSp e8) next s low high bytes small is l h = IsAbsEffect-flags s sp_sum_flags IsFlg-sp_sum is
+IsAbsEffect-transfer (op.LoadHlSp e8) next s low high bytes small is l h =
+    IsAbsEffect-flags (with_pair pair.Hl any_word s) sp_sum_flags IsFlg-sp_sum (IsCore-with_pair pair.Hl s any_word IsWord-any is)
+IsAbsEffect-transfer op.DisableInterrupts next s low high bytes small is l h = IsAbsEffect-quiet _ (IsCore-ime s only_off refl is)
+IsAbsEffect-transfer op.EnableInterrupts next s low high bytes small is l h = IsAbsEffect-quiet _ (IsCore-ime s (enabled s.ime) (enabled-any s.ime is.ime) is)
+IsAbsEffect-transfer (op.Shift how which) next s low high bytes small is l h =
+    IsAbsEffect-update_operand which s _ (shift_inhabited how (operand_val which s low) s.flags _ refl (operand-byte which s low l is) is.flags) is
+IsAbsEffect-transfer (op.Bit n which) next s low high bytes small is l h =
+    IsAbsEffect-flags s _ (test_bit_inhabited n (operand_val which s low) s.flags _ refl (operand-byte which s low l is) is.flags) is
+IsAbsEffect-transfer (op.Reset n which) next s low high bytes small is l h =
+    IsAbsEffect-store_operand which s _ (reset_bit_inhabited n (operand_val which s low) _ refl (operand-byte which s low l is)) is
+IsAbsEffect-transfer (op.Set n which) next s low high bytes small is l h =
+    IsAbsEffect-store_operand which s _ (set_bit_inhabited n (operand_val which s low) _ refl (operand-byte which s low l is)) is
+IsAbsEffect-transfer o next s low high bytes small is l h = IsAbsEffect-quiet s is
+
+pub transfer_inhabited :
+    (o : Op) (next : ℕ) (s : Core) (low high : Val) (t : AbsEffect)
+    → t ≡ transfer o next s low high → HasBytes o → next < 65536 → IsCore s → IsVal low → IsVal high → IsAbsEffect t
+transfer_inhabited o next s low high t e bytes small is l h =
+    subst (λ k. IsAbsEffect k) (sym e) (IsAbsEffect-transfer o next s low high bytes small is l h)
+
+pub untaken_inhabited : (s : Core) (t : AbsEffect) → t ≡ untaken s → IsCore s → IsAbsEffect t
+unfolding untaken
+untaken_inhabited s t e is = subst (λ k. IsAbsEffect k) (sym e) (IsAbsEffect-quiet s is)

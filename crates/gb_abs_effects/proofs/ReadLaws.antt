@@ -1,0 +1,97 @@
+-- What an instruction reads is what is said.
+use Rattle.std.proofs.Common.{◌≡◌, ℕ, ◌+◌, Bool, true, false, refl, sym, ◌∙◌, subst, arith}
+use Rattle.std.proofs.lemmas.Bool.{true≢false}
+use Rattle.gb_ops.specs.declared.op.Register.TheVariants.{B, C, D, E, H, L}
+use Rattle.gb_ops.specs.declared.op.Indirect.{Indirect}
+use Rattle.gb_ops.specs.declared.op.Indirect.TheVariants as indirect
+use Rattle.gb_ops.specs.declared.op.Operand.{Operand}
+use Rattle.gb_ops.specs.declared.op.Operand.TheVariants as operand
+use Rattle.gb_ops.specs.declared.op.Op.{Op}
+use Rattle.gb_ops.specs.declared.op.Op.TheVariants as op
+use Rattle.gb_ops.specs.declared.registers.Processor.{Processor}
+use Rattle.gb_ops.specs.declared.machine.Read.{Read}
+use Rattle.gb_ops.specs.declared.machine.Read.TheVariants as machine_read
+use Rattle.gb_ops.specs.Flags.{is_met}
+use Rattle.gb_ops.specs.Pairs.{pair_value}
+use Rattle.gb_ops.specs.Effects as Effects
+use Rattle.gb_ops.specs.Play.{MState}
+use Rattle.gb_cert.specs.declared.types.Core.{Core}
+use Rattle.gb_vals.specs.Vals.{single}
+use Rattle.gb_abs.specs.Span.{IsIn, one}
+use Rattle.gb_abs.specs.Meaning.{MeansCore}
+use Rattle.gb_abs.proofs.OperationLaws.{Holds-single}
+use Rattle.gb_abs_effects.specs.declared.reads.AbsRead.{AbsRead}
+use Rattle.gb_abs_effects.specs.Accesses.{hl_span, indirect_span, high_span, operand_read, read_of}
+use Rattle.gb_abs_effects.specs.Sound.{HoldsRead, IsSoundRead}
+use Rattle.gb_abs_effects.proofs.CoreLaws.{IsIn-pair}
+use Rattle.gb_abs_effects.proofs.SideLaws.{is_taken-with, is_taken-without}
+
+pub IsIn-one : (a : ℕ) → IsIn (one a) a
+IsIn-one a = record { first = omega arith; last = omega arith }
+
+pub IsIn-hl : (s : Core) (entry x : MState) → MeansCore s entry x → IsIn (hl_span s) (Effects.hl x.processor)
+unfolding hl_span pair_value
+IsIn-hl s entry x m = IsIn-pair s.registers.h s.registers.l entry x.processor.registers.h x.processor.registers.l (m.registers H) (m.registers L)
+
+pub IsIn-indirect : (which : Indirect) (s : Core) (entry x : MState) → MeansCore s entry x → IsIn (indirect_span which s) (Effects.indirect_address x.processor which)
+unfolding indirect_span Effects.indirect_address pair_value
+IsIn-indirect indirect.Bc s entry x m = IsIn-pair s.registers.b s.registers.c entry x.processor.registers.b x.processor.registers.c (m.registers B) (m.registers C)
+IsIn-indirect indirect.De s entry x m = IsIn-pair s.registers.d s.registers.e entry x.processor.registers.d x.processor.registers.e (m.registers D) (m.registers E)
+IsIn-indirect indirect.HlIncrement s entry x m = IsIn-hl s entry x m
+IsIn-indirect indirect.HlDecrement s entry x m = IsIn-hl s entry x m
+
+pub IsIn-high : (s : Core) (entry x : MState) → MeansCore s entry x → IsIn (high_span s) (0xFF00 + x.processor.registers.c)
+unfolding high_span
+IsIn-high s entry x m = IsIn-pair (single 0xFF) s.registers.c entry 0xFF x.processor.registers.c (Holds-single 0xFF entry) (m.registers C)
+
+HoldsRead-operand : (which : Operand) (s : Core) (entry x : MState) (sp : ℕ) → MeansCore s entry x → HoldsRead (operand_read which s) sp (Effects.operand_read x.processor which)
+unfolding operand_read Effects.operand_read
+HoldsRead-operand (operand.Register r) s entry x sp m = tt
+HoldsRead-operand operand.AtHl s entry x sp m = IsIn-hl s entry x m
+
+HoldsRead-returns : (b : Bool) (sp : ℕ) (what : AbsRead) → b ≡ true → HoldsRead what sp (machine_read.Word sp) → HoldsRead what sp (Effects.read_if b (machine_read.Word sp))
+unfolding Effects.read_if
+HoldsRead-returns true sp what e h = h
+HoldsRead-returns false sp what e h = cc
+
+HoldsRead-read_of :
+    (o : Op) (s : Core) (entry x : MState) (l h : ℕ)
+    → MeansCore s entry x → (Effects.effect_of o x.processor l h).is_taken ≡ true
+    → HoldsRead (read_of o s) x.processor.sp (Effects.read_of o x.processor)
+unfolding read_of Effects.read_of
+HoldsRead-read_of (op.LoadA from) s entry x l h m taken = IsIn-indirect from s entry x m
+HoldsRead-read_of (op.Increment which) s entry x l h m taken = HoldsRead-operand which s entry x x.processor.sp m
+HoldsRead-read_of (op.Decrement which) s entry x l h m taken = HoldsRead-operand which s entry x x.processor.sp m
+HoldsRead-read_of (op.Load to from) s entry x l h m taken = HoldsRead-operand from s entry x x.processor.sp m
+HoldsRead-read_of (op.Alu how which) s entry x l h m taken = HoldsRead-operand which s entry x x.processor.sp m
+HoldsRead-read_of (op.ReturnIf c) s entry x l h m taken =
+    HoldsRead-returns (is_met c x.processor.flags) x.processor.sp (read_of (op.ReturnIf c) s) (sym (is_taken-with (op.ReturnIf c) c x.processor l h refl) ∙ taken) refl
+HoldsRead-read_of op.Return s entry x l h m taken = refl
+HoldsRead-read_of op.ReturnFromInterrupt s entry x l h m taken = refl
+HoldsRead-read_of (op.Pop pair) s entry x l h m taken = refl
+HoldsRead-read_of (op.LoadHigh b) s entry x l h m taken = IsIn-one (0xFF00 + b)
+HoldsRead-read_of op.LoadHighC s entry x l h m taken = IsIn-high s entry x m
+HoldsRead-read_of (op.LoadAbsolute w) s entry x l h m taken = IsIn-one w
+HoldsRead-read_of (op.Shift how which) s entry x l h m taken = HoldsRead-operand which s entry x x.processor.sp m
+HoldsRead-read_of (op.Bit n which) s entry x l h m taken = HoldsRead-operand which s entry x x.processor.sp m
+HoldsRead-read_of (op.Reset n which) s entry x l h m taken = HoldsRead-operand which s entry x x.processor.sp m
+HoldsRead-read_of (op.Set n which) s entry x l h m taken = HoldsRead-operand which s entry x x.processor.sp m
+HoldsRead-read_of o s entry x l h m taken = tt
+
+pub read_of_sound : (o : Op) (s : Core) (what : AbsRead) → what ≡ read_of o s → IsSoundRead o s what
+read_of_sound o s what e =
+    subst (λ k. IsSoundRead o s k) (sym e) (record { gives = λ entry x l h m taken. HoldsRead-read_of o s entry x l h m taken })
+
+read_if-not : (b : Bool) (what : Read) → b ≡ false → Effects.read_if b what ≡ machine_read.Nothing
+unfolding Effects.read_if
+read_if-not true what e = cc
+read_if-not false what e = refl
+
+-- an instruction that isn't taken reads nothing but its own bytes
+pub untaken-reads : (o : Op) (p : Processor) (l h : ℕ) → (Effects.effect_of o p l h).is_taken ≡ false → Effects.read_of o p ≡ machine_read.Nothing
+unfolding Effects.read_of
+untaken-reads (op.JumpRelativeIf c e8) p l h e = refl
+untaken-reads (op.ReturnIf c) p l h e = read_if-not (is_met c p.flags) (machine_read.Word p.sp) (sym (is_taken-with (op.ReturnIf c) c p l h refl) ∙ e)
+untaken-reads (op.JumpIf c w) p l h e = refl
+untaken-reads (op.CallIf c w) p l h e = refl
+untaken-reads o p l h e = absurd (true≢false (sym (is_taken-without o p l h refl) ∙ e))

@@ -1,0 +1,185 @@
+-- The effect of each instruction is followed.
+use Rattle.std.proofs.Common.{◌≡◌, ℕ, ◌+◌, ◌%◌, Bool, true, false, refl, sym, ◌∙◌, subst, arith}
+use Rattle.std.proofs.lemmas.Bool.{true≢false}
+use Rattle.gb_ops.specs.declared.op.Register.TheVariants.{A}
+use Rattle.gb_ops.specs.declared.op.Op.{Op}
+use Rattle.gb_ops.specs.declared.op.Op.TheVariants as op
+use Rattle.gb_ops.specs.declared.registers.Processor.{Processor}
+use Rattle.gb_ops.specs.declared.registers.Ime.TheVariants as ime
+use Rattle.gb_ops.specs.declared.machine.Effect.{Effect}
+use Rattle.gb_ops.specs.declared.machine.Write.TheVariants as write
+use Rattle.gb_ops.specs.Arithmetic as arithmetic
+use Rattle.gb_ops.specs.Pairs as machine
+use Rattle.gb_ops.specs.Flags.{is_met}
+use Rattle.gb_ops.specs.Effects as Effects
+use Rattle.gb_ops.specs.Play.{MState}
+use Rattle.gb_cert.specs.declared.types.Val.{Val}
+use Rattle.gb_cert.specs.declared.types.Flg.{Flg}
+use Rattle.gb_cert.specs.declared.types.Core.{Core}
+use Rattle.gb_cert.specs.Rules.{IsVal, IsCore}
+use Rattle.gb_vals.specs.Vals.{single}
+use Rattle.gb_vals.specs.Logic.{complement, complement_result}
+use Rattle.gb_vals.specs.Shifts.{rotation_of_a, rotation_result}
+use Rattle.gb_vals.specs.Bits.{test_bit}
+use Rattle.gb_vals.specs.Daa.{adjustment_of}
+use Rattle.gb_vals.specs.Carry.{set_carry, complement_carry, set_carry_result, complement_carry_result}
+use Rattle.gb_vals.proofs.LogicLaws.{complement_sound}
+use Rattle.gb_vals.proofs.ShiftLaws.{rotate_a_sound}
+use Rattle.gb_vals.proofs.BitLaws.{test_bit_sound}
+use Rattle.gb_vals.proofs.DaaLaws.{adjust_sound}
+use Rattle.gb_vals.proofs.CarryLaws.{set_carry_sound, complement_carry_sound}
+use Rattle.gb_vals.proofs.OriginLaws.{complement_computed, rotate_a_computed, adjust_computed, test_bit_written}
+use Rattle.gb_abs.specs.Meaning.{MeansCore}
+use Rattle.gb_abs.proofs.OperationLaws.{MeansCore-set_register, Holds-single}
+use Rattle.gb_abs_effects.specs.declared.writes.AbsEffect.{AbsEffect}
+use Rattle.gb_abs_effects.specs.Pairs.{known_word, with_indirect, stack_pair_halves, with_stack_pair}
+use Rattle.gb_abs_effects.specs.Transfer.{quiet, pushes, with_ime, only_off, only_on, enabled, operand_val, transfer, untaken}
+use Rattle.gb_abs_effects.specs.Sound.{HasBytes, Follows, Begins, IsSoundTransfer, IsSoundUntaken}
+use Rattle.gb_abs_effects.proofs.CoreLaws.{MeansCore-at, MeansCore-ime}
+use Rattle.gb_abs_effects.proofs.PairLaws.{HoldsWord, HoldsWord-known, HoldsWord-any, MeansCore-with_pair, MeansCore-with_stack_pair, HoldsWord-stack_pair}
+use Rattle.gb_abs_effects.proofs.OperandLaws.{Follows-store_operand, Follows-change_a, Follows-change_flags, Follows-test_operand}
+use Rattle.gb_abs_effects.proofs.AluLaws.{Follows-immediate, Follows-apply_alu}
+use Rattle.gb_abs_effects.proofs.ReadLaws.{IsIn-one, IsIn-indirect, IsIn-high}
+use Rattle.gb_abs_effects.proofs.SideLaws.{is_taken-without}
+use Rattle.gb_abs_effects.proofs.InstructionLaws.{Follows-moved, a-byte, Follows-pushed, Follows-loaded, MeansCore-with_indirect, Follows-next, Follows-previous, Follows-add_hl, Follows-add_sp, Follows-load_hl, enabled-holds, Follows-increment, Follows-decrement, Follows-shift, Follows-reset, Follows-set, Follows-load, Follows-only_if}
+
+-- the address of the next instruction is pushed
+Follows-call :
+    (s : Core) (entry x : MState) (next to : ℕ)
+    → x.processor.pc ≡ next → MeansCore s entry x → Follows (pushes s (known_word next)) entry x (Effects.call x.processor to)
+unfolding Effects.call
+Follows-call s entry x next to pc m =
+    Follows-pushed s entry x (known_word next) x.processor.pc to (subst (λ n. HoldsWord (known_word next) entry n) (sym pc) (HoldsWord-known entry next)) m
+
+Follows-return :
+    (s : Core) (entry x : MState) (l h : ℕ) → MeansCore s entry x → Follows (quiet s) entry x (Effects.return_to x.processor l h)
+unfolding Effects.return_to
+Follows-return s entry x l h m = Follows-moved s entry x ((x.processor.sp + 2) % 65536) (machine.word h l) m
+
+Follows-jump : (s : Core) (entry x : MState) (to : ℕ) → MeansCore s entry x → Follows (quiet s) entry x (Effects.jump x.processor to)
+unfolding Effects.jump
+Follows-jump s entry x to m = Follows-moved s entry x x.processor.sp to m
+
+set_carry-written : (f : Flg) → (set_carry f).is_own ≡ false
+unfolding set_carry
+set_carry-written f = refl
+
+complement_carry-written : (f : Flg) → (complement_carry f).is_own ≡ false
+unfolding complement_carry
+complement_carry-written f = refl
+
+Follows-transfer :
+    (o : Op) (next : ℕ) (s : Core) (low high : Val) (entry x : MState) (l h : ℕ)
+    → HasBytes o → IsCore s → IsVal low → (o ≡ op.Stop → ⊥) → Begins o next s low high entry x l h
+    → Follows (transfer o next s low high) entry x (Effects.effect_of o x.processor l h)
+unfolding transfer Effects.effect_of Effects.push Effects.update_a
+Follows-transfer op.Nop next s low high entry x l h bytes is is_low going b = record { core = b.core; write = tt }
+Follows-transfer op.Stop next s low high entry x l h bytes is is_low going b = absurd (going refl)
+Follows-transfer op.Halt next s low high entry x l h bytes is is_low going b = record { core = b.core; write = tt }
+Follows-transfer (op.LoadPair to w) next s low high entry x l h bytes is is_low going b =
+    record { core = MeansCore-with_pair to s entry x (known_word w) w (HoldsWord-known entry w) b.core; write = tt }
+Follows-transfer (op.StoreA to) next s low high entry x l h bytes is is_low going b =
+    record { core = MeansCore-with_indirect to s entry x b.sp is b.core; write = (IsIn-indirect to s entry x b.core, b.core.registers A, a-byte s entry x is b.core) }
+Follows-transfer (op.LoadA from) next s low high entry x l h bytes is is_low going b =
+    record { core = MeansCore-set_register (with_indirect from s) entry (record x { processor = Effects.with_indirect x.processor from }) A low l b.low_read (MeansCore-with_indirect from s entry x b.sp is b.core); write = tt }
+Follows-transfer (op.IncrementPair which) next s low high entry x l h bytes is is_low going b = Follows-next which s entry x b.sp is b.core
+Follows-transfer (op.DecrementPair which) next s low high entry x l h bytes is is_low going b = Follows-previous which s entry x b.sp is b.core
+Follows-transfer (op.Increment which) next s low high entry x l h bytes is is_low going b = Follows-increment which s entry x low l is_low b.low_read is b.core
+Follows-transfer (op.Decrement which) next s low high entry x l h bytes is is_low going b = Follows-decrement which s entry x low l is_low b.low_read is b.core
+Follows-transfer (op.LoadImmediate to v) next s low high entry x l h bytes is is_low going b =
+    Follows-store_operand to s entry x (single v) v (Holds-single v entry) (omega arith) b.core
+Follows-transfer (op.RotateA how) next s low high entry x l h bytes is is_low going b =
+    Follows-change_a (rotation_result how) s entry x (rotation_of_a how s.registers.a s.flags) (rotate_a_sound how s.registers.a s.flags _ refl (is.registers A).hi) (rotate_a_computed how s.registers.a s.flags _ refl) b.core
+Follows-transfer (op.StoreSp w) next s low high entry x l h bytes is is_low going b =
+    let any = HoldsWord-any entry x.processor.sp b.sp in
+    record { core = b.core; write = (refl, any.low, any.high) }
+Follows-transfer (op.AddHl which) next s low high entry x l h bytes is is_low going b = Follows-add_hl which s entry x b.sp is b.core
+Follows-transfer (op.JumpRelative e8) next s low high entry x l h bytes is is_low going b = Follows-jump s entry x (arithmetic.displaced x.processor.pc e8) b.core
+Follows-transfer (op.JumpRelativeIf c e8) next s low high entry x l h bytes is is_low going b =
+    Follows-only_if (is_met c x.processor.flags) (quiet s) entry x _ b.taken (Follows-jump s entry x (arithmetic.displaced x.processor.pc e8) b.core)
+Follows-transfer op.DecimalAdjust next s low high entry x l h bytes is is_low going b =
+    Follows-change_a arithmetic.adjusted s entry x (adjustment_of s.registers.a s.flags) (adjust_sound s.registers.a s.flags _ refl) (adjust_computed s.registers.a s.flags _ refl) b.core
+Follows-transfer op.Complement next s low high entry x l h bytes is is_low going b =
+    Follows-change_a complement_result s entry x (complement s.registers.a s.flags) (complement_sound s.registers.a s.flags _ refl) (complement_computed s.registers.a s.flags _ refl) b.core
+Follows-transfer op.SetCarry next s low high entry x l h bytes is is_low going b =
+    Follows-change_flags set_carry_result s entry x (set_carry s.flags) (set_carry_sound s.flags _ refl) (set_carry-written s.flags) b.core
+Follows-transfer op.ComplementCarry next s low high entry x l h bytes is is_low going b =
+    Follows-change_flags complement_carry_result s entry x (complement_carry s.flags) (complement_carry_sound s.flags _ refl) (complement_carry-written s.flags) b.core
+Follows-transfer (op.Load to from) next s low high entry x l h bytes is is_low going b = Follows-load to from s entry x low l is_low b.low_read is b.core
+Follows-transfer (op.Alu how from) next s low high entry x l h bytes is is_low going b = Follows-apply_alu how from s entry x low l is_low b.low_read is b.core
+Follows-transfer (op.AluImmediate how v) next s low high entry x l h bytes is is_low going b = Follows-immediate how s entry x v bytes is b.core
+Follows-transfer (op.ReturnIf c) next s low high entry x l h bytes is is_low going b =
+    Follows-only_if (is_met c x.processor.flags) (quiet s) entry x _ b.taken (Follows-return s entry x l h b.core)
+Follows-transfer op.Return next s low high entry x l h bytes is is_low going b = Follows-return s entry x l h b.core
+Follows-transfer op.ReturnFromInterrupt next s low high entry x l h bytes is is_low going b =
+    let m = MeansCore-ime s entry x only_on ime.On refl b.core in
+    let f = Follows-return (with_ime only_on s) entry (record x { processor = record x.processor { ime = ime.On } }) l h m in
+    record { core = f.core; write = f.write }
+Follows-transfer (op.Pop to) next s low high entry x l h bytes is is_low going b =
+    let m = MeansCore-with_stack_pair to s entry x (record { high = high; low = low }) l h b.low_read b.high_read b.core in
+    record { core = MeansCore-at (with_stack_pair to (record { high = high; low = low }) s) entry (record x { processor = machine.with_stack_pair x.processor to l h }) ((x.processor.sp + 2) % 65536) _ m; write = tt }
+Follows-transfer (op.Push from) next s low high entry x l h bytes is is_low going b =
+    Follows-pushed s entry x (stack_pair_halves from s) (machine.stack_pair_value x.processor from) x.processor.pc (HoldsWord-stack_pair from s entry x is b.core) b.core
+Follows-transfer (op.JumpIf c w) next s low high entry x l h bytes is is_low going b =
+    Follows-only_if (is_met c x.processor.flags) (quiet s) entry x _ b.taken (Follows-jump s entry x w b.core)
+Follows-transfer (op.Jump w) next s low high entry x l h bytes is is_low going b = Follows-jump s entry x w b.core
+Follows-transfer (op.CallIf c w) next s low high entry x l h bytes is is_low going b =
+    Follows-only_if (is_met c x.processor.flags) (pushes s (known_word next)) entry x _ b.taken (Follows-call s entry x next w b.pc b.core)
+Follows-transfer (op.Call w) next s low high entry x l h bytes is is_low going b = Follows-call s entry x next w b.pc b.core
+Follows-transfer (op.Restart w) next s low high entry x l h bytes is is_low going b = Follows-call s entry x next w b.pc b.core
+Follows-transfer (op.StoreHigh n) next s low high entry x l h bytes is is_low going b =
+    record { core = b.core; write = (IsIn-one (0xFF00 + n), b.core.registers A, a-byte s entry x is b.core) }
+Follows-transfer (op.LoadHigh n) next s low high entry x l h bytes is is_low going b = Follows-loaded s entry x low l b.low_read b.core
+Follows-transfer op.StoreHighC next s low high entry x l h bytes is is_low going b =
+    record { core = b.core; write = (IsIn-high s entry x b.core, b.core.registers A, a-byte s entry x is b.core) }
+Follows-transfer op.LoadHighC next s low high entry x l h bytes is is_low going b = Follows-loaded s entry x low l b.low_read b.core
+Follows-transfer (op.StoreAbsolute w) next s low high entry x l h bytes is is_low going b =
+    record { core = b.core; write = (IsIn-one w, b.core.registers A, a-byte s entry x is b.core) }
+Follows-transfer (op.LoadAbsolute w) next s low high entry x l h bytes is is_low going b = Follows-loaded s entry x low l b.low_read b.core
+Follows-transfer (op.AddSp e8) next s low high entry x l h bytes is is_low going b = Follows-add_sp e8 s entry x b.core
+Follows-transfer (op.LoadHlSp e8) next s low high entry x l h bytes is is_low going b = Follows-load_hl e8 s entry x b.core
+Follows-transfer op.LoadSpHl next s low high entry x l h bytes is is_low going b = Follows-moved s entry x (Effects.hl x.processor) x.processor.pc b.core
+Follows-transfer op.JumpHl next s low high entry x l h bytes is is_low going b = Follows-jump s entry x (Effects.hl x.processor) b.core
+Follows-transfer op.DisableInterrupts next s low high entry x l h bytes is is_low going b =
+    record { core = MeansCore-ime s entry x only_off ime.Off refl b.core; write = tt }
+Follows-transfer op.EnableInterrupts next s low high entry x l h bytes is is_low going b =
+    record { core = MeansCore-ime s entry x (enabled s.ime) (Effects.enabled x.processor.ime) (enabled-holds s.ime x.processor.ime b.core.ime) b.core; write = tt }
+Follows-transfer (op.Shift how which) next s low high entry x l h bytes is is_low going b = Follows-shift how which s entry x low l is_low b.low_read is b.core
+Follows-transfer (op.Bit n which) next s low high entry x l h bytes is is_low going b =
+    let v = operand_val which s low in
+    Follows-test_operand (arithmetic.bit_tested n) which s entry x low l (test_bit n v s.flags) (test_bit_sound n v s.flags _ refl) (test_bit_written n v s.flags _ refl) b.low_read b.core
+Follows-transfer (op.Reset n which) next s low high entry x l h bytes is is_low going b = Follows-reset n which s entry x low l is_low b.low_read is b.core
+Follows-transfer (op.Set n which) next s low high entry x l h bytes is is_low going b = Follows-set n which s entry x low l is_low b.low_read is b.core
+
+pub transfer_sound :
+    (o : Op) (next : ℕ) (s : Core) (low high : Val) (t : AbsEffect)
+    → t ≡ transfer o next s low high → HasBytes o → IsCore s → IsVal low → IsSoundTransfer o next s low high t
+transfer_sound o next s low high t e bytes is is_low =
+    subst (λ k. IsSoundTransfer o next s low high k) (sym e) (record { gives = λ entry x l h going b. Follows-transfer o next s low high entry x l h bytes is is_low going b })
+
+-- ---- not taken
+
+-- an effect that doesn't take place
+abbrev left_alone : Processor → Effect
+left_alone p = record { processor = p; write = write.Nothing; is_taken = false }
+
+only_if-alone : (b : Bool) (e : Effect) (p : Processor) → e.is_taken ≡ true → (Effects.only_if b e p).is_taken ≡ false → Effects.only_if b e p ≡ left_alone p
+unfolding Effects.only_if
+only_if-alone true e p taken h = cc
+only_if-alone false e p taken h = refl
+
+untaken-is : (o : Op) (p : Processor) (l h : ℕ) → (Effects.effect_of o p l h).is_taken ≡ false → Effects.effect_of o p l h ≡ left_alone p
+unfolding Effects.effect_of Effects.jump Effects.call Effects.return_to
+untaken-is (op.JumpRelativeIf c e8) p l h e = only_if-alone (is_met c p.flags) _ p refl e
+untaken-is (op.ReturnIf c) p l h e = only_if-alone (is_met c p.flags) _ p refl e
+untaken-is (op.JumpIf c w) p l h e = only_if-alone (is_met c p.flags) _ p refl e
+untaken-is (op.CallIf c w) p l h e = only_if-alone (is_met c p.flags) _ p refl e
+untaken-is o p l h e = absurd (true≢false (sym (is_taken-without o p l h refl) ∙ e))
+
+Follows-untaken : (s : Core) (entry x : MState) → MeansCore s entry x → Follows (untaken s) entry x (left_alone x.processor)
+unfolding untaken
+Follows-untaken s entry x m = record { core = m; write = tt }
+
+pub untaken_sound : (s : Core) (t : AbsEffect) → t ≡ untaken s → IsSoundUntaken s t
+untaken_sound s t e =
+    subst (λ k. IsSoundUntaken s k) (sym e) (record { gives = λ o entry x l h m not_taken. subst (λ f. Follows (untaken s) entry x f) (sym (untaken-is o x.processor l h not_taken)) (Follows-untaken s entry x m) })

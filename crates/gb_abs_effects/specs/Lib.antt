@@ -1,0 +1,5 @@
+pub mod Accesses
+pub mod Sound
+pub mod Pairs
+pub mod Sides
+pub mod Transfer

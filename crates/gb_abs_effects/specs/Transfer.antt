@@ -1,0 +1,150 @@
+-- What instructions do to a core: the machine's effect over intervals and sets of flags
+-- (abstract interpretation: transfer functions; CPU instruction set).
+use Rattle.std.specs.Prelude.{ℕ, ◌+◌, false, true, ◌||◌, Option, None}
+use Rattle.gb_ops.specs.declared.op.Register.TheVariants.{A}
+use Rattle.gb_ops.specs.declared.op.AluOp.{AluOp}
+use Rattle.gb_ops.specs.declared.op.Operand.{Operand}
+use Rattle.gb_ops.specs.declared.op.Operand.TheVariants as operand
+use Rattle.gb_ops.specs.declared.op.Pair.{Pair}
+use Rattle.gb_ops.specs.declared.op.Pair.TheVariants as pair
+use Rattle.gb_ops.specs.declared.op.Op.{Op}
+use Rattle.gb_ops.specs.declared.op.Op.TheVariants as op
+use Rattle.gb_ops.specs.Registers.{get}
+use Rattle.gb_cert.specs.declared.types.Val.{Val}
+use Rattle.gb_cert.specs.declared.types.Flg.{Flg}
+use Rattle.gb_cert.specs.declared.types.ImeSet.{ImeSet}
+use Rattle.gb_cert.specs.declared.types.Core.{Core}
+use Rattle.gb_vals.specs.declared.outcome.Outcome.{Outcome}
+use Rattle.gb_vals.specs.Vals.{single, any_val}
+use Rattle.gb_vals.specs.Flags.{known, either}
+use Rattle.gb_vals.specs.Sums.{increment, decrement}
+use Rattle.gb_vals.specs.Logic.{complement}
+use Rattle.gb_vals.specs.Alu.{alu, alu_itself}
+use Rattle.gb_vals.specs.Shifts.{shift_of, rotation_of_a}
+use Rattle.gb_vals.specs.Bits.{test_bit, reset_bit, set_bit}
+use Rattle.gb_vals.specs.Daa.{adjustment_of}
+use Rattle.gb_vals.specs.Carry.{set_carry, complement_carry}
+use Rattle.gb_vals.specs.Tests.{test_of_immediate, test_of_itself}
+use Rattle.gb_abs.specs.Span.{one}
+use Rattle.gb_abs.specs.Operations.{core_set_register}
+use Rattle.gb_abs_effects.specs.declared.pairs.Halves.{Halves}
+use Rattle.gb_abs_effects.specs.declared.writes.AbsWrite.{AbsWrite}
+use Rattle.gb_abs_effects.specs.declared.writes.AbsWrite.TheVariants as write
+use Rattle.gb_abs_effects.specs.declared.writes.AbsEffect.{AbsEffect}
+use Rattle.gb_abs_effects.specs.Pairs.{known_word, any_word, next_word, previous_word, word_sum, word_sum_flags, pair_halves, with_pair, with_indirect, stack_pair_halves, with_stack_pair}
+use Rattle.gb_abs_effects.specs.Accesses.{hl_span, indirect_span, high_span}
+
+-- ---- parts
+
+-- the core changes, and nothing is written
+abbrev pub quiet : Core → AbsEffect
+quiet s = record { core = s; write = write.Nothing }
+
+abbrev pub writes : Core → AbsWrite → AbsEffect
+writes s w = record { core = s; write = w }
+
+-- a word goes on the stack
+abbrev pub pushes : Core → Halves → AbsEffect
+pushes s w = writes s (write.Push w.high w.low)
+
+-- new flags leave no test
+abbrev pub with_flags : Flg → Core → Core
+with_flags f s = record s { flags = f; test = None }
+
+abbrev pub with_ime : ImeSet → Core → Core
+with_ime i s = record s { ime = i }
+
+-- an operand, where its byte in memory was read
+unfoldable pub operand_val : Operand → Core → Val → Val
+operand_val (operand.Register which) s low = get which s.registers
+operand_val operand.AtHl s low = low
+
+unfoldable pub store_operand : Operand → Val → Core → AbsEffect
+store_operand (operand.Register which) v s = quiet (core_set_register which v s)
+store_operand operand.AtHl v s = writes s (write.Byte (hl_span s) v)
+
+-- the operand and the flags become what was computed
+unfoldable pub update_operand : Operand → Outcome → Core → AbsEffect
+update_operand which o s = store_operand which o.val (with_flags o.flags s)
+
+-- A and the flags become what was computed, with the test that is left
+unfoldable pub update_a : Outcome → Option ℕ → Core → AbsEffect
+update_a o test s =
+    quiet (record s { registers = record s.registers { a = o.val }; flags = o.flags; test = test })
+
+-- an operation of A; where the operand is A too, more is known
+unfoldable pub apply_alu : AluOp → Operand → Core → Val → AbsEffect
+apply_alu how (operand.Register A) s low = update_a (alu_itself how s.registers.a s.flags) (test_of_itself how) s
+apply_alu how from s low = update_a (alu how s.registers.a (operand_val from s low) s.flags) None s
+
+-- ADD HL
+abbrev pub add_hl : Pair → Core → AbsEffect
+add_hl which s =
+    let hl = pair_halves pair.Hl s in
+    let added = pair_halves which s in
+    quiet (with_flags (word_sum_flags hl added s.flags) (with_pair pair.Hl (word_sum hl added) s))
+
+abbrev pub enabled : ImeSet → ImeSet
+enabled i = record { off = false; pending = i.off; on = i.pending || i.on }
+
+abbrev pub only_off : ImeSet
+only_off = record { off = true; pending = false; on = false }
+
+abbrev pub only_on : ImeSet
+only_on = record { off = false; pending = false; on = true }
+
+-- the flags of sums with SP: Z and N clear, H and C either
+abbrev pub sp_sum_flags : Flg
+sp_sum_flags =
+    record { zero = known false; subtract = known false; half_carry = either; carry = either; is_own = false }
+
+-- ---- instructions
+
+-- What a taken instruction makes of a core that is settled (pending interrupts became on), where next is the
+-- address behind it and its reads gave low and high. Jumps and returns, HALT and STOP leave the core.
+unfoldable pub transfer : Op → ℕ → Core → Val → Val → AbsEffect
+transfer (op.LoadPair to w) next s low high = quiet (with_pair to (known_word w) s)
+transfer (op.StoreA to) next s low high =
+    writes (with_indirect to s) (write.Byte (indirect_span to s) s.registers.a)
+transfer (op.LoadA from) next s low high = quiet (core_set_register A low (with_indirect from s))
+transfer (op.IncrementPair which) next s low high = quiet (with_pair which (next_word (pair_halves which s)) s)
+transfer (op.DecrementPair which) next s low high = quiet (with_pair which (previous_word (pair_halves which s)) s)
+transfer (op.Increment which) next s low high = update_operand which (increment (operand_val which s low) s.flags) s
+transfer (op.Decrement which) next s low high = update_operand which (decrement (operand_val which s low) s.flags) s
+transfer (op.LoadImmediate to v) next s low high = store_operand to (single v) s
+transfer (op.RotateA how) next s low high = update_a (rotation_of_a how s.registers.a s.flags) None s
+transfer (op.StoreSp w) next s low high = writes s (write.Word w any_val any_val)
+transfer (op.AddHl which) next s low high = add_hl which s
+transfer op.DecimalAdjust next s low high = update_a (adjustment_of s.registers.a s.flags) None s
+transfer op.Complement next s low high = update_a (complement s.registers.a s.flags) None s
+transfer op.SetCarry next s low high = quiet (with_flags (set_carry s.flags) s)
+transfer op.ComplementCarry next s low high = quiet (with_flags (complement_carry s.flags) s)
+transfer (op.Load to from) next s low high = store_operand to (operand_val from s low) s
+transfer (op.Alu how from) next s low high = apply_alu how from s low
+transfer (op.AluImmediate how v) next s low high =
+    update_a (alu how s.registers.a (single v) s.flags) (test_of_immediate how v) s
+transfer op.ReturnFromInterrupt next s low high = quiet (with_ime only_on s)
+transfer (op.Pop to) next s low high = quiet (with_stack_pair to (record { high = high; low = low }) s)
+transfer (op.Push from) next s low high = pushes s (stack_pair_halves from s)
+transfer (op.CallIf condition w) next s low high = pushes s (known_word next)
+transfer (op.Call w) next s low high = pushes s (known_word next)
+transfer (op.Restart w) next s low high = pushes s (known_word next)
+transfer (op.StoreHigh b) next s low high = writes s (write.Byte (one (0xFF00 + b)) s.registers.a)
+transfer (op.LoadHigh b) next s low high = quiet (core_set_register A low s)
+transfer op.StoreHighC next s low high = writes s (write.Byte (high_span s) s.registers.a)
+transfer op.LoadHighC next s low high = quiet (core_set_register A low s)
+transfer (op.StoreAbsolute w) next s low high = writes s (write.Byte (one w) s.registers.a)
+transfer (op.LoadAbsolute w) next s low high = quiet (core_set_register A low s)
+transfer (op.AddSp e8) next s low high = quiet (with_flags sp_sum_flags s)
+transfer (op.LoadHlSp e8) next s low high = quiet (with_flags sp_sum_flags (with_pair pair.Hl any_word s))
+transfer op.DisableInterrupts next s low high = quiet (with_ime only_off s)
+transfer op.EnableInterrupts next s low high = quiet (with_ime (enabled s.ime) s)
+transfer (op.Shift how which) next s low high = update_operand which (shift_of how (operand_val which s low) s.flags) s
+transfer (op.Bit n which) next s low high = quiet (with_flags (test_bit n (operand_val which s low) s.flags) s)
+transfer (op.Reset n which) next s low high = store_operand which (reset_bit n (operand_val which s low)) s
+transfer (op.Set n which) next s low high = store_operand which (set_bit n (operand_val which s low)) s
+transfer _ next s low high = quiet s
+
+-- where the condition isn't met, nothing changes
+unfoldable pub untaken : Core → AbsEffect
+untaken s = quiet s

@@ -1,0 +1,245 @@
+//! Words whose bytes are intervals, and the pairs of a core.
+
+ghost use Rattle.std.specs.Prelude.{◌≡◌};
+ghost use Rattle.gb_abs_effects.specs.Pairs as Pairs;
+
+use gb_cert::types::{Core, Flg, Val};
+use gb_effects::arithmetic;
+use gb_effects::pairs::word;
+use gb_ops::op::{Indirect, Pair, StackPair};
+use gb_vals::flags::{either, flags_of_val, flags_val, greatest_flags, known, known_flags};
+use gb_vals::vals::{any, between, is_single, single};
+
+/// A word, each byte an interval.
+#[derive(Clone, Copy, Debug, PartialEq, Eq)]
+pub struct Halves {
+    pub high: Val,
+    pub low: Val,
+}
+
+/// A word that is known.
+pub(crate) fn known_word(word: u16) -> Halves
+    ensures { result ≡ Pairs.known_word word }
+{
+    Halves {
+        high: single((word / 256) as u8),
+        low: single((word % 256) as u8),
+    }
+}
+
+/// A word of which nothing is known.
+pub(crate) fn any_word() -> Halves
+    ensures { result ≡ Pairs.any_word }
+{
+    Halves {
+        high: any(),
+        low: any(),
+    }
+}
+
+fn is_word_known(halves: Halves) -> bool
+    ensures { result ≡ Pairs.is_word_known halves }
+{
+    is_single(halves.high) && is_single(halves.low)
+}
+
+fn least_word(halves: Halves) -> u16
+    ensures { result ≡ Pairs.least_word halves }
+{
+    word(halves.high.lo, halves.low.lo)
+}
+
+/// A high byte that the low one may carry into.
+fn raised(high: Val) -> Val
+    ensures { result ≡ Pairs.raised high }
+{
+    if high.hi < 255 {
+        between(high.lo, high.hi + 1)
+    } else {
+        any()
+    }
+}
+
+/// A high byte that the low one may borrow from.
+fn lowered(high: Val) -> Val
+    ensures { result ≡ Pairs.lowered high }
+{
+    if high.lo > 0 {
+        between(high.lo - 1, high.hi)
+    } else {
+        any()
+    }
+}
+
+/// INC of a pair: a known word is counted exactly. Else the low byte moves alone where it can't
+/// wrap; where it may, it is any byte, and the high one may be one more. Neither is a copy.
+#[tactic(auto, unfolding(crate::specs::Pairs::next_word))]
+pub(crate) fn next_word(halves: Halves) -> Halves
+    ensures { result ≡ Pairs.next_word halves }
+{
+    let Halves { high, low } = halves;
+    if is_word_known(halves) {
+        known_word(least_word(halves).wrapping_add(1))
+    } else if low.hi < 255 {
+        Halves {
+            high: between(high.lo, high.hi),
+            low: between(low.lo.wrapping_add(1), low.hi + 1),
+        }
+    } else {
+        Halves {
+            high: raised(high),
+            low: any(),
+        }
+    }
+}
+
+/// DEC of a pair: a known word is counted exactly. Else the low byte moves alone where it can't wrap;
+/// where it may, it is any byte, and the high one may be one less. Neither is a copy.
+#[tactic(auto, unfolding(crate::specs::Pairs::previous_word))]
+pub(crate) fn previous_word(halves: Halves) -> Halves
+    ensures { result ≡ Pairs.previous_word halves }
+{
+    let Halves { high, low } = halves;
+    if is_word_known(halves) {
+        known_word(least_word(halves).wrapping_sub(1))
+    } else if low.lo > 0 {
+        Halves {
+            high: between(high.lo, high.hi),
+            low: between(low.lo - 1, low.hi.saturating_sub(1)),
+        }
+    } else {
+        Halves {
+            high: lowered(high),
+            low: any(),
+        }
+    }
+}
+
+fn are_words_known(left: Halves, right: Halves) -> bool
+    ensures { result ≡ Pairs.are_words_known left right }
+{
+    is_word_known(left) && is_word_known(right)
+}
+
+/// The sum of two words, known where both are.
+#[tactic(auto, unfolding(crate::specs::Pairs::word_sum))]
+pub(crate) fn word_sum(left: Halves, right: Halves) -> Halves
+    ensures { result ≡ Pairs.word_sum left right }
+{
+    if are_words_known(left, right) {
+        known_word(least_word(left).wrapping_add(least_word(right)))
+    } else {
+        any_word()
+    }
+}
+
+/// The flags that ADD HL leaves, Z as it was: H and C are known where both words are.
+#[tactic(auto, unfolding(crate::specs::Pairs::word_sum_flags))]
+pub(crate) fn word_sum_flags(left: Halves, right: Halves, flags: Flg) -> Flg
+    ensures { result ≡ Pairs.word_sum_flags left right flags }
+{
+    if are_words_known(left, right) {
+        let (left, right) = (least_word(left), least_word(right));
+        let sum_flags = arithmetic::word_sum_flags(left, right, greatest_flags(flags));
+        Flg {
+            zero: flags.zero,
+            ..known_flags(sum_flags)
+        }
+    } else {
+        Flg {
+            zero: flags.zero,
+            subtract: known(false),
+            half_carry: either(),
+            carry: either(),
+            is_own: false,
+        }
+    }
+}
+
+/// What a pair of a core holds; SP isn't part of one, so it is any word.
+#[tactic(auto, unfolding(crate::specs::Pairs::pair_halves))]
+pub(crate) fn pair_halves(pair: Pair, core: &Core) -> Halves
+    ensures { result ≡ Pairs.pair_halves pair core.now }
+{
+    let registers = core.registers;
+    let (high, low) = match pair {
+        Pair::Bc => (registers.b, registers.c),
+        Pair::De => (registers.d, registers.e),
+        Pair::Hl => (registers.h, registers.l),
+        Pair::Sp => return any_word(),
+    };
+    Halves { high, low }
+}
+
+/// The core with another word in a pair.
+#[tactic(auto, unfolding(crate::specs::Pairs::with_pair))]
+pub(crate) fn with_pair(pair: Pair, halves: Halves, core: &Core) -> Core
+    ensures { result ≡ Pairs.with_pair pair halves core.now }
+{
+    let Halves { high, low } = halves;
+    let mut after = *core;
+    let registers = &mut after.registers;
+    match pair {
+        Pair::Bc => {
+            registers.b = high;
+            registers.c = low;
+        }
+        Pair::De => {
+            registers.d = high;
+            registers.e = low;
+        }
+        Pair::Hl => {
+            registers.h = high;
+            registers.l = low;
+        }
+        Pair::Sp => {}
+    }
+    after
+}
+
+/// HL counts up or down where the operand says so.
+#[tactic(auto, unfolding(crate::specs::Pairs::with_indirect))]
+pub(crate) fn with_indirect(indirect: Indirect, core: &Core) -> Core
+    ensures { result ≡ Pairs.with_indirect indirect core.now }
+{
+    let hl = pair_halves(Pair::Hl, core);
+    match indirect {
+        Indirect::Bc | Indirect::De => *core,
+        Indirect::HlIncrement => with_pair(Pair::Hl, next_word(hl), core),
+        Indirect::HlDecrement => with_pair(Pair::Hl, previous_word(hl), core),
+    }
+}
+
+/// What PUSH of a pair pushes; F is the interval of its bytes.
+#[tactic(auto, unfolding(crate::specs::Pairs::stack_pair_halves))]
+pub(crate) fn stack_pair_halves(pair: StackPair, core: &Core) -> Halves
+    ensures { result ≡ Pairs.stack_pair_halves pair core.now }
+{
+    let registers = core.registers;
+    let (high, low) = match pair {
+        StackPair::Bc => (registers.b, registers.c),
+        StackPair::De => (registers.d, registers.e),
+        StackPair::Hl => (registers.h, registers.l),
+        StackPair::Af => (registers.a, flags_val(core.flags)),
+    };
+    Halves { high, low }
+}
+
+/// The core with a pair that was popped, a copy of the word on the stack.
+#[tactic(auto, unfolding(crate::specs::Pairs::with_stack_pair))]
+pub(crate) fn with_stack_pair(pair: StackPair, halves: Halves, core: &Core) -> Core
+    ensures { result ≡ Pairs.with_stack_pair pair halves core.now }
+{
+    match pair {
+        StackPair::Bc => with_pair(Pair::Bc, halves, core),
+        StackPair::De => with_pair(Pair::De, halves, core),
+        StackPair::Hl => with_pair(Pair::Hl, halves, core),
+        StackPair::Af => {
+            let mut after = *core;
+            after.registers.a = halves.high;
+            after.flags = flags_of_val(halves.low);
+            after.test = None;
+            after
+        }
+    }
+}

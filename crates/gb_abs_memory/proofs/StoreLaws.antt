@@ -1,0 +1,607 @@
+-- A store that isn't refused has no fault, and leaves what the state after it means.
+use Rattle.std.proofs.Common.{◌≡◌, ℕ, ◌-◌, ◌<◌, ◌≤◌, Bool, true, false, ◌&&◌, ◌||◌, ◌==◌, nat_le, if◌then◌else◌, List, [], ◌∷◌, length, Option, Some, None, Ok, refl, sym, ◌∙◌, ap, subst, arith, ◌⊎◌, inl, inr}
+use Rattle.std.proofs.lemmas.Bool.{not-false, not-true, or_parts}
+use Rattle.std.specs.List.{AllByRecursion, list_any}
+use Rattle.std.specs.Result.{IfOk}
+use Rattle.std.proofs.lemmas.Bool.Decides.{nat_tests}
+use Rattle.std.proofs.lemmas.List.Elements.{All-from_recursion}
+use Rattle.gb_ops.specs.declared.machine.Banks.{Banks}
+use Rattle.gb_ops.specs.declared.machine.Kind.{Kind}
+use Rattle.gb_ops.specs.declared.machine.Kind.TheVariants as kind
+use Rattle.gb_ops.specs.declared.machine.Mapped.{Mapped}
+use Rattle.gb_ops.specs.declared.machine.Mapped.TheVariants as mapped
+use Rattle.gb_ops.specs.declared.machine.Region.{Region}
+use Rattle.gb_ops.specs.Cartridge.{is_within, kind_of, kind_after, banks_after}
+use Rattle.gb_ops.specs.Memory.{Storage, View, mapped_at, is_closed, wrote, wrote_by}
+use Rattle.gb_ops.specs.Faults.{no_faults, is_ram_closed, access_faults, write_faults}
+use Rattle.gb_ops.specs.Play.{MState}
+use Rattle.gb_cert.specs.declared.types.Val.{Val}
+use Rattle.gb_cert.specs.declared.types.Ctl.{Ctl}
+use Rattle.gb_cert.specs.declared.types.Core.{Core}
+use Rattle.gb_cert.specs.declared.types.Item.{Item}
+use Rattle.gb_cert.specs.declared.types.Cell.{Cell}
+use Rattle.gb_cert.specs.declared.types.Range.{Range}
+use Rattle.gb_cert.specs.Types.{AbsState}
+use Rattle.gb_cert.specs.Rules.{IsRegion, is_area, meets}
+use Rattle.gb_abs.specs.declared.span.Span.{Span}
+use Rattle.gb_abs.specs.Span.{IsIn, one, is_one, is_inside, may_meet}
+use Rattle.gb_abs.specs.Storage.{is_ram, peek}
+use Rattle.gb_abs.specs.Operations.{with_core}
+use Rattle.gb_abs.specs.Cells.{IsPlaced, ArePlaced, with_cell, without_cells}
+use Rattle.gb_abs.specs.Stack.{AreInRegion}
+use Rattle.gb_abs.specs.Poked.{IsPoked}
+use Rattle.gb_abs.specs.Meaning.{Holds, HoldsController, MeansCore, AreItems, Means, IsMemory}
+use Rattle.gb_abs.proofs.CellLaws.{ArePlaced-with_cell, ArePlaced-without_cells}
+use Rattle.gb_abs.proofs.StorageLaws.{wrote-poked, wrote_ram-starting, wrote_ram-rom, Means-with_cell, Means-without_cells}
+use Rattle.gb_abs_memory.specs.declared.windows.ControllerRegister.{ControllerRegister}
+use Rattle.gb_abs_memory.specs.declared.windows.ControllerRegister.TheVariants as register
+use Rattle.gb_abs_memory.specs.declared.windows.Window.{Window}
+use Rattle.gb_abs_memory.specs.declared.store.Area.{Area}
+use Rattle.gb_abs_memory.specs.declared.store.Area.TheVariants as area
+use Rattle.gb_abs_memory.specs.declared.store.Stored.{Stored}
+use Rattle.gb_abs_memory.specs.Windows.{InCtl, windows, window_of, ctl_after}
+use Rattle.gb_abs_memory.specs.Access.{may_be_closed, meets_closed_ram, may_copy_closed_ram, store_meets_closed_ram, is_limited, may_start_oam_transfer, is_store_limited, area_by, area_of, is_range, is_allowed, is_storable, store_reason, ram_stored, stored_in, stored_state, starts_oam_transfer, store}
+use Rattle.gb_abs_memory.specs.Sound.{view, IsStored, IsSoundStore, IsInRanges, IsStoredInside}
+use Rattle.gb_abs_memory.proofs.WindowLaws.{after_window}
+use Rattle.gb_abs_memory.proofs.ControllerLaws.{IsInWindow, IsInWindow-window_of, window-sound, window-nothing}
+use Rattle.gb_abs_memory.proofs.LoadLaws.{both_false, one_address, within_ctl, rom_at, ram-open, not_limited, taken, not_refused, if_ok}
+
+-- ---- no fault
+
+and_first : (a b c d : Bool) → (a && b && c && d) ≡ false → d ≡ true → a ≡ true → (b && c) ≡ false
+and_first true true true true h p q = h
+and_first true true true false h p q = absurd (let bad : false ≡ true = p in cc)
+and_first true true false d h p q = refl
+and_first true false c d h p q = refl
+and_first false b c d h p q = absurd (let bad : false ≡ true = q in cc)
+
+no_page : (v : Val) (entry : MState) (n : ℕ) → Holds v entry n → (nat_le v.lo 0xBF && nat_le 0xA0 v.hi) ≡ false → is_within 0xA0 0xBF n ≡ false
+no_page v entry n m h =
+    let low = m.least in
+    let high = m.most in
+    grind (arith, nat_tests)
+
+meets_at : (span : Span) (a b : ℕ) → IsIn span a → (a == b) ≡ true → may_meet b b span ≡ true
+meets_at span a b i h =
+    let low = i.first in
+    let high = i.last in
+    grind (arith, nat_tests)
+
+-- an OAM transfer that is started copies no closed cartridge RAM
+page_open :
+    (rom : List ℕ) (core : Core) (entry : MState) (span : Span) (v : Val) (a n : ℕ) → may_copy_closed_ram rom core span v ≡ false → may_be_closed rom core ≡ true
+    → IsIn span a → Holds v entry n → ((a == 0xFF46) && is_within 0xA0 0xBF n) ≡ false
+unfolding may_copy_closed_ram
+page_open rom core entry span v a n h closed i m = choose (a == 0xFF46) refl
+  where
+    choose : (b : Bool) → (a == 0xFF46) ≡ b → (b && is_within 0xA0 0xBF n) ≡ false
+    choose true e = no_page v entry n m (and_first (may_meet 0xFF46 0xFF46 span) (nat_le v.lo 0xBF) (nat_le 0xA0 v.hi) (may_be_closed rom core) h closed (meets_at span a 0xFF46 i e))
+    choose false e = refl
+
+apart_from : (first last a : ℕ) (span : Span) → IsIn span a → may_meet first last span ≡ false → is_within first last a ≡ false
+apart_from first last a span i h =
+    let low = i.first in
+    let high = i.last in
+    grind (arith, nat_tests)
+
+closed_faultless :
+    (rom : List ℕ) (core : Core) (entry x : MState) (starting : Bool) (span : Span) (v : Val) (a n : ℕ) → store_meets_closed_ram rom core span v ≡ false
+    → MeansCore core entry x → IsIn span a → Holds v entry n
+    → ((is_within 0xA000 0xBFFF a || ((a == 0xFF46) && is_within 0xA0 0xBF n)) && is_ram_closed (view rom x starting)) ≡ false
+unfolding store_meets_closed_ram meets_closed_ram
+closed_faultless rom core entry x starting span v a n h m i k = choose (may_be_closed rom core) refl
+  where
+    tests : ((may_meet 0xA000 0xBFFF span && may_be_closed rom core) ≡ false) × (may_copy_closed_ram rom core span v ≡ false)
+    tests = or_parts _ _ h
+
+    first : (b : Bool) → may_be_closed rom core ≡ true → (b && may_be_closed rom core) ≡ false → b ≡ false
+    first true e t = absurd (let bad : true ≡ false = sym e ∙ t in cc)
+    first false e t = refl
+
+    choose : (b : Bool) → may_be_closed rom core ≡ b → ((is_within 0xA000 0xBFFF a || ((a == 0xFF46) && is_within 0xA0 0xBF n)) && is_ram_closed (view rom x starting)) ≡ false
+    choose true e =
+        both_false (is_within 0xA000 0xBFFF a || ((a == 0xFF46) && is_within 0xA0 0xBF n)) (is_ram_closed (view rom x starting))
+        (inl (rw (apart_from 0xA000 0xBFFF a span i (first _ e tests.0), page_open rom core entry span v a n tests.1 e i k) refl))
+    choose false e = both_false _ _ (inr (ram-open rom core entry x starting m e))
+
+pub write-faultless :
+    (rom : List ℕ) (core : Core) (entry x : MState) (starting : Bool) (span : Span) (v : Val) (a n : ℕ) → store_meets_closed_ram rom core span v ≡ false
+    → is_limited core span ≡ false → MeansCore core entry x → IsIn span a → Holds v entry n → write_faults (view rom x starting) a n ≡ no_faults
+unfolding write_faults access_faults
+write-faultless rom core entry x starting span v a n ram limited m i k =
+    rw (closed_faultless rom core entry x starting span v a n ram m i k, not_limited core entry x span a m i limited) refl
+
+-- ---- what is written
+
+written_at : (m : View) (a n : ℕ) (k : Mapped) → is_closed m.storage a ≡ false → mapped_at a ≡ k → wrote m a n ≡ wrote_by k m a n
+unfolding wrote
+written_at m a n k open_ e = rw open_ (ap (λ j. wrote_by j m a n) e)
+
+-- a state holds of another storage with the same RAM
+items_same : (items : List Item) (entry : MState) (top : ℕ) (s t : Storage) → ((b : ℕ) → peek t b ≡ peek s b) → AreItems items entry top s → AreItems items entry top t
+items_same [] entry top s t e h = tt
+items_same (i ∷ items) entry top s t e h =
+    (subst (λ n. Holds i.high entry n) (sym (e (top - 1))) h.0, subst (λ n. Holds i.low entry n) (sym (e (top - 2))) h.1, items_same items entry (top - 2) s t e h.2)
+
+cells_same :
+    (cells : List Cell) (entry : MState) (s t : Storage) → ((b : ℕ) → peek t b ≡ peek s b)
+    → AllByRecursion (λ c. Holds c.val entry (peek s c.address)) cells → AllByRecursion (λ c. Holds c.val entry (peek t c.address)) cells
+cells_same [] entry s t e h = tt
+cells_same (c ∷ cells) entry s t e h = (subst (λ n. Holds c.val entry n) (sym (e c.address)) h.0, cells_same cells entry s t e h.1)
+
+-- the storage with another IE and other registers of the controller
+abbrev with_others : Storage → Banks → ℕ → Storage
+with_others t banks ie = record t { banks = banks; ie = ie }
+
+same_bytes : (t : Storage) (banks : Banks) (ie b : ℕ) → peek (with_others t banks ie) b ≡ peek t b
+unfolding peek
+same_bytes t banks ie b = refl
+
+memory_same : (t : Storage) (banks : Banks) (ie : ℕ) → IsMemory t → IsMemory (with_others t banks ie)
+memory_same t banks ie m = record { work = m.work; high = m.high; bytes = λ b. subst (λ n. n ≤ 255) (sym (same_bytes t banks ie b)) (m.bytes b) }
+
+-- another controller's registers, and another IE
+Means-others :
+    (s : AbsState) (core : Core) (entry : MState) (base : ℕ) (x : MState) (banks : Banks) (ie : ℕ) → Means s entry base x → core.stack_set ≡ s.core.stack_set
+    → MeansCore core entry (record x { storage = with_others x.storage banks ie }) → Means (with_core s core) entry base (record x { storage = with_others x.storage banks ie })
+Means-others s core entry base x banks ie m set c =
+    record {
+      core = c;
+      memory = memory_same x.storage banks ie m.memory;
+      stack = λ e. m.stack (sym set ∙ e);
+      items = items_same s.items entry base x.storage (with_others x.storage banks ie) (same_bytes x.storage banks ie) m.items;
+      cells = cells_same s.cells entry x.storage (with_others x.storage banks ie) (same_bytes x.storage banks ie) m.cells;
+    }
+
+-- ---- a register of the controller
+
+controller_core : (core : Core) (ctl : Ctl) (entry x : MState) (banks : Banks) → MeansCore core entry x → HoldsController ctl entry banks
+    → MeansCore (record core { ctl = ctl }) entry (record x { storage = with_others x.storage banks x.storage.ie })
+controller_core core ctl entry x banks m h =
+    record {
+      registers = m.registers;
+      flags = m.flags;
+      ie = m.ie;
+      ime = m.ime;
+      controller = h;
+      count = m.count;
+      test = m.test;
+      mark = m.mark;
+      locked = m.locked;
+      stopped = m.stopped;
+    }
+
+not_kept : (k : Kind) (r : ControllerRegister) (v : Val) (c : Ctl) → (ctl_after k r v c).is_kept ≡ true → ⊥
+unfolding ctl_after
+not_kept k register.Gate v c h = cc
+not_kept k register.Bank v c h = cc
+not_kept k register.LowBank v c h = cc
+not_kept k register.HighBank v c h = cc
+not_kept k register.Second v c h = cc
+not_kept k register.Mode v c h = cc
+
+controller_holds :
+    (k : Kind) (r : ControllerRegister) (v : Val) (c : Ctl) (entry : MState) (banks : Banks) → InCtl (ctl_after k r v c) banks → HoldsController (ctl_after k r v c) entry banks
+controller_holds k r v c entry banks i = record {
+  bank_least = i.bank_least;
+  bank_most = i.bank_most;
+  second_least = i.second_least;
+  second_most = i.second_most;
+  gate = i.gate;
+  mode = i.mode;
+  kept = λ e. absurd (not_kept k r v c e);
+}
+
+-- a store in a window
+window_holds :
+    (k : Kind) (w : Window) (a n : ℕ) (v : Val) (c : Ctl) (entry : MState) (old : Banks) (o : Option ControllerRegister) → IsInWindow k w a → w.register ≡ o
+    → HoldsController c entry old → Holds v entry n → n ≤ 255 → HoldsController (after_window k o v c) entry (kind_after k old a n)
+window_holds k w a n v c entry old None at e h m byte = subst (λ b. HoldsController c entry b) (sym (window-nothing k w a n old at e)) h
+window_holds k w a n v c entry old (Some r) at e h m byte =
+    controller_holds k r v c entry _
+    (subst (λ o. InCtl (after_window k o v c) (kind_after k old a n)) e
+    (window-sound k w a n v c old at (within_ctl c entry old h) (record { least = m.least; most = m.most }) byte))
+
+-- ---- one store
+
+-- a byte is stored to one of the addresses, in one of the states, and nothing is against it
+pub record AtStore (rom : List ℕ) (region : Region) (s : AbsState) (span : Span) (v : Val) (entry : MState) (base : ℕ) (x : MState) (starting : Bool) (a n : ℕ) : Type 0 where
+  pub means : Means s entry base x
+  pub placed : ArePlaced region s.cells
+  pub room : AreInRegion region base (length s.items)
+  pub is_region : IsRegion region
+  pub at : IsIn span a
+  pub address : a < 65536
+  pub holds : Holds v entry n
+  pub byte : n ≤ 255
+  pub faults : write_faults (view rom x starting) a n ≡ no_faults
+  pub free : is_closed x.storage a ≡ false
+  pub seen : may_start_oam_transfer span ≡ false
+
+-- what is left, given as another view
+stored_as :
+    (m m' : View) (a n : ℕ) (region : Region) (s : AbsState) (entry : MState) (base : ℕ) (x : MState) (o : Stored) → wrote m a n ≡ m' → write_faults m a n ≡ no_faults
+    → Means o.state entry base (record x { storage = m'.storage }) → m'.starting ≡ (m.starting || o.starts) → m'.rom ≡ m.rom → o.state.items ≡ s.items
+    → ArePlaced region o.state.cells → ((b : ℕ) → peek m'.storage b ≡ peek x.storage b) → IsStored m a n region s entry base x o
+stored_as m m' a n region s entry base x o e faults means starting rom items placed bytes =
+    record {
+      means = subst (λ (w : View). Means o.state entry base (record x { storage = w.storage })) (sym e) means;
+      faults = faults;
+      starting = ap (λ (w : View). w.starting) e ∙ starting;
+      rom = ap (λ (w : View). w.rom) e ∙ rom;
+      others = λ b ram other. ap (λ (w : View). peek w.storage b) e ∙ bytes b;
+      items = items;
+      placed = placed;
+    }
+
+or_false : (b : Bool) → b ≡ (b || false)
+or_false true = refl
+or_false false = refl
+
+or_true : (b : Bool) → true ≡ (b || true)
+or_true true = refl
+or_true false = refl
+
+-- a store outside FF46 starts no OAM transfer
+no_oam_transfer : (span : Span) (a : ℕ) → IsIn span a → (a == 0xFF46) ≡ false → starts_oam_transfer span ≡ false
+no_oam_transfer span a i h =
+    let low = i.first in
+    let high = i.last in
+    grind (arith, nat_tests)
+
+starts_not : (starting : Bool) (span : Span) (a : ℕ) → IsIn span a → (a == 0xFF46) ≡ false → starting ≡ (starting || starts_oam_transfer span)
+starts_not starting span a i h = or_false starting ∙ ap (λ b. starting || b) (sym (no_oam_transfer span a i h))
+
+-- ---- in a window of the controller
+
+windows_low : (k : Kind) → AllByRecursion (λ (w : Window). w.last ≤ 0x7FFF) (windows k)
+unfolding windows
+windows_low kind.Rom = (omega arith, tt)
+windows_low kind.Mbc1 = (omega arith, (omega arith, (omega arith, (omega arith, tt))))
+windows_low kind.Mbc3 = (omega arith, (omega arith, (omega arith, (omega arith, tt))))
+windows_low kind.Mbc5 = (omega arith, (omega arith, (omega arith, (omega arith, (omega arith, tt)))))
+
+window_below : (k : Kind) (w : Window) (a : ℕ) → IsInWindow k w a → a < 0x8000
+window_below k w a at =
+    let c = at.is_window in
+    let low : w.last ≤ 0x7FFF = subst (λ (u : Window). u.last ≤ 0x7FFF) c.2 (All-from_recursion (λ (u : Window). u.last ≤ 0x7FFF) (windows k) (windows_low k) c.0 w c.1) in
+    let high = at.last in
+    omega arith
+
+window_state : (k : Kind) (o : Option ControllerRegister) (span : Span) (v : Val) (s : AbsState)
+    → with_core s (record s.core { ctl = after_window k o v s.core.ctl }) ≡ stored_in (Some (area.Controller o)) k span v s
+window_state k None span v s = refl
+window_state k (Some r) span v s = refl
+
+below_not : (a : ℕ) → a < 0x8000 → (a == 0xFF46) ≡ false
+below_not a h = grind (arith, nat_tests)
+
+stored_window :
+    (rom : List ℕ) (region : Region) (s : AbsState) (span : Span) (v : Val) (entry : MState) (base : ℕ) (x : MState) (starting : Bool) (a n : ℕ) (w : Window)
+    → AtStore rom region s span v entry base x starting a n → window_of (kind_of rom) span ≡ Some w
+    → IsStored (view rom x starting) a n region s entry base x (record { state = stored_in (Some (area.Controller w.register)) (kind_of rom) span v s; starts = starts_oam_transfer span })
+unfolding banks_after
+stored_window rom region s span v entry base x starting a n w h e =
+    let at = IsInWindow-window_of (kind_of rom) span w a e h.at in
+    let low = window_below (kind_of rom) w a at in
+    let m = h.means in
+    let banks = kind_after (kind_of rom) x.storage.banks a n in
+    let ctl = after_window (kind_of rom) w.register v s.core.ctl in
+    let holds = window_holds (kind_of rom) w a n v s.core.ctl entry x.storage.banks w.register at refl m.core.controller h.holds h.byte in
+    let core = controller_core s.core ctl entry x banks m.core holds in
+    subst (λ (t : AbsState). IsStored (view rom x starting) a n region s entry base x (record { state = t; starts = starts_oam_transfer span })) (window_state (kind_of rom) w.register span v s)
+    (stored_as (view rom x starting) (wrote_by mapped.Rom (view rom x starting) a n) a n region s entry base x _ (written_at (view rom x starting) a n mapped.Rom h.free (rom_at a low)) h.faults
+    (Means-others s (record s.core { ctl = ctl }) entry base x banks x.storage.ie m refl core) (starts_not starting span a h.at (below_not a low)) refl refl h.placed
+    (λ b. same_bytes x.storage banks x.storage.ie b))
+
+-- ---- in hardware
+
+abbrev is_hardware : Span → Bool
+is_hardware span = is_inside 0x8000 0x9FFF span || is_inside 0xA000 0xBFFF span || is_inside 0xFE00 0xFF7F span
+
+abbrev is_hardware_address : ℕ → Bool
+is_hardware_address a = is_within 0x8000 0xBFFF a || is_within 0xFE00 0xFF7F a
+
+hardware_in : (span : Span) (a : ℕ) → IsIn span a → is_hardware span ≡ true → is_hardware_address a ≡ true
+hardware_in span a i h =
+    let low = i.first in
+    let high = i.last in
+    grind (arith, nat_tests)
+
+abbrev IsIdle : Mapped → Type 0
+IsIdle k = (m : View) (a n : ℕ) → wrote_by k m a n ≡ m
+
+hardware_idle : (a : ℕ) → is_hardware_address a ≡ true → (a == 0xFF46) ≡ false → IsIdle (mapped_at a)
+unfolding mapped_at
+hardware_idle a h other = choose (is_within 0xA000 0xBFFF a) refl
+  where
+    cartridge : is_within 0xA000 0xBFFF a ≡ true → mapped_at a ≡ mapped.CartridgeRam
+    cartridge e = grind (arith, nat_tests)
+
+    hardware : is_within 0xA000 0xBFFF a ≡ false → mapped_at a ≡ mapped.Hardware
+    hardware e = grind (arith, nat_tests)
+
+    choose : (b : Bool) → is_within 0xA000 0xBFFF a ≡ b → IsIdle (mapped_at a)
+    choose true e = subst IsIdle (sym (cartridge e)) (λ m a n. refl)
+    choose false e = subst IsIdle (sym (hardware e)) (λ m a n. refl)
+
+oam_transfer_at : (a : ℕ) → (a == 0xFF46) ≡ true → mapped_at a ≡ mapped.Transfer
+unfolding mapped_at
+oam_transfer_at a h = grind (arith, nat_tests)
+
+-- a store that may meet FF46 is one of FF46 alone
+starts_here : (span : Span) (a : ℕ) → IsIn span a → (a == 0xFF46) ≡ true → may_start_oam_transfer span ≡ false → starts_oam_transfer span ≡ true
+unfolding may_start_oam_transfer
+starts_here span a i h seen =
+    let low = i.first in
+    let high = i.last in
+    grind (arith, nat_tests)
+
+stored_hardware :
+    (rom : List ℕ) (region : Region) (s : AbsState) (span : Span) (v : Val) (entry : MState) (base : ℕ) (x : MState) (starting : Bool) (a n : ℕ)
+    → AtStore rom region s span v entry base x starting a n → is_hardware span ≡ true
+    → IsStored (view rom x starting) a n region s entry base x (record { state = s; starts = starts_oam_transfer span })
+stored_hardware rom region s span v entry base x starting a n h inside = choose (a == 0xFF46) refl
+  where
+    choose : (b : Bool) → (a == 0xFF46) ≡ b → IsStored (view rom x starting) a n region s entry base x (record { state = s; starts = starts_oam_transfer span })
+    choose true e =
+        stored_as (view rom x starting) (view rom x true) a n region s entry base x _ (written_at (view rom x starting) a n mapped.Transfer h.free (oam_transfer_at a e)) h.faults h.means
+        (or_true starting ∙ ap (λ b. starting || b) (sym (starts_here span a h.at e h.seen))) refl refl h.placed (λ b. refl)
+    choose false e =
+        stored_as (view rom x starting) (view rom x starting) a n region s entry base x _
+        (written_at (view rom x starting) a n (mapped_at a) h.free refl ∙ hardware_idle a (hardware_in span a h.at inside) e (view rom x starting) a n) h.faults h.means
+        (starts_not starting span a h.at e) refl refl h.placed (λ b. refl)
+
+-- ---- in RAM
+
+abbrev is_ram_span : Span → Bool
+is_ram_span span = is_inside 0xC000 0xDFFF span || is_inside 0xFF80 0xFFFE span
+
+ram_in : (span : Span) (a : ℕ) → IsIn span a → is_ram_span span ≡ true → is_ram a ≡ true
+ram_in span a i h =
+    let low = i.first in
+    let high = i.last in
+    grind (arith, nat_tests)
+
+ram_not : (a : ℕ) → is_ram a ≡ true → (a == 0xFF46) ≡ false
+ram_not a h = grind (arith, nat_tests)
+
+ram_area : (a : ℕ) → is_ram a ≡ true → is_area a a ≡ true
+ram_area a h = grind (arith, nat_tests)
+
+apart_at : (region : Region) (span : Span) (a : ℕ) → IsIn span a → meets region span.first span.last ≡ false → meets region a a ≡ false
+apart_at region span a i h =
+    let low = i.first in
+    let high = i.last in
+    grind (arith, nat_tests)
+
+stored_ram :
+    (rom : List ℕ) (region : Region) (s : AbsState) (span : Span) (v : Val) (entry : MState) (base : ℕ) (x : MState) (starting : Bool) (a n : ℕ)
+    → AtStore rom region s span v entry base x starting a n → is_ram_span span ≡ true → meets region span.first span.last ≡ false
+    → IsStored (view rom x starting) a n region s entry base x (record { state = ram_stored span v s; starts = starts_oam_transfer span })
+unfolding ram_stored
+stored_ram rom region s span v entry base x starting a n h inside apart = choose (is_one span) (λ e. one_address span a e h.at)
+  where
+    ram : is_ram a ≡ true
+    ram = ram_in span a h.at inside
+
+    place : IsPlaced region (record { address = a; val = v })
+    place = record { area = ram_area a ram; apart = apart_at region span a h.at apart }
+
+    poked : IsPoked a n x.storage (wrote (view rom x starting) a n).storage
+    poked = wrote-poked (view rom x starting) a n h.means.memory ram h.byte h.free
+
+    stored : (cells : List Cell) → Means (record s { cells = cells }) entry base (record x { storage = (wrote (view rom x starting) a n).storage }) → ArePlaced region cells
+        → IsStored (view rom x starting) a n region s entry base x (record { state = record s { cells = cells }; starts = starts_oam_transfer span })
+    stored cells m placed = record {
+      means = m;
+      faults = h.faults;
+      starting = wrote_ram-starting (view rom x starting) a n ram h.free ∙ starts_not starting span a h.at (ram_not a ram);
+      rom = wrote_ram-rom (view rom x starting) a n ram h.free;
+      others = poked.others;
+      items = refl;
+      placed = placed;
+    }
+
+    choose : (one : Bool) → (one ≡ true → span.first ≡ a)
+        → IsStored (view rom x starting) a n region s entry base x
+        (record { state = record s { cells = if one then with_cell (record { address = span.first; val = v }) s.cells else without_cells span.first span.last s.cells }; starts = starts_oam_transfer span })
+    choose true e =
+        subst (λ b. IsStored (view rom x starting) a n region s entry base x (record { state = record s { cells = with_cell (record { address = b; val = v }) s.cells }; starts = starts_oam_transfer span })) (sym (e refl))
+        (stored (with_cell (record { address = a; val = v }) s.cells)
+        (Means-with_cell region s entry base x _ a n v h.means poked h.holds place h.placed h.room h.is_region)
+        (ArePlaced-with_cell region (record { address = a; val = v }) s.cells place h.placed))
+    choose false e =
+        stored (without_cells span.first span.last s.cells)
+        (Means-without_cells region s entry base x _ a n span.first span.last h.means poked h.at.first h.at.last apart h.placed h.room h.is_region)
+        (ArePlaced-without_cells region span.first span.last s.cells h.placed)
+
+-- ---- at IE
+
+ie_only : (span : Span) (a : ℕ) → IsIn span a → is_inside 0xFFFF 0xFFFF span ≡ true → a ≡ 0xFFFF
+ie_only span a i h =
+    let low = i.first in
+    let high = i.last in
+    grind (arith, nat_tests)
+
+ie_mapped : (a : ℕ) → a ≡ 0xFFFF → mapped_at a ≡ mapped.InterruptEnable
+unfolding mapped_at
+ie_mapped a h = grind (arith, nat_tests)
+
+ie_not : (a : ℕ) → a ≡ 0xFFFF → (a == 0xFF46) ≡ false
+ie_not a h = grind (arith, nat_tests)
+
+ie_core : (core : Core) (v : Val) (entry x : MState) (n : ℕ) → MeansCore core entry x → Holds v entry n → MeansCore (record core { ie = v }) entry (record x { storage = with_others x.storage x.storage.banks n })
+ie_core core v entry x n m h =
+    record {
+      registers = m.registers;
+      flags = m.flags;
+      ie = h;
+      ime = m.ime;
+      controller = m.controller;
+      count = m.count;
+      test = m.test;
+      mark = m.mark;
+      locked = m.locked;
+      stopped = m.stopped;
+    }
+
+stored_ie :
+    (rom : List ℕ) (region : Region) (s : AbsState) (span : Span) (v : Val) (entry : MState) (base : ℕ) (x : MState) (starting : Bool) (a n : ℕ)
+    → AtStore rom region s span v entry base x starting a n → is_inside 0xFFFF 0xFFFF span ≡ true
+    → IsStored (view rom x starting) a n region s entry base x (record { state = with_core s (record s.core { ie = v }); starts = starts_oam_transfer span })
+stored_ie rom region s span v entry base x starting a n h inside =
+    let here = ie_only span a h.at inside in
+    let m = h.means in
+    stored_as (view rom x starting) (wrote_by mapped.InterruptEnable (view rom x starting) a n) a n region s entry base x _
+    (written_at (view rom x starting) a n mapped.InterruptEnable h.free (ie_mapped a here)) h.faults
+    (Means-others s (record s.core { ie = v }) entry base x x.storage.banks n m refl (ie_core s.core v entry x n m.core h.holds)) (starts_not starting span a h.at (ie_not a here)) refl refl
+    h.placed (λ b. same_bytes x.storage x.storage.banks n b)
+
+-- ---- each area
+
+-- the state and the start that a store in an area leaves
+abbrev leaves : Option Area → Kind → Span → Val → AbsState → Stored
+leaves o k span v s = record { state = stored_in o k span v s; starts = starts_oam_transfer span }
+
+first_true : (a b : Bool) → (a && b) ≡ true → a ≡ true
+first_true true b h = refl
+first_true false b h = absurd (let bad : false ≡ true = h in cc)
+
+second_true : (a b : Bool) → (a && b) ≡ true → b ≡ true
+second_true true b h = h
+second_true false b h = absurd (let bad : false ≡ true = h in cc)
+
+stored_above :
+    (rom : List ℕ) (region : Region) (ranges : List Range) (s : AbsState) (span : Span) (v : Val) (entry : MState) (base : ℕ) (x : MState) (starting : Bool) (a n : ℕ)
+    → AtStore rom region s span v entry base x starting a n → is_allowed (area_by None span) region ranges span ≡ true
+    → IsStored (view rom x starting) a n region s entry base x (leaves (area_by None span) (kind_of rom) span v s)
+stored_above rom region ranges s span v entry base x starting a n h = choose (is_hardware span) (is_ram_span span) (is_inside 0xFFFF 0xFFFF span) (λ e. e) (λ e. e) (λ e. e)
+  where
+    choose : (hardware ram ie : Bool) → (hardware ≡ true → is_hardware span ≡ true) → (ram ≡ true → is_ram_span span ≡ true) → (ie ≡ true → is_inside 0xFFFF 0xFFFF span ≡ true)
+        → is_allowed (if hardware then Some area.Hardware else if ram then Some area.Ram else if ie then Some area.InterruptEnable else None) region ranges span ≡ true
+        → IsStored (view rom x starting) a n region s entry base x
+        (leaves (if hardware then Some area.Hardware else if ram then Some area.Ram else if ie then Some area.InterruptEnable else None) (kind_of rom) span v s)
+    choose true ram ie p q r allowed = stored_hardware rom region s span v entry base x starting a n h (p refl)
+    choose false true ie p q r allowed = stored_ram rom region s span v entry base x starting a n h (q refl) (not-true _ (first_true _ _ allowed))
+    choose false false true p q r allowed = stored_ie rom region s span v entry base x starting a n h (r refl)
+    choose false false false p q r allowed = absurd (let bad : false ≡ true = allowed in cc)
+
+stored_by :
+    (rom : List ℕ) (region : Region) (ranges : List Range) (s : AbsState) (span : Span) (v : Val) (entry : MState) (base : ℕ) (x : MState) (starting : Bool) (a n : ℕ) (o : Option Window)
+    → AtStore rom region s span v entry base x starting a n → window_of (kind_of rom) span ≡ o → is_allowed (area_by o span) region ranges span ≡ true
+    → IsStored (view rom x starting) a n region s entry base x (leaves (area_by o span) (kind_of rom) span v s)
+stored_by rom region ranges s span v entry base x starting a n None h e allowed = stored_above rom region ranges s span v entry base x starting a n h allowed
+stored_by rom region ranges s span v entry base x starting a n (Some w) h e allowed = stored_window rom region s span v entry base x starting a n w h e
+
+-- a store, by its tests
+pub IsSoundStore-stored_state :
+    (rom : List ℕ) (region : Region) (ranges : List Range) (s : AbsState) (span : Span) (v : Val) → is_storable (kind_of rom) region ranges span ≡ true
+    → store_meets_closed_ram rom s.core span v ≡ false → is_store_limited s.core span ≡ false
+    → IsSoundStore rom region s span v (record { state = stored_state (kind_of rom) span v s; starts = starts_oam_transfer span })
+unfolding is_storable area_of stored_state is_store_limited
+IsSoundStore-stored_state rom region ranges s span v storable ram limited = record {
+  gives = λ entry base x starting a n m placed room region_is i lt k byte.
+      let both = or_parts _ _ limited in
+      stored_by rom region ranges s span v entry base x starting a n (window_of (kind_of rom) span)
+      (record {
+        means = m;
+        placed = placed;
+        room = room;
+        is_region = region_is;
+        at = i;
+        address = lt;
+        holds = k;
+        byte = byte;
+        faults = write-faultless rom s.core entry x starting span v a n ram both.0 m.core i k;
+        free = not_limited s.core entry x span a m.core i both.0;
+        seen = both.1;
+      })
+      refl storable;
+}
+
+-- what a store leaves is what a bus shows of the state after it
+pub stored-view :
+    (rom : List ℕ) (region : Region) (s : AbsState) (entry : MState) (base : ℕ) (x : MState) (starting : Bool) (a n : ℕ) (o : Stored)
+    → IsStored (view rom x starting) a n region s entry base x o
+    → wrote (view rom x starting) a n ≡ view rom (record x { storage = (wrote (view rom x starting) a n).storage }) (starting || o.starts)
+stored-view rom region s entry base x starting a n o h = same (wrote (view rom x starting) a n) h.rom h.starting
+  where
+    same : (m : View) → m.rom ≡ rom → m.starting ≡ (starting || o.starts) → m ≡ view rom (record x { storage = m.storage }) (starting || o.starts)
+    same m p q = ap (λ (r : List ℕ). record m { rom = r }) p ∙ ap (λ b. record m { rom = rom; starting = b }) q
+
+in_range : (ranges : List Range) (span : Span) (a : ℕ) → IsIn span a → list_any (is_range span) ranges ≡ true → list_any (is_range (one a)) ranges ≡ true
+in_range [] span a i h = h
+in_range (r ∷ ranges) span a i h = either (is_range span r) (is_range (one a) r) (λ e. inside r e) h (λ e. in_range ranges span a i e)
+  where
+    inside : (r : Range) → is_range span r ≡ true → is_range (one a) r ≡ true
+    inside r e =
+        let low = i.first in
+        let high = i.last in
+        grind (arith, nat_tests)
+
+    either : (b c : Bool) → (b ≡ true → c ≡ true) → (b || list_any (is_range span) ranges) ≡ true
+        → (list_any (is_range span) ranges ≡ true → list_any (is_range (one a)) ranges ≡ true) → (c || list_any (is_range (one a)) ranges) ≡ true
+    either true c f t g = rw (f refl) refl
+    either false true f t g = refl
+    either false false f t g = g t
+
+ram_contra : (a : ℕ) → is_ram a ≡ true → (is_hardware_address a ≡ true) ⊎ ((a ≡ 0xFFFF) ⊎ (a < 0x8000)) → ⊥
+ram_contra a h (inl e) = grind (arith, nat_tests)
+ram_contra a h (inr (inl e)) = grind (arith, nat_tests)
+ram_contra a h (inr (inr e)) = grind (arith, nat_tests)
+
+pub IsInRanges-storable : (k : Kind) (region : Region) (ranges : List Range) (span : Span) (a : ℕ) → is_storable k region ranges span ≡ true → IsIn span a → is_ram a ≡ true → IsInRanges region ranges a
+unfolding is_storable area_of
+IsInRanges-storable k region ranges span a h i ram = by_window (window_of k span) refl h
+  where
+    by_area : (hardware inside ie : Bool) → (hardware ≡ true → is_hardware span ≡ true) → (ie ≡ true → is_inside 0xFFFF 0xFFFF span ≡ true)
+        → is_allowed (if hardware then Some area.Hardware else if inside then Some area.Ram else if ie then Some area.InterruptEnable else None) region ranges span ≡ true
+        → IsInRanges region ranges a
+    by_area true inside ie p r allowed = absurd (ram_contra a ram (inl (hardware_in span a i (p refl))))
+    by_area false true ie p r allowed =
+        let free = not-true _ (first_true _ _ allowed) in
+        record { inside = in_range ranges span a i (second_true _ _ allowed); apart = apart_at region span a i free }
+    by_area false false true p r allowed = absurd (ram_contra a ram (inr (inl (ie_only span a i (r refl)))))
+    by_area false false false p r allowed = absurd (let bad : false ≡ true = allowed in cc)
+
+    by_window : (o : Option Window) → window_of k span ≡ o → is_allowed (area_by o span) region ranges span ≡ true → IsInRanges region ranges a
+    by_window (Some w) e allowed = absurd (ram_contra a ram (inr (inr (window_below k w a (IsInWindow-window_of k span w a e i)))))
+    by_window None e allowed = by_area (is_hardware span) (is_ram_span span) (is_inside 0xFFFF 0xFFFF span) (λ e. e) (λ e. e) allowed
+
+-- a store, by its answer
+pub IsSoundStore-store :
+    (rom : List ℕ) (region : Region) (ranges : List Range) (s : AbsState) (span : Span) (v : Val) (o : Stored) → store rom region ranges s span v ≡ Ok o
+    → IsSoundStore rom region s span v o
+unfolding store store_reason
+IsSoundStore-store rom region ranges s span v o h =
+    let t = taken _ _ o h in
+    let storable = not_refused _ _ _ t.0 in
+    let ram = not_refused _ _ _ storable.1 in
+    let limited = not_refused _ _ _ ram.1 in
+    subst (IsSoundStore rom region s span v) t.1 (IsSoundStore-stored_state rom region ranges s span v (not-false _ storable.0) ram.0 limited.0)
+
+pub store_sound :
+    (rom : List ℕ) (region : Region) (ranges : List Range) (s : AbsState) (span : Span) (v : Val)
+    → IfOk (store rom region ranges s span v) (λ o. IsSoundStore rom region s span v o)
+store_sound rom region ranges s span v =
+    if_ok (store rom region ranges s span v) (λ o. IsSoundStore rom region s span v o) (λ o h. IsSoundStore-store rom region ranges s span v o h)
+
+-- where it is answered, the store was storable
+is_storable-store :
+    (rom : List ℕ) (region : Region) (ranges : List Range) (s : AbsState) (span : Span) (v : Val) (o : Stored) → store rom region ranges s span v ≡ Ok o
+    → is_storable (kind_of rom) region ranges span ≡ true
+unfolding store store_reason
+is_storable-store rom region ranges s span v o h =
+    let t = taken _ _ o h in
+    let storable = not_refused _ _ _ t.0 in
+    not-false _ storable.0
+
+pub store_inside :
+    (rom : List ℕ) (region : Region) (ranges : List Range) (s : AbsState) (span : Span) (v : Val)
+    → IfOk (store rom region ranges s span v) (λ o. IsStoredInside region ranges span)
+store_inside rom region ranges s span v =
+    if_ok (store rom region ranges s span v) (λ o. IsStoredInside region ranges span)
+    (λ o h. record { gives = λ a i ram. IsInRanges-storable (kind_of rom) region ranges span a (is_storable-store rom region ranges s span v o h) i ram })
+
+pub ruleset store_laws = (store_sound, store_inside)

@@ -1,0 +1,154 @@
+-- Loads and stores of abstract states: what is refused, what a load gives, and what a store leaves
+-- (Memory map; MBCs; OAM DMA transfer; the areas are own).
+use Rattle.std.specs.Prelude.{ℕ, ◌-◌, Bool, true, false, not, ◌&&◌, ◌||◌, ◌==◌, nat_lt, nat_le, if◌then◌else◌, List, Option, Some, None, Result, Ok, Err}
+use Rattle.std.specs.List.{list_any}
+use Rattle.gb_ops.specs.declared.machine.Kind.{Kind}
+use Rattle.gb_ops.specs.declared.machine.Region.{Region}
+use Rattle.gb_ops.specs.Cartridge.{is_within, kind_of, has_ram_or_clock}
+use Rattle.gb_ops.specs.Memory.{rom_byte}
+use Rattle.gb_cert.specs.declared.types.Val.{Val}
+use Rattle.gb_cert.specs.declared.types.Core.{Core}
+use Rattle.gb_cert.specs.declared.types.Range.{Range}
+use Rattle.gb_cert.specs.Types.{AbsState}
+use Rattle.gb_cert.specs.Rules.{meets}
+use Rattle.gb_vals.specs.Vals.{any_val, single}
+use Rattle.gb_abs.specs.declared.reason.Reason.{Reason}
+use Rattle.gb_abs.specs.declared.reason.Reason.TheVariants as reason
+use Rattle.gb_abs.specs.declared.span.Span.{Span}
+use Rattle.gb_abs.specs.Span.{is_one, is_inside, may_meet}
+use Rattle.gb_abs.specs.Storage.{is_ram}
+use Rattle.gb_abs.specs.Covering.{cell_at}
+use Rattle.gb_abs.specs.Cells.{with_cell, without_cells}
+use Rattle.gb_abs.specs.Operations.{with_core}
+use Rattle.gb_abs_memory.specs.declared.windows.Window.{Window}
+use Rattle.gb_abs_memory.specs.declared.store.Area.{Area}
+use Rattle.gb_abs_memory.specs.declared.store.Area.TheVariants as area
+use Rattle.gb_abs_memory.specs.declared.store.Stored.{Stored}
+use Rattle.gb_abs_memory.specs.Windows.{window_of, ctl_after}
+use Rattle.gb_abs_memory.specs.Shown.{known_bank}
+
+-- ---- what is refused
+
+-- the gate may be closed, or there is nothing behind it
+unfoldable pub may_be_closed : List ℕ → Core → Bool
+may_be_closed rom core = core.ctl.gate.clear || not (has_ram_or_clock rom)
+
+-- cartridge RAM may be met while it is closed
+unfoldable pub meets_closed_ram : List ℕ → Core → Span → Bool
+meets_closed_ram rom core span = may_meet 0xA000 0xBFFF span && may_be_closed rom core
+
+-- an OAM transfer may run, which closes all but high RAM
+unfoldable pub is_limited : Core → Span → Bool
+is_limited core span = not (core.bound == 0) && not (is_inside 0xFF80 0xFFFE span)
+
+-- an OAM transfer may be started that copies cartridge RAM, pages A0 to BF, while it is closed
+unfoldable pub may_copy_closed_ram : List ℕ → Core → Span → Val → Bool
+may_copy_closed_ram rom core span v = may_meet 0xFF46 0xFF46 span && nat_le v.lo 0xBF && nat_le 0xA0 v.hi && may_be_closed rom core
+
+-- a store, or the OAM transfer that it starts, may meet closed cartridge RAM
+unfoldable pub store_meets_closed_ram : List ℕ → Core → Span → Val → Bool
+store_meets_closed_ram rom core span v = meets_closed_ram rom core span || may_copy_closed_ram rom core span v
+
+-- an OAM transfer may be started or not, so that no bound would know of it
+unfoldable pub may_start_oam_transfer : Span → Bool
+may_start_oam_transfer span = not (is_one span) && may_meet 0xFF46 0xFF46 span
+
+-- a store that a running transfer closes, or that may start one unseen
+unfoldable pub is_store_limited : Core → Span → Bool
+is_store_limited core span = is_limited core span || may_start_oam_transfer span
+
+abbrev pub refused_or : {X : Type 0} → Option Reason → X → Result X Reason
+refused_or None x = Ok x
+refused_or (Some r) x = Err r
+
+-- ---- loads
+
+-- where a byte is kept: the echo of work RAM is the same byte
+abbrev pub home_of : ℕ → ℕ
+home_of a = if is_within 0xE000 0xFDFF a then a - 0x2000 else a
+
+abbrev pub rom_val : List ℕ → ℕ → Option ℕ → Val
+rom_val rom a None = any_val
+rom_val rom a (Some bank) = single (rom_byte rom bank a)
+
+-- what is known of the byte at an address: hardware and cartridge RAM read as any byte
+unfoldable pub val_at : List ℕ → AbsState → ℕ → Val
+val_at rom s a =
+    if nat_lt a 0x8000 then rom_val rom a (known_bank rom s.core.ctl a)
+    else if is_ram (home_of a) then cell_at (home_of a) s.cells
+    else if a == 0xFFFF then s.core.ie
+    else any_val
+
+-- of one of several addresses nothing is known
+unfoldable pub loaded_val : List ℕ → AbsState → Span → Val
+loaded_val rom s span = if is_one span then val_at rom s span.first else any_val
+
+-- the lowest reason against a load
+unfoldable pub load_reason : List ℕ → Core → Span → Option Reason
+load_reason rom core span =
+    if meets_closed_ram rom core span then Some reason.CartridgeRam
+    else if is_limited core span then Some reason.OamTransfer
+    else None
+
+unfoldable pub load : List ℕ → AbsState → Span → Result Val Reason
+load rom s span = refused_or (load_reason rom s.core span) (loaded_val rom s span)
+
+-- ---- stores
+
+abbrev pub area_by : Option Window → Span → Option Area
+area_by (Some w) span = Some (area.Controller w.register)
+area_by None span =
+    if is_inside 0x8000 0x9FFF span || is_inside 0xA000 0xBFFF span || is_inside 0xFE00 0xFF7F span then Some area.Hardware
+    else if is_inside 0xC000 0xDFFF span || is_inside 0xFF80 0xFFFE span then Some area.Ram
+    else if is_inside 0xFFFF 0xFFFF span then Some area.InterruptEnable
+    else None
+
+-- the area that all addresses lie in; a store has none in the echo of work RAM
+unfoldable pub area_of : Kind → Span → Option Area
+area_of k span = area_by (window_of k span) span
+
+abbrev pub is_range : Span → Range → Bool
+is_range span r = is_inside r.first r.last span
+
+-- RAM is stored to outside the stack region, inside one of the procedure's ranges
+abbrev pub is_allowed : Option Area → Region → List Range → Span → Bool
+is_allowed None region ranges span = false
+is_allowed (Some area.Ram) region ranges span = not (meets region span.first span.last) && list_any (is_range span) ranges
+is_allowed _ region ranges span = true
+
+unfoldable pub is_storable : Kind → Region → List Range → Span → Bool
+is_storable k region ranges span = is_allowed (area_of k span) region ranges span
+
+-- the lowest reason against a store
+unfoldable pub store_reason : List ℕ → Region → List Range → Core → Span → Val → Option Reason
+store_reason rom region ranges core span v =
+    if not (is_storable (kind_of rom) region ranges span) then Some reason.Store
+    else if store_meets_closed_ram rom core span v then Some reason.CartridgeRam
+    else if is_store_limited core span then Some reason.OamTransfer
+    else None
+
+-- one address gets the value, of several nothing is known any more
+unfoldable pub ram_stored : Span → Val → AbsState → AbsState
+ram_stored span v s =
+    record s {
+      cells = if is_one span then with_cell (record { address = span.first; val = v }) s.cells else without_cells span.first span.last s.cells;
+    }
+
+abbrev pub stored_in : Option Area → Kind → Span → Val → AbsState → AbsState
+stored_in (Some (area.Controller (Some r))) k span v s = with_core s (record s.core { ctl = ctl_after k r v s.core.ctl })
+stored_in (Some area.Ram) k span v s = ram_stored span v s
+stored_in (Some area.InterruptEnable) k span v s = with_core s (record s.core { ie = v })
+stored_in _ k span v s = s
+
+-- the state after a store
+unfoldable pub stored_state : Kind → Span → Val → AbsState → AbsState
+stored_state k span v s = stored_in (area_of k span) k span v s
+
+-- FF46 alone starts an OAM transfer
+abbrev pub starts_oam_transfer : Span → Bool
+starts_oam_transfer span = is_one span && (span.first == 0xFF46)
+
+unfoldable pub store : List ℕ → Region → List Range → AbsState → Span → Val → Result Stored Reason
+store rom region ranges s span v =
+    refused_or (store_reason rom region ranges s.core span v)
+    (record { state = stored_state (kind_of rom) span v s; starts = starts_oam_transfer span })

@@ -1,0 +1,158 @@
+-- The windows of a controller's registers, and what a store there leaves (MBCs; the least bounds are own).
+use Rattle.std.specs.Prelude.{◌≡◌, ℕ, ◌+◌, ◌-◌, ◌*◌, ◌/◌, ◌%◌, ◌≤◌, Bool, true, false, not, ◌||◌, ◌==◌, nat_lt, nat_le, if◌then◌else◌, List, [], ◌∷◌, Option, Some, None}
+use Rattle.std.specs.List.{find, Contains}
+use Rattle.gb_ops.specs.declared.machine.Banks.{Banks}
+use Rattle.gb_ops.specs.declared.machine.Kind.{Kind}
+use Rattle.gb_ops.specs.declared.machine.Kind.TheVariants as kind
+use Rattle.gb_ops.specs.Cartridge.{at_least_one, kind_after}
+use Rattle.gb_cert.specs.declared.types.Val.{Val}
+use Rattle.gb_cert.specs.declared.types.May.{May}
+use Rattle.gb_cert.specs.declared.types.Ctl.{Ctl}
+use Rattle.gb_vals.specs.Meaning.{In, may_be}
+use Rattle.gb_abs.specs.declared.span.Span.{Span}
+use Rattle.gb_abs.specs.Span.{is_inside}
+use Rattle.gb_abs_memory.specs.declared.windows.ControllerRegister.{ControllerRegister}
+use Rattle.gb_abs_memory.specs.declared.windows.ControllerRegister.TheVariants as register
+use Rattle.gb_abs_memory.specs.declared.windows.Window.{Window}
+
+abbrev pub window : ℕ → ℕ → Option ControllerRegister → Window
+window first last r = record { first = first; last = last; register = r }
+
+-- the windows of each controller; without a controller a write has no effect
+unfoldable pub windows : Kind → List Window
+windows kind.Rom = window 0x0000 0x7FFF None ∷ []
+windows kind.Mbc1 =
+    window 0x0000 0x1FFF (Some register.Gate) ∷ window 0x2000 0x3FFF (Some register.Bank)
+    ∷ window 0x4000 0x5FFF (Some register.Second) ∷ window 0x6000 0x7FFF (Some register.Mode) ∷ []
+windows kind.Mbc3 =
+    window 0x0000 0x1FFF (Some register.Gate) ∷ window 0x2000 0x3FFF (Some register.Bank)
+    ∷ window 0x4000 0x5FFF (Some register.Second) ∷ window 0x6000 0x7FFF None ∷ []
+windows kind.Mbc5 =
+    window 0x0000 0x1FFF (Some register.Gate) ∷ window 0x2000 0x2FFF (Some register.LowBank)
+    ∷ window 0x3000 0x3FFF (Some register.HighBank) ∷ window 0x4000 0x5FFF (Some register.Second)
+    ∷ window 0x6000 0x7FFF None ∷ []
+
+abbrev pub holds : Span → Window → Bool
+holds s w = is_inside w.first w.last s
+
+-- the window that all addresses lie in
+unfoldable pub window_of : Kind → Span → Option Window
+window_of k s = find (holds s) (windows k)
+
+-- ---- the numbers from lo to hi, each cut to n values
+
+abbrev pub is_in_one_block : ℕ → ℕ → ℕ → Bool
+is_in_one_block n lo hi = lo / n == hi / n
+
+unfoldable pub cut_least : ℕ → ℕ → ℕ → ℕ
+cut_least n lo hi = if is_in_one_block n lo hi then lo % n else 0
+
+unfoldable pub cut_most : ℕ → ℕ → ℕ → ℕ
+cut_most n lo hi = if is_in_one_block n lo hi then hi % n else n - 1
+
+-- one of them is r, cut to n values: the least that is doesn't come after hi
+unfoldable pub has_rest : ℕ → ℕ → Val → Bool
+has_rest n r v = nat_le (v.lo + (n + r - v.lo % n) % n) v.hi
+
+-- one of them isn't
+unfoldable pub has_other_rest : ℕ → ℕ → Val → Bool
+has_other_rest n r v = nat_lt v.lo v.hi || not (v.lo % n == r)
+
+-- ---- the registers after a store
+
+-- how many values a register holds
+abbrev pub bank_values : Kind → ℕ
+bank_values kind.Mbc1 = 32
+bank_values _ = 128
+
+abbrev pub second_values : Kind → ℕ
+second_values kind.Mbc1 = 4
+second_values kind.Mbc5 = 16
+second_values _ = 256
+
+abbrev pub gate_after : Val → May
+gate_after v = record { clear = has_other_rest 16 10 v; set = has_rest 16 10 v }
+
+abbrev pub mode_after : Val → May
+mode_after v = record { clear = has_rest 2 0 v; set = has_rest 2 1 v }
+
+-- the bank of MBC1 and MBC3: 0 counts as 1
+abbrev pub bank_after : ℕ → Val → Ctl → Ctl
+bank_after n v c =
+    record c { bank_lo = at_least_one (cut_least n v.lo v.hi); bank_hi = at_least_one (cut_most n v.lo v.hi); is_kept = false }
+
+-- the bank of MBC5: its low eight bits, and its bit 8
+abbrev pub low_bank_after : Val → Ctl → Ctl
+low_bank_after v c =
+    record c { bank_lo = c.bank_lo / 256 * 256 + v.lo; bank_hi = c.bank_hi / 256 * 256 + v.hi; is_kept = false }
+
+abbrev pub high_bank_after : Val → Ctl → Ctl
+high_bank_after v c =
+    record c {
+      bank_lo = cut_least 2 v.lo v.hi * 256 + cut_least 256 c.bank_lo c.bank_hi;
+      bank_hi = cut_most 2 v.lo v.hi * 256 + cut_most 256 c.bank_lo c.bank_hi;
+      is_kept = false;
+    }
+
+abbrev pub second_after : ℕ → Val → Ctl → Ctl
+second_after n v c = record c { second_lo = cut_least n v.lo v.hi; second_hi = cut_most n v.lo v.hi; is_kept = false }
+
+-- the registers after a store of any of these bytes to one of them
+unfoldable pub ctl_after : Kind → ControllerRegister → Val → Ctl → Ctl
+ctl_after k register.Gate v c = record c { gate = gate_after v; is_kept = false }
+ctl_after k register.Bank v c = bank_after (bank_values k) v c
+ctl_after k register.LowBank v c = low_bank_after v c
+ctl_after k register.HighBank v c = high_bank_after v c
+ctl_after k register.Second v c = second_after (second_values k) v c
+ctl_after k register.Mode v c = record c { mode = mode_after v; is_kept = false }
+
+-- ---- what that promises
+
+-- the controller's registers lie within the bounds and sets
+pub record InCtl (c : Ctl) (r : Banks) : Type 0 where
+  pub bank_least : c.bank_lo ≤ r.bank
+  pub bank_most : r.bank ≤ c.bank_hi
+  pub second_least : c.second_lo ≤ r.second
+  pub second_most : r.second ≤ c.second_hi
+  pub gate : may_be c.gate r.gate ≡ true
+  pub mode : may_be c.mode r.mode ≡ true
+
+-- an address lies in a window of the register
+pub record IsAddressOf (k : Kind) (r : ControllerRegister) (a : ℕ) : Type 0 where
+  pub window : Window
+  pub is_window : Contains (windows k) window
+  pub register : window.register ≡ Some r
+  pub first : window.first ≤ a
+  pub last : a ≤ window.last
+
+-- whatever the registers are and whichever byte is stored, they are within the result
+pub record IsSoundWrite (k : Kind) (r : ControllerRegister) (v : Val) (c after : Ctl) : Type 0 where
+  pub gives : (a n : ℕ) (old : Banks) → IsAddressOf k r a → InCtl c old → In v n → n ≤ 255 → InCtl after (kind_after k old a n)
+
+-- some registers and some byte lead to registers with a property
+pub record Leads (write : Banks → ℕ → Banks) (v : Val) (c : Ctl) (P : Banks → Type 0) : Type 0 where
+  pub old : Banks
+  pub byte : ℕ
+  pub within : InCtl c old
+  pub stored : In v byte
+  pub after : P (write old byte)
+
+-- each end of the bounds, and each member of the sets, comes from some registers and some byte
+pub record IsLeast (write : Banks → ℕ → Banks) (v : Val) (c after : Ctl) : Type 0 where
+  pub bank_lo : Leads write v c (λ r. r.bank ≡ after.bank_lo)
+  pub bank_hi : Leads write v c (λ r. r.bank ≡ after.bank_hi)
+  pub second_lo : Leads write v c (λ r. r.second ≡ after.second_lo)
+  pub second_hi : Leads write v c (λ r. r.second ≡ after.second_hi)
+  pub gate : (b : Bool) → may_be after.gate b ≡ true → Leads write v c (λ r. r.gate ≡ b)
+  pub mode : (b : Bool) → may_be after.mode b ≡ true → Leads write v c (λ r. r.mode ≡ b)
+
+-- no smaller bounds and sets hold what a store leaves
+pub record IsLeastWrite (k : Kind) (r : ControllerRegister) (v : Val) (c after : Ctl) : Type 0 where
+  pub reached : (a : ℕ) → IsAddressOf k r a → IsLeast (λ old n. kind_after k old a n) v c after
+
+-- all but the register stays; whatever the values, it isn't what it was as the procedure was entered
+abbrev pub IsWrittenAlone : ControllerRegister → Ctl → Ctl → Type 0
+IsWrittenAlone register.Gate c after = after ≡ record c { gate = after.gate; is_kept = false }
+IsWrittenAlone register.Second c after = after ≡ record c { second_lo = after.second_lo; second_hi = after.second_hi; is_kept = false }
+IsWrittenAlone register.Mode c after = after ≡ record c { mode = after.mode; is_kept = false }
+IsWrittenAlone _ c after = after ≡ record c { bank_lo = after.bank_lo; bank_hi = after.bank_hi; is_kept = false }

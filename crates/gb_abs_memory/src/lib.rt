@@ -1,0 +1,15 @@
+//! Loads and stores of abstract states. `load` answers what is known of a byte, `store` the state
+//! afterwards, or each the lowest reason against it (`exact`); both follow what the machine does at
+//! each address that the access may meet (`sound`). `ctl_after` gives the controller's registers after
+//! a store, with the least bounds, and `known_bank` the ROM bank that is shown whatever the registers
+//! are (`sound`, `complete`).
+//!
+//! Read `windows` and `shown` (controllers), `refusals` (what refuses an access), then `load` and
+//! `store`.
+#![tactic(auto)]
+
+pub mod load;
+pub mod refusals;
+pub mod shown;
+pub mod store;
+pub mod windows;

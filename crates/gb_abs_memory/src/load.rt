@@ -1,0 +1,105 @@
+//! Loads of abstract states.
+
+ghost use Rattle.std.specs.Prelude.{◌≡◌, ◌<◌, IfSome, IfOk};
+ghost use Rattle.gb_ops.specs.Cartridge as Cartridge;
+ghost use Rattle.gb_abs_memory.specs.Access as Access;
+ghost use Rattle.gb_abs_memory.specs.Sound.{IsSoundLoad};
+
+use crate::refusals::{is_limited, meets_closed_ram};
+use crate::shown::known_bank;
+use gb_abs::covering::cell_at;
+use gb_abs::reason::Reason;
+use gb_abs::span::Span;
+use gb_abs::storage::is_ram;
+use gb_cert::types::{Abs, Core, Val};
+use gb_header::Rom;
+use gb_vals::vals::{any, single};
+
+/// Where the byte at an address is kept: the echo of work RAM is the same byte.
+fn home_of(address: u16) -> u16
+    ensures { result ≡ Access.home_of address }
+{
+    match address {
+        0xE000..=0xFDFF => address - 0x2000,
+        _ => address,
+    }
+}
+
+/// The byte of ROM in this bank; any, where the bank isn't known.
+fn rom_val(rom: &Rom<'_>, address: u16, bank: Option<u16>) -> Val
+    requires { IfSome bank (λ b. b < Cartridge.rom_banks rom.now) }
+    ensures { result ≡ Access.rom_val rom.now address bank }
+{
+    match bank {
+        Some(bank) => single(rom.byte(bank, address)),
+        None => any(),
+    }
+}
+
+/// What is known of the byte at an address, where no OAM transfer closes it.
+#[tactic(auto, unfolding(crate::specs::Access::val_at))]
+pub fn val_at(rom: &Rom<'_>, state: &Abs, address: u16) -> Val
+    ensures { result ≡ Access.val_at rom.now state.now address }
+{
+    if address < 0x8000 {
+        return rom_val(rom, address, known_bank(rom, &state.core().ctl, address));
+    }
+    let home = home_of(address);
+    if is_ram(home) {
+        cell_at(home, state.cells())
+    } else if address == 0xFFFF {
+        state.core().ie
+    } else {
+        any()
+    }
+}
+
+/// What is known of the byte that a load gives: of one of several addresses nothing.
+#[tactic(auto, unfolding(crate::specs::Access::loaded_val))]
+fn loaded_val(rom: &Rom<'_>, state: &Abs, span: Span) -> Val
+    ensures { result ≡ Access.loaded_val rom.now state.now span }
+{
+    if span.is_one() {
+        val_at(rom, state, span.first)
+    } else {
+        any()
+    }
+}
+
+/// The lowest reason against a load.
+#[tactic(auto, unfolding(crate::specs::Access::load_reason))]
+fn load_reason(rom: &Rom<'_>, core: &Core, span: Span) -> Option<Reason>
+    ensures { result ≡ Access.load_reason rom.now core.now span }
+{
+    if meets_closed_ram(rom, core, span) {
+        Some(Reason::CartridgeRam)
+    } else if is_limited(core, span) {
+        Some(Reason::OamTransfer)
+    } else {
+        None
+    }
+}
+
+/// What is known of the byte that is loaded, or the lowest reason against the load.
+#[tactic(auto, unfolding(crate::specs::Access::load))]
+fn loaded_or_reason(rom: &Rom<'_>, state: &Abs, span: Span) -> Result<Val, Reason>
+    ensures { result ≡ Access.load rom.now state.now span }
+{
+    match load_reason(rom, state.core(), span) {
+        Some(reason) => Err(reason),
+        None => Ok(loaded_val(rom, state, span)),
+    }
+}
+
+/// What is known of the byte that a load from one of these addresses gives (Memory map; own).
+///
+/// # Errors
+///
+/// The lowest reason against the load: cartridge RAM that may be closed, or an OAM transfer.
+#[tactic(auto, using(crate::proofs::LoadLaws::load_laws))]
+pub fn load(rom: &Rom<'_>, state: &Abs, span: Span) -> Result<Val, Reason>
+    ensures exact { result ≡ Access.load rom.now state.now span }
+    ensures sound { IfOk result (λ val. IsSoundLoad rom.now state.now span val) }
+{
+    loaded_or_reason(rom, state, span)
+}

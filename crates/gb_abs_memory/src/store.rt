@@ -1,0 +1,189 @@
+//! Stores to abstract states.
+
+ghost use Rattle.std.specs.Prelude.{◌≡◌, None, IfOk};
+ghost use Rattle.std.specs.List.{list_any};
+ghost use Rattle.gb_abs_memory.specs.Access as Access;
+ghost use Rattle.gb_abs_memory.specs.Sound.{IsSoundStore, IsStoredInside};
+
+use crate::refusals::{is_store_limited, store_meets_closed_ram};
+use crate::windows::{ControllerRegister, ctl_after, window_of};
+use gb_abs::cells::{with_cell, without_cells};
+use gb_abs::reason::Reason;
+use gb_abs::span::Span;
+use gb_cert::types::{Abs, Core, Range, Val};
+use gb_header::Rom;
+use gb_ops::machine::{Kind, Region};
+
+/// Where a store may lie.
+#[derive(Clone, Copy, Debug, PartialEq, Eq)]
+pub enum Area {
+    /// A window of the controller's, and the register that is written there.
+    Controller(Option<ControllerRegister>),
+    /// Video RAM, cartridge RAM, or OAM and I/O: an abstract state knows nothing of these.
+    Hardware,
+    Ram,
+    InterruptEnable,
+}
+
+/// The state after a store, and whether it starts an OAM transfer.
+#[derive(Drop)]
+pub struct Stored {
+    pub state: Abs,
+    /// Whether an OAM transfer starts when the instruction has ended.
+    pub starts: bool,
+}
+
+/// Where a span lies that is in no window.
+fn area_above(span: Span) -> Option<Area>
+    ensures { result ≡ Access.area_by None span }
+{
+    if span.is_inside(0x8000, 0x9FFF)
+        || span.is_inside(0xA000, 0xBFFF)
+        || span.is_inside(0xFE00, 0xFF7F)
+    {
+        Some(Area::Hardware)
+    } else if span.is_inside(0xC000, 0xDFFF) || span.is_inside(0xFF80, 0xFFFE) {
+        Some(Area::Ram)
+    } else if span.is_inside(0xFFFF, 0xFFFF) {
+        Some(Area::InterruptEnable)
+    } else {
+        None
+    }
+}
+
+/// The area that all of these addresses lie in.
+#[tactic(auto, unfolding(crate::specs::Access::area_of))]
+pub fn area_of(kind: Kind, span: Span) -> Option<Area>
+    ensures { result ≡ Access.area_of kind span }
+{
+    match window_of(kind, span) {
+        Some(window) => Some(Area::Controller(window.register)),
+        None => area_above(span),
+    }
+}
+
+/// Whether one range holds all of these addresses.
+fn is_in_a_range(ranges: &[Range], span: Span) -> bool
+    ensures { result ≡ list_any (Access.is_range span) ranges.now }
+{
+    ranges
+        .iter()
+        .any(|range| span.is_inside(range.first, range.last))
+}
+
+/// Whether all of these addresses lie in one area that may be stored to: RAM outside the stack
+/// region, and there inside one of the procedure's ranges.
+#[tactic(auto, unfolding(crate::specs::Access::is_storable))]
+pub fn is_storable(kind: Kind, region: Region, ranges: &[Range], span: Span) -> bool
+    ensures { result ≡ Access.is_storable kind region ranges.now span }
+{
+    match area_of(kind, span) {
+        None => false,
+        Some(Area::Ram) => {
+            !span.may_meet(region.first, region.last) && is_in_a_range(ranges, span)
+        }
+        Some(Area::Controller(_) | Area::Hardware | Area::InterruptEnable) => true,
+    }
+}
+
+/// The lowest reason against a store.
+#[tactic(auto, unfolding(crate::specs::Access::store_reason))]
+fn store_reason(
+    rom: &Rom<'_>,
+    region: Region,
+    ranges: &[Range],
+    core: &Core,
+    span: Span,
+    val: &Val,
+) -> Option<Reason>
+    ensures { result ≡ Access.store_reason rom.now region ranges.now core.now span val.now }
+{
+    if !is_storable(rom.kind(), region, ranges, span) {
+        Some(Reason::Store)
+    } else if store_meets_closed_ram(rom, core, span, val) {
+        Some(Reason::CartridgeRam)
+    } else if is_store_limited(core, span) {
+        Some(Reason::OamTransfer)
+    } else {
+        None
+    }
+}
+
+/// The state after a store to RAM: one address gets the value, of several nothing is known any more.
+#[tactic(auto, unfolding(crate::specs::Access::ram_stored))]
+fn ram_stored(span: Span, val: &Val, state: &Abs) -> Abs
+    ensures { result ≡ Access.ram_stored span val.now state.now }
+{
+    if span.is_one() {
+        with_cell(state, span.first, *val)
+    } else {
+        without_cells(state, span.first, span.last)
+    }
+}
+
+/// The state after a store in the area that all of these addresses lie in.
+#[tactic(auto, unfolding(crate::specs::Access::stored_state))]
+fn stored_state(kind: Kind, span: Span, val: &Val, state: &Abs) -> Abs
+    ensures { result ≡ Access.stored_state kind span val.now state.now }
+{
+    let core = *state.core();
+    match area_of(kind, span) {
+        Some(Area::Controller(Some(register))) => {
+            let ctl = ctl_after(kind, register, val, &core.ctl);
+            state.with_core(Core { ctl, ..core })
+        }
+        Some(Area::Ram) => ram_stored(span, val, state),
+        Some(Area::InterruptEnable) => state.with_core(Core { ie: *val, ..core }),
+        Some(Area::Controller(None) | Area::Hardware) | None => state.with_core(core),
+    }
+}
+
+/// Whether a store starts an OAM transfer: one to FF46 alone does (OAM DMA transfer).
+fn starts_oam_transfer(span: Span) -> bool
+    ensures { result ≡ Access.starts_oam_transfer span }
+{
+    span.is_one() && span.first == 0xFF46
+}
+
+/// What a store leaves, or the lowest reason against it.
+#[tactic(auto, unfolding(crate::specs::Access::store))]
+fn stored_or_reason(
+    rom: &Rom<'_>,
+    region: Region,
+    ranges: &[Range],
+    state: &Abs,
+    span: Span,
+    val: &Val,
+) -> Result<Stored, Reason>
+    ensures { result ≡ Access.store rom.now region ranges.now state.now span val.now }
+{
+    match store_reason(rom, region, ranges, state.core(), span, val) {
+        Some(reason) => Err(reason),
+        None => Ok(Stored {
+            state: stored_state(rom.kind(), span, val, state),
+            starts: starts_oam_transfer(span),
+        }),
+    }
+}
+
+/// What a store of one of these bytes to one of these addresses leaves (Memory map; MBCs; own).
+///
+/// # Errors
+///
+/// The lowest reason against the store: no area for stores, cartridge RAM that may be closed, or an
+/// OAM transfer.
+#[tactic(auto, using(crate::proofs::StoreLaws::store_laws))]
+pub fn store(
+    rom: &Rom<'_>,
+    region: Region,
+    ranges: &[Range],
+    state: &Abs,
+    span: Span,
+    val: &Val,
+) -> Result<Stored, Reason>
+    ensures exact { result ≡ Access.store rom.now region ranges.now state.now span val.now }
+    ensures sound { IfOk result (λ o. IsSoundStore rom.now region state.now span val.now o) }
+    ensures inside { IfOk result (λ o. IsStoredInside region ranges.now span) }
+{
+    stored_or_reason(rom, region, ranges, state, span, val)
+}

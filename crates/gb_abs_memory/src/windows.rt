@@ -1,0 +1,288 @@
+//! The windows of a controller's registers, and what a store there leaves.
+
+ghost use Rattle.std.specs.Prelude.{◌≡◌, ◌<◌, ◌≤◌};
+ghost use Rattle.gb_cert.specs.Rules.{IsVal, IsCtl};
+ghost use Rattle.gb_abs_memory.specs.Windows as Windows;
+
+use gb_abs::span::Span;
+use gb_cert::types::{Ctl, May, Val};
+use gb_ops::machine::Kind;
+
+/// The registers of controllers that a store reaches. MBC5's bank has two windows.
+#[derive(Clone, Copy, Debug, PartialEq, Eq)]
+pub enum ControllerRegister {
+    Gate,
+    /// The whole bank of MBC1 and MBC3.
+    Bank,
+    /// The low eight bits of MBC5's bank.
+    LowBank,
+    /// Bit 8 of MBC5's bank.
+    HighBank,
+    Second,
+    Mode,
+}
+
+/// Addresses where all stores reach one register, or none.
+#[derive(Clone, Copy, Debug, PartialEq, Eq)]
+pub struct Window {
+    pub first: u16,
+    pub last: u16,
+    pub register: Option<ControllerRegister>,
+}
+
+const FLAT: [Window; 1] = [Window {
+    first: 0x0000,
+    last: 0x7FFF,
+    register: None,
+}];
+
+const GATE: Window = Window {
+    first: 0x0000,
+    last: 0x1FFF,
+    register: Some(ControllerRegister::Gate),
+};
+
+const BANK: Window = Window {
+    first: 0x2000,
+    last: 0x3FFF,
+    register: Some(ControllerRegister::Bank),
+};
+
+const SECOND: Window = Window {
+    first: 0x4000,
+    last: 0x5FFF,
+    register: Some(ControllerRegister::Second),
+};
+
+const MODE: Window = Window {
+    first: 0x6000,
+    last: 0x7FFF,
+    register: Some(ControllerRegister::Mode),
+};
+
+const REST: Window = Window {
+    first: 0x6000,
+    last: 0x7FFF,
+    register: None,
+};
+
+const LOW_BANK: Window = Window {
+    first: 0x2000,
+    last: 0x2FFF,
+    register: Some(ControllerRegister::LowBank),
+};
+
+const HIGH_BANK: Window = Window {
+    first: 0x3000,
+    last: 0x3FFF,
+    register: Some(ControllerRegister::HighBank),
+};
+
+/// The windows of a controller, from the lowest address on; together they are 0000-7FFF.
+#[tactic(auto, unfolding(crate::specs::Windows::windows))]
+pub fn windows(kind: Kind) -> &'static [Window]
+    ensures { result.now ≡ Windows.windows kind }
+{
+    match kind {
+        Kind::Rom => &FLAT,
+        Kind::Mbc1 => &[GATE, BANK, SECOND, MODE],
+        Kind::Mbc3 => &[GATE, BANK, SECOND, REST],
+        Kind::Mbc5 => &[GATE, LOW_BANK, HIGH_BANK, SECOND, REST],
+    }
+}
+
+/// The window that all of these addresses lie in.
+#[tactic(auto, unfolding(crate::specs::Windows::window_of))]
+pub fn window_of(kind: Kind, span: Span) -> Option<Window>
+    ensures { result ≡ Windows.window_of kind span }
+{
+    windows(kind)
+        .iter()
+        .copied()
+        .find(|window| span.is_inside(window.first, window.last))
+}
+
+/// The least of the numbers from `lo` to `hi`, each cut to `count` values.
+#[tactic(auto, unfolding(crate::specs::Windows::cut_least))]
+fn cut_least(count: u16, lo: u16, hi: u16) -> u16
+    requires { 0 < count }
+    ensures least { result ≡ Windows.cut_least count lo hi }
+    ensures below { result < count }
+{
+    if lo / count == hi / count {
+        lo % count
+    } else {
+        0
+    }
+}
+
+/// The greatest of the numbers from `lo` to `hi`, each cut to `count` values.
+#[tactic(auto, unfolding(crate::specs::Windows::cut_most))]
+fn cut_most(count: u16, lo: u16, hi: u16) -> u16
+    requires { 0 < count }
+    ensures most { result ≡ Windows.cut_most count lo hi }
+    ensures below { result < count }
+{
+    if lo / count == hi / count {
+        hi % count
+    } else {
+        count - 1
+    }
+}
+
+/// Whether one of these bytes has the rest `rest`, divided by `count`.
+#[tactic(auto, unfolding(crate::specs::Windows::has_rest))]
+fn has_rest(count: u16, rest: u16, val: &Val) -> bool
+    requires count { 0 < count }
+    requires small { count ≤ 16 }
+    requires rest { rest < count }
+    ensures { result ≡ Windows.has_rest count rest val.now }
+{
+    let lo = val.lo as u16;
+    lo + (count + rest - lo % count) % count <= val.hi as u16
+}
+
+/// Whether one of these bytes has another rest than `rest`, divided by `count`.
+#[tactic(auto, unfolding(crate::specs::Windows::has_other_rest))]
+fn has_other_rest(count: u16, rest: u16, val: &Val) -> bool
+    requires { 0 < count }
+    ensures { result ≡ Windows.has_other_rest count rest val.now }
+{
+    val.lo < val.hi || val.lo as u16 % count != rest
+}
+
+/// How many values the bank register of MBC1 and MBC3 holds (MBCs).
+fn bank_values(kind: Kind) -> u16
+    ensures values { result ≡ Windows.bank_values kind }
+    ensures some { 0 < result }
+    ensures few { result ≤ 256 }
+{
+    match kind {
+        Kind::Mbc1 => 32,
+        Kind::Rom | Kind::Mbc3 | Kind::Mbc5 => 128,
+    }
+}
+
+/// How many values the second register holds (MBCs).
+fn second_values(kind: Kind) -> u16
+    ensures values { result ≡ Windows.second_values kind }
+    ensures some { 0 < result }
+    ensures few { result ≤ 256 }
+{
+    match kind {
+        Kind::Mbc1 => 4,
+        Kind::Mbc5 => 16,
+        Kind::Rom | Kind::Mbc3 => 256,
+    }
+}
+
+/// The gate opens where the low four bits are A.
+fn gate_after(val: &Val) -> May
+    ensures { result ≡ Windows.gate_after val.now }
+{
+    May {
+        clear: has_other_rest(16, 10, val),
+        set: has_rest(16, 10, val),
+    }
+}
+
+/// The mode is bit 0.
+fn mode_after(val: &Val) -> May
+    ensures { result ≡ Windows.mode_after val.now }
+{
+    May {
+        clear: has_rest(2, 0, val),
+        set: has_rest(2, 1, val),
+    }
+}
+
+/// The bank of MBC1 and MBC3, where 0 counts as 1 once it is cut.
+fn bank_after(count: u16, val: &Val, ctl: &Ctl) -> Ctl
+    requires { 0 < count }
+    ensures { result ≡ Windows.bank_after count val.now ctl.now }
+{
+    let (lo, hi) = (val.lo as u16, val.hi as u16);
+    Ctl {
+        bank_lo: cut_least(count, lo, hi).max(1),
+        bank_hi: cut_most(count, lo, hi).max(1),
+        is_kept: false,
+        ..*ctl
+    }
+}
+
+/// MBC5's bank with other low bits, for each bit 8 that it may have had.
+fn low_bank_after(val: &Val, ctl: &Ctl) -> Ctl
+    ensures { result ≡ Windows.low_bank_after val.now ctl.now }
+{
+    Ctl {
+        bank_lo: ctl.bank_lo / 256 * 256 + val.lo as u16,
+        bank_hi: ctl.bank_hi / 256 * 256 + val.hi as u16,
+        is_kept: false,
+        ..*ctl
+    }
+}
+
+/// MBC5's bank with another bit 8, for all low bits that it may have had.
+fn high_bank_after(val: &Val, ctl: &Ctl) -> Ctl
+    ensures { result ≡ Windows.high_bank_after val.now ctl.now }
+{
+    let (lo, hi) = (val.lo as u16, val.hi as u16);
+    Ctl {
+        bank_lo: cut_least(2, lo, hi) * 256 + cut_least(256, ctl.bank_lo, ctl.bank_hi),
+        bank_hi: cut_most(2, lo, hi) * 256 + cut_most(256, ctl.bank_lo, ctl.bank_hi),
+        is_kept: false,
+        ..*ctl
+    }
+}
+
+/// The second register, cut to the bits that it has.
+fn second_after(count: u16, val: &Val, ctl: &Ctl) -> Ctl
+    requires some { 0 < count }
+    requires few { count ≤ 256 }
+    ensures { result ≡ Windows.second_after count val.now ctl.now }
+{
+    let (lo, hi) = (val.lo as u16, val.hi as u16);
+    Ctl {
+        second_lo: cut_least(count, lo, hi) as u8,
+        second_hi: cut_most(count, lo, hi) as u8,
+        is_kept: false,
+        ..*ctl
+    }
+}
+
+/// Each register's new bounds or set.
+#[tactic(auto, unfolding(crate::specs::Windows::ctl_after))]
+fn written(kind: Kind, register: ControllerRegister, val: &Val, ctl: &Ctl) -> Ctl
+    ensures { result ≡ Windows.ctl_after kind register val.now ctl.now }
+{
+    match register {
+        ControllerRegister::Gate => Ctl {
+            gate: gate_after(val),
+            is_kept: false,
+            ..*ctl
+        },
+        ControllerRegister::Bank => bank_after(bank_values(kind), val, ctl),
+        ControllerRegister::LowBank => low_bank_after(val, ctl),
+        ControllerRegister::HighBank => high_bank_after(val, ctl),
+        ControllerRegister::Second => second_after(second_values(kind), val, ctl),
+        ControllerRegister::Mode => Ctl {
+            mode: mode_after(val),
+            is_kept: false,
+            ..*ctl
+        },
+    }
+}
+
+/// The controller's registers after a store of any of these bytes to one of them: the least bounds
+/// and sets that hold its new value, whatever the registers were. The other registers stay. They
+/// aren't kept any more, even where no value changes.
+#[tactic(auto, using(crate::proofs::ControllerLaws::ctl_after_laws))]
+pub fn ctl_after(kind: Kind, register: ControllerRegister, val: &Val, ctl: &Ctl) -> Ctl
+    ensures exact { result ≡ Windows.ctl_after kind register val.now ctl.now }
+    ensures sound { Windows.IsSoundWrite kind register val.now ctl.now result }
+    ensures least { IsVal val.now → IsCtl ctl.now → Windows.IsLeastWrite kind register val.now ctl.now result }
+    ensures valid { IsVal val.now → IsCtl ctl.now → IsCtl result }
+    ensures alone { Windows.IsWrittenAlone register ctl.now result }
+{
+    written(kind, register, val, ctl)
+}

@@ -1,0 +1,13 @@
+-- What an answer of check_node promises.
+use Rattle.std.proofs.Common.{◌≡◌, ℕ, List, Some, None, Result, Ok, Err}
+use Rattle.std.specs.Result.{MatchResult, OnOk}
+use Rattle.gb_cert.specs.Certificate.{Certificate}
+use Rattle.gb_abs.specs.declared.reason.Reason.{Reason}
+use Rattle.gb_blocks.specs.Rules.{reason_at}
+use Rattle.gb_blocks.specs.Safety.{IsSafeAt}
+use Rattle.gb_blocks.proofs.EventLaws.{IsSafeNode-at}
+
+pub check_node_safe : {X : Type 0} (rom : List ℕ) (cert : Certificate) (i : ℕ) (r : Result X Reason)
+    → MatchResult r (λ _. reason_at rom cert i ≡ None) (λ reason. reason_at rom cert i ≡ Some reason) → OnOk r (IsSafeAt rom cert i)
+check_node_safe rom cert i (Ok u) h = λ n is. IsSafeNode-at rom cert i n is h
+check_node_safe rom cert i (Err reason) h = tt

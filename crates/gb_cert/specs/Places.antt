@@ -1,0 +1,86 @@
+-- Where in the bytes of a certificate its parts stand.
+use Rattle.std.specs.Prelude.{◌≡◌, ℕ, ◌+◌, Bool, true, false, ◌&&◌, ◌==◌, List, [], ◌∷◌, ◌++◌, drop, slice_get, Option, Some, None, Result, Ok, Err}
+use Rattle.std.specs.List.{flat_map}
+use Rattle.gb_ops.specs.declared.machine.Region.{Region}
+use Rattle.gb_cert.specs.declared.fault.CertFault.{CertFault}
+use Rattle.gb_cert.specs.declared.fault.CertFault.TheVariants as fault
+use Rattle.gb_cert.specs.Format.{byte}
+use Rattle.gb_cert.specs.Certificate.{Certificate}
+use Rattle.gb_cert.specs.Reading.{node_number, read_certificate}
+use Rattle.gb_cert.specs.Spelling as spelled
+use Rattle.gb_cert.specs.Spelling.{Spells}
+
+-- The second is what is left of the first behind some bytes.
+pub record IsLeft (bytes rest : List ℕ) : Type 0 where
+  pub front : List ℕ
+  pub parts : bytes ≡ front ++ rest
+
+-- At each place in the bytes an item begins; the items stand one behind the other, and the rest behind the last.
+abbrev pub AreAt : {X : Type 0} → (X → List ℕ) → List ℕ → List ℕ → List ℕ → List X → Type 0
+AreAt write bytes rest [] [] = Unit {0}
+AreAt write bytes rest (p ∷ ps) (x ∷ xs) = (drop p bytes ≡ flat_map write (x ∷ xs) ++ rest) × AreAt write bytes rest ps xs
+AreAt write bytes rest ps xs = ⊥
+
+-- An item begins at the place.
+pub record StandsAt {X : Type 0} (write : X → List ℕ) (bytes : List ℕ) (place : ℕ) (x : X) : Type 0 where
+  pub tail : List ℕ
+  pub parts : drop place bytes ≡ write x ++ tail
+
+-- What reading gives are items at these places, and the rest behind them.
+pub record ArePlaced {X : Type 0} (write : X → List ℕ) (bytes : List ℕ) (read : Result (List X × List ℕ) CertFault) (places rest : List ℕ) : Type 0 where
+  pub items : List X
+  pub is_read : read ≡ Ok (items, rest)
+  pub are_at : AreAt write bytes rest places items
+  pub is_left : IsLeft bytes rest
+
+-- What a function found is right, and its fault is the one that reading meets, unless memory ran out.
+abbrev pub FindsUnlessMemory : {X Y : Type 0} → (X → Type 0) → Result X CertFault → Result Y CertFault → Type 0
+FindsUnlessMemory right (Ok x) read = right x
+FindsUnlessMemory right (Err e) read = (e ≡ fault.Memory → ⊥) → read ≡ Err e
+
+-- ---- the entries of procedures, by their places
+
+abbrev pub number_is : ℕ → Result (ℕ × List ℕ) CertFault → Bool
+number_is number (Ok p) = p.0 == number
+number_is number (Err e) = false
+
+-- At the place, if there is one, stands a node of the procedure with this number.
+abbrev pub place_is_of : ℕ → List ℕ → Option ℕ → Bool
+place_is_of number bytes None = false
+place_is_of number bytes (Some place) = number_is number (byte (drop place bytes))
+
+abbrev pub entry_is_of : ℕ → List ℕ → List ℕ → Result (ℕ × List ℕ) CertFault → Bool
+entry_is_of number bytes nodes (Ok p) = place_is_of number bytes (slice_get nodes p.0)
+entry_is_of number bytes nodes (Err e) = false
+
+-- The procedure with this number, at this place, has its entry at one of its own nodes, which are at their places.
+unfoldable pub has_entry_at : ℕ → ℕ → List ℕ → ℕ → List ℕ → Bool
+has_entry_at version number bytes place nodes = entry_is_of number bytes nodes (node_number version (drop place bytes))
+
+-- Each procedure has; the first of them has this number.
+unfoldable pub have_entries_at : ℕ → ℕ → List ℕ → List ℕ → List ℕ → Bool
+have_entries_at version number bytes [] nodes = true
+have_entries_at version number bytes (p ∷ ps) nodes = has_entry_at version number bytes p nodes && have_entries_at version (number + 1) bytes ps nodes
+
+-- ---- certificates
+
+-- a value, where there is one
+abbrev pub ok_or : {X : Type 0} → X → Result X CertFault → X
+ok_or default (Ok x) = x
+ok_or default (Err e) = default
+
+-- nothing
+abbrev pub no_certificate : Certificate
+no_certificate = record { version = 0; procedures = []; nodes = []; region = record { first = 0; last = 0 } }
+
+-- the certificate that the bytes spell, where they spell one
+abbrev pub certificate_in : List ℕ → Certificate
+certificate_in bytes = ok_or no_certificate (read_certificate bytes)
+
+-- The bytes spell a certificate of this version and region, and its procedures and nodes are at these places.
+pub record IsLaid (bytes : List ℕ) (version : ℕ) (region : Region) (procedures nodes : List ℕ) (c : Certificate) : Type 0 where
+  pub spells : Spells bytes c
+  pub version_is : version ≡ c.version
+  pub region_is : region ≡ c.region
+  pub procedures_at : AreAt (spelled.procedure c.version) bytes (flat_map spelled.node c.nodes) procedures c.procedures
+  pub nodes_at : AreAt spelled.node bytes [] nodes c.nodes

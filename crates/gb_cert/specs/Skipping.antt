@@ -1,0 +1,13 @@
+-- Reading that keeps no value.
+use Rattle.std.specs.Prelude.{ℕ, List, Result, Ok, Err}
+use Rattle.gb_cert.specs.declared.fault.CertFault.{CertFault}
+use Rattle.gb_cert.specs.Format.{Read, go_on}
+
+-- the bytes behind a field
+abbrev pub skipped : {X : Type 0} → Read X → List ℕ → Result (List ℕ) CertFault
+skipped r bytes = go_on (r bytes) (λ x rest. Ok rest)
+
+-- what follows bytes that are left
+abbrev pub past : {Y : Type 0} → Result (List ℕ) CertFault → (List ℕ → Result Y CertFault) → Result Y CertFault
+past (Ok rest) f = f rest
+past (Err e) f = Err e

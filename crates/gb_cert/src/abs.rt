@@ -1,0 +1,82 @@
+//! Abstract states.
+
+ghost use Rattle.std.specs.Prelude.{◌≡◌, ◌≤◌, length};
+ghost use Rattle.gb_cert.specs.Types.{state_of};
+
+use crate::types::{Cell, Core, Item};
+use arrayvec::ArrayVec;
+use std::marker::Model;
+
+/// An abstract state: a set of machine states. Contracts see its core, its items (the oldest
+/// first) and its cells (in order of address).
+#[derive(Drop)]
+pub struct Abs {
+    core: Core,
+    items: ArrayVec<Item, 16>,
+    cells: ArrayVec<Cell, 32>,
+}
+
+impl Model for Abs {
+    ghost use Rattle.gb_cert.specs.Types.{AbsState};
+
+    ghost Value = { AbsState };
+
+    ghost view = { λ s. record { core = s.core; items = s.items.items; cells = s.cells.items } };
+}
+
+impl Abs {
+    /// A state without items and cells.
+    pub fn new(core: Core) -> Abs
+        ensures { result ≡ state_of core }
+    {
+        Abs {
+            core,
+            items: ArrayVec::new(),
+            cells: ArrayVec::new(),
+        }
+    }
+
+    /// A state of these parts.
+    pub fn of_parts(core: Core, items: ArrayVec<Item, 16>, cells: ArrayVec<Cell, 32>) -> Abs
+        ensures { result ≡ record { core = core; items = items.items; cells = cells.items } }
+    {
+        Abs { core, items, cells }
+    }
+
+    pub fn core(&self) -> &Core
+        ensures { result.now ≡ self.now.core }
+    {
+        &self.core
+    }
+
+    /// The words that were pushed, the oldest first.
+    pub fn items(&self) -> &[Item]
+        ensures items { result.now ≡ self.now.items }
+        ensures few { length self.now.items ≤ 16 }
+    {
+        self.items.as_slice()
+    }
+
+    /// What is known of memory, in order of address.
+    pub fn cells(&self) -> &[Cell]
+        ensures cells { result.now ≡ self.now.cells }
+        ensures few { length self.now.cells ≤ 32 }
+    {
+        self.cells.as_slice()
+    }
+
+    /// The same items and cells with another core.
+    pub fn with_core(&self, core: Core) -> Abs
+        ensures { result ≡ record self.now { core = core } }
+    {
+        let mut items = ArrayVec::new();
+        if items.try_extend_from_slice(self.items.as_slice()).is_err() {
+            unreachable!();
+        }
+        let mut cells = ArrayVec::new();
+        if cells.try_extend_from_slice(self.cells.as_slice()).is_err() {
+            unreachable!();
+        }
+        Abs { core, items, cells }
+    }
+}

@@ -1,0 +1,167 @@
+//! Certificates, in the bytes of their files.
+
+ghost use Rattle.std.specs.Prelude.{◌≡◌, ◌<◌, length, slice_get, Some, IfOk};
+ghost use Rattle.std.specs.List.{flat_map};
+ghost use Rattle.gb_cert.specs.Spelling as spelled;
+ghost use Rattle.gb_cert.specs.Spelling.{Spells};
+
+use crate::fields::{from_place, node_number};
+use crate::node::{NodeRef, front_at};
+use crate::procedure::ProcedureRef;
+use gb_ops::machine::Region;
+use std::alloc::{AllocError, Global};
+use std::marker::Model;
+
+/// A certificate, in the bytes of its file, which it borrows. It keeps where each procedure and
+/// each node stands. Contracts see its version, its procedures, its nodes and its stack region.
+#[derive(Drop)]
+pub struct Cert<'a> {
+    bytes: &'a [u8],
+    version: u8,
+    region: Region,
+    procedures: Vec<usize>,
+    nodes: Vec<usize>,
+}
+
+impl<'a> Model for Cert<'a> {
+    ghost use Rattle.gb_cert.specs.Certificate.{Certificate};
+
+    ghost Value = { Certificate };
+
+    ghost use Rattle.gb_cert.specs.Places.{certificate_in, IsLaid};
+
+    ghost view = { λ c. certificate_in c.bytes.now };
+
+    ghost invariant = { λ c. IsLaid c.bytes.now c.version c.region c.procedures.items c.nodes.items (certificate_in c.bytes.now) };
+}
+
+impl<'a> Cert<'a> {
+    ghost use Rattle.gb_cert.specs.Places.{certificate_in, IsLaid};
+    ghost use Rattle.gb_cert.specs.Rules.{IsCertificate};
+
+    /// The certificate in these bytes, its procedures and nodes at these places.
+    pub(crate) fn of_parts(
+        bytes: &'a [u8],
+        version: u8,
+        region: Region,
+        procedures: Vec<usize>,
+        nodes: Vec<usize>,
+    ) -> Cert<'a>
+        requires { IsLaid bytes.now version region procedures.items nodes.items (certificate_in bytes.now) }
+        ensures { result ≡ certificate_in bytes.now }
+    {
+        Cert {
+            bytes,
+            version,
+            region,
+            procedures,
+            nodes,
+        }
+    }
+
+    /// Its version: 1 or 2.
+    pub fn version(&self) -> u8
+        ensures { result ≡ self.now.version }
+    {
+        self.version
+    }
+
+    /// The number of nodes, at most 1,048,576.
+    pub fn nodes(&self) -> u32
+        ensures { result ≡ length self.now.nodes }
+    {
+        self.nodes.len() as u32
+    }
+
+    /// The number of procedures, at most 255.
+    pub fn procedures(&self) -> u8
+        ensures { result ≡ length self.now.procedures }
+    {
+        self.procedures.len() as u8
+    }
+
+    /// The declared stack region. Each certificate keeps the rules of certificates.
+    pub fn region(&self) -> Region
+        ensures region { result ≡ self.now.region }
+        ensures rules { IsCertificate self.now }
+    {
+        self.region
+    }
+
+    /// A node, by its number.
+    pub fn node(&self, i: u32) -> NodeRef<'a>
+        requires { i < length self.now.nodes }
+        ensures { slice_get self.now.nodes i ≡ Some result }
+    {
+        let place = self.nodes[i as usize];
+        match front_at(from_place(self.bytes, place)) {
+            Ok((front, state)) => {
+                NodeRef::of_parts(front.0, front.1.0, front.1.1, self.region, state)
+            }
+            Err(_) => unreachable!(),
+        }
+    }
+
+    /// A procedure, by its number.
+    pub fn procedure(&self, i: u8) -> ProcedureRef<'a>
+        requires { i < length self.now.procedures }
+        ensures { slice_get self.now.procedures i ≡ Some result }
+    {
+        let place = self.procedures[i as usize];
+        match node_number(self.version, from_place(self.bytes, place)) {
+            Ok((entry, body)) => ProcedureRef::of_parts(entry, self.region, body),
+            Err(_) => unreachable!(),
+        }
+    }
+
+    /// All its bytes: its one spelling.
+    pub fn bytes(&self) -> &'a [u8]
+        ensures { Spells result.now self.now }
+    {
+        self.bytes
+    }
+
+    /// The bytes of all its nodes.
+    pub fn node_bytes(&self) -> &'a [u8]
+        ensures { result.now ≡ flat_map spelled.node self.now.nodes }
+    {
+        let place = self.nodes[0];
+        from_place(self.bytes, place)
+    }
+
+    /// The head of the same certificate in version 2. Behind it stand, in version 2, for each
+    /// procedure its entry in four bytes and its body, and then the bytes of all nodes.
+    #[tactic(auto, unfolding(crate::specs::Spelling::head, crate::specs::Spelling::node_number, crate::specs::Spelling::spelling))]
+    pub fn upgraded_head(&self) -> [u8; 14]
+        ensures head { result ≡ spelled.head (record self.now { version = 2 }) }
+        ensures certificate { IsCertificate (record self.now { version = 2 }) }
+    {
+        let region = self.region();
+        let nodes = self.nodes();
+        let low = nodes % 65536;
+        let high = nodes / 65536;
+        [
+            b'G',
+            b'B',
+            b'B',
+            b'C',
+            2,
+            (region.first % 256) as u8,
+            (region.first / 256) as u8,
+            (region.last % 256) as u8,
+            (region.last / 256) as u8,
+            self.procedures(),
+            (low % 256) as u8,
+            (low / 256) as u8,
+            (high % 256) as u8,
+            (high / 256) as u8,
+        ]
+    }
+}
+
+/// The one spelling of a certificate, in its own version.
+pub fn encode(alloc: Global, cert: &Cert<'_>) -> Result<Vec<u8>, AllocError>
+    ensures { IfOk result (λ bytes. Spells bytes.items cert.now) }
+{
+    Vec::from_slice(alloc, cert.bytes())
+}

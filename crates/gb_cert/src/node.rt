@@ -1,0 +1,139 @@
+//! A node of a certificate, in the bytes of its file.
+
+ghost use Rattle.std.specs.Prelude.{◌≡◌, ◌≤◌, ◌*◌, ◌++◌, ◌∷◌, ℕ, List, length};
+ghost use Rattle.std.specs.List.{flat_map};
+ghost use Rattle.gb_cert.specs.Format.{Gives, both, byte};
+ghost use Rattle.gb_cert.specs.Reading.{word};
+ghost use Rattle.gb_cert.specs.Spelling as spelled;
+
+use crate::fault::CertFault;
+use crate::fields::{byte, from_place, word};
+use crate::role::Role;
+use crate::states::state_at;
+use crate::types::Abs;
+use gb_ops::machine::Region;
+use std::marker::Model;
+
+/// The bytes of a state before its items.
+const CORE: usize = 40;
+
+/// The bytes of an item: its high and its low value, three each.
+const ITEM: usize = 6;
+
+/// The bytes of a cell: its address, the low byte first, and its value.
+const CELL: usize = 5;
+
+/// What a certificate claims for one address of a procedure: the bank shown there, and a state.
+/// It borrows the certificate's bytes.
+#[derive(Drop)]
+pub struct NodeRef<'a> {
+    procedure: u8,
+    address: u16,
+    bank: u16,
+    region: Region,
+    state: &'a [u8],
+}
+
+impl<'a> Model for NodeRef<'a> {
+    ghost use Rattle.gb_cert.specs.Types.{Node};
+
+    ghost Value = { Node };
+
+    ghost use Rattle.gb_cert.specs.Rules.{role_of};
+    ghost use Rattle.gb_cert.specs.Borrowed.{state_in, StateStands};
+
+    ghost view = { λ n. record { procedure = n.procedure; address = n.address; bank = n.bank; state = state_in (role_of n.procedure) n.region n.state.now } };
+
+    ghost invariant = { λ n. StateStands (role_of n.procedure) n.region n.state.now (state_in (role_of n.procedure) n.region n.state.now) };
+}
+
+/// The procedure, the address and the bank of a node.
+pub fn front_at(bytes: &[u8]) -> Result<((u8, (u16, u16)), &[u8]), CertFault>
+    ensures { Gives (λ x. (x.0, x.1.now)) result (both byte (both word word) bytes.now) }
+{
+    let (procedure, rest) = byte(bytes)?;
+    let (address, rest) = word(rest)?;
+    let (bank, rest) = word(rest)?;
+    Ok(((procedure, (address, bank)), rest))
+}
+
+/// A list of so many bytes each behind its count, and what is behind it.
+fn counted(bytes: &[u8], size: usize) -> (&[u8], &[u8])
+    requires { size ≤ 6 }
+    ensures { (n : ℕ) (xs rest : List ℕ) → bytes.now ≡ n ∷ (xs ++ rest) → length xs ≡ size * n → (result.0.now ≡ xs) × (result.1.now ≡ rest) }
+{
+    match bytes {
+        [count, rest @ ..] => rest.split_at((size * *count as usize).min(rest.len())),
+        [] => (bytes, bytes),
+    }
+}
+
+impl<'a> NodeRef<'a> {
+    ghost use Rattle.gb_cert.specs.Rules.{role_of};
+    ghost use Rattle.gb_cert.specs.Borrowed.{state_in, StateStands};
+
+    /// The node of these parts, its state at the front of the bytes.
+    pub(crate) fn of_parts(
+        procedure: u8,
+        address: u16,
+        bank: u16,
+        region: Region,
+        state: &'a [u8],
+    ) -> NodeRef<'a>
+        requires { StateStands (role_of procedure) region state.now (state_in (role_of procedure) region state.now) }
+        ensures { result ≡ record { procedure = procedure; address = address; bank = bank; state = state_in (role_of procedure) region state.now } }
+    {
+        NodeRef {
+            procedure,
+            address,
+            bank,
+            region,
+            state,
+        }
+    }
+
+    /// The number of the procedure that it is a node of.
+    pub fn procedure(&self) -> u8
+        ensures { result ≡ self.now.procedure }
+    {
+        self.procedure
+    }
+
+    pub fn address(&self) -> u16
+        ensures { result ≡ self.now.address }
+    {
+        self.address
+    }
+
+    /// The bank shown at the address: 0 to 511.
+    pub fn bank(&self) -> u16
+        ensures { result ≡ self.now.bank }
+    {
+        self.bank
+    }
+
+    /// Its state. It takes no memory.
+    pub fn state(&self) -> Abs
+        ensures { result ≡ self.now.state }
+    {
+        match state_at(Role::of(self.procedure), self.region, self.state) {
+            Ok((state, _)) => state,
+            Err(_) => unreachable!(),
+        }
+    }
+
+    /// The bytes of its state's stack items, six each, the oldest first.
+    pub fn items(&self) -> &'a [u8]
+        ensures { result.now ≡ flat_map spelled.item self.now.state.items }
+    {
+        counted(from_place(self.state, CORE), ITEM).0
+    }
+
+    /// The bytes of its state's memory cells, five each, in order of address.
+    pub fn cells(&self) -> &'a [u8]
+        ensures { result.now ≡ flat_map spelled.cell self.now.state.cells }
+    {
+        let (_, cells) = counted(from_place(self.state, CORE), ITEM);
+        counted(cells, CELL).0
+    }
+}

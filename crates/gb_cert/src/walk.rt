@@ -1,0 +1,202 @@
+//! Walking over the parts of a certificate, each checked, and none kept.
+
+ghost use Rattle.std.specs.Prelude.{◌≡◌, ◌≤◌, nat_le};
+ghost use Rattle.gb_cert.specs.Format.{Gives, mapped, several};
+ghost use Rattle.gb_cert.specs.Limits.{item_limit, cell_limit, range_limit};
+ghost use Rattle.gb_cert.specs.Skipping.{skipped};
+ghost use Rattle.gb_cert.specs.Rules.{words, fits, after_cell, after_range, role_of, key};
+ghost use Rattle.gb_cert.specs.Reading.{item_at, items_at, cell_at, cells_at, state_at, range_at, ranges_at, returns_at, exit_at, entry_at, need_at, procedure_at, key_at, node_at};
+
+use crate::fault::CertFault;
+use crate::fields::{byte, core_at, count_within, node_number, word, word_between, yes_no};
+use crate::limits::{CELL_LIMIT, ITEM_LIMIT, RANGE_LIMIT};
+use crate::role::Role;
+use crate::states::{cell_at, item_at, range_at};
+use gb_ops::machine::Region;
+
+/// Passes over as many items as the count says.
+#[inline(always)]
+fn skip_some_items(count: u8, bytes: &[u8]) -> Result<&[u8], CertFault>
+    ensures { Gives (λ x. x.now) result (skipped (several {S = Unit {0}} (λ s. item_at) (λ i. tt) tt count) bytes.now) }
+{
+    let mut rest = bytes;
+    for _ in 0..count {
+        let (_item, after) = item_at(rest)?;
+        rest = after;
+    }
+    Ok(rest)
+}
+
+#[inline(always)]
+#[tactic(auto, unfolding(crate::specs::Reading::items_at))]
+fn skip_items(role: Role, stack_set: bool, bytes: &[u8]) -> Result<&[u8], CertFault>
+    ensures { Gives (λ x. x.now) result (skipped (items_at role stack_set) bytes.now) }
+{
+    let (count, rest) = count_within(ITEM_LIMIT, bytes)?;
+    if count > 0 && !(role.may_have_items() && stack_set) {
+        return Err(CertFault::Field);
+    }
+    skip_some_items(count, rest)
+}
+
+/// Passes over as many cells as the count says.
+#[inline(always)]
+fn skip_some_cells(region: Region, count: u8, bytes: &[u8]) -> Result<&[u8], CertFault>
+    ensures { Gives (λ x. x.now) result (skipped (several (cell_at region) after_cell 0 count) bytes.now) }
+{
+    let mut least = 0;
+    let mut rest = bytes;
+    for _ in 0..count {
+        let (cell, after) = cell_at(region, least, rest)?;
+        least = cell.address as u32 + 1;
+        rest = after;
+    }
+    Ok(rest)
+}
+
+#[inline(always)]
+#[tactic(auto, unfolding(crate::specs::Reading::cells_at))]
+fn skip_cells(region: Region, bytes: &[u8]) -> Result<&[u8], CertFault>
+    ensures { Gives (λ x. x.now) result (skipped (cells_at region) bytes.now) }
+{
+    let (count, rest) = count_within(CELL_LIMIT, bytes)?;
+    skip_some_cells(region, count, rest)
+}
+
+#[inline(always)]
+fn skip_state(role: Role, region: Region, bytes: &[u8]) -> Result<&[u8], CertFault>
+    ensures { Gives (λ x. x.now) result (skipped (state_at role region) bytes.now) }
+{
+    let (core, rest) = core_at(role, bytes)?;
+    let rest = skip_items(role, core.stack_set, rest)?;
+    skip_cells(region, rest)
+}
+
+/// Passes over as many ranges as the count says.
+fn skip_some_ranges(region: Region, count: u8, bytes: &[u8]) -> Result<&[u8], CertFault>
+    ensures { Gives (λ x. x.now) result (skipped (several (range_at region) after_range 0 count) bytes.now) }
+{
+    let mut least = 0;
+    let mut rest = bytes;
+    for _ in 0..count {
+        let (range, after) = range_at(region, least, rest)?;
+        least = range.last as u32 + 1;
+        rest = after;
+    }
+    Ok(rest)
+}
+
+#[tactic(auto, unfolding(crate::specs::Reading::ranges_at))]
+pub fn skip_ranges(region: Region, bytes: &[u8]) -> Result<&[u8], CertFault>
+    ensures { Gives (λ x. x.now) result (skipped (ranges_at region) bytes.now) }
+{
+    let (count, rest) = count_within(RANGE_LIMIT, bytes)?;
+    skip_some_ranges(region, count, rest)
+}
+
+/// Whether a procedure returns.
+#[tactic(auto, unfolding(crate::specs::Reading::returns_at))]
+pub fn returns_at(is_main: bool, bytes: &[u8]) -> Result<(bool, &[u8]), CertFault>
+    ensures { Gives (λ x. (x.0, x.1.now)) result (returns_at is_main bytes.now) }
+{
+    let (returns, rest) = yes_no(bytes)?;
+    if returns && is_main {
+        return Err(CertFault::Field);
+    }
+    Ok((returns, rest))
+}
+
+#[tactic(auto, using(crate::proofs::Skipping::skip_exit))]
+pub fn skip_exit(region: Region, is_main: bool, bytes: &[u8]) -> Result<&[u8], CertFault>
+    ensures { Gives (λ x. x.now) result (skipped (exit_at region is_main) bytes.now) }
+{
+    let (returns, rest) = returns_at(is_main, bytes)?;
+    if returns {
+        skip_state(Role::Exit, region, rest)
+    } else {
+        Ok(rest)
+    }
+}
+
+/// Whether a need fits the region, where it is main's.
+fn fits(is_main: bool, region: Region, need: u16) -> bool
+    ensures { result ≡ fits is_main region need }
+{
+    !is_main || need as u32 <= (region.last.saturating_sub(region.first) as u32 + 1) / 2
+}
+
+/// The number of a procedure's first node, one of so many.
+#[tactic(auto, unfolding(crate::specs::Reading::entry_at))]
+pub fn entry_at(version: u8, nodes: u32, bytes: &[u8]) -> Result<(u32, &[u8]), CertFault>
+    ensures { Gives (λ x. (x.0, x.1.now)) result (entry_at version nodes bytes.now) }
+{
+    let (entry, rest) = node_number(version, bytes)?;
+    if entry >= nodes {
+        return Err(CertFault::Field);
+    }
+    Ok((entry, rest))
+}
+
+/// The words of stack that a procedure needs.
+#[tactic(auto, unfolding(crate::specs::Reading::need_at))]
+pub fn need_at(is_main: bool, region: Region, bytes: &[u8]) -> Result<(u16, &[u8]), CertFault>
+    ensures { Gives (λ x. (x.0, x.1.now)) result (need_at is_main region bytes.now) }
+{
+    let (need, rest) = word_between(0, 4096, bytes)?;
+    if !fits(is_main, region, need) {
+        return Err(CertFault::Region);
+    }
+    Ok((need, rest))
+}
+
+/// A procedure that begins at one of so many nodes.
+#[tactic(auto, using(crate::proofs::Skipping::skip_procedure))]
+pub fn skip_procedure(
+    version: u8,
+    region: Region,
+    nodes: u32,
+    is_main: bool,
+    bytes: &[u8],
+) -> Result<&[u8], CertFault>
+    ensures { Gives (λ x. x.now) result (skipped (procedure_at version region nodes is_main) bytes.now) }
+{
+    let (_, rest) = entry_at(version, nodes, bytes)?;
+    let (_, rest) = need_at(is_main, region, rest)?;
+    let rest = skip_ranges(region, rest)?;
+    skip_exit(region, is_main, rest)
+}
+
+/// The procedure's number, of so many, and the address of a node, behind those of the node before.
+#[inline(always)]
+#[tactic(auto, unfolding(crate::specs::Reading::key_at))]
+fn key_at(procedures: u8, before: (u8, u16), bytes: &[u8]) -> Result<((u8, u16), &[u8]), CertFault>
+    ensures { Gives (λ x. (x.0, x.1.now)) result (key_at procedures before bytes.now) }
+{
+    let (procedure, rest) = byte(bytes)?;
+    if procedure >= procedures {
+        return Err(CertFault::Field);
+    }
+    if procedure < before.0 {
+        return Err(CertFault::Order);
+    }
+    let (address, rest) = word(rest)?;
+    if procedure == before.0 && address < before.1 {
+        return Err(CertFault::Order);
+    }
+    Ok(((procedure, address), rest))
+}
+
+/// The key of a node of one of so many procedures, behind a node with another key.
+pub fn skip_node(
+    region: Region,
+    procedures: u8,
+    before: (u8, u16),
+    bytes: &[u8],
+) -> Result<((u8, u16), &[u8]), CertFault>
+    ensures { Gives (λ x. (x.0, x.1.now)) result (mapped key (node_at region procedures before) bytes.now) }
+{
+    let (key, rest) = key_at(procedures, before, bytes)?;
+    let (_bank, state) = word_between(0, 511, rest)?;
+    let after = skip_state(Role::of(key.0), region, state)?;
+    Ok((key, after))
+}

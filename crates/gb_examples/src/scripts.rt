@@ -1,0 +1,230 @@
+//! Runs by a script, and what is written of them.
+
+ghost use Rattle.std.specs.Prelude.{◌≡◌, false};
+
+use gb_console::{Console, Ending};
+use gb_header::{HeaderFault, Rom};
+use gb_main::{Progress, RunOutcome, run_bytes, run_script, run_script_shown};
+use gb_samples::cartridges::{PLAIN, put, small};
+use gb_samples::programs::{DRAWS, LOCKS_AT_A, LOOP, OBJECTS, WAITS, WAITS_A_SECOND, tiles};
+use gb_text::kept_bytes::KeptBytes;
+use gb_text::sink::OutFault;
+use std::alloc::{AllocError, Global};
+use std::test::Fail;
+
+/// A sink with room for a run's text.
+fn room() -> KeptBytes
+    ensures { result.has_failed ≡ false }
+{
+    KeptBytes::new(4_000, 12_000)
+}
+
+/// A run from power-up.
+fn run(
+    alloc: Global,
+    bytes: &[u8],
+    script: &[u8],
+    frames: u32,
+    out: &mut KeptBytes,
+) -> Result<Result<Ending, OutFault>, Fail>
+    requires { out.old.has_failed ≡ false }
+{
+    let rom = Rom::parse(bytes)?;
+    let mut console = Console::new(alloc, &rom)?;
+    Ok(run_script(&mut console, script, frames, out))
+}
+
+/// Lines of a screen: so many of these digits, then zeros up to 144, and a last line.
+fn text(alloc: Global, count: u8, digits: &[u8], last: &[u8]) -> Result<Vec<u8>, AllocError> {
+    let mut text = Vec::new(alloc);
+    for i in 0..144u8 {
+        let line = if i < count { digits } else { &[b'0'; 80] };
+        text.extend_from_slice(line)?;
+        text.extend_from_slice(b"\n")?;
+    }
+    text.extend_from_slice(last)?;
+    Ok(text)
+}
+
+/// The ending that a line tells.
+fn ending_of(line: &[u8]) -> Ending {
+    match line.first() {
+        Some(b'L') => Ending::Locked,
+        Some(b'S') => Ending::Stopped,
+        _ => Ending::Whole,
+    }
+}
+
+/// A program, a script, frames, and the last line of the text; the screen stays light.
+type Case<'a> = (&'a [u8], &'a [u8], u32, &'a [u8]);
+
+#[test]
+fn runs_end_with_their_line(rt: HostRuntime) -> Result<(), Fail> {
+    let cases: [Case<'_>; 12] = [
+        (LOOP, &[], 1, b"WHOLE frames 1\n"),
+        (LOOP, &[], 0, b"WHOLE frames 0\n"),
+        (&[0xD3, 0xFE], &[], 1, b"LOCKED frame 0 pc 0150\n"),
+        (&[0x10, 0x00], &[], 1, b"STOPPED frame 0 pc 0150\n"),
+        (&[0x10, 0x00], &[], 0, b"WHOLE frames 0\n"),
+        (WAITS, &[], 3, b"WHOLE frames 3\n"),
+        // Byte k of a script holds the keys of frame k, the key A in bit 0.
+        (LOCKS_AT_A, &[0, 0, 1], 5, b"LOCKED frame 2 pc 015A\n"),
+        (LOCKS_AT_A, &[0, 0, 1], 2, b"WHOLE frames 2\n"),
+        (LOCKS_AT_A, &[0, 0, 1, 0], 3, b"LOCKED frame 2 pc 015A\n"),
+        (LOCKS_AT_A, &[0, 0], 4, b"WHOLE frames 4\n"),
+        (
+            LOCKS_AT_A,
+            &[0xFE, 0x80, 0xFF],
+            4,
+            b"LOCKED frame 2 pc 015A\n",
+        ),
+        (LOCKS_AT_A, &[0xFE, 0x80, 0x7E], 4, b"WHOLE frames 4\n"),
+    ];
+    for (program, script, frames, line) in cases {
+        let mut bytes = small(PLAIN, program);
+        put(&mut bytes, 0x40, &[0xD9]);
+        let mut out = room();
+        let ended = run(rt.alloc(), &bytes, script, frames, &mut out)?;
+        assert_eq!(rt; ended, Ok(ending_of(line)));
+        let expected = text(rt.alloc(), 0, b"", line)?;
+        assert_eq!(rt; out.kept(), expected.as_slice());
+    }
+    Ok(())
+}
+
+/// An MBC3 cartridge with a clock, whose first second passes with frame 59.
+#[test]
+fn a_second_passes_with_each_sixtieth_frame(rt: HostRuntime) -> Result<(), Fail> {
+    let bytes = small([0x0F, 0x00, 0x00], WAITS_A_SECOND);
+    let mut out = room();
+    let ended = run(rt.alloc(), &bytes, &[], 200, &mut out)?;
+    assert_eq!(rt; ended, Ok(Ending::Locked));
+    let expected = text(rt.alloc(), 0, b"", b"LOCKED frame 59 pc 0168\n")?;
+    assert_eq!(rt; out.kept(), expected.as_slice());
+    Ok(())
+}
+
+/// Ten objects on lines 0 to 7, in digits of four pixels a byte.
+#[test]
+fn a_screen_is_drawn(rt: HostRuntime) -> Result<(), Fail> {
+    let mut bytes = small(PLAIN, DRAWS);
+    put(&mut bytes, 0x200, &tiles());
+    put(&mut bytes, 0x230, &OBJECTS);
+    let mut out = room();
+    let ended = run(rt.alloc(), &bytes, &[], 2, &mut out)?;
+    assert_eq!(rt; ended, Ok(Ending::Whole));
+    let line = b"ffff0000aaaaffffffffffffffffffffffffffff0000000000000000000000000000000000000000";
+    let expected = text(rt.alloc(), 8, line, b"WHOLE frames 2\n")?;
+    assert_eq!(rt; out.kept(), expected.as_slice());
+    Ok(())
+}
+
+#[test]
+fn a_sink_that_fails_has_a_beginning(rt: HostRuntime) -> Result<(), Fail> {
+    let bytes = small(PLAIN, &[0xD3]);
+    let whole = text(rt.alloc(), 0, b"", b"LOCKED frame 0 pc 0150\n")?;
+    // Within the first line, at its end, within the last, and just before its end.
+    for most in [0, 40, 80, 81, 11_664, 11_670, 11_686] {
+        assert!(rt; most < whole.len());
+        let mut out = KeptBytes::new(7, most);
+        let ended = run(rt.alloc(), &bytes, &[], 1, &mut out)?;
+        assert_eq!(rt; ended, Err(OutFault));
+        assert_eq!(rt; out.kept(), &whole[..most]);
+    }
+    let mut out = KeptBytes::new(7, 11_687);
+    assert_eq!(rt;
+        run(rt.alloc(), &bytes, &[], 1, &mut out)?,
+        Ok(Ending::Locked)
+    );
+    assert_eq!(rt; out.kept(), whole.as_slice());
+    Ok(())
+}
+
+/// Hears the numbers of frames.
+#[derive(Drop)]
+struct Counter {
+    heard: u32,
+    next: u32,
+    is_done: bool,
+}
+
+fn at_rest() -> Counter {
+    Counter {
+        heard: 0,
+        next: 0,
+        is_done: false,
+    }
+}
+
+impl Progress for Counter {
+    fn frame(&mut self, number: u32, frames: u32) {
+        if number == self.next && frames == 4 && !self.is_done {
+            self.heard = self.heard.wrapping_add(1);
+        }
+        self.next = number.wrapping_add(1);
+    }
+
+    fn done(&mut self) {
+        self.is_done = true;
+    }
+}
+
+#[test]
+fn progress_is_heard_of_each_frame(rt: HostRuntime) -> Result<(), Fail> {
+    let bytes = small(PLAIN, LOCKS_AT_A);
+    let rom = Rom::parse(&bytes)?;
+    let mut console = Console::new(rt.alloc(), &rom)?;
+    let mut out = room();
+    let mut counter = at_rest();
+    let ended = run_script_shown(&mut console, &[0, 0, 1], 4, &mut out, &mut counter);
+    assert_eq!(rt; ended, Ok(Ending::Locked));
+    assert_eq!(rt; counter.heard, 3);
+    assert!(rt; counter.is_done);
+    Ok(())
+}
+
+#[test]
+fn a_file_is_run_or_its_fault_is_written(rt: HostRuntime) -> Result<(), Fail> {
+    let cases: [(u8, &[u8], RunOutcome); 3] = [
+        (0xE7, LOOP, RunOutcome::Ended(Ending::Whole)),
+        (0xE7, &[0x10], RunOutcome::Ended(Ending::Stopped)),
+        (0xE6, LOOP, RunOutcome::NoCartridge(HeaderFault::Checksum)),
+    ];
+    for (checksum, program, outcome) in cases {
+        let mut bytes = small(PLAIN, program);
+        put(&mut bytes, 0x14D, &[checksum]);
+        let mut out = room();
+        let became = run_bytes(rt.alloc(), &bytes, &[], 3, &mut out, &mut at_rest());
+        assert_eq!(rt; became, Ok(outcome));
+        let expected = match outcome {
+            RunOutcome::Ended(Ending::Whole) => text(rt.alloc(), 0, b"", b"WHOLE frames 3\n")?,
+            RunOutcome::Ended(_) => text(rt.alloc(), 0, b"", b"STOPPED frame 0 pc 0150\n")?,
+            _ => Vec::from_slice(rt.alloc(), b"CARTRIDGE H7\n")?,
+        };
+        assert_eq!(rt; out.kept(), expected.as_slice());
+        let mut out = KeptBytes::new(4_000, 10);
+        let became = run_bytes(rt.alloc(), &bytes, &[], 3, &mut out, &mut at_rest());
+        assert_eq!(rt; became, Err(OutFault));
+        assert!(rt; 10 < expected.len());
+        assert_eq!(rt; out.kept(), &expected[..10]);
+    }
+    Ok(())
+}
+
+/// Where an allocation is refused, nothing is written and nothing ran.
+#[test]
+fn a_file_is_run_or_wants_memory(rt: HostRuntime) {
+    let bytes = small(PLAIN, LOOP);
+    let mut out = room();
+    let mut counter = at_rest();
+    match run_bytes(rt.alloc(), &bytes, &[], 4, &mut out, &mut counter) {
+        Ok(RunOutcome::NoMemory) => {
+            assert!(rt; out.kept().is_empty());
+            assert_eq!(rt; (counter.heard, counter.is_done), (0, false));
+        }
+        became => {
+            assert_eq!(rt; became, Ok(RunOutcome::Ended(Ending::Whole)));
+            assert_eq!(rt; (counter.heard, counter.is_done), (4, true));
+        }
+    }
+}

@@ -1,0 +1,17 @@
+//! Worked examples of the checker: values from outside (worked by hand from the rules, and an independent
+//! implementation's verdicts), what no contract says (text, want of memory, failing sinks), and each public call once.
+//! The functions here promise nothing but to be safe.
+//!
+//! Read controllers.rt and memory.rt first (loads and stores), then certificates.rt, versions.rt and verdicts.rt.
+#![tactic(auto)]
+
+#[cfg(test)]
+mod certificates;
+#[cfg(test)]
+mod controllers;
+#[cfg(test)]
+mod memory;
+#[cfg(test)]
+mod verdicts;
+#[cfg(test)]
+mod versions;

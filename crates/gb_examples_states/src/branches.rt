@@ -1,0 +1,124 @@
+//! The sides of conditional instructions.
+
+use gb_abs_effects::sides::{Sides, sides_of};
+use gb_abs_effects::transfer::untaken;
+use gb_abs_effects::writes::AbsWrite;
+use gb_cert::types::{Core, Flg};
+use gb_ops::op::{AluOp, Condition, Op, Register};
+use gb_samples::states::{CLEAR, EITHER, SET, copy_of, entered, with_carry};
+use gb_vals::branch::{Branch, side, test_of_immediate, test_of_itself};
+
+/// CP with a byte leaves it as the test; AND and OR of A with itself leave 0.
+#[test]
+fn tests_are_left(rt: HostRuntime) {
+    for (op, of_byte, of_itself) in [
+        (AluOp::Cp, Some(7), None),
+        (AluOp::And, None, Some(0)),
+        (AluOp::Or, None, Some(0)),
+        (AluOp::Sub, None, None),
+        (AluOp::Xor, None, None),
+    ] {
+        assert_eq!(rt; test_of_immediate(op, 7), of_byte, "{op:?}");
+        assert_eq!(rt; test_of_itself(op), of_itself, "{op:?}");
+    }
+}
+
+/// A test, a condition, A's bounds, and its bounds on that side, if it can be.
+type Row = (u8, Condition, u8, u8, Option<(u8, u8)>);
+
+const ROWS: [Row; 20] = [
+    (0x10, Condition::Zero, 0x00, 0xFF, Some((0x10, 0x10))),
+    (0x10, Condition::NotZero, 0x00, 0xFF, Some((0x00, 0xFF))),
+    (0x10, Condition::Carry, 0x00, 0xFF, Some((0x00, 0x0F))),
+    (0x10, Condition::NotCarry, 0x00, 0xFF, Some((0x10, 0xFF))),
+    (0x10, Condition::NotZero, 0x10, 0x20, Some((0x11, 0x20))),
+    (0x10, Condition::Carry, 0x10, 0x20, None),
+    (0x10, Condition::NotCarry, 0x10, 0x20, Some((0x10, 0x20))),
+    (0x20, Condition::NotZero, 0x10, 0x20, Some((0x10, 0x1F))),
+    (0x20, Condition::Carry, 0x10, 0x20, Some((0x10, 0x1F))),
+    (0x20, Condition::NotCarry, 0x10, 0x20, Some((0x20, 0x20))),
+    (0x04, Condition::Zero, 0x00, 0x03, None),
+    (0x04, Condition::Carry, 0x00, 0x03, Some((0x00, 0x03))),
+    (0x04, Condition::NotCarry, 0x00, 0x03, None),
+    (0x00, Condition::Carry, 0x00, 0xFF, None),
+    (0x00, Condition::NotZero, 0x00, 0xFF, Some((0x01, 0xFF))),
+    (0x00, Condition::NotCarry, 0x00, 0xFF, Some((0x00, 0xFF))),
+    (0xFF, Condition::NotZero, 0x00, 0xFF, Some((0x00, 0xFE))),
+    (0xFF, Condition::Zero, 0x00, 0xFF, Some((0xFF, 0xFF))),
+    (0xFF, Condition::NotZero, 0xFF, 0xFF, None),
+    (0xFF, Condition::NotCarry, 0xFF, 0xFF, Some((0xFF, 0xFF))),
+];
+
+#[test]
+fn tests_narrow_a(rt: HostRuntime) {
+    for (n, condition, lo, hi, want) in ROWS {
+        let a = copy_of(Register::A, lo, hi);
+        let got = side(Some(n), condition, a, with_carry(EITHER));
+        let narrowed = got.map(|branch| branch.a);
+        let want = want.map(|(lo, hi)| copy_of(Register::A, lo, hi));
+        assert_eq!(rt; narrowed, want, "{n} {condition:?} {lo} {hi}");
+    }
+}
+
+#[test]
+fn a_flag_is_known_on_its_side(rt: HostRuntime) {
+    let a = copy_of(Register::A, 0, 255);
+    let flags = with_carry(SET);
+    assert_eq!(rt; side(None, Condition::NotCarry, a, flags), None);
+    let taken = side(None, Condition::Carry, a, flags);
+    assert_eq!(rt; taken, Some(Branch { a, flags }));
+    let zero = Flg { zero: SET, ..flags };
+    let taken = side(None, Condition::Zero, a, flags);
+    assert_eq!(rt; taken, Some(Branch { a, flags: zero }));
+}
+
+/// A in 0 to 20, compared with 10.
+fn compared() -> Core {
+    let mut core = entered();
+    core.registers.a = copy_of(Register::A, 0, 20);
+    core.flags = with_carry(EITHER);
+    core.test = Some(10);
+    core
+}
+
+/// The core with other bounds of A and other flags.
+fn narrowed(core: Core, lo: u8, hi: u8, flags: Flg) -> Option<Core> {
+    let mut narrowed = core;
+    narrowed.registers.a = copy_of(Register::A, lo, hi);
+    narrowed.flags = flags;
+    Some(narrowed)
+}
+
+#[test]
+fn sides_are_narrowed(rt: HostRuntime) {
+    let core = compared();
+    let flags = core.flags;
+    let zero = narrowed(core, 10, 10, Flg { zero: SET, ..flags });
+    let not_zero = narrowed(
+        core,
+        0,
+        20,
+        Flg {
+            zero: CLEAR,
+            ..flags
+        },
+    );
+    let carry = narrowed(core, 0, 9, with_carry(SET));
+    let not_carry = narrowed(core, 10, 20, with_carry(CLEAR));
+    for (op, taken, not_taken) in [
+        (Op::JumpRelativeIf(Condition::Zero, 5), zero, not_zero),
+        (Op::JumpIf(Condition::NotZero, 0x4000), not_zero, zero),
+        (Op::CallIf(Condition::Carry, 0x4000), carry, not_carry),
+        (Op::ReturnIf(Condition::NotCarry), not_carry, carry),
+        (Op::Jump(0x4000), Some(core), None),
+    ] {
+        assert_eq!(rt; sides_of(op, &core), Sides { taken, not_taken }, "{op:?}");
+    }
+    // Where Z is known, one side is possible.
+    let mut known_zero = core;
+    known_zero.flags.zero = SET;
+    let sides = sides_of(Op::JumpRelativeIf(Condition::NotZero, 5), &known_zero);
+    assert_eq!(rt; (sides.taken, sides.not_taken), (None, zero));
+    let left = untaken(&core);
+    assert_eq!(rt; (left.core, left.write), (core, AbsWrite::Nothing));
+}

@@ -1,0 +1,15 @@
+//! Worked examples of abstract states and of what instructions make of them: values worked by hand from the rules, the
+//! least bounds that trying each value finds, and each public call once. The functions here promise nothing but to be
+//! safe.
+//!
+//! Read arithmetic.rt first (intervals and flags), then branches.rt, states.rt and effects.rt.
+#![tactic(auto)]
+
+#[cfg(test)]
+mod arithmetic;
+#[cfg(test)]
+mod branches;
+#[cfg(test)]
+mod effects;
+#[cfg(test)]
+mod states;

@@ -1,0 +1,199 @@
+//! Cells, words and single values of abstract states.
+
+use gb_abs::cells::{with_cell, without_cells};
+use gb_abs::covering::{cell_at, covers, covers_val};
+use gb_abs::operations::{end, settle, with_value};
+use gb_abs::span::Span;
+use gb_abs::stack::{pop, push};
+use gb_cert::types::{Abs, Cell, Core, ImeSet, Item, Val};
+use gb_ops::op::Register;
+use gb_samples::states::{ANY, copy_of, entered, from_to, own};
+
+fn up_to(hi: u8) -> Val {
+    from_to(0, hi)
+}
+
+fn cell(address: u16, hi: u8) -> Cell {
+    Cell {
+        address,
+        val: up_to(hi),
+    }
+}
+
+/// A state with cells at C000, C002, C004 and so on, as many as asked for, that hold 0 to 1 each.
+fn with_cells_up_to(count: u16) -> Abs {
+    let mut state = Abs::new(entered());
+    for i in 0..count.min(40) {
+        state = with_cell(&state, 0xC000 + 2 * i, up_to(1));
+    }
+    state
+}
+
+fn word(high: u8, low: u8) -> Item {
+    Item {
+        high: up_to(high),
+        low: up_to(low),
+    }
+}
+
+#[test]
+fn a_cell_is_put_in_order(rt: HostRuntime) {
+    let mut state = Abs::new(entered());
+    for (address, hi) in [(0xC005, 5), (0xFFFE, 8), (0xC000, 1), (0xC003, 3)] {
+        state = with_cell(&state, address, up_to(hi));
+    }
+    let cells = [
+        cell(0xC000, 1),
+        cell(0xC003, 3),
+        cell(0xC005, 5),
+        cell(0xFFFE, 8),
+    ];
+    assert_eq!(rt; state.cells(), cells.as_slice());
+    assert_eq!(rt; cell_at(0xC003, state.cells()), up_to(3));
+    assert_eq!(rt; cell_at(0xC004, state.cells()), ANY);
+    // The first and one between get other values; the origin of what was stored is kept.
+    let val = own(Register::A);
+    let state = with_cell(&with_cell(&state, 0xC000, val), 0xC003, up_to(4));
+    let first = Cell {
+        address: 0xC000,
+        val,
+    };
+    let cells = [first, cell(0xC003, 4), cell(0xC005, 5), cell(0xFFFE, 8)];
+    assert_eq!(rt; state.cells(), cells.as_slice());
+    assert_eq!(rt; *state.core(), entered());
+}
+
+#[test]
+fn at_most_32_cells(rt: HostRuntime) {
+    // The 32nd finds room, at either end too, and the 33rd doesn't: nothing is known there.
+    for (held, count, hi) in [(31, 32, 9), (32, 32, 255)] {
+        let state = with_cells_up_to(held);
+        for address in [0xBFFF, 0xC001, 0xFF80] {
+            let more = with_cell(&state, address, up_to(9));
+            assert_eq!(rt; more.cells().len(), count);
+            assert_eq!(rt; cell_at(address, more.cells()), up_to(hi));
+        }
+    }
+    // One that is held gets its value, the first and the last of 32 too.
+    let full = with_cells_up_to(32);
+    for address in [0xC000, 0xC01E, 0xC03E] {
+        let set = with_cell(&full, address, up_to(9));
+        assert_eq!(rt; set.cells().len(), 32);
+        assert_eq!(rt; cell_at(address, set.cells()), up_to(9));
+    }
+}
+
+#[test]
+fn cells_are_dropped(rt: HostRuntime) {
+    let state = with_cells_up_to(4);
+    let cells = [
+        cell(0xC000, 1),
+        cell(0xC002, 1),
+        cell(0xC004, 1),
+        cell(0xC006, 1),
+    ];
+    // From and to the cells themselves, and between them.
+    for (first, last, left) in [
+        (0xC002, 0xC004, [cells[0], cells[3]].as_slice()),
+        (0xC001, 0xC005, [cells[0], cells[3]].as_slice()),
+        (0xC000, 0xC002, [cells[2], cells[3]].as_slice()),
+        (0xC006, 0xFFFF, [cells[0], cells[1], cells[2]].as_slice()),
+        (0x0000, 0xFFFF, [].as_slice()),
+        (0xC007, 0xFFFF, cells.as_slice()),
+        (0xC001, 0xC001, cells.as_slice()),
+    ] {
+        assert_eq!(rt;
+            without_cells(&state, first, last).cells(),
+            left,
+            "{first:x} to {last:x}"
+        );
+    }
+}
+
+/// Sixteen words, which come back, the youngest first.
+#[test]
+fn at_most_16_words(rt: HostRuntime) {
+    let mut state = with_cell(&Abs::new(entered()), 0xC000, up_to(3));
+    for i in 0..16 {
+        let Some(more) = push(&state, word(i, 100)) else {
+            panic!(rt; "no room for word {i}");
+        };
+        state = more;
+    }
+    assert_eq!(rt; state.items().len(), 16);
+    assert!(rt; push(&state, word(16, 100)).is_none());
+    for i in 0..16 {
+        let Some(popped) = pop(&state) else {
+            panic!(rt; "no word {i}");
+        };
+        assert_eq!(rt; popped.item, word(15 - i, 100));
+        state = popped.state;
+    }
+    assert!(rt; pop(&state).is_none());
+    assert_eq!(rt; state.cells(), [cell(0xC000, 3)].as_slice());
+    assert_eq!(rt; *state.core(), entered());
+}
+
+/// A register takes one value: its origin stays, and all else, the test and F's origin too.
+#[test]
+fn a_register_takes_one_value(rt: HostRuntime) {
+    let mut core = entered();
+    core.test = Some(7);
+    let after = with_value(Register::A, 5, &core);
+    let mut expected = core;
+    expected.registers.a = copy_of(Register::A, 5, 5);
+    assert_eq!(rt; after, expected);
+}
+
+/// The bound is 3: it falls by the M-cycles, to 0 at least, but a transfer that starts has 161 left.
+#[test]
+fn a_transfer_begins_as_an_instruction_ends(rt: HostRuntime) {
+    let core = Core {
+        bound: 3,
+        ..entered()
+    };
+    for (starts, cycles, bound) in [(false, 2, 1), (false, 3, 0), (false, 6, 0), (true, 3, 161)] {
+        let after = Core { bound, ..core };
+        assert_eq!(rt; end(starts, cycles, &core), after, "{cycles} M-cycles");
+    }
+}
+
+/// IME that is pending is on at the next instruction.
+#[test]
+fn pending_becomes_on(rt: HostRuntime) {
+    let ime = ImeSet {
+        off: true,
+        pending: true,
+        on: false,
+    };
+    let settled = settle(&Core { ime, ..entered() });
+    let ime = ImeSet {
+        off: true,
+        pending: false,
+        on: true,
+    };
+    assert_eq!(rt; settled, Core { ime, ..entered() });
+}
+
+/// A narrower value is covered, a wider one and another origin aren't; what is covered needs each cell of the other.
+#[test]
+fn wider_states_cover_narrower_ones(rt: HostRuntime) {
+    let own_a = own(Register::A);
+    assert!(rt; covers_val(&copy_of(Register::A, 3, 4), &own_a));
+    assert!(rt; covers_val(&own_a, &ANY));
+    assert!(rt; !covers_val(&ANY, &own_a));
+    assert!(rt; !covers_val(&own(Register::B), &own_a));
+    let (few, more) = (with_cells_up_to(1), with_cells_up_to(2));
+    assert!(rt; covers(&more, &few));
+    assert!(rt; !covers(&few, &more));
+    assert!(rt; covers(&few, &with_cell(&few, 0xC000, up_to(2))));
+}
+
+#[test]
+fn spans_are_known_of_pairs(rt: HostRuntime) {
+    let span = Span::of_pair(&from_to(0xC0, 0xC1), &from_to(0x10, 0x20));
+    assert_eq!(rt; (span.first, span.last), (0xC010, 0xC120));
+    assert!(rt; !span.is_one() && Span::one(0xC010).is_one());
+    assert!(rt; span.is_inside(0xC000, 0xC120) && !span.is_inside(0xC000, 0xC11F));
+    assert!(rt; span.may_meet(0xC120, 0xC130) && !span.may_meet(0xC121, 0xC130));
+}

@@ -1,4 +1,0 @@
-pub mod Bytes
-pub mod Fetches
-pub mod Limiting
-pub mod Starting

@@ -1,7 +1,0 @@
--- What a plain sink shows.
-use Rattle.std.specs.Prelude.{Bool}
-use Rattle.gb_ops.specs.declared.sink.Plain.{Plain}
-
--- whether it failed
-abbrev pub has_failed : {W : Type 0} → Plain W → Bool
-has_failed sink = sink.has_failed

@@ -1,0 +1,7 @@
+pub mod Bytes
+pub mod Dispatching
+pub mod Facts
+pub mod Fetches
+pub mod Limiting
+pub mod Pending
+pub mod Starting

@@ -1,5 +1,0 @@
-use Rattle.gb_ppu.proofs.Courses.{IsSound-advanced}
-use Rattle.gb_ppu.proofs.ppu.Ppu.advance_slowly.Goals as goal
-
-pub invariant_of-self : goal.invariant_of-self
-invariant_of-self c = rw c.advance_slowly-passed.ensures.picture (IsSound-advanced _ _ c.self.invariant)

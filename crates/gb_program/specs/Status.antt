@@ -1,0 +1,35 @@
+-- What the program ends with, by what became of a command.
+use Rattle.std.specs.Prelude.{Option, Some, None, Result, Ok, Err}
+use Rattle.gb_header.specs.declared.fault.HeaderFault.{HeaderFault}
+use Rattle.gb_console.specs.declared.frame.Ending.{Ending}
+use Rattle.gb_console.specs.declared.frame.Ending.TheVariants as ending
+use Rattle.gb_verify.specs.declared.verify.Outcome.{Outcome}
+use Rattle.gb_verify.specs.declared.verify.Outcome.TheVariants as outcome
+use Rattle.gb_main.specs.declared.commands.RunOutcome.{RunOutcome}
+use Rattle.gb_main.specs.declared.commands.RunOutcome.TheVariants as played
+use Rattle.gb_program.specs.declared.status.Status.{Status}
+use Rattle.gb_program.specs.declared.status.Status.TheVariants as status
+use Rattle.gb_program.specs.declared.files.Trouble.{Trouble}
+use Rattle.gb_program.specs.declared.files.Trouble.TheVariants as trouble
+
+abbrev pub verify_status : Outcome → Status
+verify_status outcome.Accepted = status.Done
+verify_status outcome.Refused = status.Refused
+verify_status outcome.Unreadable = status.Unreadable
+verify_status outcome.NoMemory = status.Failed
+
+-- of a file with this fault, or none
+abbrev pub header_status : Option HeaderFault → Status
+header_status None = status.Done
+header_status (Some fault) = status.Unreadable
+
+abbrev pub ending_status : Ending → Status
+ending_status ending.Whole = status.Done
+ending_status ending.Locked = status.Refused
+ending_status ending.Stopped = status.Refused
+
+-- where memory ran out, nothing was printed yet
+abbrev pub run_status : RunOutcome → Result Status Trouble
+run_status (played.Ended end) = Ok (ending_status end)
+run_status (played.NoCartridge fault) = Ok status.Unreadable
+run_status played.NoMemory = Err trouble.Memory

@@ -1,0 +1,68 @@
+//! What the program says on standard error, and the lines of its faults.
+
+ghost use Rattle.std.specs.Prelude.{◌≡◌};
+ghost use Rattle.gb_program.specs.Messages.{fault_text};
+ghost use Rattle.gb_program.specs.declared.status.Status.TheVariants as status;
+
+use crate::files::Trouble;
+use crate::status::Status;
+use std::io;
+
+/// The line of a fault.
+fn fault_text(trouble: Trouble) -> &'static str
+    ensures { result.now ≡ fault_text trouble }
+{
+    match trouble {
+        Trouble::Memory => "FAULT memory",
+        Trouble::Device => "FAULT device",
+    }
+}
+
+/// Prints that memory or a device failed.
+pub fn complain<R: Print>(rt: &R, trouble: Trouble) -> Status
+    ensures { result ≡ status.Failed }
+{
+    let _ = rt.println(fault_text(trouble));
+    Status::Failed
+}
+
+/// Says why a file can't be read.
+pub fn tell_file<R: Eprint>(rt: &R, name: &str, error: &io::Error) {
+    let _ = match error.kind() {
+        io::ErrorKind::NotFound => eprintln!(rt; "gulmyrek: {name}: no such file"),
+        io::ErrorKind::PermissionDenied => eprintln!(rt;
+            "gulmyrek: {name}: no permission to read it"
+        ),
+        io::ErrorKind::IsADirectory => eprintln!(rt; "gulmyrek: {name}: it is a folder"),
+        io::ErrorKind::OutOfMemory => eprintln!(rt; "gulmyrek: {name}: memory ran out"),
+        _ => eprintln!(rt; "gulmyrek: {name}: {error}"),
+    };
+}
+
+/// Says that standard output takes no more.
+pub fn tell_output<R: Eprint>(rt: &R) -> Status
+    ensures { result ≡ status.Failed }
+{
+    let _ = eprintln!(rt; "gulmyrek: standard output takes no more");
+    Status::Failed
+}
+
+/// Says that two files of one command can't both be standard input.
+pub fn explain_input<R: Eprint>(rt: &R) -> Status
+    ensures { result ≡ status.Unreadable }
+{
+    let _ = eprintln!(rt;
+        "error: only one of the files can be - for standard input\n\nFor more information, try '--help'."
+    );
+    Status::Unreadable
+}
+
+/// Says that a word isn't text.
+pub fn explain_name<R: Eprint>(rt: &R) -> Status
+    ensures { result ≡ status.Unreadable }
+{
+    let _ = eprintln!(rt;
+        "error: a word is not UTF-8; a file with such a name can be given as - by < on standard input\n\nFor more information, try '--help'."
+    );
+    Status::Unreadable
+}

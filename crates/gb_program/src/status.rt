@@ -1,0 +1,57 @@
+//! What the program ends with.
+
+ghost use Rattle.std.specs.Prelude.{◌≡◌};
+ghost use Rattle.gb_program.specs.Status.{verify_status, header_status, run_status};
+
+use crate::files::Trouble;
+use gb_console::Ending;
+use gb_header::HeaderFault;
+use gb_main::RunOutcome;
+use gb_verify::verify::Outcome;
+
+/// The statuses that the program ends with.
+#[derive(Clone, Copy, Debug, PartialEq, Eq)]
+pub enum Status {
+    /// Accepted, run whole, or printed.
+    Done = 0,
+    /// Refused, locked or stopped.
+    Refused = 1,
+    /// The input or the words can't be read.
+    Unreadable = 2,
+    /// Memory or a device failed.
+    Failed = 3,
+}
+
+/// The status of a verdict.
+pub fn verify_status(outcome: Outcome) -> Status
+    ensures { result ≡ verify_status outcome }
+{
+    match outcome {
+        Outcome::Accepted => Status::Done,
+        Outcome::Refused => Status::Refused,
+        Outcome::Unreadable => Status::Unreadable,
+        Outcome::NoMemory => Status::Failed,
+    }
+}
+
+/// The status of a header's line, or of the fault in its place.
+pub fn header_status(fault: Option<HeaderFault>) -> Status
+    ensures { result ≡ header_status fault }
+{
+    match fault {
+        None => Status::Done,
+        Some(_) => Status::Unreadable,
+    }
+}
+
+/// The status of a run; where there was no room for it nothing was printed yet.
+pub fn run_status(outcome: RunOutcome) -> Result<Status, Trouble>
+    ensures { result ≡ run_status outcome }
+{
+    match outcome {
+        RunOutcome::Ended(Ending::Whole) => Ok(Status::Done),
+        RunOutcome::Ended(Ending::Locked | Ending::Stopped) => Ok(Status::Refused),
+        RunOutcome::NoCartridge(_) => Ok(Status::Unreadable),
+        RunOutcome::NoMemory => Err(Trouble::Memory),
+    }
+}

@@ -1,0 +1,22 @@
+use Rattle.std.proofs.Common.{◌≡◌, ℕ, ◌*◌, ◌^◌, ◌<◌, List, length, false, true, subst, arith}
+use Rattle.gb_rows.specs.Rows.{AskedAtMost}
+use Rattle.gb_rows.proofs.Halving.{IsCount, counts-found, asked-twice}
+use Rattle.gb_rows.proofs.find_in.Goals as goal
+
+pub returns-clause-found : goal.returns-clause-found
+returns-clause-found g c =
+    let first : IsCount (g.R.Rows.keys c.args.rows.now) false (c.args.procedure, c.args.address) c.count_before-first.result = record { within = c.count_before-first.ensures.within; counted = c.count_before-first.ensures.counted; others = c.count_before-first.ensures.others } in
+    let behind : IsCount (g.R.Rows.keys c.count_before-first.new.rows) true (c.args.procedure, c.args.address) c.count_before-after.result = record { within = c.count_before-after.ensures.within; counted = c.count_before-after.ensures.counted; others = c.count_before-after.ensures.others } in
+    counts-found (g.R.Rows.keys c.args.rows.now) (c.args.procedure, c.args.address) c.count_before-first.result c.count_before-after.result first (subst (λ (keys : List (ℕ × ℕ)). IsCount keys true (c.args.procedure, c.args.address) c.count_before-after.result) c.count_before-first.ensures.same behind)
+
+twice : (keys between : List (ℕ × ℕ)) (before mid after : ℕ → Type 0) (bits : ℕ) → between ≡ keys → ((bits : ℕ) → length keys < 2 ^ bits → AskedAtMost before mid bits) → ((bits : ℕ) → length between < 2 ^ bits → AskedAtMost mid after bits) → length keys < 2 ^ bits → AskedAtMost before after (2 * bits)
+twice keys between before mid after bits e f h few = asked-twice before mid after bits (f bits few) (h bits (rw e few))
+
+pub returns-clause-asked : goal.returns-clause-asked
+returns-clause-asked g c = λ bits few. twice (g.R.Rows.keys c.args.rows.now) (g.R.Rows.keys c.count_before-first.new.rows) (g.R.Rows.asked c.args.rows.now) (g.R.Rows.asked c.count_before-first.new.rows) (g.R.Rows.asked c.count_before-after.new.rows) bits c.count_before-first.ensures.same c.count_before-first.ensures.asked c.count_before-after.ensures.asked few
+
+pub returns-clause-few : goal.returns-clause-few
+returns-clause-few g c = λ few. twice (g.R.Rows.keys c.args.rows.now) (g.R.Rows.keys c.count_before-first.new.rows) (g.R.Rows.asked c.args.rows.now) (g.R.Rows.asked c.count_before-first.new.rows) (g.R.Rows.asked c.count_before-after.new.rows) 16 c.count_before-first.ensures.same c.count_before-first.ensures.asked c.count_before-after.ensures.asked (omega arith)
+
+pub returns-clause-most : goal.returns-clause-most
+returns-clause-most g c = λ few. twice (g.R.Rows.keys c.args.rows.now) (g.R.Rows.keys c.count_before-first.new.rows) (g.R.Rows.asked c.args.rows.now) (g.R.Rows.asked c.count_before-first.new.rows) (g.R.Rows.asked c.count_before-after.new.rows) 21 c.count_before-first.ensures.same c.count_before-first.ensures.asked c.count_before-after.ensures.asked (omega arith)

@@ -1,0 +1,42 @@
+//! Certificates' bytes.
+
+ghost use Rattle.std.specs.Prelude.{◌≡◌, length};
+
+use crate::cartridges::put;
+
+/// The magic, the version, the stack region DF00 to DFFF, one procedure, three nodes; then main: its entry, need and
+/// ranges, and that it doesn't return.
+const HEAD: [u8; 18] = [
+    0x47, 0x42, 0x42, 0x43, 0x01, 0x00, 0xDF, 0xFF, 0xDF, 0x01, 0x03, 0x00, 0x00, 0x00, 0x00, 0x00,
+    0x00, 0x00,
+];
+
+/// Power-up: IME off, no transfer, the controller as it starts and kept, F = B0, IE = 00, A to L, no items and no cells.
+const STATE: [u8; 42] = [
+    0x01, 0x00, 0x00, 0x00, 0x00, 0x01, 0x00, 0x01, 0x00, 0x00, 0x00, 0x01, 0x01, 0x01, 0xB4, 0x02,
+    0x00, 0x00, 0x09, 0x01, 0x01, 0x01, 0x00, 0x00, 0x03, 0x13, 0x13, 0x04, 0x00, 0x00, 0x05, 0xD8,
+    0xD8, 0x06, 0x01, 0x01, 0x07, 0x4D, 0x4D, 0x08, 0x00, 0x00,
+];
+
+/// Writes a certificate with one node for each address, in bank 0 and in the state of power-up, as far as there is room.
+/// A node takes 47 bytes behind the 18 of head and main.
+pub fn write_nodes(bytes: &mut [u8], addresses: &[u16])
+    ensures { length bytes.new ≡ length bytes.old }
+{
+    put(bytes, 0, &HEAD);
+    put(bytes, 10, &[(addresses.len() % 256) as u8]);
+    let mut at = 18usize;
+    for address in addresses {
+        let [low, high] = address.to_le_bytes();
+        put(bytes, at, &[0x00, low, high, 0x00, 0x00]);
+        put(bytes, at.wrapping_add(5), &STATE);
+        at = at.wrapping_add(47);
+    }
+}
+
+/// The right certificate of the least cartridge, which jumps to 0150 and stays there: three nodes of main.
+pub fn least() -> [u8; 159] {
+    let mut bytes = [0; 159];
+    write_nodes(&mut bytes, &[0x0100, 0x0101, 0x0150]);
+    bytes
+}

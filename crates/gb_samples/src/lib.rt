@@ -1,0 +1,11 @@
+//! What worked examples are built from: cartridges, certificates, abstract states, programs and streams that fail. No
+//! contract of the product speaks of them.
+//!
+//! Read cartridges.rt first; certificates.rt spells the least cartridge's certificate.
+#![tactic(auto)]
+
+pub mod cartridges;
+pub mod certificates;
+pub mod programs;
+pub mod states;
+pub mod streams;

@@ -1,9 +1,0 @@
-pub mod AluLaws
-pub mod CoreLaws
-pub mod LineLaws
-pub mod OperandLaws
-pub mod PairLaws
-pub mod RangeLaws
-pub mod ReadLaws
-pub mod SideLaws
-pub mod TransferLaws

@@ -1,5 +1,0 @@
-use Rattle.gb_transfer.proofs.RangeLaws.{transfer_inhabited}
-use Rattle.gb_transfer.proofs.transfer.transfer.Goals as goal
-
-pub returns-clause-inhabited : goal.returns-clause-inhabited
-returns-clause-inhabited c = transfer_inhabited _ _ _ _ _ _ c.apply.ensures.exact c.apply.ensures.bytes c.ranges.next.fits

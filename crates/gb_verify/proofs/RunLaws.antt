@@ -1,0 +1,170 @@
+-- A right certificate is safe: one event, then every list of events.
+use Rattle.std.proofs.Common.{◌≡◌, ℕ, ◌/◌, ◌%◌, ◌^◌, ◌≤◌, ◌<◌, Bool, true, false, not, ◌&&◌, ◌==◌, ◌⊎◌, inl, inr, nat_lt, List, [], ◌∷◌, Option, Some, None, refl, subst, arith}
+use Rattle.std.proofs.lemmas.Bool.{or_parts}
+use Rattle.std.proofs.lemmas.Bool.Decides.{nat_tests}
+use Rattle.std.specs.List.{All}
+use Rattle.std.proofs.lemmas.List.Elements.{All-contains, All-append, All-nil}
+use Rattle.gb_ops.specs.declared.registers.Ime.{Ime}
+use Rattle.gb_ops.specs.declared.registers.Ime.TheVariants as ime
+use Rattle.gb_ops.specs.declared.machine.Event.{Event}
+use Rattle.gb_ops.specs.declared.machine.Event.TheVariants as event
+use Rattle.gb_ops.specs.Machine.{is_possible, is_ime, is_running, has_enabled_bit}
+use Rattle.gb_ops.specs.Faults.{no_faults, either_faults}
+use Rattle.gb_ops.specs.Play.{MState, IsStart, within, next, play}
+use Rattle.gb_cert.specs.declared.types.ImeSet.{ImeSet}
+use Rattle.gb_cert.specs.declared.types.Core.{Core}
+use Rattle.gb_cert.specs.Types.{Node}
+use Rattle.gb_cert.specs.Certificate.{Certificate}
+use Rattle.gb_abs.specs.Meaning.{Means, ime_may_be}
+use Rattle.gb_abs.specs.declared.reason.Reason.{Reason}
+use Rattle.gb_blocks.specs.Rules.{reason_of}
+use Rattle.gb_blocks.specs.Places.{IsCertified}
+use Rattle.gb_blocks.specs.Safety.{IsMeant, IsSafeEvent}
+use Rattle.gb_blocks.proofs.EventLaws.{IsSafeNode-right, IsSafeEvent-where}
+use Rattle.gb_verify.specs.Verdict.{IsRight, IsVerdict, may_enable, may_be_interrupted, or_interrupt, reason_against}
+use Rattle.gb_verify.specs.Headline.{IsSafe, IfAccepted}
+use Rattle.gb_verify.specs.declared.verdict.Verdict.{Verdict}
+use Rattle.gb_verify.specs.declared.verdict.Verdict.TheVariants.{Accepted, Refused}
+use Rattle.gb_verify.proofs.StartLaws.{IsMeant-start, main_base}
+
+-- ---- one event
+
+-- IE has none of bits 0 to 4
+no_bit : (ie i : ℕ) → ie % 32 ≡ 0 → i < 5 → ie / 2 ^ i % 2 ≡ 0
+no_bit ie i none lt = elim (cases i lt) [
+  | inl e ↦ rw e (bit0 ie none)
+  | inr p ↦ elim p [
+    | inl e ↦ rw e (bit1 ie none)
+    | inr q ↦ elim q [ inl e ↦ rw e (bit2 ie none) | inr r ↦ elim r [ inl e ↦ rw e (bit3 ie none) | inr e ↦ rw e (bit4 ie none) ] ]
+  ]
+]
+  where
+    cases : (i : ℕ) → i < 5 → (i ≡ 0) ⊎ ((i ≡ 1) ⊎ ((i ≡ 2) ⊎ ((i ≡ 3) ⊎ (i ≡ 4))))
+    cases i lt = grind arith
+
+    bit0 : (n : ℕ) → n % 32 ≡ 0 → n / 1 % 2 ≡ 0
+    bit0 n h = omega arith
+
+    bit1 : (n : ℕ) → n % 32 ≡ 0 → n / 2 % 2 ≡ 0
+    bit1 n h = omega arith
+
+    bit2 : (n : ℕ) → n % 32 ≡ 0 → n / 4 % 2 ≡ 0
+    bit2 n h = omega arith
+
+    bit3 : (n : ℕ) → n % 32 ≡ 0 → n / 8 % 2 ≡ 0
+    bit3 n h = omega arith
+
+    bit4 : (n : ℕ) → n % 32 ≡ 0 → n / 16 % 2 ≡ 0
+    bit4 n h = omega arith
+
+none_enabled : (lo hi ie : ℕ) → may_enable lo hi ≡ false → lo ≤ ie → ie ≤ hi → ie % 32 ≡ 0
+none_enabled lo hi ie h least most =
+    let p = or_parts _ _ h in
+    let single : hi ≤ lo = not_less lo hi p.0 in
+    let even : lo % 32 ≡ 0 = zero_of (lo % 32) p.1 in
+    let e : ie ≡ lo = omega arith in
+    rw e even
+  where
+    not_less : (a b : ℕ) → nat_lt a b ≡ false → b ≤ a
+    not_less a b h = grind (arith, nat_tests)
+
+    zero_of : (n : ℕ) → not (n == 0) ≡ false → n ≡ 0
+    zero_of n h = grind (arith, nat_tests)
+
+-- where interrupts may be on, none is enabled
+is_calm : (set : ImeSet) (i : Ime) (may : Bool) → (set.on && may) ≡ false → ime_may_be set i ≡ true → is_ime i ime.On ≡ true → may ≡ false
+is_calm set ime.Off may h m on = cc
+is_calm set ime.Pending may h m on = cc
+is_calm set ime.On may h m on = and_true set.on may m h
+  where
+    and_true : (a b : Bool) → a ≡ true → (a && b) ≡ false → b ≡ false
+    and_true true b e h = h
+    and_true false b e h = cc
+
+calm_core : (s : Core) → may_be_interrupted s ≡ false → (s.ime.on && may_enable s.ie.lo s.ie.hi) ≡ false
+unfolding may_be_interrupted
+calm_core s h = h
+
+-- no dispatch is possible at a right node
+no_dispatch : (rom : List ℕ) (n : Node) (entry : MState) (base : ℕ) (x : MState) (i : ℕ) → may_be_interrupted n.state.core ≡ false → Means n.state entry base x
+    → is_possible (within rom x) (event.Irq i) ≡ false
+unfolding is_possible within
+no_dispatch rom n entry base x i calm m =
+    decide (is_running (within rom x)) (is_ime x.processor.ime ime.On) (nat_lt i 5) (has_enabled_bit (within rom x) i)
+    (λ on lt.
+    let none = is_calm n.state.core.ime x.processor.ime _ (calm_core n.state.core calm) m.core.ime on in
+    let least = m.core.ie.least in
+    let most = m.core.ie.most in
+    rw (no_bit x.storage.ie i (none_enabled _ _ x.storage.ie none least most) (below i 5 lt)) refl)
+  where
+    below : (a b : ℕ) → nat_lt a b ≡ true → a < b
+    below a b h = grind (arith, nat_tests)
+
+    decide : (a b c d : Bool) → (b ≡ true → c ≡ true → d ≡ false) → (a && b && c && d) ≡ false
+    decide true true true d h = h refl refl
+    decide true true false d h = refl
+    decide true false c d h = refl
+    decide false b c d h = refl
+
+right_reason : (o : Option Reason) (interrupted : Bool) → or_interrupt o interrupted ≡ None → (o ≡ None) × (interrupted ≡ false)
+right_reason (Some r) b h = cc
+right_reason None true h = cc
+right_reason None false h = (refl, refl)
+
+right_node : (rom : List ℕ) (cert : Certificate) (n : Node) → reason_against rom cert n ≡ None → (reason_of rom cert n ≡ None) × (may_be_interrupted n.state.core ≡ false)
+unfolding reason_against
+right_node rom cert n h = right_reason (reason_of rom cert n) (may_be_interrupted n.state.core) h
+
+-- one event, from a state that a node of a right certificate means
+pub IsSafeEvent-right : (rom : List ℕ) (cert : Certificate) (entry : MState) (base : ℕ) (s : MState) (e : Event) → IsRight rom cert → IsMeant cert entry base s → IsSafeEvent rom cert entry base s e
+IsSafeEvent-right rom cert entry base s e right m =
+    let p = right_node rom cert m.node (All-contains (λ n. reason_against rom cert n ≡ None) cert.nodes m.node right.nodes m.is_node) in
+    let safe = IsSafeNode-right rom cert m.node m.is_node p.0 entry base s in
+    elim e as (λ e. IsSafeEvent rom cert entry base s e) [
+      | event.Run fetch reads ↦ safe (event.Run fetch reads) tt m.at m.means
+      | event.HaltStay ↦ safe event.HaltStay tt m.at m.means
+      | event.HaltBug ↦ safe event.HaltBug tt m.at m.means
+      | event.Irq i ↦ IsSafeEvent-where rom cert entry base s (event.Irq i) false (no_dispatch rom m.node entry base s i p.1 m.means) m (λ h. absurd (different h))
+      | event.Wait cycles ↦ safe (event.Wait cycles) tt m.at m.means
+    ]
+  where
+    different : false ≡ true → ⊥
+    different h = cc
+
+-- ---- runs
+
+-- a run has no fault, fetches certified places, and leads to a state that a node means
+pub record IsSafeRun (rom : List ℕ) (cert : Certificate) (entry : MState) (base : ℕ) (s : MState) (events : List Event) : Type 0 where
+  pub faults : (play rom cert.region s events).faults ≡ no_faults
+  pub places : All (IsCertified rom cert) (play rom cert.region s events).places
+  pub meant : IsMeant cert entry base (play rom cert.region s events).state
+
+-- every list of events, from a state that a node of a right certificate means
+pub run_safe : (rom : List ℕ) (cert : Certificate) (entry : MState) (base : ℕ) (s : MState) (events : List Event) → IsRight rom cert → IsMeant cert entry base s → IsSafeRun rom cert entry base s events
+unfolding play either_faults
+run_safe rom cert entry base s [] right m = record { faults = refl; places = All-nil _; meant = m }
+run_safe rom cert entry base s (e ∷ events) right m =
+    let first = IsSafeEvent-right rom cert entry base s e right m in
+    let rest = run_safe rom cert entry base (next rom s e) events right first.meant in
+    record {
+      faults = rw (first.faults, rest.faults) refl;
+      places = All-append (IsCertified rom cert) _ _ first.places rest.places;
+      meant = rest.meant;
+    }
+
+pub IsSafe-right : (rom : List ℕ) (cert : Certificate) → IsRight rom cert → IsSafe rom cert
+IsSafe-right rom cert right =
+    let run : (s : MState) (events : List Event) → IsStart rom s → IsSafeRun rom cert s (main_base cert) s events =
+    λ s events start. run_safe rom cert s (main_base cert) s events right (IsMeant-start rom cert s right.entry start) in
+    record {
+      faults = λ s events start. (run s events start).faults;
+      places = λ s events start. (run s events start).places;
+      running = λ s reached.
+          let m = subst (IsMeant cert reached.start (main_base cert)) reached.leads (run reached.start reached.events reached.is_start).meant in
+          (m.means.core.locked, m.means.core.stopped);
+    }
+
+-- what the verdict says is what is promised
+pub check_safe : (rom : List ℕ) (cert : Certificate) (v : Verdict) → IsVerdict rom cert v → IfAccepted v (IsSafe rom cert)
+check_safe rom cert (Accepted nodes procedures) h = IsSafe-right rom cert h.0
+check_safe rom cert (Refused i r) h = tt

@@ -1,0 +1,143 @@
+-- Power-up is one of the machine states that its abstract state means.
+use Rattle.std.proofs.Common.{◌≡◌, ℕ, ◌+◌, ◌*◌, ◌≤◌, ◌<◌, Bool, true, false, not, ◌==◌, ◌⊎◌, inl, inr, List, Option, Some, None, length, get_or, slice_get, slice_index, refl, sym, ◌∙◌, ap, arith}
+use Rattle.std.proofs.lemmas.Bool.{eqb-true, not-false, or_parts}
+use Rattle.std.specs.List.{All, Contains}
+use Rattle.std.proofs.lemmas.List.{get_or_past}
+use Rattle.gb_ops.specs.declared.op.Register.{Register}
+use Rattle.gb_ops.specs.declared.op.Register.TheVariants.{A, B, C, D, E, H, L}
+use Rattle.gb_ops.specs.declared.machine.Mapped.{Mapped}
+use Rattle.gb_ops.specs.declared.machine.Mapped.TheVariants as mapped
+use Rattle.gb_ops.specs.Registers.{get}
+use Rattle.gb_ops.specs.Memory.{mapped_at}
+use Rattle.gb_ops.specs.Play.{MState, IsStart, processor_at_power_up}
+use Rattle.gb_cert.specs.declared.types.Origin.{Origin}
+use Rattle.gb_cert.specs.declared.types.Origin.TheVariants as origin
+use Rattle.gb_cert.specs.declared.types.Val.{Val}
+use Rattle.gb_cert.specs.Types.{Node}
+use Rattle.gb_cert.specs.Certificate.{Certificate}
+use Rattle.gb_abs.specs.Storage.{peek, peek_by}
+use Rattle.gb_abs.specs.Meaning.{Holds, HoldsFlags, MeansCore, Means, IsMemory, origin_value, ime_may_be}
+use Rattle.gb_vals.specs.Flags.{known}
+use Rattle.gb_vals.specs.Meaning.{may_be}
+use Rattle.gb_vals.proofs.MeaningLaws.{known-may_be}
+use Rattle.gb_abs.proofs.CoveringLaws.{Means-covered}
+use Rattle.gb_blocks.specs.Safety.{IsMeant}
+use Rattle.gb_blocks.proofs.SearchLaws.{Contains-slice_get}
+use Rattle.gb_verify.specs.PowerUp.{core_at_power_up, state_at_power_up}
+use Rattle.gb_verify.specs.Verdict.{is_bad_entry, is_bad_node, main_entry}
+
+Holds-own : (v : Val) (entry : MState) (x : ℕ) (o : Origin) → v.lo ≡ x → v.hi ≡ x → v.origin ≡ Some o → x ≡ origin_value o entry → Holds v entry x
+Holds-own v entry x o l h e s =
+    record { least = omega arith; most = omega arith; origin = λ q i. let j : o ≡ q = cc in s ∙ ap (λ p. origin_value p entry) j }
+
+Holds-start : (rom : List ℕ) (cert : Certificate) (s : MState) (r : Register) → s.processor ≡ processor_at_power_up rom
+    → Holds (get r (core_at_power_up rom cert.region).registers) s (get r s.processor.registers)
+unfolding core_at_power_up processor_at_power_up
+Holds-start rom cert s A h = let e = sym (ap (λ p. p.registers.a) h) in Holds-own _ _ _ (origin.Register A) e e refl refl
+Holds-start rom cert s B h = let e = sym (ap (λ p. p.registers.b) h) in Holds-own _ _ _ (origin.Register B) e e refl refl
+Holds-start rom cert s C h = let e = sym (ap (λ p. p.registers.c) h) in Holds-own _ _ _ (origin.Register C) e e refl refl
+Holds-start rom cert s D h = let e = sym (ap (λ p. p.registers.d) h) in Holds-own _ _ _ (origin.Register D) e e refl refl
+Holds-start rom cert s E h = let e = sym (ap (λ p. p.registers.e) h) in Holds-own _ _ _ (origin.Register E) e e refl refl
+Holds-start rom cert s H h = let e = sym (ap (λ p. p.registers.h) h) in Holds-own _ _ _ (origin.Register H) e e refl refl
+Holds-start rom cert s L h = let e = sym (ap (λ p. p.registers.l) h) in Holds-own _ _ _ (origin.Register L) e e refl refl
+
+HoldsFlags-start : (rom : List ℕ) (cert : Certificate) (s : MState) → s.processor ≡ processor_at_power_up rom
+    → HoldsFlags (core_at_power_up rom cert.region).flags s s.processor.flags
+unfolding core_at_power_up processor_at_power_up
+HoldsFlags-start rom cert s h =
+    let others : Bool = not (slice_index rom 0x14D == 0) in
+    record {
+      zero = ap (λ p. may_be (known true) p.flags.zero) h;
+      subtract = ap (λ p. may_be (known false) p.flags.subtract) h;
+      half_carry = ap (λ p. may_be (known others) p.flags.half_carry) h ∙ known-may_be others;
+      carry = ap (λ p. may_be (known others) p.flags.carry) h ∙ known-may_be others;
+      own = λ e. refl;
+    }
+
+MeansCore-at_start : (rom : List ℕ) (cert : Certificate) (s : MState) → IsStart rom s → MeansCore (core_at_power_up rom cert.region) s s
+unfolding core_at_power_up processor_at_power_up
+MeansCore-at_start rom cert s h =
+    record {
+      registers = λ r. Holds-start rom cert s r h.processor;
+      flags = HoldsFlags-start rom cert s h.processor;
+      ie = Holds-own _ _ _ origin.Ie (sym h.ie) (sym h.ie) refl refl;
+      ime = ap (λ p. ime_may_be (core_at_power_up rom cert.region).ime p.ime) h.processor;
+      controller = record {
+        bank_least = let a : s.storage.banks.bank ≡ 1 = ap (λ c. c.bank) h.banks in omega arith;
+        bank_most = let a : s.storage.banks.bank ≡ 1 = ap (λ c. c.bank) h.banks in omega arith;
+        second_least = omega arith;
+        second_most = let a : s.storage.banks.second ≡ 0 = ap (λ c. c.second) h.banks in omega arith;
+        gate = ap (λ c. may_be (known false) c.gate) h.banks;
+        mode = ap (λ c. may_be (known false) c.mode) h.banks;
+        kept = λ e. refl;
+      };
+      count = let a = h.count in omega arith;
+      test = tt;
+      mark = ap (λ p. p.halt_mark) h.processor;
+      locked = ap (λ p. p.locked) h.processor;
+      stopped = ap (λ p. p.stopped) h.processor;
+    }
+
+byte_at : (xs : List ℕ) (i : ℕ) → All (λ b. b < 256) xs → slice_index xs i ≤ 255
+byte_at xs i h = elim (where_is i (length xs)) [
+  | inl lt ↦ let below : get_or xs i 0 < 256 = h i 0 lt in omega arith
+  | inr past ↦ let none : get_or xs i 0 ≡ 0 = get_or_past xs i 0 past in omega arith
+]
+  where
+    where_is : (i n : ℕ) → (i < n) ⊎ (n ≤ i)
+    where_is i n = grind arith
+
+-- memory holds bytes
+IsMemory-start : (rom : List ℕ) (s : MState) → IsStart rom s → IsMemory s.storage
+unfolding peek
+IsMemory-start rom s h = record { work = h.work_size; high = h.high_size; bytes = λ a. by (mapped_at a) }
+  where
+    by : (c : Mapped) → peek_by c s.storage.work s.storage.high ≤ 255
+    by mapped.Rom = omega arith
+    by mapped.CartridgeRam = omega arith
+    by (mapped.WorkRam i) = byte_at s.storage.work i h.work
+    by (mapped.HighRam i) = byte_at s.storage.high i h.high
+    by mapped.InterruptEnable = omega arith
+    by mapped.Transfer = omega arith
+    by mapped.Hardware = omega arith
+
+-- main's base: the address behind the region
+abbrev pub main_base : Certificate → ℕ
+main_base cert = cert.region.last + 1
+
+stack_start : (last : ℕ) → (last == 0xFFFD) ≡ true → 0xFFFE + 2 * 0 ≡ last + 1
+stack_start last h = let e : last ≡ 0xFFFD = eqb-true last 0xFFFD h in omega arith
+
+Means-start : (rom : List ℕ) (cert : Certificate) (s : MState) → IsStart rom s → Means (state_at_power_up rom cert.region) s (main_base cert) s
+unfolding core_at_power_up processor_at_power_up
+Means-start rom cert s h =
+    record {
+      core = MeansCore-at_start rom cert s h;
+      memory = IsMemory-start rom s h;
+      stack = λ e. ap (λ p. p.sp + 2 * 0) h.processor ∙ stack_start cert.region.last e;
+      items = tt;
+      cells = tt;
+    }
+
+pc_start : (rom : List ℕ) (s : MState) → IsStart rom s → s.processor.pc ≡ 0x100
+unfolding processor_at_power_up
+pc_start rom s h = ap (λ p. p.pc) h.processor
+
+IsMeant-entry : (rom : List ℕ) (cert : Certificate) (o : Option Node) (s : MState) → ((n : Node) → o ≡ Some n → Contains cert.nodes n)
+    → is_bad_node rom cert o ≡ false → IsStart rom s → IsMeant cert s (main_base cert) s
+IsMeant-entry rom cert None s f h i = cc
+IsMeant-entry rom cert (Some n) s f h i =
+    let p = or_parts _ _ h in
+    let q = or_parts _ _ p.0 in
+    record {
+      node = n;
+      is_node = f n refl;
+      at = pc_start rom s i ∙ sym (eqb-true _ _ (not-false _ q.0));
+      means = Means-covered _ _ _ _ _ (not-false _ p.1) (Means-start rom cert s i);
+    }
+
+-- a start is meant by main's entry
+pub IsMeant-start : (rom : List ℕ) (cert : Certificate) (s : MState) → is_bad_entry rom cert ≡ false → IsStart rom s → IsMeant cert s (main_base cert) s
+unfolding is_bad_entry
+IsMeant-start rom cert s good start =
+    IsMeant-entry rom cert (slice_get cert.nodes (main_entry cert)) s (Contains-slice_get cert.nodes (main_entry cert)) (or_parts _ _ good).1 start

@@ -1,0 +1,7 @@
+pub mod PlainWords
+pub mod LeafWalk
+pub mod Leaves
+pub mod CommandWalk
+pub mod CommandTaken
+pub mod Frames
+pub mod MetCommand

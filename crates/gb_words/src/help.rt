@@ -1,0 +1,50 @@
+//! What the program's help says below its lists of commands and words.
+
+/// Below the help of the program.
+pub(crate) const PROGRAM: &str = "\
+Without a command it checks the cartridge and the certificate that it brings along.
+
+A file that is named - is standard input, for one file of a command. A file of that name is ./-
+
+Status:
+  0  accepted; all frames ran; a line was printed
+  1  refused; a run locked or stopped
+  2  the words are wrong, or a file is no cartridge or no certificate
+  3  memory ran out (FAULT memory, CERTIFICATE C9), or a file or device can't be read or written (FAULT device)
+What is wrong with words, files or devices stands on standard error.";
+
+/// Below the help of `verify`.
+pub(crate) const VERIFY: &str = "\
+It prints one line:
+  ACCEPTED nodes N procedures P  every run of the cartridge from power-up is safe (status 0)
+  REFUSED node I reason R        rule R speaks against node I, counted from 0 (status 1)
+  CARTRIDGE Hn                   ROM is no cartridge (status 2)
+  CERTIFICATE Cn                 CERT is no certificate (status 2), or memory ran out (C9, status 3)
+H1 to H7: too short, its type, its ROM size, its length, its RAM size, too large for its type, its checksum.
+
+Either file may be - for standard input.";
+
+/// Below the help of `header`.
+pub(crate) const HEADER: &str = "\
+It prints one line:
+  type TT NAME rom N ram M clock yes checksum CC  (or clock no; status 0)
+  CARTRIDGE Hn                                    ROM is no cartridge (status 2)
+TT and CC are hexadecimal, NAME is the controller; N counts banks of 16 KiB, M of 8 KiB.
+H1 to H7: too short, its type, its ROM size, its length, its RAM size, too large for its type, its checksum.
+
+ROM may be - for standard input.";
+
+/// Below the help of `run`.
+pub(crate) const RUN: &str = "\
+Byte k of SCRIPT says which keys are held in frame k, by its bits 0 to 7:
+  A, B, Select, Start, Right, Left, Up, Down
+Past its end no key is held, so /dev/null presses none. 60 frames are about a second.
+
+It prints the last screen's 144 lines of 80 hexadecimal digits (four pixels a byte, the leftmost in the high bits,
+0 the lightest), and then one line:
+  WHOLE frames N           all frames ran (status 0)
+  LOCKED frame I pc AAAA   an undefined opcode locked the console at address AAAA in frame I, counted from 0 (status 1)
+  STOPPED frame I pc AAAA  STOP stopped it (status 1)
+Where ROM is no cartridge it prints CARTRIDGE Hn alone (status 2).
+
+ROM or SCRIPT may be - for standard input.";
