@@ -169,7 +169,6 @@ core_covered s t entry x h m =
       controller = controller_covered s.ctl t.ctl entry x.storage.banks controller.1 m.controller;
       count = let a = m.count in omega arith;
       test = test_covered s.test t.test _ _ test.1 m.test;
-      mark = m.mark;
       locked = m.locked;
       stopped = m.stopped;
     }
@@ -223,6 +222,7 @@ Means-covered s t entry base x h m =
     record {
       core = core_covered s.core t.core entry x items.0 m.core;
       memory = m.memory;
+      sp = m.sp;
       stack = λ e. ap (λ n. x.processor.sp + 2 * n) (sym (lengths s.items t.items items.1)) ∙ m.stack (stack_covered s.core t.core items.0 e);
       items = items_covered s.items t.items entry base x.storage items.1 m.items;
       cells = cells_covered s.cells t.cells entry x.storage m.memory cells.1 m.cells;

@@ -1,5 +1,5 @@
 -- Each operation follows its change of the machine.
-use Rattle.std.proofs.Common.{◌≡◌, ℕ, ◌-◌, Bool, true, false, ◌||◌, List, Option, refl, sym, ◌∙◌, ap, subst, arith}
+use Rattle.std.proofs.Common.{◌≡◌, ℕ, ◌-◌, ◌≤◌, ◌<◌, Bool, true, false, ◌||◌, List, Option, refl, sym, ◌∙◌, ap, subst, arith}
 use Rattle.gb_ops.specs.declared.op.Register.{Register}
 use Rattle.gb_ops.specs.declared.op.Register.TheVariants.{A, B, C, D, E, H, L}
 use Rattle.gb_ops.specs.declared.registers.Registers.{Registers}
@@ -16,6 +16,8 @@ use Rattle.gb_cert.specs.declared.types.Val.{Val}
 use Rattle.gb_cert.specs.declared.types.ImeSet.{ImeSet}
 use Rattle.gb_cert.specs.declared.types.Core.{Core}
 use Rattle.gb_cert.specs.Types.{AbsState}
+use Rattle.gb_cert.specs.Rules.{IsVal, IsCore, may_be_any}
+use Rattle.std.specs.Prelude.{IfSome}
 use Rattle.gb_abs.specs.Meaning.{Holds, MeansCore, Means, ime_may_be}
 use Rattle.gb_abs.specs.Sound.{IsSoundSet, IsSoundValue, IsSoundSettling, IsSoundEnd}
 use Rattle.gb_vals.specs.Vals.{single}
@@ -67,7 +69,6 @@ MeansCore-set_register s entry x r v n h m =
       controller = m.controller;
       count = m.count;
       test = tested_after r n s.test x.processor.registers x.processor.flags m.test;
-      mark = m.mark;
       locked = m.locked;
       stopped = m.stopped;
     }
@@ -97,7 +98,6 @@ MeansCore-settle s entry x pc m =
       controller = m.controller;
       count = m.count;
       test = m.test;
-      mark = refl;
       locked = m.locked;
       stopped = m.stopped;
     }
@@ -118,7 +118,6 @@ MeansCore-pass s entry x n m =
       controller = m.controller;
       count = let a = m.count in omega arith;
       test = m.test;
-      mark = m.mark;
       locked = m.locked;
       stopped = m.stopped;
     }
@@ -134,7 +133,6 @@ MeansCore-wait s entry x n m =
       controller = m.controller;
       count = let a = m.count in omega arith;
       test = m.test;
-      mark = m.mark;
       locked = m.locked;
       stopped = m.stopped;
     }
@@ -178,7 +176,6 @@ MeansCore-with_value r s entry x m =
       controller = m.controller;
       count = m.count;
       test = m.test;
-      mark = m.mark;
       locked = m.locked;
       stopped = m.stopped;
     }
@@ -188,7 +185,7 @@ pub Means-with_value :
     → Means s entry base x → Means (with_core s (core_with_value r (get r x.processor.registers) s.core)) entry base x
 unfolding core_with_value
 Means-with_value r s entry base x m =
-    record { core = MeansCore-with_value r s.core entry x m.core; memory = m.memory; stack = m.stack; items = m.items; cells = m.cells }
+    record { core = MeansCore-with_value r s.core entry x m.core; memory = m.memory; sp = m.sp; stack = m.stack; items = m.items; cells = m.cells }
 
 -- ---- the operations
 
@@ -214,7 +211,6 @@ MeansCore-start s entry x m =
       controller = m.controller;
       count = omega arith;
       test = m.test;
-      mark = m.mark;
       locked = m.locked;
       stopped = m.stopped;
     }
@@ -233,3 +229,95 @@ end_sound starts n s o e =
           (λ c. MeansCore c entry (record x { storage = (passed (record { rom = rom; storage = x.storage; starting = starts }) n).storage })) (sym e)
           (MeansCore-end starts n rom s entry x m);
     }
+
+-- ---- their ranges
+
+-- a fact about each register, after a write
+pub set_one :
+    {X : Type 0} (P : X → Type 0) (r q : Register) (v : X) (vs : Registers X)
+    → P v → ((p : Register) → P (get p vs)) → P (get q (set r v vs))
+set_one P r q v vs n o = set_both (λ w y. P w) r q v v vs vs n o
+
+test_after-byte : (r : Register) (test : Option ℕ) → IfSome test (λ a. a < 256) → IfSome (test_after r test) (λ a. a < 256)
+test_after-byte A test h = tt
+test_after-byte B test h = h
+test_after-byte C test h = h
+test_after-byte D test h = h
+test_after-byte E test h = h
+test_after-byte H test h = h
+test_after-byte L test h = h
+
+pub IsCore-set_register : (s : Core) (r : Register) (v : Val) → IsVal v → IsCore s → IsCore (core_set_register r v s)
+unfolding core_set_register
+IsCore-set_register s r v h c =
+    record {
+      ime = c.ime;
+      bound = c.bound;
+      test = test_after-byte r s.test c.test;
+      ctl = c.ctl;
+      flags = c.flags;
+      ie = c.ie;
+      registers = λ q. set_one IsVal r q v s.registers h c.registers;
+    }
+
+pub IsCore-with_value : (s : Core) (r : Register) (n : ℕ) → n < 256 → IsCore s → IsCore (core_with_value r n s)
+unfolding core_with_value
+IsCore-with_value s r n h c =
+    record {
+      ime = c.ime;
+      bound = c.bound;
+      test = c.test;
+      ctl = c.ctl;
+      flags = c.flags;
+      ie = c.ie;
+      registers = λ q. set_one IsVal r q (record (get r s.registers) { lo = n; hi = n }) s.registers (record { order = omega arith; hi = h }) c.registers;
+    }
+
+ime_set_after-any : (i : ImeSet) → may_be_any i ≡ true → may_be_any (ime_set_after i) ≡ true
+ime_set_after-any i h = any i.off i.pending i.on h
+  where
+    any : (a b c : Bool) → (a || b || c) ≡ true → (a || false || (b || c)) ≡ true
+    any true b c e = refl
+    any false b c e = e
+
+pub IsCore-settle : (s : Core) → IsCore s → IsCore (core_settle s)
+unfolding core_settle
+IsCore-settle s c =
+    record {
+      ime = ime_set_after-any s.ime c.ime;
+      bound = c.bound;
+      test = c.test;
+      ctl = c.ctl;
+      flags = c.flags;
+      ie = c.ie;
+      registers = c.registers;
+    }
+
+pub IsCore-bound : (s : Core) (bound : ℕ) → bound ≤ 161 → IsCore s → IsCore (record s { bound = bound })
+IsCore-bound s bound h c =
+    record {
+      ime = c.ime;
+      bound = h;
+      test = c.test;
+      ctl = c.ctl;
+      flags = c.flags;
+      ie = c.ie;
+      registers = c.registers;
+    }
+
+pub IsCore-end : (starts : Bool) (n : ℕ) (s : Core) → IsCore s → IsCore (core_end starts n s)
+unfolding core_end
+IsCore-end true n s c = IsCore-bound s 161 (omega arith) c
+IsCore-end false n s c = IsCore-bound s (s.bound - n) (let most = c.bound in omega arith) c
+
+pub set_register_inhabited : (r : Register) (v : Val) (s o : Core) → o ≡ core_set_register r v s → IsVal v → IsCore s → IsCore o
+set_register_inhabited r v s o e h c = subst IsCore (sym e) (IsCore-set_register s r v h c)
+
+pub with_value_inhabited : (r : Register) (n : ℕ) (s o : Core) → o ≡ core_with_value r n s → n < 256 → IsCore s → IsCore o
+with_value_inhabited r n s o e h c = subst IsCore (sym e) (IsCore-with_value s r n h c)
+
+pub settle_inhabited : (s o : Core) → o ≡ core_settle s → IsCore s → IsCore o
+settle_inhabited s o e c = subst IsCore (sym e) (IsCore-settle s c)
+
+pub end_inhabited : (starts : Bool) (n : ℕ) (s o : Core) → o ≡ core_end starts n s → IsCore s → IsCore o
+end_inhabited starts n s o e c = subst IsCore (sym e) (IsCore-end starts n s c)

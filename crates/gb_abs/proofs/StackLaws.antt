@@ -194,7 +194,6 @@ MeansCore-sp core entry x sp m =
       controller = m.controller;
       count = m.count;
       test = m.test;
-      mark = m.mark;
       locked = m.locked;
       stopped = m.stopped;
     }
@@ -229,6 +228,7 @@ Means-pushed-to region s entry base x i w sp t r room placed set high low top p 
           (p.low.banks ∙ p.high.banks) (p.low.ie ∙ p.high.ie) (p.low.count ∙ p.high.count)
           (MeansCore-sp s.core entry x (x.processor.sp - 2) m.core);
       memory = p.low.memory;
+      sp = let small = m.sp in omega arith;
       stack = λ e. more s.items stack;
       items = AreItems-more s.items i entry x.processor.sp base t stack
           (subst (λ n. Holds i.high entry n) (sym high_is) high)
@@ -285,6 +285,7 @@ pushes region s entry base p m i w means set room r placed clear high low lt =
       banks = done.low.banks ∙ done.high.banks;
       ie = done.low.ie ∙ done.high.ie;
       count = done.low.count ∙ done.high.count;
+      others = λ b ram n o. done.low.others b ram o ∙ done.high.others b ram n;
     }
 
 -- a word is pushed: the high byte at SP-1, the low byte at SP-2
@@ -386,6 +387,7 @@ pops region s entry base p m i free means set is room r clear =
       means = record {
         core = MeansCore-sp s.core entry (machine p m.storage) ((p.sp + 2) % 65536) means.core;
         memory = means.memory;
+        sp = omega arith;
         stack = λ e. less s.items word.behind some stack;
         items = top.rest;
         cells = means.cells;
@@ -439,12 +441,13 @@ AreCells-all (c ∷ cells) entry s t same h = (subst (λ n. Holds c.val entry n)
 -- a core that holds of a machine with the same memory, its stack pointer where the words say
 pub Means-with_stack :
     (s : AbsState) (core : Core) (entry : MState) (base : ℕ) (x y : MState)
-    → Means s entry base x → MeansCore core entry y → y.storage.work ≡ x.storage.work → y.storage.high ≡ x.storage.high
+    → Means s entry base x → MeansCore core entry y → y.storage.work ≡ x.storage.work → y.storage.high ≡ x.storage.high → y.processor.sp < 65536
     → (core.stack_set ≡ true → y.processor.sp + 2 * length s.items ≡ base) → Means (with_core s core) entry base y
-Means-with_stack s core entry base x y m c work high stack =
+Means-with_stack s core entry base x y m c work high sp stack =
     record {
       core = c;
       memory = IsMemory-same x.storage y.storage work high m.memory;
+      sp = sp;
       stack = stack;
       items = AreItems-all s.items entry base x.storage y.storage (λ b. peek-same x.storage y.storage b work high) m.items;
       cells = AreCells-all s.cells entry x.storage y.storage (λ b. peek-same x.storage y.storage b work high) m.cells;
@@ -456,7 +459,7 @@ pub Means-with_core :
     → Means s entry base x → MeansCore core entry y → y.storage.work ≡ x.storage.work → y.storage.high ≡ x.storage.high
     → y.processor.sp ≡ x.processor.sp → (core.stack_set ≡ true → s.core.stack_set ≡ true) → Means (with_core s core) entry base y
 Means-with_core s core entry base x y m c work high sp set =
-    Means-with_stack s core entry base x y m c work high (λ e. ap (λ n. n + 2 * length s.items) sp ∙ m.stack (set e))
+    Means-with_stack s core entry base x y m c work high (subst (λ n. n < 65536) (sym sp) m.sp) (λ e. ap (λ n. n + 2 * length s.items) sp ∙ m.stack (set e))
 
 -- ---- the operations
 

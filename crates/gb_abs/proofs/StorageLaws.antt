@@ -219,7 +219,6 @@ MeansCore-storage core entry x t banks ie count m =
       controller = subst (λ b. HoldsController core.ctl entry b) (sym banks) m.controller;
       count = subst (λ n. n ≤ core.bound) (sym count) m.count;
       test = m.test;
-      mark = m.mark;
       locked = m.locked;
       stopped = m.stopped;
     }
@@ -318,6 +317,7 @@ Means-with_cell region s entry base x t a n v m p k place placed room r =
     record {
       core = MeansCore-storage s.core entry x t p.banks p.ie p.count m.core;
       memory = p.memory;
+      sp = m.sp;
       stack = m.stack;
       items = AreItems-poked region s.items entry base a n x.storage t p r room place.apart m.items;
       cells = AreCells-with_cell region s.cells entry a n v x.storage t p k placed m.cells;
@@ -346,6 +346,7 @@ Means-without_cells region s entry base x t a n first last m p low high apart pl
     record {
       core = MeansCore-storage s.core entry x t p.banks p.ie p.count m.core;
       memory = p.memory;
+      sp = m.sp;
       stack = m.stack;
       items = AreItems-poked region s.items entry base a n x.storage t p r room (meets-inside region first last a apart low high) m.items;
       cells = AreCells-without_cells region s.cells entry a n first last x.storage t p low high placed m.cells;

@@ -1,5 +1,6 @@
 pub mod Cells
 pub mod Covering
+pub mod Mark
 pub mod Meaning
 pub mod Operations
 pub mod Poked

@@ -1,5 +1,5 @@
 -- Which machine states an abstract state means (abstract interpretation: concretization).
-use Rattle.std.specs.Prelude.{◌≡◌, ℕ, ◌+◌, ◌-◌, ◌*◌, ◌≤◌, Bool, true, false, List, [], ◌∷◌, length, Some}
+use Rattle.std.specs.Prelude.{◌≡◌, ℕ, ◌+◌, ◌-◌, ◌*◌, ◌≤◌, ◌<◌, Bool, true, false, List, [], ◌∷◌, length, Some}
 use Rattle.std.specs.List.{AllByRecursion}
 use Rattle.gb_ops.specs.declared.op.Register.{Register}
 use Rattle.gb_ops.specs.declared.registers.Flags.{Flags}
@@ -56,7 +56,7 @@ pub record HoldsController (c : Ctl) (entry : MState) (x : Banks) : Type 0 where
   pub mode : may_be c.mode x.mode ≡ true
   pub kept : c.is_kept ≡ true → x ≡ entry.storage.banks
 
--- all but the stack and the cells
+-- all but the stack, the cells and the HALT mark, of which the operations say nothing
 pub record MeansCore (core : Core) (entry s : MState) : Type 0 where
   pub registers : (r : Register) → Holds (get r core.registers) entry (get r s.processor.registers)
   pub flags : HoldsFlags core.flags entry s.processor.flags
@@ -65,7 +65,6 @@ pub record MeansCore (core : Core) (entry s : MState) : Type 0 where
   pub controller : HoldsController core.ctl entry s.storage.banks
   pub count : s.storage.count ≤ core.bound
   pub test : IsTested core.test s.processor.registers.a s.processor.flags
-  pub mark : s.processor.halt_mark ≡ false
   pub locked : s.processor.locked ≡ false
   pub stopped : s.processor.stopped ≡ false
 
@@ -86,6 +85,7 @@ pub record IsMemory (s : Storage) : Type 0 where
 pub record Means (abs : AbsState) (entry : MState) (base : ℕ) (s : MState) : Type 0 where
   pub core : MeansCore abs.core entry s
   pub memory : IsMemory s.storage
+  pub sp : s.processor.sp < 65536
   pub stack : abs.core.stack_set ≡ true → s.processor.sp + 2 * length abs.items ≡ base
   pub items : AreItems abs.items entry base s.storage
   pub cells : AllByRecursion (λ c. Holds c.val entry (peek s.storage c.address)) abs.cells

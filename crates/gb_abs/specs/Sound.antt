@@ -1,5 +1,5 @@
 -- What operations on abstract states promise of the machine (abstract interpretation: soundness; own).
-use Rattle.std.specs.Prelude.{◌≡◌, ℕ, ◌+◌, ◌/◌, ◌%◌, ◌≤◌, ◌<◌, Bool, true, false, List, length, ◌⊎◌}
+use Rattle.std.specs.Prelude.{◌≡◌, ℕ, ◌+◌, ◌/◌, ◌%◌, ◌≤◌, ◌<◌, ◌-◌, Bool, true, false, ◌==◌, List, length, ◌⊎◌}
 use Rattle.gb_ops.specs.declared.machine.Region.{Region}
 use Rattle.gb_ops.specs.declared.machine.Read.TheVariants as read
 use Rattle.gb_ops.specs.declared.machine.Write.TheVariants as write
@@ -19,6 +19,7 @@ use Rattle.gb_cert.specs.Rules.{IsRegion, meets}
 use Rattle.gb_abs.specs.Meaning.{Holds, MeansCore, Means}
 use Rattle.gb_abs.specs.Cells.{IsPlaced, ArePlaced}
 use Rattle.gb_abs.specs.Poked.{IsPoked}
+use Rattle.gb_abs.specs.Storage.{is_ram, peek}
 use Rattle.gb_abs.specs.Stack.{AreInRegion}
 
 -- t means each machine state that s means
@@ -75,7 +76,7 @@ IsRegionOpen s region = (s.count ≡ 0) ⊎ (0xFF80 ≤ region.first)
 abbrev pub with_stack : MState → ℕ → Storage → MState
 with_stack x sp t = record { processor = with_sp x.processor sp; storage = t }
 
--- what a push leaves: the state with the word pushed, and no fault
+-- what a push leaves: the state with the word pushed, no fault, and all bytes of RAM but the word's two
 pub record Pushes (region : Region) (after : AbsState) (entry : MState) (base : ℕ) (x : MState) (m : View) (w : ℕ) : Type 0 where
   pub means : Means after entry base (with_stack x ((x.processor.sp + 65534) % 65536) (stored m (write.Push x.processor.sp w)).storage)
   pub faults : store_faults region m (write.Push x.processor.sp w) ≡ no_faults
@@ -84,6 +85,9 @@ pub record Pushes (region : Region) (after : AbsState) (entry : MState) (base : 
   pub banks : (stored m (write.Push x.processor.sp w)).storage.banks ≡ m.storage.banks
   pub ie : (stored m (write.Push x.processor.sp w)).storage.ie ≡ m.storage.ie
   pub count : (stored m (write.Push x.processor.sp w)).storage.count ≡ m.storage.count
+  pub others :
+      (b : ℕ) → is_ram b ≡ true → (b == x.processor.sp - 1) ≡ false → (b == x.processor.sp - 2) ≡ false
+      → peek (stored m (write.Push x.processor.sp w)).storage b ≡ peek x.storage b
 
 -- what a pop gives: the word's two bytes, the state without it, and no fault
 pub record Pops (after : AbsState) (i : Item) (entry : MState) (base : ℕ) (x : MState) (m : View) (free : List ℕ) : Type 0 where

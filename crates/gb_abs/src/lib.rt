@@ -3,6 +3,8 @@
 //! `sound`), and operations that follow the machine's changes (`sound`): a register, a memory cell or
 //! a pushed word gets a value, and time passes.
 //!
+//! The meaning leaves the HALT mark open; `Mark` says where it does no harm.
+//!
 //! Read `covering`, then `operations`, `cells` and `stack`. `span`, `storage` and `reason` are words
 //! of the crates above: the addresses of an access, RAM, and why a node is refused.
 #![tactic(auto)]

@@ -1,6 +1,7 @@
 //! Operations on the cores of abstract states: on all but pushed words and memory cells.
 
 ghost use Rattle.std.specs.Prelude.{◌≡◌, false};
+ghost use Rattle.gb_cert.specs.Rules.{IsVal, IsCore};
 ghost use Rattle.gb_abs.specs.Operations.{core_set_register, core_with_value, core_settle, core_end, ime_set_after};
 ghost use Rattle.gb_abs.specs.Sound.{IsSoundSet, IsSoundValue, IsSoundSettling, IsSoundEnd};
 
@@ -10,11 +11,9 @@ use gb_ops::op::Register;
 /// The M-cycles of an OAM transfer.
 const OAM_TRANSFER: u8 = 161;
 
-/// A register gets a value.
-#[tactic(auto, using(crate::proofs::OperationLaws::set_register_sound), unfolding(crate::specs::Operations::core_set_register))]
-pub fn set_register(register: Register, value: Val, core: &Core) -> Core
-    ensures exact { result ≡ core_set_register register value core.now }
-    ensures sound { IsSoundSet register value core.now result }
+#[tactic(auto, unfolding(crate::specs::Operations::core_set_register))]
+fn register_set(register: Register, value: Val, core: &Core) -> Core
+    ensures { result ≡ core_set_register register value core.now }
 {
     let mut after = *core;
     after.registers.set(register, value);
@@ -24,12 +23,19 @@ pub fn set_register(register: Register, value: Val, core: &Core) -> Core
     after
 }
 
-/// A register's bounds become one value, as covering value by value asks for each: what it is a copy of, the
-/// flags and the test stay.
-#[tactic(auto, using(crate::proofs::OperationLaws::with_value_sound), unfolding(crate::specs::Operations::core_with_value))]
-pub fn with_value(register: Register, value: u8, core: &Core) -> Core
-    ensures exact { result ≡ core_with_value register value core.now }
-    ensures sound { IsSoundValue register value core.now result }
+/// A register gets a value.
+#[tactic(auto, using(crate::proofs::OperationLaws::set_register_sound))]
+pub fn set_register(register: Register, value: Val, core: &Core) -> Core
+    ensures exact { result ≡ core_set_register register value core.now }
+    ensures sound { IsSoundSet register value core.now result }
+    ensures inhabited { IsVal value → IsCore core.now → IsCore result }
+{
+    register_set(register, value, core)
+}
+
+#[tactic(auto, unfolding(crate::specs::Operations::core_with_value))]
+fn bounds_narrowed(register: Register, value: u8, core: &Core) -> Core
+    ensures { result ≡ core_with_value register value core.now }
 {
     let mut after = *core;
     let bounds = Val {
@@ -41,11 +47,23 @@ pub fn with_value(register: Register, value: u8, core: &Core) -> Core
     after
 }
 
+/// A register's bounds become one value, as covering value by value asks for each: what it is a copy of, the
+/// flags and the test stay.
+#[tactic(auto, using(crate::proofs::OperationLaws::with_value_sound))]
+pub fn with_value(register: Register, value: u8, core: &Core) -> Core
+    ensures exact { result ≡ core_with_value register value core.now }
+    ensures sound { IsSoundValue register value core.now result }
+    ensures inhabited { IsCore core.now → IsCore result }
+{
+    bounds_narrowed(register, value, core)
+}
+
 /// An instruction was executed: pending interrupts become on.
-#[tactic(auto, using(crate::proofs::OperationLaws::settle_sound), unfolding(crate::specs::Operations::core_settle))]
+#[tactic(auto, using(crate::proofs::OperationLaws::settle_sound, crate::proofs::OperationLaws::settle_inhabited), unfolding(crate::specs::Operations::core_settle))]
 pub fn settle(core: &Core) -> Core
     ensures exact { result ≡ core_settle core.now }
     ensures sound { IsSoundSettling core.now result }
+    ensures inhabited { IsCore core.now → IsCore result }
 {
     let ime = ImeSet {
         off: core.ime.off,
@@ -57,10 +75,11 @@ pub fn settle(core: &Core) -> Core
 
 /// An instruction has ended, and its M-cycles pass: the bound of the OAM transfer's count falls by
 /// them, to 0 at least. Where the instruction started an OAM transfer, the bound is 161.
-#[tactic(auto, using(crate::proofs::OperationLaws::end_sound), unfolding(crate::specs::Operations::core_end))]
+#[tactic(auto, using(crate::proofs::OperationLaws::end_sound, crate::proofs::OperationLaws::end_inhabited), unfolding(crate::specs::Operations::core_end))]
 pub fn end(starts: bool, cycles: u8, core: &Core) -> Core
     ensures exact { result ≡ core_end starts cycles core.now }
     ensures sound { IsSoundEnd starts cycles core.now result }
+    ensures inhabited { IsCore core.now → IsCore result }
 {
     if starts {
         Core {

@@ -2,7 +2,7 @@
 use Rattle.std.proofs.Common.{◌≡◌, ℕ, ◌≤◌, ◌<◌, true, false, Option, Some, None, arith}
 use Rattle.std.specs.Prelude.{IfSome}
 use Rattle.gb_ops.specs.declared.op.Register.{Register}
-use Rattle.gb_ops.specs.declared.op.Register.TheVariants.{A, B, C, D, E, H, L}
+use Rattle.gb_ops.specs.declared.op.Register.TheVariants.{A}
 use Rattle.gb_ops.specs.declared.registers.Registers.{Registers}
 use Rattle.gb_ops.specs.declared.registers.Flags.{Flags}
 use Rattle.gb_ops.specs.declared.registers.Processor.{Processor}
@@ -19,8 +19,7 @@ use Rattle.gb_vals.specs.Meaning.{In, FlagsIn}
 use Rattle.gb_vals.specs.Tests.{IsTested}
 use Rattle.gb_abs.specs.Span.{IsIn, pair_span}
 use Rattle.gb_abs.specs.Meaning.{Holds, HoldsFlags, MeansCore, ime_may_be}
-use Rattle.gb_abs.specs.Operations.{test_after, core_set_register}
-use Rattle.gb_abs.proofs.OperationLaws.{set_both}
+use Rattle.gb_abs.proofs.OperationLaws.{set_both, set_one}
 use Rattle.gb_abs_effects.specs.Transfer.{with_flags, with_ime}
 
 pub some-is : {X : Type 0} (c d : X) → Some c ≡ Some d → c ≡ d
@@ -62,9 +61,9 @@ pub MeansCore-changed :
     (s : Core) (entry x : MState) (rs : Registers Val) (f : Flg) (test : Option ℕ) (i : ImeSet) (q : Processor)
     → ((r : Register) → Holds (get r rs) entry (get r q.registers)) → HoldsFlags f entry q.flags
     → ime_may_be i q.ime ≡ true → IsTested test q.registers.a q.flags
-    → q.halt_mark ≡ false → q.locked ≡ false → q.stopped ≡ false → MeansCore s entry x
+    → q.locked ≡ false → q.stopped ≡ false → MeansCore s entry x
     → MeansCore (record s { registers = rs; flags = f; test = test; ime = i }) entry (record x { processor = q })
-MeansCore-changed s entry x rs f test i q registers flags ime tested mark locked stopped m =
+MeansCore-changed s entry x rs f test i q registers flags ime tested locked stopped m =
     record {
       registers = registers;
       flags = flags;
@@ -73,7 +72,6 @@ MeansCore-changed s entry x rs f test i q registers flags ime tested mark locked
       controller = m.controller;
       count = m.count;
       test = tested;
-      mark = mark;
       locked = locked;
       stopped = stopped;
     }
@@ -83,21 +81,21 @@ pub MeansCore-at :
     (s : Core) (entry x : MState) (sp pc : ℕ)
     → MeansCore s entry x → MeansCore s entry (record x { processor = record x.processor { sp = sp; pc = pc } })
 MeansCore-at s entry x sp pc m =
-    MeansCore-changed s entry x s.registers s.flags s.test s.ime (record x.processor { sp = sp; pc = pc }) m.registers m.flags m.ime m.test m.mark m.locked m.stopped m
+    MeansCore-changed s entry x s.registers s.flags s.test s.ime (record x.processor { sp = sp; pc = pc }) m.registers m.flags m.ime m.test m.locked m.stopped m
 
 pub MeansCore-flags :
     (s : Core) (entry x : MState) (f : Flg) (g : Flags)
     → HoldsFlags f entry g → MeansCore s entry x
     → MeansCore (with_flags f s) entry (record x { processor = record x.processor { flags = g } })
 MeansCore-flags s entry x f g flags m =
-    MeansCore-changed s entry x s.registers f None s.ime (record x.processor { flags = g }) m.registers flags m.ime tt m.mark m.locked m.stopped m
+    MeansCore-changed s entry x s.registers f None s.ime (record x.processor { flags = g }) m.registers flags m.ime tt m.locked m.stopped m
 
 pub MeansCore-ime :
     (s : Core) (entry x : MState) (i : ImeSet) (ime : Ime)
     → ime_may_be i ime ≡ true → MeansCore s entry x
     → MeansCore (with_ime i s) entry (record x { processor = record x.processor { ime = ime } })
 MeansCore-ime s entry x i ime holds m =
-    MeansCore-changed s entry x s.registers s.flags s.test i (record x.processor { ime = ime }) m.registers m.flags holds m.test m.mark m.locked m.stopped m
+    MeansCore-changed s entry x s.registers s.flags s.test i (record x.processor { ime = ime }) m.registers m.flags holds m.test m.locked m.stopped m
 
 -- A, the flags and the test change together
 pub MeansCore-a :
@@ -105,7 +103,7 @@ pub MeansCore-a :
     → Holds v entry n → HoldsFlags f entry g → IsTested test n g → MeansCore s entry x
     → MeansCore (record s { registers = set A v s.registers; flags = f; test = test }) entry (record x { processor = record x.processor { registers = set A n x.processor.registers; flags = g } })
 MeansCore-a s entry x v f test n g holds flags tested m =
-    MeansCore-changed s entry x (set A v s.registers) f test s.ime (record x.processor { registers = set A n x.processor.registers; flags = g }) (λ q. set_both (λ w y. Holds w entry y) A q v n s.registers x.processor.registers holds m.registers) flags m.ime tested m.mark m.locked m.stopped m
+    MeansCore-changed s entry x (set A v s.registers) f test s.ime (record x.processor { registers = set A n x.processor.registers; flags = g }) (λ q. set_both (λ w y. Holds w entry y) A q v n s.registers x.processor.registers holds m.registers) flags m.ime tested m.locked m.stopped m
 
 -- ---- the ranges of a core
 
@@ -123,26 +121,6 @@ IsCore-changed s rs f test i registers flags tested ime c =
       ie = c.ie;
       registers = registers;
     }
-
--- a fact about each register, after a write
-pub set_one :
-    {X : Type 0} (P : X → Type 0) (r q : Register) (v : X) (vs : Registers X)
-    → P v → ((p : Register) → P (get p vs)) → P (get q (set r v vs))
-set_one P r q v vs n o = set_both (λ w y. P w) r q v v vs vs n o
-
-test_after-byte : (r : Register) (test : Option ℕ) → IfSome test (λ a. a < 256) → IfSome (test_after r test) (λ a. a < 256)
-test_after-byte A test h = tt
-test_after-byte B test h = h
-test_after-byte C test h = h
-test_after-byte D test h = h
-test_after-byte E test h = h
-test_after-byte H test h = h
-test_after-byte L test h = h
-
-pub IsCore-set_register : (s : Core) (r : Register) (v : Val) → IsVal v → IsCore s → IsCore (core_set_register r v s)
-unfolding core_set_register
-IsCore-set_register s r v h c =
-    IsCore-changed s (set r v s.registers) s.flags (test_after r s.test) s.ime (λ q. set_one IsVal r q v s.registers h c.registers) c.flags (test_after-byte r s.test c.test) c.ime c
 
 pub IsCore-flags : (s : Core) (f : Flg) → IsFlg f → IsCore s → IsCore (with_flags f s)
 IsCore-flags s f h c = IsCore-changed s s.registers f None s.ime c.registers h tt c.ime c

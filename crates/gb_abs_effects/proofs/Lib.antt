@@ -1,9 +1,11 @@
 pub mod AluLaws
 pub mod CoreLaws
+pub mod DecodingLaws
 pub mod InstructionLaws
 pub mod OperandLaws
 pub mod PairLaws
 pub mod RangeLaws
 pub mod ReadLaws
 pub mod SideLaws
+pub mod TargetLaws
 pub mod TransferLaws

@@ -16,11 +16,11 @@ use Rattle.gb_vals.specs.declared.outcome.Outcome.{Outcome}
 use Rattle.gb_vals.specs.Meaning.{In, FlagsIn, Gives, IsSound, IsSoundOfVal, IsSoundOfFlags, IsSoundOfTest, IsOutcome, IsComputed}
 use Rattle.gb_vals.specs.Tests.{IsTested}
 use Rattle.gb_abs.specs.Meaning.{Holds, HoldsFlags, MeansCore}
-use Rattle.gb_abs.proofs.OperationLaws.{MeansCore-set_register}
+use Rattle.gb_abs.proofs.OperationLaws.{MeansCore-set_register, IsCore-set_register}
 use Rattle.gb_abs_effects.specs.Transfer.{quiet, with_flags, operand_val, store_operand, update_operand, update_a}
 use Rattle.gb_abs_effects.specs.Sound.{Follows, IsAbsEffect}
-use Rattle.gb_abs_effects.proofs.CoreLaws.{In-from, FlagsIn-from, Holds-computed, HoldsFlags-written, byte-of, MeansCore-flags, MeansCore-a, IsCore-set_register, IsCore-flags, IsCore-a}
-use Rattle.gb_abs_effects.proofs.ReadLaws.{IsIn-hl}
+use Rattle.gb_abs_effects.proofs.CoreLaws.{In-from, FlagsIn-from, Holds-computed, HoldsFlags-written, byte-of, MeansCore-flags, MeansCore-a, IsCore-flags, IsCore-a}
+use Rattle.gb_abs_effects.proofs.ReadLaws.{IsIn-hl, hl_span-last}
 
 -- ---- operands
 
@@ -47,8 +47,8 @@ Follows-store_operand operand.AtHl s entry x v n h byte m = record { core = m; w
 
 pub IsAbsEffect-store_operand : (to : Operand) (s : Core) (v : Val) → IsVal v → IsCore s → IsAbsEffect (store_operand to v s)
 unfolding store_operand
-IsAbsEffect-store_operand (operand.Register r) s v h is = record { core = IsCore-set_register s r v h is; write = tt }
-IsAbsEffect-store_operand operand.AtHl s v h is = record { core = is; write = h }
+IsAbsEffect-store_operand (operand.Register r) s v h is = record { core = IsCore-set_register s r v h is; write = tt; at = tt }
+IsAbsEffect-store_operand operand.AtHl s v h is = record { core = is; write = h; at = hl_span-last s is }
 
 -- the operand and the flags become what was computed
 Follows-updated :
@@ -111,7 +111,7 @@ Follows-change_a machine s entry x o sound computed m =
 
 pub IsAbsEffect-update_a : (s : Core) (o : Outcome) (test : Option ℕ) → IsOutcome o → IfSome test (λ n. n < 256) → IsCore s → IsAbsEffect (update_a o test s)
 unfolding update_a
-IsAbsEffect-update_a s o test is tested core = record { core = IsCore-a s o.val o.flags test is.val is.flags tested core; write = tt }
+IsAbsEffect-update_a s o test is tested core = record { core = IsCore-a s o.val o.flags test is.val is.flags tested core; write = tt; at = tt }
 
 -- ---- flags
 
@@ -140,4 +140,4 @@ Follows-test_operand machine which s entry x low l f sound written h m =
     flags-follow s entry x f (machine n x.processor.flags) (sound.gives n x.processor.flags (In-from (operand_val which s low) entry n held) (FlagsIn-from s.flags entry x.processor.flags m.flags)) written m
 
 pub IsAbsEffect-flags : (s : Core) (f : Flg) → IsFlg f → IsCore s → IsAbsEffect (quiet (with_flags f s))
-IsAbsEffect-flags s f h is = record { core = IsCore-flags s f h is; write = tt }
+IsAbsEffect-flags s f h is = record { core = IsCore-flags s f h is; write = tt; at = tt }

@@ -33,8 +33,10 @@ use Rattle.gb_abs_effects.specs.declared.writes.AbsEffect.{AbsEffect}
 use Rattle.gb_abs_effects.specs.Pairs.{known_word, any_word, is_word_known, least_word, raised, lowered, next_word, previous_word, are_words_known, word_sum, word_sum_flags, sum_flags_any, sum_flags_known, pair_halves, with_pair, with_indirect, stack_pair_halves, with_stack_pair}
 use Rattle.gb_abs_effects.specs.Transfer.{quiet, pushes, add_hl, only_off, only_on, enabled, operand_val, sp_sum_flags, transfer, untaken}
 use Rattle.gb_abs_effects.specs.Sound.{HasBytes, IsAbsEffect}
-use Rattle.gb_abs_effects.proofs.CoreLaws.{IsCore-set_register, IsCore-ime, IsCore-a}
+use Rattle.gb_abs.proofs.OperationLaws.{IsCore-set_register}
+use Rattle.gb_abs_effects.proofs.CoreLaws.{IsCore-ime, IsCore-a}
 use Rattle.gb_abs_effects.proofs.PairLaws.{moved_up, moved_down, carried, borrowed}
+use Rattle.gb_abs_effects.proofs.ReadLaws.{indirect_span-last, high_span-last, high-last}
 use Rattle.gb_abs_effects.proofs.OperandLaws.{operand-byte, IsAbsEffect-store_operand, IsAbsEffect-update_operand, IsAbsEffect-update_a, IsAbsEffect-flags}
 use Rattle.gb_abs_effects.proofs.AluLaws.{IsAbsEffect-immediate, IsAbsEffect-apply_alu}
 
@@ -174,10 +176,10 @@ enabled-any i h = any i.off i.pending i.on h
 
 -- nothing but the core changes
 IsAbsEffect-quiet : (s : Core) → IsCore s → IsAbsEffect (quiet s)
-IsAbsEffect-quiet s is = record { core = is; write = tt }
+IsAbsEffect-quiet s is = record { core = is; write = tt; at = tt }
 
 IsAbsEffect-pushes : (s : Core) (w : Halves) → IsWord w → IsCore s → IsAbsEffect (pushes s w)
-IsAbsEffect-pushes s w h is = record { core = is; write = (h.high, h.low) }
+IsAbsEffect-pushes s w h is = record { core = is; write = (h.high, h.low); at = tt }
 
 IsAbsEffect-loaded : (s : Core) (v : Val) → IsVal v → IsCore s → IsAbsEffect (quiet (core_set_register A v s))
 IsAbsEffect-loaded s v h is = IsAbsEffect-quiet (core_set_register A v s) (IsCore-set_register s A v h is)
@@ -196,7 +198,7 @@ IsAbsEffect-transfer :
     → HasBytes o → next < 65536 → IsCore s → IsVal low → IsVal high → IsAbsEffect (transfer o next s low high)
 unfolding transfer
 IsAbsEffect-transfer (op.LoadPair to w) next s low high bytes small is l h = IsAbsEffect-quiet _ (IsCore-with_pair to s (known_word w) (IsWord-known w bytes) is)
-IsAbsEffect-transfer (op.StoreA to) next s low high bytes small is l h = record { core = IsCore-with_indirect to s is; write = is.registers A }
+IsAbsEffect-transfer (op.StoreA to) next s low high bytes small is l h = record { core = IsCore-with_indirect to s is; write = is.registers A; at = indirect_span-last to s is }
 IsAbsEffect-transfer (op.LoadA from) next s low high bytes small is l h = IsAbsEffect-loaded (with_indirect from s) low l (IsCore-with_indirect from s is)
 IsAbsEffect-transfer (op.IncrementPair which) next s low high bytes small is l h = IsAbsEffect-quiet _ (IsCore-with_pair which s _ (IsWord-next _ (IsWord-pair which s is)) is)
 IsAbsEffect-transfer (op.DecrementPair which) next s low high bytes small is l h = IsAbsEffect-quiet _ (IsCore-with_pair which s _ (IsWord-previous _ (IsWord-pair which s is)) is)
@@ -207,7 +209,7 @@ IsAbsEffect-transfer (op.Decrement which) next s low high bytes small is l h =
 IsAbsEffect-transfer (op.LoadImmediate to v) next s low high bytes small is l h = IsAbsEffect-store_operand to s (single v) (single-byte v bytes) is
 IsAbsEffect-transfer (op.RotateA how) next s low high bytes small is l h =
     IsAbsEffect-update_a s _ None (rotate_a_inhabited how s.registers.a s.flags _ refl (is.registers A) is.flags) tt is
-IsAbsEffect-transfer (op.StoreSp w) next s low high bytes small is l h = record { core = is; write = (any-byte, any-byte) }
+IsAbsEffect-transfer (op.StoreSp w) next s low high bytes small is l h = record { core = is; write = (any-byte, any-byte); at = bytes }
 IsAbsEffect-transfer (op.AddHl which) next s low high bytes small is l h = IsAbsEffect-add_hl which s is
 IsAbsEffect-transfer op.DecimalAdjust next s low high bytes small is l h =
     IsAbsEffect-update_a s _ None (adjust_inhabited s.registers.a s.flags _ refl (is.registers A) is.flags) tt is
@@ -225,11 +227,11 @@ IsAbsEffect-transfer (op.Push from) next s low high bytes small is l h = IsAbsEf
 IsAbsEffect-transfer (op.CallIf c w) next s low high bytes small is l h = IsAbsEffect-pushes s _ (IsWord-known next small) is
 IsAbsEffect-transfer (op.Call w) next s low high bytes small is l h = IsAbsEffect-pushes s _ (IsWord-known next small) is
 IsAbsEffect-transfer (op.Restart w) next s low high bytes small is l h = IsAbsEffect-pushes s _ (IsWord-known next small) is
-IsAbsEffect-transfer (op.StoreHigh n) next s low high bytes small is l h = record { core = is; write = is.registers A }
+IsAbsEffect-transfer (op.StoreHigh n) next s low high bytes small is l h = record { core = is; write = is.registers A; at = high-last n bytes }
 IsAbsEffect-transfer (op.LoadHigh n) next s low high bytes small is l h = IsAbsEffect-loaded s low l is
-IsAbsEffect-transfer op.StoreHighC next s low high bytes small is l h = record { core = is; write = is.registers A }
+IsAbsEffect-transfer op.StoreHighC next s low high bytes small is l h = record { core = is; write = is.registers A; at = high_span-last s is }
 IsAbsEffect-transfer op.LoadHighC next s low high bytes small is l h = IsAbsEffect-loaded s low l is
-IsAbsEffect-transfer (op.StoreAbsolute w) next s low high bytes small is l h = record { core = is; write = is.registers A }
+IsAbsEffect-transfer (op.StoreAbsolute w) next s low high bytes small is l h = record { core = is; write = is.registers A; at = bytes }
 IsAbsEffect-transfer (op.LoadAbsolute w) next s low high bytes small is l h = IsAbsEffect-loaded s low l is
 IsAbsEffect-transfer (op.AddSp e8) next s low high bytes small is l h = IsAbsEffect-flags s sp_sum_flags IsFlg-sp_sum is
 IsAbsEffect-transfer (op.LoadHlSp e8) next s low high bytes small is l h =

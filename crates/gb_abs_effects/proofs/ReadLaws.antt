@@ -1,5 +1,5 @@
 -- What an instruction reads is what is said.
-use Rattle.std.proofs.Common.{◌≡◌, ℕ, ◌+◌, Bool, true, false, refl, sym, ◌∙◌, subst, arith}
+use Rattle.std.proofs.Common.{◌≡◌, ℕ, ◌+◌, ◌<◌, Bool, true, false, refl, sym, ◌∙◌, subst, arith}
 use Rattle.std.proofs.lemmas.Bool.{true≢false}
 use Rattle.gb_ops.specs.declared.op.Register.TheVariants.{B, C, D, E, H, L}
 use Rattle.gb_ops.specs.declared.op.Indirect.{Indirect}
@@ -15,14 +15,16 @@ use Rattle.gb_ops.specs.Flags.{is_met}
 use Rattle.gb_ops.specs.Pairs.{pair_value}
 use Rattle.gb_ops.specs.Effects as Effects
 use Rattle.gb_ops.specs.Play.{MState}
+use Rattle.gb_cert.specs.declared.types.Val.{Val}
 use Rattle.gb_cert.specs.declared.types.Core.{Core}
+use Rattle.gb_cert.specs.Rules.{IsVal, IsCore}
 use Rattle.gb_vals.specs.Vals.{single}
-use Rattle.gb_abs.specs.Span.{IsIn, one}
+use Rattle.gb_abs.specs.Span.{IsIn, one, pair_span}
 use Rattle.gb_abs.specs.Meaning.{MeansCore}
 use Rattle.gb_abs.proofs.OperationLaws.{Holds-single}
 use Rattle.gb_abs_effects.specs.declared.reads.AbsRead.{AbsRead}
 use Rattle.gb_abs_effects.specs.Accesses.{hl_span, indirect_span, high_span, operand_read, read_of}
-use Rattle.gb_abs_effects.specs.Sound.{HoldsRead, IsSoundRead}
+use Rattle.gb_abs_effects.specs.Sound.{HasBytes, HoldsRead, IsReadAt, IsSoundRead}
 use Rattle.gb_abs_effects.proofs.CoreLaws.{IsIn-pair}
 use Rattle.gb_abs_effects.proofs.SideLaws.{is_taken-with, is_taken-without}
 
@@ -95,3 +97,54 @@ untaken-reads (op.ReturnIf c) p l h e = read_if-not (is_met c p.flags) (machine_
 untaken-reads (op.JumpIf c w) p l h e = refl
 untaken-reads (op.CallIf c w) p l h e = refl
 untaken-reads o p l h e = absurd (true≢false (sym (is_taken-without o p l h refl) ∙ e))
+
+-- ---- what is read lies at addresses
+
+pair_span-last : (high low : Val) → IsVal high → IsVal low → (pair_span high low).last < 65536
+unfolding pair_span
+pair_span-last high low h l =
+    let p : high.hi < 256 = h.hi in
+    let q : low.hi < 256 = l.hi in
+    omega arith
+
+pub hl_span-last : (s : Core) → IsCore s → (hl_span s).last < 65536
+unfolding hl_span
+hl_span-last s is = pair_span-last s.registers.h s.registers.l (is.registers H) (is.registers L)
+
+pub indirect_span-last : (which : Indirect) (s : Core) → IsCore s → (indirect_span which s).last < 65536
+unfolding indirect_span
+indirect_span-last indirect.Bc s is = pair_span-last s.registers.b s.registers.c (is.registers B) (is.registers C)
+indirect_span-last indirect.De s is = pair_span-last s.registers.d s.registers.e (is.registers D) (is.registers E)
+indirect_span-last indirect.HlIncrement s is = hl_span-last s is
+indirect_span-last indirect.HlDecrement s is = hl_span-last s is
+
+pub high_span-last : (s : Core) → IsCore s → (high_span s).last < 65536
+unfolding high_span
+high_span-last s is = pair_span-last (single 0xFF) s.registers.c (record { order = omega arith; hi = omega arith }) (is.registers C)
+
+pub high-last : (b : ℕ) → b < 256 → 0xFF00 + b < 65536
+high-last b h = omega arith
+
+IsReadAt-operand : (which : Operand) (s : Core) → IsCore s → IsReadAt (operand_read which s)
+unfolding operand_read
+IsReadAt-operand (operand.Register r) s is = tt
+IsReadAt-operand operand.AtHl s is = hl_span-last s is
+
+IsReadAt-read_of : (o : Op) (s : Core) → HasBytes o → IsCore s → IsReadAt (read_of o s)
+unfolding read_of
+IsReadAt-read_of (op.LoadA from) s bytes is = indirect_span-last from s is
+IsReadAt-read_of (op.Increment which) s bytes is = IsReadAt-operand which s is
+IsReadAt-read_of (op.Decrement which) s bytes is = IsReadAt-operand which s is
+IsReadAt-read_of (op.Load to from) s bytes is = IsReadAt-operand from s is
+IsReadAt-read_of (op.Alu how which) s bytes is = IsReadAt-operand which s is
+IsReadAt-read_of (op.LoadHigh b) s bytes is = high-last b bytes
+IsReadAt-read_of op.LoadHighC s bytes is = high_span-last s is
+IsReadAt-read_of (op.LoadAbsolute w) s bytes is = bytes
+IsReadAt-read_of (op.Shift how which) s bytes is = IsReadAt-operand which s is
+IsReadAt-read_of (op.Bit n which) s bytes is = IsReadAt-operand which s is
+IsReadAt-read_of (op.Reset n which) s bytes is = IsReadAt-operand which s is
+IsReadAt-read_of (op.Set n which) s bytes is = IsReadAt-operand which s is
+IsReadAt-read_of o s bytes is = tt
+
+pub read_of_at : (o : Op) (s : Core) (what : AbsRead) → what ≡ read_of o s → HasBytes o → IsCore s → IsReadAt what
+read_of_at o s what e bytes is = subst IsReadAt (sym e) (IsReadAt-read_of o s bytes is)

@@ -21,11 +21,11 @@ use Rattle.gb_vals.specs.declared.branch.Branch.{Branch}
 use Rattle.gb_vals.specs.Tests.{side, IsOnSide, IsKept, IsSide}
 use Rattle.gb_vals.proofs.BranchLaws.{side_sound, side_inhabited, side_kept}
 use Rattle.gb_abs.specs.Meaning.{Holds, HoldsFlags, MeansCore}
-use Rattle.gb_abs.proofs.OperationLaws.{set_both}
+use Rattle.gb_abs.proofs.OperationLaws.{set_both, set_one}
 use Rattle.gb_abs_effects.specs.declared.sides.Sides.{Sides}
 use Rattle.gb_abs_effects.specs.Sides.{opposite, condition_of, with_branch, side_of, sides_by, sides_of}
 use Rattle.gb_abs_effects.specs.Sound.{side_by, IsMeant, AreSoundSides, AreSides}
-use Rattle.gb_abs_effects.proofs.CoreLaws.{some-is, In-from, FlagsIn-from, MeansCore-changed, IsCore-changed, set_one}
+use Rattle.gb_abs_effects.proofs.CoreLaws.{some-is, In-from, FlagsIn-from, MeansCore-changed, IsCore-changed}
 
 -- ---- which instructions are taken
 
@@ -75,7 +75,7 @@ IsMeant-with_branch s entry x (Some b) on kept m =
     let old : Holds s.registers.a entry x.processor.registers.a = m.registers A in
     let a : Holds b.a entry x.processor.registers.a = record { least = on.0.least; most = on.0.most; origin = λ o e. old.origin o (sym kept.0 ∙ e) } in
     let flags : HoldsFlags b.flags entry x.processor.flags = record { zero = on.1.zero; subtract = on.1.subtract; half_carry = on.1.half_carry; carry = on.1.carry; own = λ e. m.flags.own (sym kept.1 ∙ e) } in
-    MeansCore-changed s entry x (set A b.a s.registers) b.flags s.test s.ime x.processor (λ q. set_both (λ w y. Holds w entry y) A q b.a x.processor.registers.a s.registers x.processor.registers a m.registers) flags m.ime m.test m.mark m.locked m.stopped m
+    MeansCore-changed s entry x (set A b.a s.registers) b.flags s.test s.ime x.processor (λ q. set_both (λ w y. Holds w entry y) A q b.a x.processor.registers.a s.registers x.processor.registers a m.registers) flags m.ime m.test m.locked m.stopped m
 
 IsMeant-side_of :
     (c : Condition) (s : Core) (entry x : MState)

@@ -1,5 +1,5 @@
 -- The effect of each instruction is followed.
-use Rattle.std.proofs.Common.{◌≡◌, ℕ, ◌+◌, ◌%◌, Bool, true, false, refl, sym, ◌∙◌, subst, arith}
+use Rattle.std.proofs.Common.{◌≡◌, ℕ, ◌+◌, ◌%◌, Bool, true, false, refl, sym, ◌∙◌, ap, subst, arith}
 use Rattle.std.proofs.lemmas.Bool.{true≢false}
 use Rattle.gb_ops.specs.declared.op.Register.TheVariants.{A}
 use Rattle.gb_ops.specs.declared.op.Op.{Op}
@@ -39,8 +39,9 @@ use Rattle.gb_abs_effects.proofs.CoreLaws.{MeansCore-at, MeansCore-ime}
 use Rattle.gb_abs_effects.proofs.PairLaws.{HoldsWord, HoldsWord-known, HoldsWord-any, MeansCore-with_pair, MeansCore-with_stack_pair, HoldsWord-stack_pair}
 use Rattle.gb_abs_effects.proofs.OperandLaws.{Follows-store_operand, Follows-change_a, Follows-change_flags, Follows-test_operand}
 use Rattle.gb_abs_effects.proofs.AluLaws.{Follows-immediate, Follows-apply_alu}
-use Rattle.gb_abs_effects.proofs.ReadLaws.{IsIn-one, IsIn-indirect, IsIn-high}
+use Rattle.gb_abs_effects.proofs.ReadLaws.{IsIn-one, IsIn-indirect, IsIn-high, untaken-reads}
 use Rattle.gb_abs_effects.proofs.SideLaws.{is_taken-without}
+use Rattle.gb_abs_effects.proofs.TargetLaws.{sp-small}
 use Rattle.gb_abs_effects.proofs.InstructionLaws.{Follows-moved, a-byte, Follows-pushed, Follows-loaded, MeansCore-with_indirect, Follows-next, Follows-previous, Follows-add_hl, Follows-add_sp, Follows-load_hl, enabled-holds, Follows-increment, Follows-decrement, Follows-shift, Follows-reset, Follows-set, Follows-load, Follows-only_if}
 
 -- the address of the next instruction is pushed
@@ -155,7 +156,10 @@ pub transfer_sound :
     (o : Op) (next : ℕ) (s : Core) (low high : Val) (t : AbsEffect)
     → t ≡ transfer o next s low high → HasBytes o → IsCore s → IsVal low → IsSoundTransfer o next s low high t
 transfer_sound o next s low high t e bytes is is_low =
-    subst (λ k. IsSoundTransfer o next s low high k) (sym e) (record { gives = λ entry x l h going b. Follows-transfer o next s low high entry x l h bytes is is_low going b })
+    subst (λ k. IsSoundTransfer o next s low high k) (sym e) (record {
+      gives = λ entry x l h going b. Follows-transfer o next s low high entry x l h bytes is is_low going b;
+      sp = λ entry x l h b. sp-small o s entry x l h bytes is b.core b.sp;
+    })
 
 -- ---- not taken
 
@@ -176,10 +180,18 @@ untaken-is (op.JumpIf c w) p l h e = only_if-alone (is_met c p.flags) _ p refl e
 untaken-is (op.CallIf c w) p l h e = only_if-alone (is_met c p.flags) _ p refl e
 untaken-is o p l h e = absurd (true≢false (sym (is_taken-without o p l h refl) ∙ e))
 
+-- an instruction that isn't taken leaves the processor
+pub untaken-stays : (o : Op) (p : Processor) (l h : ℕ) → (Effects.effect_of o p l h).is_taken ≡ false → (Effects.effect_of o p l h).processor ≡ p
+untaken-stays o p l h e = ap (λ (f : Effect). f.processor) (untaken-is o p l h e)
+
 Follows-untaken : (s : Core) (entry x : MState) → MeansCore s entry x → Follows (untaken s) entry x (left_alone x.processor)
 unfolding untaken
 Follows-untaken s entry x m = record { core = m; write = tt }
 
 pub untaken_sound : (s : Core) (t : AbsEffect) → t ≡ untaken s → IsSoundUntaken s t
 untaken_sound s t e =
-    subst (λ k. IsSoundUntaken s k) (sym e) (record { gives = λ o entry x l h m not_taken. subst (λ f. Follows (untaken s) entry x f) (sym (untaken-is o x.processor l h not_taken)) (Follows-untaken s entry x m) })
+    subst (λ k. IsSoundUntaken s k) (sym e) (record {
+      gives = λ o entry x l h m not_taken. subst (λ f. Follows (untaken s) entry x f) (sym (untaken-is o x.processor l h not_taken)) (Follows-untaken s entry x m);
+      reads = λ o p l h not_taken. untaken-reads o p l h not_taken;
+      stays = λ o p l h not_taken. untaken-stays o p l h not_taken;
+    })

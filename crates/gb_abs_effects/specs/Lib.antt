@@ -2,4 +2,5 @@ pub mod Accesses
 pub mod Sound
 pub mod Pairs
 pub mod Sides
+pub mod Targets
 pub mod Transfer

@@ -3,6 +3,7 @@
 use Rattle.std.specs.Prelude.{◌≡◌, ℕ, ◌/◌, ◌%◌, ◌≤◌, ◌<◌, Bool, true, false, Option, Some, None, IfSome}
 use Rattle.gb_ops.specs.declared.op.Op.{Op}
 use Rattle.gb_ops.specs.declared.op.Op.TheVariants as op
+use Rattle.gb_ops.specs.declared.registers.Processor.{Processor}
 use Rattle.gb_ops.specs.declared.machine.Read.{Read}
 use Rattle.gb_ops.specs.declared.machine.Read.TheVariants as machine_read
 use Rattle.gb_ops.specs.declared.machine.Write.{Write}
@@ -18,15 +19,31 @@ use Rattle.gb_abs.specs.Meaning.{Holds, MeansCore}
 use Rattle.gb_abs_effects.specs.declared.reads.AbsRead.{AbsRead}
 use Rattle.gb_abs_effects.specs.declared.reads.AbsRead.TheVariants as read
 use Rattle.gb_abs_effects.specs.declared.sides.Sides.{Sides}
+use Rattle.gb_abs_effects.specs.declared.targets.Target.{Target}
+use Rattle.gb_abs_effects.specs.declared.targets.Target.TheVariants as target
 use Rattle.gb_abs_effects.specs.declared.writes.AbsWrite.{AbsWrite}
 use Rattle.gb_abs_effects.specs.declared.writes.AbsWrite.TheVariants as write
 use Rattle.gb_abs_effects.specs.declared.writes.AbsEffect.{AbsEffect}
 
--- the numbers that an instruction puts into a core, or computes with, are bytes and words
+-- the numbers that an instruction puts into a core, computes with or takes for an address are bytes and words
 abbrev pub HasBytes : Op → Type 0
 HasBytes (op.LoadPair to w) = w < 65536
 HasBytes (op.LoadImmediate to v) = v < 256
+HasBytes (op.StoreSp w) = w < 65536
+HasBytes (op.JumpRelative e8) = e8 < 256
+HasBytes (op.JumpRelativeIf condition e8) = e8 < 256
 HasBytes (op.AluImmediate how v) = v < 256
+HasBytes (op.JumpIf condition w) = w < 65536
+HasBytes (op.Jump w) = w < 65536
+HasBytes (op.CallIf condition w) = w < 65536
+HasBytes (op.Call w) = w < 65536
+HasBytes (op.Restart w) = w < 256
+HasBytes (op.StoreHigh b) = b < 256
+HasBytes (op.LoadHigh b) = b < 256
+HasBytes (op.StoreAbsolute w) = w < 65536
+HasBytes (op.LoadAbsolute w) = w < 65536
+HasBytes (op.AddSp e8) = e8 < 256
+HasBytes (op.LoadHlSp e8) = e8 < 256
 HasBytes _ = Unit {0}
 
 -- ---- reads
@@ -44,6 +61,11 @@ pub record IsSoundRead (o : Op) (s : Core) (what : AbsRead) : Type 0 where
       (entry x : MState) (l h : ℕ)
       → MeansCore s entry x → (Effects.effect_of o x.processor l h).is_taken ≡ true
       → HoldsRead what x.processor.sp (Effects.read_of o x.processor)
+
+-- what is read lies at addresses
+abbrev pub IsReadAt : AbsRead → Type 0
+IsReadAt (read.Byte span) = span.last < 65536
+IsReadAt _ = Unit {0}
 
 -- ---- sides
 
@@ -92,18 +114,51 @@ pub record Begins (o : Op) (next : ℕ) (s : Core) (low high : Val) (entry x : M
   pub sp : x.processor.sp < 65536
   pub taken : (Effects.effect_of o x.processor l h).is_taken ≡ true
 
--- each effect of the instruction but STOP is followed
+-- each effect of the instruction but STOP is followed, and SP stays an address
 pub record IsSoundTransfer (o : Op) (next : ℕ) (s : Core) (low high : Val) (t : AbsEffect) : Type 0 where
   pub gives :
       (entry x : MState) (l h : ℕ)
       → (o ≡ op.Stop → ⊥) → Begins o next s low high entry x l h → Follows t entry x (Effects.effect_of o x.processor l h)
+  pub sp :
+      (entry x : MState) (l h : ℕ)
+      → Begins o next s low high entry x l h → (Effects.effect_of o x.processor l h).processor.sp < 65536
 
--- each effect of an instruction that isn't taken is followed
+-- each effect of an instruction that isn't taken is followed: it reads nothing but its own bytes, and leaves
+-- the processor as it is, PC behind it
 pub record IsSoundUntaken (s : Core) (t : AbsEffect) : Type 0 where
   pub gives :
       (o : Op) (entry x : MState) (l h : ℕ)
       → MeansCore s entry x → (Effects.effect_of o x.processor l h).is_taken ≡ false
       → Follows t entry x (Effects.effect_of o x.processor l h)
+  pub reads :
+      (o : Op) (p : Processor) (l h : ℕ)
+      → (Effects.effect_of o p l h).is_taken ≡ false → Effects.read_of o p ≡ machine_read.Nothing
+  pub stays :
+      (o : Op) (p : Processor) (l h : ℕ)
+      → (Effects.effect_of o p l h).is_taken ≡ false → (Effects.effect_of o p l h).processor ≡ p
+
+-- ---- targets
+
+-- the machine's PC is there; of a return, and of a jump to somewhere, nothing is said
+abbrev pub HoldsTarget : Target → ℕ → Type 0
+HoldsTarget (target.At a) pc = pc ≡ a
+HoldsTarget (target.Call a) pc = pc ≡ a
+HoldsTarget _ pc = Unit {0}
+
+-- where the instruction is taken, PC being behind it, the machine goes on there
+pub record IsSoundTarget (o : Op) (next : ℕ) (s : Core) (t : Target) : Type 0 where
+  pub gives :
+      (entry x : MState) (l h : ℕ)
+      → MeansCore s entry x → x.processor.pc ≡ next → (Effects.effect_of o x.processor l h).is_taken ≡ true
+      → HoldsTarget t (Effects.effect_of o x.processor l h).processor.pc
+
+-- a target that is known is an address
+abbrev pub IsTargetAt : Target → Type 0
+IsTargetAt (target.At a) = a < 65536
+IsTargetAt (target.Call a) = a < 65536
+IsTargetAt _ = Unit {0}
+
+-- ---- ranges
 
 -- what is written are bytes
 abbrev pub IsWrite : AbsWrite → Type 0
@@ -112,6 +167,13 @@ IsWrite (write.Byte span v) = IsVal v
 IsWrite (write.Word a low high) = IsVal low × IsVal high
 IsWrite (write.Push high low) = IsVal high × IsVal low
 
+-- what is written lies at addresses
+abbrev pub IsWrittenAt : AbsWrite → Type 0
+IsWrittenAt (write.Byte span v) = span.last < 65536
+IsWrittenAt (write.Word a low high) = a < 65536
+IsWrittenAt _ = Unit {0}
+
 pub record IsAbsEffect (t : AbsEffect) : Type 0 where
   pub core : IsCore t.core
   pub write : IsWrite t.write
+  pub at : IsWrittenAt t.write

@@ -3,12 +3,14 @@
 //! and what it writes (`exact`); whatever the machine does from a state that the core stands for, the
 //! answer stands for (`sound`). STOP is left out, since no certificate may reach it.
 //!
-//! Read `reads` and `sides`, then `pairs` and `writes`, and last `transfer`. Where an OAM transfer is
+//! Read `reads`, `sides` and `targets` (where an instruction goes on), then `pairs` and `writes`, and
+//! last `transfer`. Where an OAM transfer is
 //! meant, it is called so: the word transfer alone is a transfer function's.
 #![tactic(auto)]
 
 pub mod pairs;
 pub mod reads;
 pub mod sides;
+pub mod targets;
 pub mod transfer;
 pub mod writes;

@@ -37,13 +37,15 @@ pub(crate) fn any_word() -> Halves
     }
 }
 
-fn is_word_known(halves: Halves) -> bool
+/// Whether a word is known.
+pub(crate) fn is_word_known(halves: Halves) -> bool
     ensures { result ≡ Pairs.is_word_known halves }
 {
     is_single(halves.high) && is_single(halves.low)
 }
 
-fn least_word(halves: Halves) -> u16
+/// The least bytes of a word.
+pub(crate) fn least_word(halves: Halves) -> u16
     ensures { result ≡ Pairs.least_word halves }
 {
     word(halves.high.lo, halves.low.lo)

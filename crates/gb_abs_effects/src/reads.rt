@@ -2,7 +2,8 @@
 
 ghost use Rattle.std.specs.Prelude.{◌≡◌};
 ghost use Rattle.gb_abs_effects.specs.Accesses as Accesses;
-ghost use Rattle.gb_abs_effects.specs.Sound.{IsSoundRead};
+ghost use Rattle.gb_cert.specs.Rules.{IsCore};
+ghost use Rattle.gb_abs_effects.specs.Sound.{HasBytes, IsReadAt, IsSoundRead};
 
 use gb_abs::span::Span;
 use gb_cert::types::Core;
@@ -60,17 +61,19 @@ fn operand_read(operand: Operand, core: &Core) -> AbsRead
 
 /// What an instruction that is taken may read besides its own bytes: addresses that hold the
 /// machine's, those of a pair from both least bytes to both greatest.
-#[tactic(auto, using(crate::proofs::ReadLaws::read_of_sound))]
+#[tactic(auto, using(crate::proofs::ReadLaws::read_of_sound, crate::proofs::ReadLaws::read_of_at))]
 pub fn read_of(op: Op, core: &Core) -> AbsRead
     ensures exact { result ≡ Accesses.read_of op core.now }
     ensures sound { IsSoundRead op core.now result }
+    ensures at { IsCore core.now → IsReadAt result }
 {
     data_of(op, core)
 }
 
 #[tactic(auto, unfolding(crate::specs::Accesses::read_of))]
 fn data_of(op: Op, core: &Core) -> AbsRead
-    ensures { result ≡ Accesses.read_of op core.now }
+    ensures exact { result ≡ Accesses.read_of op core.now }
+    ensures bytes { HasBytes op }
 {
     match op {
         Op::LoadA(from) => AbsRead::Byte(indirect_span(from, core)),

@@ -1,3 +1,4 @@
+pub mod AfterStoreLaws
 pub mod CutLaws
 pub mod WindowLaws
 pub mod ControllerLaws

@@ -1,5 +1,5 @@
 -- A load that isn't refused has no fault, and gives a byte that its value stands for.
-use Rattle.std.proofs.Common.{◌≡◌, ℕ, ◌-◌, ◌%◌, ◌<◌, ◌≤◌, Bool, true, false, cond, not, ◌&&◌, ◌||◌, ◌==◌, nat_lt, if◌then◌else◌, ◌⊎◌, inl, inr, List, slice_index, Option, Some, None, Result, Ok, Err, refl, sym, ◌∙◌, ap, subst, arith}
+use Rattle.std.proofs.Common.{◌≡◌, ℕ, ◌-◌, ◌%◌, ◌<◌, ◌≤◌, Bool, true, false, cond, not, ◌&&◌, ◌||◌, ◌==◌, nat_lt, if◌then◌else◌, ◌⊎◌, inl, inr, List, [], ◌∷◌, slice_index, Option, Some, None, Result, Ok, Err, refl, sym, ◌∙◌, ap, subst, arith}
 use Rattle.std.proofs.lemmas.Bool.{and_cases, eqb-true, not-false, or_parts}
 use Rattle.std.specs.Option.{IfSome}
 use Rattle.std.specs.Result.{IfOk}
@@ -15,6 +15,7 @@ use Rattle.gb_ops.specs.Play.{MState, within}
 use Rattle.gb_cert.specs.declared.types.Val.{Val}
 use Rattle.gb_cert.specs.declared.types.May.{May}
 use Rattle.gb_cert.specs.declared.types.Ctl.{Ctl}
+use Rattle.gb_cert.specs.declared.types.Cell.{Cell}
 use Rattle.gb_cert.specs.declared.types.Core.{Core}
 use Rattle.gb_cert.specs.Types.{AbsState}
 use Rattle.gb_cert.specs.Rules.{IsVal}
@@ -33,7 +34,7 @@ use Rattle.gb_header.proofs.Laws.{rom_size-cartridge, rom_banks-cartridge}
 use Rattle.gb_abs_memory.specs.Windows.{InCtl}
 use Rattle.gb_abs_memory.specs.Shown.{known_bank}
 use Rattle.gb_abs_memory.specs.Access.{may_be_closed, meets_closed_ram, is_limited, refused_or, home_of, rom_val, val_at, loaded_val, load_reason, load}
-use Rattle.gb_abs_memory.specs.Sound.{view, IsRom, IsLoaded, IsSoundLoad}
+use Rattle.gb_abs_memory.specs.Sound.{view, IsRom, AreVals, IsLoaded, IsSoundLoad}
 use Rattle.gb_abs_memory.proofs.ShownLaws.{known_bank-sound}
 
 -- ---- tests
@@ -279,6 +280,53 @@ IsLoaded-loaded_val rom s span entry base x starting a free ram limited i lt m q
       faults = access-faultless rom s.core entry x starting span a m.core i ram limited;
     }
 
+-- a load, by its tests alone
+pub IsSoundLoad-loaded_val :
+    (rom : List ℕ) (s : AbsState) (span : Span) → meets_closed_ram rom s.core span ≡ false → is_limited s.core span ≡ false
+    → IsSoundLoad rom s span (loaded_val rom s span)
+IsSoundLoad-loaded_val rom s span ram limited =
+    record { gives = λ entry base x starting a free r m q i lt byte. IsLoaded-loaded_val rom s span entry base x starting a free ram limited i lt m q r byte }
+
+-- ---- a load gives a value
+
+IsVal-any : IsVal any_val
+IsVal-any = record { order = omega arith; hi = omega arith }
+
+IsVal-rom : (rom : List ℕ) (a : ℕ) (o : Option ℕ) → ((i : ℕ) → slice_index rom i ≤ 255) → IsVal (rom_val rom a o)
+IsVal-rom rom a None bytes = IsVal-any
+IsVal-rom rom a (Some bank) bytes =
+    let byte : rom_byte rom bank a ≤ 255 = bytes _ in
+    record { order = omega arith; hi = omega arith }
+
+pub IsVal-cell : (cells : List Cell) (a : ℕ) → AreVals cells → IsVal (cell_at a cells)
+IsVal-cell [] a h = IsVal-any
+IsVal-cell (c ∷ cells) a h = choose (c.address == a) (IsVal-cell cells a h.1)
+  where
+    choose : (b : Bool) → IsVal (cell_at a cells) → IsVal (cond b c.val (cell_at a cells))
+    choose true rest = h.0
+    choose false rest = rest
+
+pub IsVal-val_at :
+    (rom : List ℕ) (s : AbsState) (a : ℕ) → IsVal s.core.ie → AreVals s.cells → ((i : ℕ) → slice_index rom i ≤ 255) → IsVal (val_at rom s a)
+unfolding val_at
+IsVal-val_at rom s a ie cells bytes = choose (nat_lt a 0x8000) (is_ram (home_of a)) (a == 0xFFFF)
+  where
+    choose : (low ram enable : Bool)
+        → IsVal (if low then rom_val rom a (known_bank rom s.core.ctl a) else if ram then cell_at (home_of a) s.cells else if enable then s.core.ie else any_val)
+    choose true ram enable = IsVal-rom rom a (known_bank rom s.core.ctl a) bytes
+    choose false true enable = IsVal-cell s.cells (home_of a) cells
+    choose false false true = ie
+    choose false false false = IsVal-any
+
+pub IsVal-loaded_val :
+    (rom : List ℕ) (s : AbsState) (span : Span) → IsVal s.core.ie → AreVals s.cells → ((i : ℕ) → slice_index rom i ≤ 255) → IsVal (loaded_val rom s span)
+unfolding loaded_val
+IsVal-loaded_val rom s span ie cells bytes = choose (is_one span)
+  where
+    choose : (one : Bool) → IsVal (if one then val_at rom s span.first else any_val)
+    choose true = IsVal-val_at rom s span.first ie cells bytes
+    choose false = IsVal-any
+
 -- ---- a load, by its answer
 
 ok_same : {X E : Type 0} (x y : X) (r : Result X E) → r ≡ Ok x → r ≡ Ok y → x ≡ y
@@ -298,10 +346,7 @@ IsSoundLoad-load rom s span v h =
     let t = taken _ _ v h in
     let ram = not_refused _ _ _ t.0 in
     let limited = not_refused _ _ _ ram.1 in
-    record {
-      gives = λ entry base x starting a free r m q i lt byte.
-          subst (λ w. IsLoaded (view rom x starting) a free w entry) t.1 (IsLoaded-loaded_val rom s span entry base x starting a free ram.0 limited.0 i lt m q r byte);
-    }
+    subst (λ w. IsSoundLoad rom s span w) t.1 (IsSoundLoad-loaded_val rom s span ram.0 limited.0)
 
 -- what holds of each answer that a call may give
 pub if_ok : {X : Type 0} (r : Result X Reason) (P : X → Type 0) → ((x : X) → r ≡ Ok x → P x) → IfOk r P
@@ -312,6 +357,14 @@ pub load_sound : (rom : List ℕ) (s : AbsState) (span : Span) → IfOk (load ro
 load_sound rom s span = if_ok (load rom s span) (λ v. IsSoundLoad rom s span v) (λ v h. IsSoundLoad-load rom s span v h)
 
 pub ruleset load_laws = (load_sound)
+
+pub load_inhabited :
+    (rom : List ℕ) (s : AbsState) (span : Span) (r : Result Val Reason) → r ≡ load rom s span
+    → IsVal s.core.ie → AreVals s.cells → ((i : ℕ) → slice_index rom i ≤ 255) → IfOk r IsVal
+unfolding load
+load_inhabited rom s span r e ie cells bytes =
+    subst (λ k. IfOk k IsVal) (sym e)
+    (if_ok (load rom s span) IsVal (λ v h. subst IsVal (taken (load_reason rom s.core span) _ v h).1 (IsVal-loaded_val rom s span ie cells bytes)))
 
 -- a cartridge whose bytes are bytes
 pub IsRom-cartridge : (rom : List ℕ) → IsCartridge rom → ((i : ℕ) → slice_index rom i ≤ 255) → IsRom rom

@@ -41,7 +41,7 @@ use Rattle.gb_abs_memory.specs.declared.store.Area.TheVariants as area
 use Rattle.gb_abs_memory.specs.declared.store.Stored.{Stored}
 use Rattle.gb_abs_memory.specs.Windows.{InCtl, windows, window_of, ctl_after}
 use Rattle.gb_abs_memory.specs.Access.{may_be_closed, meets_closed_ram, may_copy_closed_ram, store_meets_closed_ram, is_limited, may_start_oam_transfer, is_store_limited, area_by, area_of, is_range, is_allowed, is_storable, store_reason, ram_stored, stored_in, stored_state, starts_oam_transfer, store}
-use Rattle.gb_abs_memory.specs.Sound.{view, IsStored, IsSoundStore, IsInRanges, IsStoredInside}
+use Rattle.gb_abs_memory.specs.Sound.{view, IsStored, IsSoundStore, IsInRanges}
 use Rattle.gb_abs_memory.proofs.WindowLaws.{after_window}
 use Rattle.gb_abs_memory.proofs.ControllerLaws.{IsInWindow, IsInWindow-window_of, window-sound, window-nothing}
 use Rattle.gb_abs_memory.proofs.LoadLaws.{both_false, one_address, within_ctl, rom_at, ram-open, not_limited, taken, not_refused, if_ok}
@@ -148,6 +148,7 @@ Means-others s core entry base x banks ie m set c =
     record {
       core = c;
       memory = memory_same x.storage banks ie m.memory;
+      sp = m.sp;
       stack = λ e. m.stack (sym set ∙ e);
       items = items_same s.items entry base x.storage (with_others x.storage banks ie) (same_bytes x.storage banks ie) m.items;
       cells = cells_same s.cells entry x.storage (with_others x.storage banks ie) (same_bytes x.storage banks ie) m.cells;
@@ -166,7 +167,6 @@ controller_core core ctl entry x banks m h =
       controller = h;
       count = m.count;
       test = m.test;
-      mark = m.mark;
       locked = m.locked;
       stopped = m.stopped;
     }
@@ -205,7 +205,7 @@ window_holds k w a n v c entry old (Some r) at e h m byte =
 -- ---- one store
 
 -- a byte is stored to one of the addresses, in one of the states, and nothing is against it
-pub record AtStore (rom : List ℕ) (region : Region) (s : AbsState) (span : Span) (v : Val) (entry : MState) (base : ℕ) (x : MState) (starting : Bool) (a n : ℕ) : Type 0 where
+pub record AtStore (rom : List ℕ) (region : Region) (ranges : List Range) (s : AbsState) (span : Span) (v : Val) (entry : MState) (base : ℕ) (x : MState) (starting : Bool) (a n : ℕ) : Type 0 where
   pub means : Means s entry base x
   pub placed : ArePlaced region s.cells
   pub room : AreInRegion region base (length s.items)
@@ -217,19 +217,22 @@ pub record AtStore (rom : List ℕ) (region : Region) (s : AbsState) (span : Spa
   pub faults : write_faults (view rom x starting) a n ≡ no_faults
   pub free : is_closed x.storage a ≡ false
   pub seen : may_start_oam_transfer span ≡ false
+  pub inside : is_ram a ≡ true → IsInRanges region ranges a
 
 -- what is left, given as another view
 stored_as :
-    (m m' : View) (a n : ℕ) (region : Region) (s : AbsState) (entry : MState) (base : ℕ) (x : MState) (o : Stored) → wrote m a n ≡ m' → write_faults m a n ≡ no_faults
+    (m m' : View) (a n : ℕ) (region : Region) (ranges : List Range) (s : AbsState) (entry : MState) (base : ℕ) (x : MState) (o : Stored) → wrote m a n ≡ m' → write_faults m a n ≡ no_faults
     → Means o.state entry base (record x { storage = m'.storage }) → m'.starting ≡ (m.starting || o.starts) → m'.rom ≡ m.rom → o.state.items ≡ s.items
-    → ArePlaced region o.state.cells → ((b : ℕ) → peek m'.storage b ≡ peek x.storage b) → IsStored m a n region s entry base x o
-stored_as m m' a n region s entry base x o e faults means starting rom items placed bytes =
+    → ArePlaced region o.state.cells → ((b : ℕ) → peek m'.storage b ≡ peek x.storage b) → (is_ram a ≡ true → IsInRanges region ranges a)
+    → IsStored m a n region ranges s entry base x o
+stored_as m m' a n region ranges s entry base x o e faults means starting rom items placed bytes inside =
     record {
       means = subst (λ (w : View). Means o.state entry base (record x { storage = w.storage })) (sym e) means;
       faults = faults;
       starting = ap (λ (w : View). w.starting) e ∙ starting;
       rom = ap (λ (w : View). w.rom) e ∙ rom;
       others = λ b ram other. ap (λ (w : View). peek w.storage b) e ∙ bytes b;
+      inside = inside;
       items = items;
       placed = placed;
     }
@@ -277,11 +280,11 @@ below_not : (a : ℕ) → a < 0x8000 → (a == 0xFF46) ≡ false
 below_not a h = grind (arith, nat_tests)
 
 stored_window :
-    (rom : List ℕ) (region : Region) (s : AbsState) (span : Span) (v : Val) (entry : MState) (base : ℕ) (x : MState) (starting : Bool) (a n : ℕ) (w : Window)
-    → AtStore rom region s span v entry base x starting a n → window_of (kind_of rom) span ≡ Some w
-    → IsStored (view rom x starting) a n region s entry base x (record { state = stored_in (Some (area.Controller w.register)) (kind_of rom) span v s; starts = starts_oam_transfer span })
+    (rom : List ℕ) (region : Region) (ranges : List Range) (s : AbsState) (span : Span) (v : Val) (entry : MState) (base : ℕ) (x : MState) (starting : Bool) (a n : ℕ) (w : Window)
+    → AtStore rom region ranges s span v entry base x starting a n → window_of (kind_of rom) span ≡ Some w
+    → IsStored (view rom x starting) a n region ranges s entry base x (record { state = stored_in (Some (area.Controller w.register)) (kind_of rom) span v s; starts = starts_oam_transfer span })
 unfolding banks_after
-stored_window rom region s span v entry base x starting a n w h e =
+stored_window rom region ranges s span v entry base x starting a n w h e =
     let at = IsInWindow-window_of (kind_of rom) span w a e h.at in
     let low = window_below (kind_of rom) w a at in
     let m = h.means in
@@ -289,10 +292,10 @@ stored_window rom region s span v entry base x starting a n w h e =
     let ctl = after_window (kind_of rom) w.register v s.core.ctl in
     let holds = window_holds (kind_of rom) w a n v s.core.ctl entry x.storage.banks w.register at refl m.core.controller h.holds h.byte in
     let core = controller_core s.core ctl entry x banks m.core holds in
-    subst (λ (t : AbsState). IsStored (view rom x starting) a n region s entry base x (record { state = t; starts = starts_oam_transfer span })) (window_state (kind_of rom) w.register span v s)
-    (stored_as (view rom x starting) (wrote_by mapped.Rom (view rom x starting) a n) a n region s entry base x _ (written_at (view rom x starting) a n mapped.Rom h.free (rom_at a low)) h.faults
+    subst (λ (t : AbsState). IsStored (view rom x starting) a n region ranges s entry base x (record { state = t; starts = starts_oam_transfer span })) (window_state (kind_of rom) w.register span v s)
+    (stored_as (view rom x starting) (wrote_by mapped.Rom (view rom x starting) a n) a n region ranges s entry base x _ (written_at (view rom x starting) a n mapped.Rom h.free (rom_at a low)) h.faults
     (Means-others s (record s.core { ctl = ctl }) entry base x banks x.storage.ie m refl core) (starts_not starting span a h.at (below_not a low)) refl refl h.placed
-    (λ b. same_bytes x.storage banks x.storage.ie b))
+    (λ b. same_bytes x.storage banks x.storage.ie b) h.inside)
 
 -- ---- in hardware
 
@@ -338,19 +341,19 @@ starts_here span a i h seen =
     grind (arith, nat_tests)
 
 stored_hardware :
-    (rom : List ℕ) (region : Region) (s : AbsState) (span : Span) (v : Val) (entry : MState) (base : ℕ) (x : MState) (starting : Bool) (a n : ℕ)
-    → AtStore rom region s span v entry base x starting a n → is_hardware span ≡ true
-    → IsStored (view rom x starting) a n region s entry base x (record { state = s; starts = starts_oam_transfer span })
-stored_hardware rom region s span v entry base x starting a n h inside = choose (a == 0xFF46) refl
+    (rom : List ℕ) (region : Region) (ranges : List Range) (s : AbsState) (span : Span) (v : Val) (entry : MState) (base : ℕ) (x : MState) (starting : Bool) (a n : ℕ)
+    → AtStore rom region ranges s span v entry base x starting a n → is_hardware span ≡ true
+    → IsStored (view rom x starting) a n region ranges s entry base x (record { state = s; starts = starts_oam_transfer span })
+stored_hardware rom region ranges s span v entry base x starting a n h inside = choose (a == 0xFF46) refl
   where
-    choose : (b : Bool) → (a == 0xFF46) ≡ b → IsStored (view rom x starting) a n region s entry base x (record { state = s; starts = starts_oam_transfer span })
+    choose : (b : Bool) → (a == 0xFF46) ≡ b → IsStored (view rom x starting) a n region ranges s entry base x (record { state = s; starts = starts_oam_transfer span })
     choose true e =
-        stored_as (view rom x starting) (view rom x true) a n region s entry base x _ (written_at (view rom x starting) a n mapped.Transfer h.free (oam_transfer_at a e)) h.faults h.means
-        (or_true starting ∙ ap (λ b. starting || b) (sym (starts_here span a h.at e h.seen))) refl refl h.placed (λ b. refl)
+        stored_as (view rom x starting) (view rom x true) a n region ranges s entry base x _ (written_at (view rom x starting) a n mapped.Transfer h.free (oam_transfer_at a e)) h.faults h.means
+        (or_true starting ∙ ap (λ b. starting || b) (sym (starts_here span a h.at e h.seen))) refl refl h.placed (λ b. refl) h.inside
     choose false e =
-        stored_as (view rom x starting) (view rom x starting) a n region s entry base x _
+        stored_as (view rom x starting) (view rom x starting) a n region ranges s entry base x _
         (written_at (view rom x starting) a n (mapped_at a) h.free refl ∙ hardware_idle a (hardware_in span a h.at inside) e (view rom x starting) a n) h.faults h.means
-        (starts_not starting span a h.at e) refl refl h.placed (λ b. refl)
+        (starts_not starting span a h.at e) refl refl h.placed (λ b. refl) h.inside
 
 -- ---- in RAM
 
@@ -376,11 +379,11 @@ apart_at region span a i h =
     grind (arith, nat_tests)
 
 stored_ram :
-    (rom : List ℕ) (region : Region) (s : AbsState) (span : Span) (v : Val) (entry : MState) (base : ℕ) (x : MState) (starting : Bool) (a n : ℕ)
-    → AtStore rom region s span v entry base x starting a n → is_ram_span span ≡ true → meets region span.first span.last ≡ false
-    → IsStored (view rom x starting) a n region s entry base x (record { state = ram_stored span v s; starts = starts_oam_transfer span })
+    (rom : List ℕ) (region : Region) (ranges : List Range) (s : AbsState) (span : Span) (v : Val) (entry : MState) (base : ℕ) (x : MState) (starting : Bool) (a n : ℕ)
+    → AtStore rom region ranges s span v entry base x starting a n → is_ram_span span ≡ true → meets region span.first span.last ≡ false
+    → IsStored (view rom x starting) a n region ranges s entry base x (record { state = ram_stored span v s; starts = starts_oam_transfer span })
 unfolding ram_stored
-stored_ram rom region s span v entry base x starting a n h inside apart = choose (is_one span) (λ e. one_address span a e h.at)
+stored_ram rom region ranges s span v entry base x starting a n h inside apart = choose (is_one span) (λ e. one_address span a e h.at)
   where
     ram : is_ram a ≡ true
     ram = ram_in span a h.at inside
@@ -392,22 +395,23 @@ stored_ram rom region s span v entry base x starting a n h inside apart = choose
     poked = wrote-poked (view rom x starting) a n h.means.memory ram h.byte h.free
 
     stored : (cells : List Cell) → Means (record s { cells = cells }) entry base (record x { storage = (wrote (view rom x starting) a n).storage }) → ArePlaced region cells
-        → IsStored (view rom x starting) a n region s entry base x (record { state = record s { cells = cells }; starts = starts_oam_transfer span })
+        → IsStored (view rom x starting) a n region ranges s entry base x (record { state = record s { cells = cells }; starts = starts_oam_transfer span })
     stored cells m placed = record {
       means = m;
       faults = h.faults;
       starting = wrote_ram-starting (view rom x starting) a n ram h.free ∙ starts_not starting span a h.at (ram_not a ram);
       rom = wrote_ram-rom (view rom x starting) a n ram h.free;
       others = poked.others;
+      inside = h.inside;
       items = refl;
       placed = placed;
     }
 
     choose : (one : Bool) → (one ≡ true → span.first ≡ a)
-        → IsStored (view rom x starting) a n region s entry base x
+        → IsStored (view rom x starting) a n region ranges s entry base x
         (record { state = record s { cells = if one then with_cell (record { address = span.first; val = v }) s.cells else without_cells span.first span.last s.cells }; starts = starts_oam_transfer span })
     choose true e =
-        subst (λ b. IsStored (view rom x starting) a n region s entry base x (record { state = record s { cells = with_cell (record { address = b; val = v }) s.cells }; starts = starts_oam_transfer span })) (sym (e refl))
+        subst (λ b. IsStored (view rom x starting) a n region ranges s entry base x (record { state = record s { cells = with_cell (record { address = b; val = v }) s.cells }; starts = starts_oam_transfer span })) (sym (e refl))
         (stored (with_cell (record { address = a; val = v }) s.cells)
         (Means-with_cell region s entry base x _ a n v h.means poked h.holds place h.placed h.room h.is_region)
         (ArePlaced-with_cell region (record { address = a; val = v }) s.cells place h.placed))
@@ -441,22 +445,21 @@ ie_core core v entry x n m h =
       controller = m.controller;
       count = m.count;
       test = m.test;
-      mark = m.mark;
       locked = m.locked;
       stopped = m.stopped;
     }
 
 stored_ie :
-    (rom : List ℕ) (region : Region) (s : AbsState) (span : Span) (v : Val) (entry : MState) (base : ℕ) (x : MState) (starting : Bool) (a n : ℕ)
-    → AtStore rom region s span v entry base x starting a n → is_inside 0xFFFF 0xFFFF span ≡ true
-    → IsStored (view rom x starting) a n region s entry base x (record { state = with_core s (record s.core { ie = v }); starts = starts_oam_transfer span })
-stored_ie rom region s span v entry base x starting a n h inside =
+    (rom : List ℕ) (region : Region) (ranges : List Range) (s : AbsState) (span : Span) (v : Val) (entry : MState) (base : ℕ) (x : MState) (starting : Bool) (a n : ℕ)
+    → AtStore rom region ranges s span v entry base x starting a n → is_inside 0xFFFF 0xFFFF span ≡ true
+    → IsStored (view rom x starting) a n region ranges s entry base x (record { state = with_core s (record s.core { ie = v }); starts = starts_oam_transfer span })
+stored_ie rom region ranges s span v entry base x starting a n h inside =
     let here = ie_only span a h.at inside in
     let m = h.means in
-    stored_as (view rom x starting) (wrote_by mapped.InterruptEnable (view rom x starting) a n) a n region s entry base x _
+    stored_as (view rom x starting) (wrote_by mapped.InterruptEnable (view rom x starting) a n) a n region ranges s entry base x _
     (written_at (view rom x starting) a n mapped.InterruptEnable h.free (ie_mapped a here)) h.faults
     (Means-others s (record s.core { ie = v }) entry base x x.storage.banks n m refl (ie_core s.core v entry x n m.core h.holds)) (starts_not starting span a h.at (ie_not a here)) refl refl
-    h.placed (λ b. same_bytes x.storage x.storage.banks n b)
+    h.placed (λ b. same_bytes x.storage x.storage.banks n b) h.inside
 
 -- ---- each area
 
@@ -474,61 +477,25 @@ second_true false b h = absurd (let bad : false ≡ true = h in cc)
 
 stored_above :
     (rom : List ℕ) (region : Region) (ranges : List Range) (s : AbsState) (span : Span) (v : Val) (entry : MState) (base : ℕ) (x : MState) (starting : Bool) (a n : ℕ)
-    → AtStore rom region s span v entry base x starting a n → is_allowed (area_by None span) region ranges span ≡ true
-    → IsStored (view rom x starting) a n region s entry base x (leaves (area_by None span) (kind_of rom) span v s)
+    → AtStore rom region ranges s span v entry base x starting a n → is_allowed (area_by None span) region ranges span ≡ true
+    → IsStored (view rom x starting) a n region ranges s entry base x (leaves (area_by None span) (kind_of rom) span v s)
 stored_above rom region ranges s span v entry base x starting a n h = choose (is_hardware span) (is_ram_span span) (is_inside 0xFFFF 0xFFFF span) (λ e. e) (λ e. e) (λ e. e)
   where
     choose : (hardware ram ie : Bool) → (hardware ≡ true → is_hardware span ≡ true) → (ram ≡ true → is_ram_span span ≡ true) → (ie ≡ true → is_inside 0xFFFF 0xFFFF span ≡ true)
         → is_allowed (if hardware then Some area.Hardware else if ram then Some area.Ram else if ie then Some area.InterruptEnable else None) region ranges span ≡ true
-        → IsStored (view rom x starting) a n region s entry base x
+        → IsStored (view rom x starting) a n region ranges s entry base x
         (leaves (if hardware then Some area.Hardware else if ram then Some area.Ram else if ie then Some area.InterruptEnable else None) (kind_of rom) span v s)
-    choose true ram ie p q r allowed = stored_hardware rom region s span v entry base x starting a n h (p refl)
-    choose false true ie p q r allowed = stored_ram rom region s span v entry base x starting a n h (q refl) (not-true _ (first_true _ _ allowed))
-    choose false false true p q r allowed = stored_ie rom region s span v entry base x starting a n h (r refl)
+    choose true ram ie p q r allowed = stored_hardware rom region ranges s span v entry base x starting a n h (p refl)
+    choose false true ie p q r allowed = stored_ram rom region ranges s span v entry base x starting a n h (q refl) (not-true _ (first_true _ _ allowed))
+    choose false false true p q r allowed = stored_ie rom region ranges s span v entry base x starting a n h (r refl)
     choose false false false p q r allowed = absurd (let bad : false ≡ true = allowed in cc)
 
 stored_by :
     (rom : List ℕ) (region : Region) (ranges : List Range) (s : AbsState) (span : Span) (v : Val) (entry : MState) (base : ℕ) (x : MState) (starting : Bool) (a n : ℕ) (o : Option Window)
-    → AtStore rom region s span v entry base x starting a n → window_of (kind_of rom) span ≡ o → is_allowed (area_by o span) region ranges span ≡ true
-    → IsStored (view rom x starting) a n region s entry base x (leaves (area_by o span) (kind_of rom) span v s)
+    → AtStore rom region ranges s span v entry base x starting a n → window_of (kind_of rom) span ≡ o → is_allowed (area_by o span) region ranges span ≡ true
+    → IsStored (view rom x starting) a n region ranges s entry base x (leaves (area_by o span) (kind_of rom) span v s)
 stored_by rom region ranges s span v entry base x starting a n None h e allowed = stored_above rom region ranges s span v entry base x starting a n h allowed
-stored_by rom region ranges s span v entry base x starting a n (Some w) h e allowed = stored_window rom region s span v entry base x starting a n w h e
-
--- a store, by its tests
-pub IsSoundStore-stored_state :
-    (rom : List ℕ) (region : Region) (ranges : List Range) (s : AbsState) (span : Span) (v : Val) → is_storable (kind_of rom) region ranges span ≡ true
-    → store_meets_closed_ram rom s.core span v ≡ false → is_store_limited s.core span ≡ false
-    → IsSoundStore rom region s span v (record { state = stored_state (kind_of rom) span v s; starts = starts_oam_transfer span })
-unfolding is_storable area_of stored_state is_store_limited
-IsSoundStore-stored_state rom region ranges s span v storable ram limited = record {
-  gives = λ entry base x starting a n m placed room region_is i lt k byte.
-      let both = or_parts _ _ limited in
-      stored_by rom region ranges s span v entry base x starting a n (window_of (kind_of rom) span)
-      (record {
-        means = m;
-        placed = placed;
-        room = room;
-        is_region = region_is;
-        at = i;
-        address = lt;
-        holds = k;
-        byte = byte;
-        faults = write-faultless rom s.core entry x starting span v a n ram both.0 m.core i k;
-        free = not_limited s.core entry x span a m.core i both.0;
-        seen = both.1;
-      })
-      refl storable;
-}
-
--- what a store leaves is what a bus shows of the state after it
-pub stored-view :
-    (rom : List ℕ) (region : Region) (s : AbsState) (entry : MState) (base : ℕ) (x : MState) (starting : Bool) (a n : ℕ) (o : Stored)
-    → IsStored (view rom x starting) a n region s entry base x o
-    → wrote (view rom x starting) a n ≡ view rom (record x { storage = (wrote (view rom x starting) a n).storage }) (starting || o.starts)
-stored-view rom region s entry base x starting a n o h = same (wrote (view rom x starting) a n) h.rom h.starting
-  where
-    same : (m : View) → m.rom ≡ rom → m.starting ≡ (starting || o.starts) → m ≡ view rom (record x { storage = m.storage }) (starting || o.starts)
-    same m p q = ap (λ (r : List ℕ). record m { rom = r }) p ∙ ap (λ b. record m { rom = rom; starting = b }) q
+stored_by rom region ranges s span v entry base x starting a n (Some w) h e allowed = stored_window rom region ranges s span v entry base x starting a n w h e
 
 in_range : (ranges : List Range) (span : Span) (a : ℕ) → IsIn span a → list_any (is_range span) ranges ≡ true → list_any (is_range (one a)) ranges ≡ true
 in_range [] span a i h = h
@@ -569,39 +536,59 @@ IsInRanges-storable k region ranges span a h i ram = by_window (window_of k span
     by_window (Some w) e allowed = absurd (ram_contra a ram (inr (inr (window_below k w a (IsInWindow-window_of k span w a e i)))))
     by_window None e allowed = by_area (is_hardware span) (is_ram_span span) (is_inside 0xFFFF 0xFFFF span) (λ e. e) (λ e. e) allowed
 
+-- a store, by its tests
+pub IsSoundStore-stored_state :
+    (rom : List ℕ) (region : Region) (ranges : List Range) (s : AbsState) (span : Span) (v : Val) → is_storable (kind_of rom) region ranges span ≡ true
+    → store_meets_closed_ram rom s.core span v ≡ false → is_store_limited s.core span ≡ false
+    → IsSoundStore rom region ranges s span v (record { state = stored_state (kind_of rom) span v s; starts = starts_oam_transfer span })
+unfolding is_storable area_of stored_state is_store_limited
+IsSoundStore-stored_state rom region ranges s span v storable ram limited = record {
+  gives = λ entry base x starting a n m placed room region_is i lt k byte.
+      let both = or_parts _ _ limited in
+      stored_by rom region ranges s span v entry base x starting a n (window_of (kind_of rom) span)
+      (record {
+        means = m;
+        placed = placed;
+        room = room;
+        is_region = region_is;
+        at = i;
+        address = lt;
+        holds = k;
+        byte = byte;
+        faults = write-faultless rom s.core entry x starting span v a n ram both.0 m.core i k;
+        free = not_limited s.core entry x span a m.core i both.0;
+        seen = both.1;
+        inside = IsInRanges-storable (kind_of rom) region ranges span a storable i;
+      })
+      refl storable;
+}
+
+-- what a store leaves is what a bus shows of the state after it
+pub stored-view :
+    (rom : List ℕ) (region : Region) (ranges : List Range) (s : AbsState) (entry : MState) (base : ℕ) (x : MState) (starting : Bool) (a n : ℕ) (o : Stored)
+    → IsStored (view rom x starting) a n region ranges s entry base x o
+    → wrote (view rom x starting) a n ≡ view rom (record x { storage = (wrote (view rom x starting) a n).storage }) (starting || o.starts)
+stored-view rom region ranges s entry base x starting a n o h = same (wrote (view rom x starting) a n) h.rom h.starting
+  where
+    same : (m : View) → m.rom ≡ rom → m.starting ≡ (starting || o.starts) → m ≡ view rom (record x { storage = m.storage }) (starting || o.starts)
+    same m p q = ap (λ (r : List ℕ). record m { rom = r }) p ∙ ap (λ b. record m { rom = rom; starting = b }) q
+
 -- a store, by its answer
 pub IsSoundStore-store :
     (rom : List ℕ) (region : Region) (ranges : List Range) (s : AbsState) (span : Span) (v : Val) (o : Stored) → store rom region ranges s span v ≡ Ok o
-    → IsSoundStore rom region s span v o
+    → IsSoundStore rom region ranges s span v o
 unfolding store store_reason
 IsSoundStore-store rom region ranges s span v o h =
     let t = taken _ _ o h in
     let storable = not_refused _ _ _ t.0 in
     let ram = not_refused _ _ _ storable.1 in
     let limited = not_refused _ _ _ ram.1 in
-    subst (IsSoundStore rom region s span v) t.1 (IsSoundStore-stored_state rom region ranges s span v (not-false _ storable.0) ram.0 limited.0)
+    subst (IsSoundStore rom region ranges s span v) t.1 (IsSoundStore-stored_state rom region ranges s span v (not-false _ storable.0) ram.0 limited.0)
 
 pub store_sound :
     (rom : List ℕ) (region : Region) (ranges : List Range) (s : AbsState) (span : Span) (v : Val)
-    → IfOk (store rom region ranges s span v) (λ o. IsSoundStore rom region s span v o)
+    → IfOk (store rom region ranges s span v) (λ o. IsSoundStore rom region ranges s span v o)
 store_sound rom region ranges s span v =
-    if_ok (store rom region ranges s span v) (λ o. IsSoundStore rom region s span v o) (λ o h. IsSoundStore-store rom region ranges s span v o h)
+    if_ok (store rom region ranges s span v) (λ o. IsSoundStore rom region ranges s span v o) (λ o h. IsSoundStore-store rom region ranges s span v o h)
 
--- where it is answered, the store was storable
-is_storable-store :
-    (rom : List ℕ) (region : Region) (ranges : List Range) (s : AbsState) (span : Span) (v : Val) (o : Stored) → store rom region ranges s span v ≡ Ok o
-    → is_storable (kind_of rom) region ranges span ≡ true
-unfolding store store_reason
-is_storable-store rom region ranges s span v o h =
-    let t = taken _ _ o h in
-    let storable = not_refused _ _ _ t.0 in
-    not-false _ storable.0
-
-pub store_inside :
-    (rom : List ℕ) (region : Region) (ranges : List Range) (s : AbsState) (span : Span) (v : Val)
-    → IfOk (store rom region ranges s span v) (λ o. IsStoredInside region ranges span)
-store_inside rom region ranges s span v =
-    if_ok (store rom region ranges s span v) (λ o. IsStoredInside region ranges span)
-    (λ o h. record { gives = λ a i ram. IsInRanges-storable (kind_of rom) region ranges span a (is_storable-store rom region ranges s span v o h) i ram })
-
-pub ruleset store_laws = (store_sound, store_inside)
+pub ruleset store_laws = (store_sound)

@@ -1,6 +1,6 @@
 -- What loads and stores of abstract states promise of the machine (abstract interpretation: soundness; own).
 use Rattle.std.specs.Prelude.{◌≡◌, ℕ, ◌*◌, ◌^◌, ◌<◌, ◌≤◌, Bool, true, false, ◌||◌, ◌==◌, List, slice_index, length}
-use Rattle.std.specs.List.{list_any}
+use Rattle.std.specs.List.{AllByRecursion, list_any}
 use Rattle.gb_ops.specs.declared.machine.Region.{Region}
 use Rattle.gb_ops.specs.Cartridge.{rom_banks}
 use Rattle.gb_ops.specs.Memory.{View, wrote}
@@ -8,6 +8,7 @@ use Rattle.gb_ops.specs.Machine.{read_at}
 use Rattle.gb_ops.specs.Faults.{no_faults, access_faults, write_faults}
 use Rattle.gb_ops.specs.Play.{MState}
 use Rattle.gb_cert.specs.declared.types.Val.{Val}
+use Rattle.gb_cert.specs.declared.types.Cell.{Cell}
 use Rattle.gb_cert.specs.declared.types.Range.{Range}
 use Rattle.gb_cert.specs.Types.{AbsState}
 use Rattle.gb_cert.specs.Rules.{IsVal, IsRegion, meets}
@@ -35,6 +36,10 @@ pub record IsRom (rom : List ℕ) : Type 0 where
 abbrev pub view : List ℕ → MState → Bool → View
 view rom x starting = record { rom = rom; storage = x.storage; starting = starting }
 
+-- each cell has a value
+abbrev pub AreVals : List Cell → Type 0
+AreVals cells = AllByRecursion (λ c. IsVal c.val) cells
+
 -- a byte is read without a fault, and v stands for it
 pub record IsLoaded (m : View) (a : ℕ) (free : List ℕ) (v : Val) (entry : MState) : Type 0 where
   pub holds : Holds v entry (read_at m a free).value
@@ -47,29 +52,27 @@ pub record IsSoundLoad (rom : List ℕ) (s : AbsState) (span : Span) (v : Val) :
       → IsRom rom → Means s entry base x → IsVal s.core.ie → IsIn span a → a < 65536 → slice_index free 0 ≤ 255
       → IsLoaded (view rom x starting) a free v entry
 
--- a byte is stored without a fault: what is left is meant, the other bytes of RAM, the items and the places of
--- cells are kept, and an OAM transfer starts exactly where it is said
-pub record IsStored (m : View) (a n : ℕ) (region : Region) (s : AbsState) (entry : MState) (base : ℕ) (x : MState) (o : Stored) : Type 0 where
-  pub means : Means o.state entry base (record x { storage = (wrote m a n).storage })
-  pub faults : write_faults m a n ≡ no_faults
-  pub starting : (wrote m a n).starting ≡ (m.starting || o.starts)
-  pub rom : (wrote m a n).rom ≡ m.rom
-  pub others : (b : ℕ) → is_ram b ≡ true → (b == a) ≡ false → peek (wrote m a n).storage b ≡ peek x.storage b
-  pub items : o.state.items ≡ s.items
-  pub placed : ArePlaced region o.state.cells
-
 -- an address lies in one of the ranges, outside the stack region
 pub record IsInRanges (region : Region) (ranges : List Range) (a : ℕ) : Type 0 where
   pub inside : list_any (is_range (one a)) ranges ≡ true
   pub apart : meets region a a ≡ false
 
--- each byte of RAM that may be stored to lies in one of the procedure's ranges, outside the stack region
-pub record IsStoredInside (region : Region) (ranges : List Range) (span : Span) : Type 0 where
-  pub gives : (a : ℕ) → IsIn span a → is_ram a ≡ true → IsInRanges region ranges a
+-- a byte is stored without a fault: what is left is meant, the other bytes of RAM, the items and the places of
+-- cells are kept, and an OAM transfer starts exactly where it is said; a byte of RAM that is stored to lies in one of
+-- the procedure's ranges
+pub record IsStored (m : View) (a n : ℕ) (region : Region) (ranges : List Range) (s : AbsState) (entry : MState) (base : ℕ) (x : MState) (o : Stored) : Type 0 where
+  pub means : Means o.state entry base (record x { storage = (wrote m a n).storage })
+  pub faults : write_faults m a n ≡ no_faults
+  pub starting : (wrote m a n).starting ≡ (m.starting || o.starts)
+  pub rom : (wrote m a n).rom ≡ m.rom
+  pub others : (b : ℕ) → is_ram b ≡ true → (b == a) ≡ false → peek (wrote m a n).storage b ≡ peek x.storage b
+  pub inside : is_ram a ≡ true → IsInRanges region ranges a
+  pub items : o.state.items ≡ s.items
+  pub placed : ArePlaced region o.state.cells
 
 -- of each of these states, to each of these addresses, each byte that v stands for
-pub record IsSoundStore (rom : List ℕ) (region : Region) (s : AbsState) (span : Span) (v : Val) (o : Stored) : Type 0 where
+pub record IsSoundStore (rom : List ℕ) (region : Region) (ranges : List Range) (s : AbsState) (span : Span) (v : Val) (o : Stored) : Type 0 where
   pub gives : (entry : MState) (base : ℕ) (x : MState) (starting : Bool) (a n : ℕ)
       → Means s entry base x → ArePlaced region s.cells → AreInRegion region base (length s.items) → IsRegion region
       → IsIn span a → a < 65536 → Holds v entry n → n ≤ 255
-      → IsStored (view rom x starting) a n region s entry base x o
+      → IsStored (view rom x starting) a n region ranges s entry base x o

@@ -1,9 +1,10 @@
 //! Loads of abstract states.
 
-ghost use Rattle.std.specs.Prelude.{◌≡◌, ◌<◌, IfSome, IfOk};
+ghost use Rattle.std.specs.Prelude.{◌≡◌, ◌<◌, ◌≤◌, ℕ, IfSome, IfOk, slice_index};
 ghost use Rattle.gb_ops.specs.Cartridge as Cartridge;
 ghost use Rattle.gb_abs_memory.specs.Access as Access;
-ghost use Rattle.gb_abs_memory.specs.Sound.{IsSoundLoad};
+ghost use Rattle.gb_cert.specs.Rules.{IsVal};
+ghost use Rattle.gb_abs_memory.specs.Sound.{AreVals, IsRom, IsSoundLoad};
 
 use crate::refusals::{is_limited, meets_closed_ram};
 use crate::shown::known_bank;
@@ -54,9 +55,10 @@ pub fn val_at(rom: &Rom<'_>, state: &Abs, address: u16) -> Val
     }
 }
 
-/// What is known of the byte that a load gives: of one of several addresses nothing.
+/// What is known of the byte that a load gives: of one of several addresses nothing. What refuses the
+/// load is asked apart.
 #[tactic(auto, unfolding(crate::specs::Access::loaded_val))]
-fn loaded_val(rom: &Rom<'_>, state: &Abs, span: Span) -> Val
+pub fn loaded_val(rom: &Rom<'_>, state: &Abs, span: Span) -> Val
     ensures { result ≡ Access.loaded_val rom.now state.now span }
 {
     if span.is_one() {
@@ -100,6 +102,18 @@ fn loaded_or_reason(rom: &Rom<'_>, state: &Abs, span: Span) -> Result<Val, Reaso
 pub fn load(rom: &Rom<'_>, state: &Abs, span: Span) -> Result<Val, Reason>
     ensures exact { result ≡ Access.load rom.now state.now span }
     ensures sound { IfOk result (λ val. IsSoundLoad rom.now state.now span val) }
+    ensures inhabited { IsVal state.now.core.ie → AreVals state.now.cells → ((i : ℕ) → slice_index rom.now i ≤ 255) → IfOk result IsVal }
 {
     loaded_or_reason(rom, state, span)
+}
+
+fn are_bytes(bytes: &[u8])
+    ensures { (i : ℕ) → slice_index bytes.now i ≤ 255 }
+{}
+
+/// States of a cartridge that it holds bytes, of a number of banks that a cartridge may have.
+pub fn holds_bytes(rom: &Rom<'_>)
+    ensures { IsRom rom.now }
+{
+    are_bytes(rom.bytes());
 }

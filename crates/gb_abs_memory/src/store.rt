@@ -3,7 +3,7 @@
 ghost use Rattle.std.specs.Prelude.{◌≡◌, None, IfOk};
 ghost use Rattle.std.specs.List.{list_any};
 ghost use Rattle.gb_abs_memory.specs.Access as Access;
-ghost use Rattle.gb_abs_memory.specs.Sound.{IsSoundStore, IsStoredInside};
+ghost use Rattle.gb_abs_memory.specs.Sound.{IsSoundStore};
 
 use crate::refusals::{is_store_limited, store_meets_closed_ram};
 use crate::windows::{ControllerRegister, ctl_after, window_of};
@@ -121,9 +121,10 @@ fn ram_stored(span: Span, val: &Val, state: &Abs) -> Abs
     }
 }
 
-/// The state after a store in the area that all of these addresses lie in.
+/// The state after a store in the area that all of these addresses lie in. What is against the store is
+/// asked apart: `is_storable`, and what refuses it.
 #[tactic(auto, unfolding(crate::specs::Access::stored_state))]
-fn stored_state(kind: Kind, span: Span, val: &Val, state: &Abs) -> Abs
+pub fn stored_state(kind: Kind, span: Span, val: &Val, state: &Abs) -> Abs
     ensures { result ≡ Access.stored_state kind span val.now state.now }
 {
     let core = *state.core();
@@ -139,7 +140,7 @@ fn stored_state(kind: Kind, span: Span, val: &Val, state: &Abs) -> Abs
 }
 
 /// Whether a store starts an OAM transfer: one to FF46 alone does (OAM DMA transfer).
-fn starts_oam_transfer(span: Span) -> bool
+pub fn starts_oam_transfer(span: Span) -> bool
     ensures { result ≡ Access.starts_oam_transfer span }
 {
     span.is_one() && span.first == 0xFF46
@@ -182,8 +183,7 @@ pub fn store(
     val: &Val,
 ) -> Result<Stored, Reason>
     ensures exact { result ≡ Access.store rom.now region ranges.now state.now span val.now }
-    ensures sound { IfOk result (λ o. IsSoundStore rom.now region state.now span val.now o) }
-    ensures inside { IfOk result (λ o. IsStoredInside region ranges.now span) }
+    ensures sound { IfOk result (λ o. IsSoundStore rom.now region ranges.now state.now span val.now o) }
 {
     stored_or_reason(rom, region, ranges, state, span, val)
 }

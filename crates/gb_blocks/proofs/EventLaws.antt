@@ -1,221 +1,66 @@
--- One event from a state that a node means: no fault, certified places, and a node that means the state behind it.
-use Rattle.std.proofs.Common.{◌≡◌, ℕ, ◌+◌, ◌-◌, ◌%◌, ◌≤◌, ◌<◌, Bool, true, false, cond, not, ◌&&◌, ◌||◌, ◌==◌, nat_lt, nat_le, ◌⊎◌, inl, inr, List, [], ◌∷◌, ◌++◌, map, slice_index, slice_get, Some, None, refl, sym, ◌∙◌, ap, subst, arith}
+-- One event from a state of a node that passes: no fault, certified places, a node that means the state behind it, and
+-- what the procedure keeps is unchanged.
+use Rattle.std.proofs.Common.{◌≡◌, ℕ, ◌+◌, ◌-◌, ◌%◌, ◌≤◌, ◌<◌, Bool, true, false, cond, not, ◌&&◌, ◌||◌, ◌==◌, nat_lt, inl, inr, List, [], ◌∷◌, map, length, slice_index, slice_get, Option, Some, None, refl, sym, ◌∙◌, ap, subst, arith}
 use Rattle.std.specs.Prelude.{option_and_then}
 use Rattle.std.proofs.lemmas.Bool.{and_parts, eqb-true}
 use Rattle.std.proofs.lemmas.Bool.Decides.{nat_tests}
-use Rattle.std.specs.List.{All, AllByRecursion, Contains}
-use Rattle.std.proofs.lemmas.List.Elements.{All-map, All-nil, All-contains_itself, All-from_recursion}
-use Rattle.std.proofs.lemmas.List.Folds.{Any-from_list_any}
+use Rattle.std.proofs.lemmas.Option.{same_Some}
+use Rattle.std.specs.List.{All, Contains, list_all}
+use Rattle.std.proofs.lemmas.List.Elements.{All-nil, All-from_recursion}
 use Rattle.gb_ops.specs.declared.machine.Event.{Event}
 use Rattle.gb_ops.specs.declared.machine.Event.TheVariants as event
+use Rattle.gb_ops.specs.declared.machine.CodePlace.{CodePlace}
 use Rattle.gb_ops.specs.declared.machine.Region.{Region}
-use Rattle.gb_ops.specs.declared.machine.Banks.{Banks}
 use Rattle.gb_ops.specs.declared.registers.Processor.{Processor}
+use Rattle.gb_ops.specs.declared.registers.Ime.{Ime}
+use Rattle.gb_ops.specs.declared.registers.Ime.TheVariants as ime
 use Rattle.gb_ops.specs.declared.op.Op.TheVariants as op
 use Rattle.gb_ops.specs.declared.op.Row.{Row}
-use Rattle.gb_ops.specs.Cartridge.{is_within, shown_bank}
 use Rattle.gb_ops.specs.Table.{decoded, row_of, row_in, table}
-use Rattle.gb_ops.specs.Memory.{View, is_closed, is_free, byte_at, passed}
+use Rattle.gb_ops.specs.Effects as Effects
+use Rattle.gb_ops.specs.Memory as Memory
+use Rattle.gb_ops.specs.Faults as Faults
+use Rattle.gb_ops.specs.Memory.{View, Storage, is_free, byte_at, passed}
 use Rattle.gb_ops.specs.Machine as Machine
-use Rattle.gb_ops.specs.Machine.{BusState, fetched, length_of, mark_of, run, run_row, executed, happened, is_possible, only, has_halt, is_running}
-use Rattle.gb_ops.specs.Faults.{no_faults, either_faults, access_faults, fetch_faults, all_fetch_faults, fetch_addresses, address_where, is_code_address, row_faults, run_faults, event_faults, event_places, code_place}
+use Rattle.gb_ops.specs.Machine.{BusState, fetched, length_of, mark_of, run, run_row, executed, happened, is_possible, only, has_halt, has_enabled, is_ime, is_running, is_bytes, halt_stay, halt_bug}
+use Rattle.gb_ops.specs.Faults.{no_faults, either_faults, fetch_faults, all_fetch_faults, fetch_addresses, row_faults, run_faults, event_faults, event_places, code_place}
 use Rattle.gb_ops.specs.Play.{MState, within, outside, next, faults, places, faults_where, places_where}
-use Rattle.gb_cert.specs.declared.types.Ctl.{Ctl}
 use Rattle.gb_cert.specs.Types.{AbsState, Node}
 use Rattle.gb_cert.specs.Certificate.{Certificate}
-use Rattle.gb_abs.specs.Meaning.{Means}
-use Rattle.gb_abs.proofs.CoveringLaws.{Means-covered}
-use Rattle.gb_blocks.specs.Code.{area_end, known_bank, span}
-use Rattle.gb_blocks.specs.Rules.{has_rules, is_cover, covered_at, reason_of, reason_at}
-use Rattle.gb_blocks.specs.Places.{IsCertified}
+use Rattle.gb_cert.specs.Rules.{IsCertificate}
+use Rattle.gb_abs.specs.Mark.{IsMarkHarmless}
+use Rattle.gb_ops.specs.declared.machine.Mapped.{Mapped}
+use Rattle.gb_ops.specs.declared.machine.Mapped.TheVariants as mapped
+use Rattle.gb_ops.specs.declared.registers.Registers.{Registers}
+use Rattle.gb_ops.specs.Registers.{get}
+use Rattle.gb_vals.specs.Tests.{IsTested}
+use Rattle.gb_abs.specs.Meaning.{Holds, HoldsFlags, HoldsController, Means, ime_may_be}
+use Rattle.gb_abs.specs.Storage.{peek}
+use Rattle.gb_abs.proofs.OperationLaws.{counted}
+use Rattle.gb_abs.proofs.StackLaws.{Means-with_core}
+use Rattle.gb_abs_memory.specs.Sound.{IsRom}
+use Rattle.gb_code.specs.Places.{IsCertified, IsCertifiedBy}
+use Rattle.gb_code.specs.Code.{area_end, known_byte}
+use Rattle.gb_code.proofs.ByteLaws.{Reads-known}
+use Rattle.gb_code.proofs.CodeLaws.{IsInside, clear_byte, area_small, FetchesFirst-known, FetchesAll-known}
+use Rattle.gb_successors.specs.Sound.{IsKept, IsHalt}
+use Rattle.gb_blocks.specs.Rules.{is_halt, is_nop, is_nop_behind, may_read_twice, ranges_of, reason_of, reason_at}
 use Rattle.gb_blocks.specs.Safety.{IsMeant, IsSafeEvent, IsNoDispatch, IsSafeNode}
-use Rattle.gb_blocks.proofs.FetchLaws.{IsOpen, open_at, Gives-known, fetched_known, shown_is}
 use Rattle.gb_blocks.proofs.SearchLaws.{Contains-slice_get}
-use Rattle.gb_blocks.proofs.ReasonLaws.{Passes, Passes-from}
-use Rattle.gb_blocks.proofs.StepLaws.{waited, acted, executed_is, row_fine, acted_pc, Means-after, Means-waited}
-
--- ---- areas
-
--- an address of the area from a to its end
-pub record IsInside (a end x : ℕ) : Type 0 where
-  pub least : a ≤ x
-  pub most : x < end
-
-area_cases : (a end : ℕ) → area_end a ≡ Some end
-    → ((a < 0x4000) × (end ≡ 0x4000)) ⊎ (((0x4000 ≤ a) × (a < 0x8000) × (end ≡ 0x8000)) ⊎ (((0xC000 ≤ a) × (a < 0xE000) × (end ≡ 0xE000)) ⊎ ((0xFF80 ≤ a) × (a < 0xFFFF) × (end ≡ 0xFFFF))))
-unfolding area_end
-area_cases a end h = grind (arith, nat_tests)
-
-area_small : (a end : ℕ) → area_end a ≡ Some end → (a < end) × (end ≤ 0xFFFF)
-area_small a end h = let cases = area_cases a end h in (grind arith, grind arith)
-
--- an instruction may lie there, and cartridge RAM doesn't
-pub record IsCode (a : ℕ) : Type 0 where
-  pub code : is_code_address a ≡ true
-  pub no_ram : is_within 0xA000 0xBFFF a ≡ false
-
-IsCode-inside : (a end x : ℕ) → area_end a ≡ Some end → IsInside a end x → IsCode x
-unfolding is_code_address
-IsCode-inside a end x h i =
-    let cases = area_cases a end h in
-    let least : a ≤ x = i.least in
-    let most : x < end = i.most in
-    record { code = grind (arith, nat_tests); no_ram = grind (arith, nat_tests) }
-
--- ---- the bytes of a node's instruction, one by one
-
--- a fact of each byte's address
-pub record OfEach (P : ℕ → Type 0) (a n : ℕ) : Type 0 where
-  pub first : P a
-  pub second : nat_le 2 n ≡ true → P ((a + 1) % 65536)
-  pub third : nat_le 3 n ≡ true → P ((a + 2) % 65536)
-
-inside_each : (a n end : ℕ) → a < end → end ≤ 0xFFFF → a + n ≤ end → OfEach (IsInside a end) a n
-inside_each a n end lt small fits =
-    record {
-      first = record { least = omega arith; most = lt };
-      second = λ w. let two : 2 ≤ n = le_of 2 n w in record { least = omega arith; most = omega arith };
-      third = λ w. let three : 3 ≤ n = le_of 3 n w in record { least = omega arith; most = omega arith };
-    }
-  where
-    le_of : (k n : ℕ) → nat_le k n ≡ true → k ≤ n
-    le_of k n h = grind (arith, nat_tests)
-
-each_all : (P : ℕ → Type 0) (a n : ℕ) → OfEach P a n → AllByRecursion P (span a n)
-unfolding span
-each_all P a n h = cases (nat_le 2 n) (nat_le 3 n) h.second h.third
-  where
-    cases : (u v : Bool) → (u ≡ true → P ((a + 1) % 65536)) → (v ≡ true → P ((a + 2) % 65536))
-        → AllByRecursion P (a ∷ (address_where u ((a + 1) % 65536) ++ address_where v ((a + 2) % 65536)))
-    cases true true s t = (h.first, (s refl, (t refl, tt)))
-    cases true false s t = (h.first, (s refl, tt))
-    cases false true s t = (h.first, (t refl, tt))
-    cases false false s t = (h.first, tt)
-
-each_map : (P Q : ℕ → Type 0) (a n : ℕ) → ((x : ℕ) → P x → Q x) → OfEach P a n → OfEach Q a n
-each_map P Q a n f h = record { first = f _ h.first; second = λ w. f _ (h.second w); third = λ w. f _ (h.third w) }
-
--- where the bytes are fetched
-addresses_are : (p : Processor) (bytes : List ℕ) (opcode : ℕ) → mark_of p ≡ 0 → slice_index bytes 0 ≡ opcode → fetch_addresses p bytes ≡ span p.pc (length_of opcode)
-unfolding fetch_addresses span
-addresses_are p bytes opcode none first =
-    let less : (n : ℕ) → n - 0 ≡ n = λ n. omega arith in
-    rw (none, less (p.pc + 1), less (p.pc + 2), first) refl
-
--- ---- faults
-
-fine_fetch : (m : View) (a : ℕ) → IsCode a → is_closed m.storage a ≡ false → fetch_faults m a ≡ no_faults
-unfolding fetch_faults access_faults
-fine_fetch m a c clear = rw (c.code, c.no_ram, clear) refl
-
-fine_all : (m : View) (xs : List ℕ) → AllByRecursion (λ a. fetch_faults m a ≡ no_faults) xs → all_fetch_faults m xs ≡ no_faults
-unfolding either_faults
-fine_all m [] h = refl
-fine_all m (a ∷ rest) h = rw (h.0, fine_all m rest h.1) refl
-
--- ---- places
-
--- an address of a half of ROM, or both addresses of RAM
-data Halves (a x : ℕ) : Type 0 where
-  InRom : a < 0x8000 → nat_lt x 0x8000 ≡ true → nat_lt x 0x4000 ≡ nat_lt a 0x4000 → Halves a x
-  InRam : nat_lt a 0x8000 ≡ false → nat_lt x 0x8000 ≡ false → Halves a x
-
-below : (a n : ℕ) → a < n → nat_lt a n ≡ true
-below a n h = grind (arith, nat_tests)
-
-not_below : (a n : ℕ) → n ≤ a → nat_lt a n ≡ false
-not_below a n h = grind (arith, nat_tests)
-
-halves : (a end x : ℕ) → area_end a ≡ Some end → IsInside a end x → Halves a x
-halves a end x h i =
-    let least : a ≤ x = i.least in
-    let most : x < end = i.most in
-    elim (area_cases a end h) [
-      | inl c ↦
-          let a_low : a < 0x4000 = c.0 in
-          let x_low : x < 0x4000 = omega (arith, c.1) in
-          InRom (omega arith) (below x 0x8000 (omega arith)) (below x 0x4000 x_low ∙ sym (below a 0x4000 a_low))
-      | inr rest ↦ elim rest [
-        | inl c ↦
-            let a_high : 0x4000 ≤ a = c.0 in
-            let x_rom : x < 0x8000 = omega (arith, c.2) in
-            InRom c.1 (below x 0x8000 x_rom) (not_below x 0x4000 (omega arith) ∙ sym (not_below a 0x4000 a_high))
-        | inr ram ↦
-            let a_ram : 0x8000 ≤ a = elim ram [ inl c ↦ omega (arith, c.0) | inr c ↦ omega (arith, c.0) ] in
-            InRam (not_below a 0x8000 a_ram) (not_below x 0x8000 (omega arith))
-      ]
-    ]
-
-half_same : (rom : List ℕ) (r : Banks) (a x : ℕ) → nat_lt x 0x4000 ≡ nat_lt a 0x4000 → shown_bank rom r x ≡ shown_bank rom r a
-unfolding shown_bank
-half_same rom r a x h = rw h refl
-
-ram_bank : (rom : List ℕ) (c : Ctl) (a bank : ℕ) → nat_lt a 0x8000 ≡ false → known_bank rom c a ≡ Some bank → 0 ≡ bank
-unfolding known_bank
-ram_bank rom c a bank h k = some_number 0 bank (rw h at k)
-  where
-    some_number : (x y : ℕ) → Some x ≡ Some y → x ≡ y
-    some_number x y e = cc
-
-bank_of : (rom : List ℕ) (s : AbsState) (r : Banks) (a x bank : ℕ) → Halves a x → known_bank rom s.core.ctl a ≡ Some bank
-    → cond (nat_lt x 0x8000) (shown_bank rom r x) 0 ≡ bank
-bank_of rom s r a x bank (InRom a_rom x_rom same) k = rw x_rom (half_same rom r a x same ∙ shown_is rom s r a bank a_rom k)
-bank_of rom s r a x bank (InRam a_ram x_ram) k = rw x_ram (ram_bank rom s.core.ctl a bank a_ram k)
-
--- the places of a node's instruction are certified by it
-places_certified : (rom : List ℕ) (cert : Certificate) (n : Node) (x : MState) → Contains cert.nodes n → (p : Passes rom cert n)
-    → OfEach (IsInside n.address p.end) n.address (length_of p.known.opcode)
-    → All (IsCertified rom cert) (map (code_place (within rom x).memory) (span n.address (length_of p.known.opcode)))
-unfolding code_place within
-places_certified rom cert n x is_node p inside =
-    let places = span n.address (length_of p.known.opcode) in
-    let within_area = All-from_recursion (IsInside n.address p.end) places (each_all _ _ _ inside) in
-    All-map (IsCertified rom cert) (code_place (within rom x).memory) places (λ k d h. (
-      n,
-      is_node,
-      record {
-        bank = bank_of rom n.state x.storage.banks n.address _ n.bank (halves n.address p.end _ p.is_end (within_area k d h)) p.bank;
-        opcode = p.known.opcode;
-        is_known = p.known.is_opcode;
-        inside = All-contains_itself places k d h;
-      },
-    ))
-
--- ---- covering
-
-pub IsMeant-covered : (cert : Certificate) (procedure a : ℕ) (t : AbsState) (entry : MState) (base : ℕ) (x : MState)
-    → covered_at cert.nodes procedure a t ≡ true → Means t entry base x → x.processor.pc ≡ a → IsMeant cert entry base x
-unfolding covered_at
-IsMeant-covered cert procedure a t entry base x h m e =
-    let p = Any-from_list_any (is_cover procedure a t) cert.nodes h in
-    let q = and_parts _ _ p.4 in
-    let r = and_parts _ _ q.0 in
-    record {
-      node = p.1;
-      is_node = (p.0, p.2, p.3);
-      at = e ∙ sym (eqb-true _ _ r.1);
-      means = Means-covered t p.1.state entry base x q.1 m;
-    }
-
--- ---- one instruction
+use Rattle.gb_blocks.proofs.NodeLaws.{IsNodeState-node, Passes-from, ruled, allowed, known_by}
+use Rattle.gb_blocks.proofs.StandLaws.{OnNode, stands, sound_ways, is_known, on_code, IsMeant-way}
 
 -- what an event that is possible does
-pub record IsSafeHappening (rom : List ℕ) (cert : Certificate) (entry : MState) (base : ℕ) (s : MState) (e : Event) : Type 0 where
+pub record IsSafeHappening (rom : List ℕ) (cert : Certificate) (procedure : ℕ) (entry : MState) (base : ℕ) (s : MState) (e : Event) : Type 0 where
   pub faults : event_faults cert.region (within rom s) e ≡ no_faults
   pub places : All (IsCertified rom cert) (event_places (within rom s) e)
-  pub meant : IsMeant cert entry base (outside (happened (within rom s) e))
+  pub meant : IsMeant rom cert procedure entry base (outside (happened (within rom s) e))
+  pub kept : (b : ℕ) → IsKept cert.region (ranges_of cert procedure) base b → peek (outside (happened (within rom s) e)).storage b ≡ peek s.storage b
 
--- no OAM transfer closes a byte of the instruction
-open_each : (x : MState) (bound a n end : ℕ) → x.storage.count ≤ bound → area_end a ≡ Some end → OfEach (IsInside a end) a n
-    → (bound ≡ 0) ⊎ ((0xFF80 ≤ a) × (a + n ≤ 0xFFFF)) → OfEach (IsOpen x.storage) a n
-open_each x bound a n end count h inside (inl none) =
-    each_map _ _ a n (λ b i. let zero : x.storage.count ≡ 0 = omega (arith, none) in inl zero) inside
-open_each x bound a n end count h inside (inr high) =
-    let small = area_small a end h in
-    each_map (IsInside a end) (IsOpen x.storage) a n (λ b i. let least : a ≤ b = i.least in let most : b < end = i.most in let end_small : end ≤ 0xFFFF = small.1 in inr (omega (arith, high.0), omega arith)) inside
+certified_by : (rom : List ℕ) (cert : Certificate) (n : Node) (xs : List CodePlace) → Contains cert.nodes n → All (IsCertifiedBy rom n) xs → All (IsCertified rom cert) xs
+certified_by rom cert n xs is h = λ i d lt. (n, is, h i d lt)
 
-first_is : (bytes : List ℕ) (a b c : ℕ) → bytes ≡ a ∷ b ∷ c ∷ [] → slice_index bytes 0 ≡ a
-first_is bytes a b c h = rw h refl
+-- ---- an instruction that is executed
 
 -- an instruction whose bytes are known is executed by its row
 happens_by_row : (s : BusState) (fetch reads bytes : List ℕ) (row : Row) → fetched s.memory s.processor fetch ≡ bytes → decoded bytes ≡ Some row → happened s (event.Run fetch reads) ≡ executed s row reads
@@ -228,168 +73,437 @@ run_fine : (region : Region) (s : BusState) (fetch reads bytes : List ℕ) (row 
 unfolding event_faults run_faults either_faults
 run_fine region s fetch reads bytes row is found fine quiet = rw (is, fine, found, quiet) refl
 
-run_places : (s : BusState) (fetch reads bytes xs : List ℕ) → fetched s.memory s.processor fetch ≡ bytes → fetch_addresses s.processor bytes ≡ xs
-    → event_places s (event.Run fetch reads) ≡ map (code_place s.memory) xs
+run_places : (s : BusState) (fetch reads bytes : List ℕ) → fetched s.memory s.processor fetch ≡ bytes
+    → event_places s (event.Run fetch reads) ≡ map (code_place s.memory) (fetch_addresses s.processor bytes)
 unfolding event_places
-run_places s fetch reads bytes xs is at = rw (is, at) refl
+run_places s fetch reads bytes is = rw is refl
 
--- PC and the mark between events
 processor_is : (rom : List ℕ) (x : MState) → (within rom x).processor ≡ x.processor
 unfolding within
 processor_is rom x = refl
 
-memory_is : (rom : List ℕ) (x : MState) → (within rom x).memory.storage ≡ x.storage
-unfolding within
-memory_is rom x = refl
+small_byte : (b : ℕ) → nat_lt b 256 ≡ true → b ≤ 255
+small_byte b h = grind (arith, nat_tests)
 
--- what is known of the instruction of a node, where the machine stands there
-record AtNode (rom : List ℕ) (cert : Certificate) (n : Node) (x : MState) (p : Passes rom cert n) : Type 0 where
-  pub inside : OfEach (IsInside n.address p.end) n.address (length_of p.known.opcode)
-  pub open_ : OfEach (IsOpen x.storage) n.address (length_of p.known.opcode)
-  pub bytes : (free : List ℕ) → fetched (within rom x).memory (within rom x).processor free ≡ p.bytes
-  pub addresses : fetch_addresses (within rom x).processor p.bytes ≡ span n.address (length_of p.known.opcode)
-  pub mark : mark_of x.processor ≡ 0
+first_byte : (reads : List ℕ) → list_all (λ b. nat_lt b 256) reads ≡ true → slice_index reads 0 ≤ 255
+first_byte [] h = omega arith
+first_byte (b ∷ rest) h = small_byte b (and_parts _ _ h).0
 
-at_node : (rom : List ℕ) (cert : Certificate) (n : Node) (entry : MState) (base : ℕ) (x : MState) (p : Passes rom cert n)
-    → Means n.state entry base x → x.processor.pc ≡ n.address → AtNode rom cert n x p
-at_node rom cert n entry base x p m at =
-    let small = area_small n.address p.end p.is_end in
-    let inside = inside_each n.address (length_of p.known.opcode) p.end small.0 small.1 p.inside in
-    let opens = open_each x n.state.core.bound n.address (length_of p.known.opcode) p.end m.core.count p.is_end inside p.transfer in
-    let none : mark_of x.processor ≡ 0 = ap (λ b. cond b 1 0) m.core.mark in
+last_true : (a b c d : Bool) → (a && b && (c && d)) ≡ true → d ≡ true
+last_true true true true d h = h
+last_true true true false d h = cc
+last_true true false c d h = cc
+last_true false b c d h = cc
+
+-- the bytes of an event
+reads_byte : (rom : List ℕ) (x : MState) (fetch reads : List ℕ) → is_possible (within rom x) (event.Run fetch reads) ≡ true → slice_index reads 0 ≤ 255
+unfolding is_possible
+reads_byte rom x fetch reads h =
+    first_byte reads (last_true (is_running (within rom x)) (is_bytes 3 fetch) (length reads == 2) (list_all (λ b. nat_lt b 256) reads) h)
+
+run_unmarked : (rom : List ℕ) (cert : Certificate) (n : Node) (entry : MState) (base : ℕ) (x : MState) (k : OnNode rom cert n entry base x) (fetch reads : List ℕ)
+    → x.processor.halt_mark ≡ false → slice_index reads 0 ≤ 255 → IsSafeHappening rom cert n.procedure entry base x (event.Run fetch reads)
+run_unmarked rom cert n entry base x k fetch reads mark byte =
+    let p = k.passes in
+    let done = (sound_ways rom cert n entry base x k).executes cert.region (ranges_of cert n.procedure) entry base x reads (stands rom cert n entry base x k)
+    (ruled rom cert n base p k.cartridge k.state k.main) mark byte in
+    let t = done.successor in
+    let may = allowed rom cert n p t done.is_one in
+    let leads = done.leads may in
+    let known = known_by rom cert n p t done.is_one in
+    let all = FetchesAll-known rom n entry base x p.bytes known (on_code rom cert n entry base x k) (inl mark) in
+    let is : fetched (within rom x).memory (within rom x).processor fetch ≡ p.bytes = ap (λ q. fetched (within rom x).memory q fetch) (processor_is rom x) ∙ all.gives fetch in
+    let after : outside (happened (within rom x) (event.Run fetch reads)) ≡ outside (executed (within rom x) p.row reads) =
+    ap outside (happens_by_row (within rom x) fetch reads p.bytes p.row is p.is_row) in
     record {
-      inside = inside;
-      open_ = opens;
-      bytes = λ free. ap (λ q. fetched (within rom x).memory q free) (processor_is rom x)
-          ∙ fetched_known rom n.state entry base x n.address p.bytes free at m p.known (record { first = opens.first; second = opens.second; third = opens.third });
-      addresses = ap (λ q. fetch_addresses q p.bytes) (processor_is rom x)
-          ∙ (addresses_are x.processor p.bytes p.known.opcode none (first_is p.bytes _ _ _ p.known.bytes_are) ∙ ap (λ a. span a (length_of p.known.opcode)) at);
-      mark = none;
+      faults = run_fine cert.region (within rom x) fetch reads p.bytes p.row is p.is_row
+          (ap (λ q. all_fetch_faults (within rom x).memory (fetch_addresses q p.bytes)) (processor_is rom x) ∙ all.faults) (done.faults may);
+      places = subst (All (IsCertified rom cert)) (sym (run_places (within rom x) fetch reads p.bytes is ∙ ap (λ q. map (code_place (within rom x).memory) (fetch_addresses q p.bytes)) (processor_is rom x)))
+          (certified_by rom cert n _ k.is_node all.places);
+      meant = subst (IsMeant rom cert n.procedure entry base) (sym after) (IsMeant-way rom cert n entry base x k t done.is_one _ leads (inl done.mark));
+      kept = λ b kept. ap (λ (y : MState). peek y.storage b) after ∙ leads.kept b kept;
     }
 
-fine_span : (rom : List ℕ) (x : MState) (a n end : ℕ) → area_end a ≡ Some end → OfEach (IsInside a end) a n → OfEach (IsOpen x.storage) a n
-    → all_fetch_faults (within rom x).memory (span a n) ≡ no_faults
-fine_span rom x a n end h inside opens =
-    let fine : (b : ℕ) → IsInside a end b → IsOpen x.storage b → fetch_faults (within rom x).memory b ≡ no_faults =
-    λ b i o. fine_fetch _ b (IsCode-inside a end b h i) (ap (λ s. is_closed s b) (memory_is rom x) ∙ open_at x.storage b o) in
-    fine_all _ _ (each_all (λ b. fetch_faults (within rom x).memory b ≡ no_faults) a n (record {
-      first = fine _ inside.first opens.first;
-      second = λ w. fine _ (inside.second w) (opens.second w);
-      third = λ w. fine _ (inside.third w) (opens.third w);
-    }))
+-- ---- NOP under the HALT mark
 
-run_safe : (rom : List ℕ) (cert : Certificate) (n : Node) (entry : MState) (base : ℕ) (x : MState) (fetch reads : List ℕ) → Contains cert.nodes n → Passes rom cert n
-    → Means n.state entry base x → x.processor.pc ≡ n.address → IsSafeHappening rom cert entry base x (event.Run fetch reads)
-run_safe rom cert n entry base x fetch reads is_node p m at =
-    let k = at_node rom cert n entry base x p m at in
-    let next_is : (x.processor.pc + p.row.length) % 65536 ≡ (n.address + p.row.length) % 65536 = ap (λ a. (a + p.row.length) % 65536) at in
-    let after : outside (happened (within rom x) (event.Run fetch reads)) ≡ waited p.row.cycles (acted p.row.op ((n.address + p.row.length) % 65536) x) =
-    ap outside (happens_by_row (within rom x) fetch reads p.bytes p.row (k.bytes fetch) p.is_row)
-    ∙ (executed_is rom x p.row.op p.row.length p.row.cycles p.row.cycles_not_taken reads p.rules k.mark
-    ∙ ap (λ b. waited p.row.cycles (acted p.row.op b x)) next_is) in
+nop_row : (a b : ℕ) → row_of 0 a b ≡ Some (record { op = op.Nop; length = 1; cycles = 1; cycles_not_taken = 1 })
+unfolding row_of row_in table
+nop_row a b = refl
+
+nop_length : length_of 0 ≡ 1
+unfolding length_of row_of row_in table
+nop_length = refl
+
+decoded_nop : (bytes : List ℕ) (row : Row) (second third : ℕ) → bytes ≡ 0 ∷ second ∷ third ∷ [] → decoded bytes ≡ Some row
+    → row ≡ record { op = op.Nop; length = 1; cycles = 1; cycles_not_taken = 1 }
+decoded_nop bytes row second third e h =
+    same_Some row _ (sym (subst (λ b. decoded b ≡ Some row) e h) ∙ nop_row second third)
+
+-- the machine with a smaller count, and no mark
+abbrev repeated_nop : MState → MState
+repeated_nop x = record { processor = record x.processor { ime = Machine.ime_after x.processor.ime; halt_mark = false; pc = x.processor.pc % 65536 }; storage = record x.storage { count = x.storage.count - 1 } }
+
+nop_executed : (rom : List ℕ) (x : MState) (reads : List ℕ) → mark_of x.processor ≡ 1
+    → outside (executed (within rom x) (record { op = op.Nop; length = 1; cycles = 1; cycles_not_taken = 1 }) reads) ≡ repeated_nop x
+unfolding executed within outside Machine.advanced Machine.way_of Effects.effect_of Effects.read_of Machine.loaded Memory.stored passed
+nop_executed rom x reads mark = rw mark (ap (λ pc. record (repeated_nop x) { processor = record (repeated_nop x).processor { pc = pc % 65536 } }) (plus_none x.processor.pc))
+  where
+    plus_none : (a : ℕ) → a + 0 ≡ a
+    plus_none a = omega arith
+
+nop_fine : (region : Region) (s : BusState) (reads : List ℕ) → row_faults (Some (record { op = op.Nop; length = 1; cycles = 1; cycles_not_taken = 1 })) region s reads ≡ no_faults
+unfolding Effects.effect_of Effects.read_of Machine.loaded Faults.load_faults Faults.store_faults either_faults
+nop_fine region s reads = refl
+
+-- ---- where the machine is at the node itself
+
+itself : (rom : List ℕ) (cert : Certificate) (n : Node) (entry : MState) (base : ℕ) (x y : MState) → OnNode rom cert n entry base x → y.processor.pc ≡ n.address → Means n.state entry base y → IsMarkHarmless rom y
+    → IsMeant rom cert n.procedure entry base y
+itself rom cert n entry base x y k address means mark = record {
+  node = n;
+  is_node = k.is_node;
+  procedure_is = refl;
+  at = record { address = address; means = means; mark = mark; main = k.main; room = k.room };
+}
+
+-- a smaller count, and the same processor but for PC and the mark
+same_core : (s : AbsState) (entry : MState) (base : ℕ) (x y : MState) → Means s entry base x → y.storage ≡ (counted (y.storage.count) x).storage → y.storage.count ≤ x.storage.count
+    → y.processor.registers ≡ x.processor.registers → y.processor.flags ≡ x.processor.flags → y.processor.ime ≡ x.processor.ime → y.processor.sp ≡ x.processor.sp
+    → y.processor.locked ≡ x.processor.locked → y.processor.stopped ≡ x.processor.stopped → Means s entry base y
+same_core s entry base x y m storage less registers flags i sp locked stopped =
+    Means-with_core s s.core entry base x y m
+    (record {
+      registers = λ r. subst (λ q. Holds (get r s.core.registers) entry (get r q)) (sym registers) (m.core.registers r);
+      flags = subst (λ f. HoldsFlags s.core.flags entry f) (sym flags) m.core.flags;
+      ie = subst (λ (t : Storage). Holds s.core.ie entry t.ie) (sym storage) m.core.ie;
+      ime = subst (λ j. ime_may_be s.core.ime j ≡ true) (sym i) m.core.ime;
+      controller = subst (λ (t : Storage). HoldsController s.core.ctl entry t.banks) (sym storage) m.core.controller;
+      count = let most = m.core.count in omega arith;
+      test = subst (λ q. IsTested s.core.test q y.processor.flags) (sym (ap (λ (q : Registers ℕ). q.a) registers)) (subst (λ f. IsTested s.core.test x.processor.registers.a f) (sym flags) m.core.test);
+      locked = locked ∙ m.core.locked;
+      stopped = stopped ∙ m.core.stopped;
+    })
+    (ap (λ (t : Storage). t.work) storage) (ap (λ (t : Storage). t.high) storage) sp (λ set. set)
+
+count_peek : (t : Storage) (count b : ℕ) → peek (record t { count = count }) b ≡ peek t b
+unfolding peek
+count_peek t count b = refl
+
+-- ---- NOP under the HALT mark
+
+ime_off : Machine.ime_after ime.Off ≡ ime.Off
+unfolding Machine.ime_after
+ime_off = refl
+
+mod_small : (a : ℕ) → a < 65536 → a % 65536 ≡ a
+mod_small a h = omega arith
+
+run_marked : (rom : List ℕ) (cert : Certificate) (n : Node) (entry : MState) (base : ℕ) (x : MState) (k : OnNode rom cert n entry base x) (fetch reads : List ℕ)
+    → x.processor.halt_mark ≡ true → x.processor.ime ≡ ime.Off → byte_at (within rom x).memory x.processor.pc ≡ 0 → IsSafeHappening rom cert n.procedure entry base x (event.Run fetch reads)
+run_marked rom cert n entry base x k fetch reads mark off nop =
+    let p = k.passes in
+    let known = is_known rom cert n entry base x k in
+    let code = on_code rom cert n entry base x k in
+    let first = FetchesFirst-known rom n entry base x p.bytes known code in
+    let opcode : known.known.opcode ≡ 0 = sym first.byte ∙ nop in
+    let short : length_of known.known.opcode ≡ 1 = ap length_of opcode ∙ nop_length in
+    let all = FetchesAll-known rom n entry base x p.bytes known code (inr short) in
+    let row : p.row ≡ record { op = op.Nop; length = 1; cycles = 1; cycles_not_taken = 1 } =
+    decoded_nop p.bytes p.row known.known.second known.known.third (known.known.bytes_are ∙ ap (λ b. b ∷ known.known.second ∷ known.known.third ∷ []) opcode) p.is_row in
+    let is : fetched (within rom x).memory (within rom x).processor fetch ≡ p.bytes = ap (λ q. fetched (within rom x).memory q fetch) (processor_is rom x) ∙ all.gives fetch in
+    let marked : mark_of x.processor ≡ 1 = ap (λ b. cond b 1 0) mark in
+    let after : outside (happened (within rom x) (event.Run fetch reads)) ≡ repeated_nop x =
+    ap outside (happens_by_row (within rom x) fetch reads p.bytes p.row is p.is_row) ∙ (ap (λ r. outside (executed (within rom x) r reads)) row ∙ nop_executed rom x reads marked) in
+    let small : x.processor.pc < 65536 = subst (λ a. a < 65536) (sym k.address) k.state.address in
     record {
-      faults = run_fine cert.region (within rom x) fetch reads p.bytes p.row (k.bytes fetch) p.is_row
-          (ap (all_fetch_faults (within rom x).memory) k.addresses ∙ fine_span rom x n.address _ p.end p.is_end k.inside k.open_)
-          (row_fine cert.region (within rom x) p.row.op p.row.length p.row.cycles p.row.cycles_not_taken reads p.rules);
-      places = subst (All (IsCertified rom cert)) (sym (run_places (within rom x) fetch reads p.bytes _ (k.bytes fetch) k.addresses)) (places_certified rom cert n x is_node p k.inside);
-      meant = subst (IsMeant cert entry base) (sym after)
-          (IsMeant-covered cert _ _ _ entry base _ p.covered
-          (Means-after p.row ((n.address + p.row.length) % 65536) n.state entry base x p.rules m)
-          (acted_pc p.row.op ((n.address + p.row.length) % 65536) x p.rules));
+      faults = run_fine cert.region (within rom x) fetch reads p.bytes p.row is p.is_row
+          (ap (λ q. all_fetch_faults (within rom x).memory (fetch_addresses q p.bytes)) (processor_is rom x) ∙ all.faults)
+          (ap (λ r. row_faults (Some r) cert.region (within rom x) reads) row ∙ nop_fine cert.region (within rom x) reads);
+      places = subst (All (IsCertified rom cert)) (sym (run_places (within rom x) fetch reads p.bytes is ∙ ap (λ q. map (code_place (within rom x).memory) (fetch_addresses q p.bytes)) (processor_is rom x)))
+          (certified_by rom cert n _ k.is_node all.places);
+      meant = subst (IsMeant rom cert n.procedure entry base) (sym after)
+          (itself rom cert n entry base x (repeated_nop x) k (mod_small x.processor.pc small ∙ k.address)
+          (same_core n.state entry base x (repeated_nop x) k.means refl (omega arith) refl refl (ap Machine.ime_after off ∙ (ime_off ∙ sym off)) refl refl refl) (inl refl));
+      kept = λ b kept. ap (λ (y : MState). peek y.storage b) after ∙ count_peek x.storage (x.storage.count - 1) b;
     }
 
--- ---- the other events
+-- ---- HALT
 
 halt_row : (a b : ℕ) → row_of 0x76 a b ≡ Some (record { op = op.Halt; length = 1; cycles = 1; cycles_not_taken = 1 })
 unfolding row_of row_in table
 halt_row a b = refl
 
--- the instruction at a node isn't HALT
-no_halt : (opcode low high : ℕ) (row : Row) → decoded (opcode ∷ low ∷ high ∷ []) ≡ Some row → has_rules row.op ≡ true → (opcode == 0x76) ≡ false
-no_halt opcode low high row found rules = decide (opcode == 0x76) refl
+IsHalt-decoded : (bytes : List ℕ) (row : Row) (opcode second third : ℕ) → bytes ≡ opcode ∷ second ∷ third ∷ [] → opcode ≡ 0x76 → decoded bytes ≡ Some row → IsHalt row
+IsHalt-decoded bytes row opcode second third e h is =
+    let same : row ≡ record { op = op.Halt; length = 1; cycles = 1; cycles_not_taken = 1 } =
+    same_Some row _ (sym (subst (λ b. decoded b ≡ Some row) (e ∙ ap (λ o. o ∷ second ∷ third ∷ []) h) is) ∙ halt_row second third) in
+    record { op_is = ap (λ (r : Row). r.op) same; length_is = ap (λ (r : Row). r.length) same; cycles_are = ap (λ (r : Row). r.cycles) same }
+
+-- the machine is at HALT where the byte at PC is known
+at_halt : (rom : List ℕ) (cert : Certificate) (n : Node) (entry : MState) (base : ℕ) (x : MState) (k : OnNode rom cert n entry base x) → has_halt (within rom x) ≡ true → IsHalt k.passes.row
+at_halt rom cert n entry base x k h =
+    let known = is_known rom cert n entry base x k in
+    let first = FetchesFirst-known rom n entry base x k.passes.bytes known (on_code rom cert n entry base x k) in
+    let seen : (is_free (within rom x).memory x.processor.pc || (byte_at (within rom x).memory x.processor.pc == 0x76)) ≡ true =
+    sym (ap (λ q. is_free (within rom x).memory q.pc || (byte_at (within rom x).memory q.pc == 0x76)) (processor_is rom x)) ∙ h in
+    let halts : (known.known.opcode == 0x76) ≡ true = opcode_seen _ _ _ first.fixed first.byte seen in
+    IsHalt-decoded k.passes.bytes k.passes.row known.known.opcode known.known.second known.known.third known.known.bytes_are (eqb-true known.known.opcode 0x76 halts) k.passes.is_row
   where
-    some_row : (r q : Row) → Some r ≡ Some q → r ≡ q
-    some_row r q e = cc
+    opcode_seen : (free : Bool) (b opcode : ℕ) → free ≡ false → b ≡ opcode → (free || (b == 0x76)) ≡ true → (opcode == 0x76) ≡ true
+    opcode_seen true b opcode f e h = cc
+    opcode_seen false b opcode f e h = subst (λ c. (c == 0x76) ≡ true) e h
 
-    decide : (b : Bool) → (opcode == 0x76) ≡ b → (opcode == 0x76) ≡ false
-    decide false e = e
-    decide true e =
-        let is : opcode ≡ 0x76 = eqb-true opcode 0x76 e in
-        let halts : row_of 0x76 low high ≡ Some row = subst (λ o. row_of o low high ≡ Some row) is found in
-        let which = some_row _ _ (sym (halt_row low high) ∙ halts) in
-        let none : has_rules op.Halt ≡ true = ap (λ r. has_rules r.op) which ∙ rules in
-        cc
+-- under the HALT mark no HALT is there
+unmarked_at_halt : (rom : List ℕ) (cert : Certificate) (n : Node) (entry : MState) (base : ℕ) (x : MState) → OnNode rom cert n entry base x → IsMarkHarmless rom x → has_halt (within rom x) ≡ true → x.processor.halt_mark ≡ false
+unmarked_at_halt rom cert n entry base x k (inl clear) h = clear
+unmarked_at_halt rom cert n entry base x k (inr nop) h =
+    let seen : (is_free (within rom x).memory x.processor.pc || (byte_at (within rom x).memory x.processor.pc == 0x76)) ≡ true =
+    sym (ap (λ q. is_free (within rom x).memory q.pc || (byte_at (within rom x).memory q.pc == 0x76)) (processor_is rom x)) ∙ h in
+    absurd (nothing _ _ nop.1 nop.2 seen)
+  where
+    nothing : (free : Bool) (b : ℕ) → free ≡ false → b ≡ 0 → (free || (b == 0x76)) ≡ true → ⊥
+    nothing true b f e h = cc
+    nothing false b f e h = let zero_is : (0 == 0x76) ≡ true = subst (λ c. (c == 0x76) ≡ true) e h in cc
 
--- HALT's special cases aren't possible at a node's instruction
-not_halted : (rom : List ℕ) (cert : Certificate) (n : Node) (entry : MState) (base : ℕ) (x : MState) (p : Passes rom cert n)
-    → Means n.state entry base x → x.processor.pc ≡ n.address → has_halt (within rom x) ≡ false
-not_halted rom cert n entry base x p m at =
-    let k = at_node rom cert n entry base x p m at in
-    let gives = Gives-known rom n.state entry base x n.address p.known.opcode m k.open_.first p.known.is_opcode in
-    let other : (p.known.opcode == 0x76) ≡ false = no_halt p.known.opcode p.known.second p.known.third p.row (sym (ap decoded p.known.bytes_are) ∙ p.is_row) p.rules in
-    ap (λ q. is_free (within rom x).memory q.pc || (byte_at (within rom x).memory q.pc == 0x76)) (processor_is rom x)
-    ∙ (ap (λ a. is_free (within rom x).memory a || (byte_at (within rom x).memory a == 0x76)) at ∙ rw (gives.fixed, gives.byte, other) refl)
+all_one : {X : Type 0} (P : X → Type 0) (x : X) → P x → All P (x ∷ [])
+all_one P x h = All-from_recursion P (x ∷ []) (h, tt)
 
-no_halting : (running halt ime enabled : Bool) → halt ≡ false → (running && halt && ime && enabled) ≡ true → ⊥
-no_halting true true ime enabled h possible = cc
-no_halting true false ime enabled h possible = cc
-no_halting false halt ime enabled h possible = cc
+halt_parts : (running halt i enabled : Bool) → (running && halt && i && enabled) ≡ true → (halt ≡ true) × (i ≡ true) × (enabled ≡ true)
+halt_parts true true true true h = (refl, refl, refl)
+halt_parts true true true false h = cc
+halt_parts true true false e h = cc
+halt_parts true false i e h = cc
+halt_parts false b i e h = cc
 
--- time alone
-IsSafeHappening-wait : (rom : List ℕ) (cert : Certificate) (n : Node) (entry : MState) (base : ℕ) (x : MState) (cycles : ℕ) → Contains cert.nodes n
-    → Means n.state entry base x → x.processor.pc ≡ n.address → IsSafeHappening rom cert entry base x (event.Wait cycles)
-unfolding happened event_faults event_places within outside passed
-IsSafeHappening-wait rom cert n entry base x cycles is_node m at =
-    let runs : (not x.processor.locked && not x.processor.stopped) ≡ true = rw (m.core.locked, m.core.stopped) refl in
+is_pending : (i : Ime) → is_ime i ime.Pending ≡ true → i ≡ ime.Pending
+is_pending ime.Off h = cc
+is_pending ime.Pending h = refl
+is_pending ime.On h = cc
+
+is_off : (i : Ime) → is_ime i ime.Off ≡ true → i ≡ ime.Off
+is_off ime.Off h = refl
+is_off ime.Pending h = cc
+is_off ime.On h = cc
+
+-- the fetch of HALT alone
+halt_faults : (region : Region) (rom : List ℕ) (x : MState) → fetch_faults (within rom x).memory x.processor.pc ≡ no_faults
+    → (event_faults region (within rom x) event.HaltStay ≡ no_faults) × (event_faults region (within rom x) event.HaltBug ≡ no_faults)
+unfolding event_faults
+halt_faults region rom x h = let f = ap (λ q. fetch_faults (within rom x).memory q.pc) (processor_is rom x) ∙ h in (f, f)
+
+halt_places : (rom : List ℕ) (cert : Certificate) (x : MState) → IsCertified rom cert (code_place (within rom x).memory x.processor.pc)
+    → All (IsCertified rom cert) (event_places (within rom x) event.HaltStay) × All (IsCertified rom cert) (event_places (within rom x) event.HaltBug)
+unfolding event_places
+halt_places rom cert x h =
+    let p = subst (λ q. All (IsCertified rom cert) (code_place (within rom x).memory q.pc ∷ [])) (sym (processor_is rom x)) (all_one (IsCertified rom cert) (code_place (within rom x).memory x.processor.pc) h) in
+    (p, p)
+
+stay_mark : (rom : List ℕ) (x : MState) → (outside (halt_stay (within rom x))).processor.halt_mark ≡ x.processor.halt_mark
+unfolding halt_stay within outside
+stay_mark rom x = refl
+
+stay_safe : (rom : List ℕ) (cert : Certificate) (n : Node) (entry : MState) (base : ℕ) (x : MState) (k : OnNode rom cert n entry base x) → IsMarkHarmless rom x
+    → is_possible (within rom x) event.HaltStay ≡ true → IsSafeHappening rom cert n.procedure entry base x event.HaltStay
+unfolding is_possible happened
+stay_safe rom cert n entry base x k mark possible =
+    let parts = halt_parts _ _ _ _ possible in
+    let known = is_known rom cert n entry base x k in
+    let first = FetchesFirst-known rom n entry base x k.passes.bytes known (on_code rom cert n entry base x k) in
+    let pending : x.processor.ime ≡ ime.Pending = is_pending x.processor.ime (ap (λ (q : Processor). is_ime q.ime ime.Pending) (sym (processor_is rom x)) ∙ parts.1) in
+    let clear = unmarked_at_halt rom cert n entry base x k mark parts.0 in
+    let way = (sound_ways rom cert n entry base x k).stays cert.region (ranges_of cert n.procedure) entry base x (stands rom cert n entry base x k) (at_halt rom cert n entry base x k parts.0) pending parts.2 in
     record {
-      faults = refl;
-      places = All-nil _;
-      meant = subst (λ b. IsMeant cert entry base (outside (Machine.waited b (within rom x) cycles))) (sym runs)
-          (record { node = n; is_node = is_node; at = at; means = Means-waited n.state entry base x cycles m });
+      faults = (halt_faults cert.region rom x first.faults).0;
+      places = (halt_places rom cert x (n, k.is_node, first.place)).0;
+      meant = IsMeant-way rom cert n entry base x k way.successor (inr (inr way.is_way)) _ way.leads (inl (stay_mark rom x ∙ clear));
+      kept = λ b kept. way.leads.kept b kept;
     }
+
+-- ---- the halt bug
+
+-- behind a HALT that may be reached with interrupts off there is a NOP, which is read in any case
+nop_behind : (rom : List ℕ) (s : AbsState) (a end : ℕ) (o : Option ℕ) → o ≡ Some end → is_nop_behind rom s a o ≡ true → (a + 1 < end) × (known_byte rom s (a + 1) ≡ Some 0)
+nop_behind rom s a end None e h = cc
+nop_behind rom s a end (Some f) e h =
+    let p = and_parts _ _ h in
+    let same : f ≡ end = same_Some f end e in
+    let less : a + 1 < f = below _ _ p.0 in
+    (subst (λ g. a + 1 < g) same less, nop_known (known_byte rom s (a + 1)) p.1)
+  where
+    below : (b c : ℕ) → nat_lt b c ≡ true → b < c
+    below b c h = grind (arith, nat_tests)
+
+    nop_known : (o : Option ℕ) → is_nop o ≡ true → o ≡ Some 0
+    nop_known None h = cc
+    nop_known (Some b) h = ap Some (eqb-true b 0 h)
+
+halt_guarded : (halts off nop : Bool) → halts ≡ true → off ≡ true → (halts && off && not nop) ≡ false → nop ≡ true
+halt_guarded true true true h o e = refl
+halt_guarded true true false h o e = cc
+halt_guarded true false nop h o e = cc
+halt_guarded false off nop h o e = cc
+
+off_known : (s : AbsState) (i : Ime) → i ≡ ime.Off → ime_may_be s.core.ime i ≡ true → s.core.ime.off ≡ true
+off_known s i e h = subst (λ j. ime_may_be s.core.ime j ≡ true) e h
+
+bug_memory : (rom : List ℕ) (x : MState) → (within rom (outside (halt_bug (within rom x)))).memory ≡ (within rom (counted (x.storage.count - 1) x)).memory
+unfolding halt_bug within outside passed
+bug_memory rom x = refl
+
+bug_ime : (rom : List ℕ) (x : MState) → (outside (halt_bug (within rom x))).processor.ime ≡ x.processor.ime
+unfolding halt_bug within outside
+bug_ime rom x = refl
+
+bug_pc : (rom : List ℕ) (x : MState) → (outside (halt_bug (within rom x))).processor.pc ≡ (x.processor.pc + (1 - mark_of x.processor)) % 65536
+unfolding halt_bug within outside
+bug_pc rom x = refl
+
+bug_safe : (rom : List ℕ) (cert : Certificate) (n : Node) (entry : MState) (base : ℕ) (x : MState) (k : OnNode rom cert n entry base x) → IsMarkHarmless rom x
+    → is_possible (within rom x) event.HaltBug ≡ true → IsSafeHappening rom cert n.procedure entry base x event.HaltBug
+unfolding is_possible happened may_read_twice
+bug_safe rom cert n entry base x k mark possible =
+    let p = k.passes in
+    let parts = halt_parts _ _ _ _ possible in
+    let known = is_known rom cert n entry base x k in
+    let first = FetchesFirst-known rom n entry base x p.bytes known (on_code rom cert n entry base x k) in
+    let off : x.processor.ime ≡ ime.Off = is_off x.processor.ime (ap (λ (q : Processor). is_ime q.ime ime.Off) (sym (processor_is rom x)) ∙ parts.1) in
+    let clear = unmarked_at_halt rom cert n entry base x k mark parts.0 in
+    let halt = at_halt rom cert n entry base x k parts.0 in
+    let way = (sound_ways rom cert n entry base x k).repeats cert.region (ranges_of cert n.procedure) entry base x (stands rom cert n entry base x k) halt off clear in
+    let nop = nop_behind rom n.state n.address p.end (area_end n.address) p.is_end
+    (halt_guarded (is_halt p.row.op) n.state.core.ime.off _ (ap is_halt halt.op_is) (off_known n.state x.processor.ime off k.means.core.ime) p.halt) in
+    let small = area_small n.address p.end p.is_end in
+    let inside : IsInside n.address p.end (n.address + 1) = record { least = omega arith; most = nop.0 } in
+    let waited = counted (x.storage.count - 1) x in
+    let means : Means n.state entry base waited = same_core n.state entry base x waited k.means refl (omega arith) refl refl refl refl refl refl in
+    let reads = Reads-known rom n.state entry base waited (n.address + 1) 0 k.cartridge means k.state.core.ie
+    (clear_byte n.state.core n.address (length_of known.known.opcode) p.end (n.address + 1) known.clear small.1 inside) nop.1 in
+    let none : mark_of x.processor ≡ 0 = ap (λ b. cond b 1 0) clear in
+    let pc : (outside (halt_bug (within rom x))).processor.pc ≡ n.address + 1 =
+    bug_pc rom x ∙ (ap (λ m. (x.processor.pc + (1 - m)) % 65536) none ∙ (ap (λ a. (a + 1) % 65536) k.address ∙ mod_small (n.address + 1) (omega (arith, nop.0, small.1)))) in
+    let fixed : is_free (within rom (outside (halt_bug (within rom x)))).memory (outside (halt_bug (within rom x))).processor.pc ≡ false =
+    ap (is_free (within rom (outside (halt_bug (within rom x)))).memory) pc ∙ (ap (λ m. is_free m (n.address + 1)) (bug_memory rom x) ∙ reads.fixed) in
+    let byte : byte_at (within rom (outside (halt_bug (within rom x)))).memory (outside (halt_bug (within rom x))).processor.pc ≡ 0 =
+    ap (byte_at (within rom (outside (halt_bug (within rom x)))).memory) pc ∙ (ap (λ m. byte_at m (n.address + 1)) (bug_memory rom x) ∙ reads.byte) in
+    record {
+      faults = (halt_faults cert.region rom x first.faults).1;
+      places = (halt_places rom cert x (n, k.is_node, first.place)).1;
+      meant = IsMeant-way rom cert n entry base x k way.successor (inl way.is_way) _ way.leads (inr (bug_ime rom x ∙ off, fixed, byte));
+      kept = λ b kept. way.leads.kept b kept;
+    }
+
+-- ---- time alone
+
+waited_is : (rom : List ℕ) (x : MState) (cycles : ℕ) → x.processor.locked ≡ false → x.processor.stopped ≡ false → outside (happened (within rom x) (event.Wait cycles)) ≡ counted (x.storage.count - cycles) x
+unfolding happened within outside passed
+waited_is rom x cycles locked stopped =
+    let runs : (not x.processor.locked && not x.processor.stopped) ≡ true = rw (locked, stopped) refl in
+    rw runs refl
+
+no_faults_waited : (region : Region) (rom : List ℕ) (x : MState) (cycles : ℕ) → event_faults region (within rom x) (event.Wait cycles) ≡ no_faults
+unfolding event_faults
+no_faults_waited region rom x cycles = refl
+
+no_places_waited : (rom : List ℕ) (cert : Certificate) (x : MState) (cycles : ℕ) → All (IsCertified rom cert) (event_places (within rom x) (event.Wait cycles))
+unfolding event_places
+no_places_waited rom cert x cycles = All-nil _
+
+same_bytes : (rom : List ℕ) (x : MState) (count a : ℕ) → byte_at (within rom (counted count x)).memory a ≡ byte_at (within rom x).memory a
+unfolding within byte_at
+same_bytes rom x count a = by (Memory.mapped_at a)
+  where
+    by : (c : Mapped) → Memory.byte_by c (within rom (counted count x)).memory a ≡ Memory.byte_by c (within rom x).memory a
+    by mapped.Rom = refl
+    by mapped.CartridgeRam = refl
+    by (mapped.WorkRam i) = refl
+    by (mapped.HighRam i) = refl
+    by mapped.InterruptEnable = refl
+    by mapped.Transfer = refl
+    by mapped.Hardware = refl
+
+-- the mark does no more harm after a while
+mark_waited : (rom : List ℕ) (cert : Certificate) (n : Node) (entry : MState) (base : ℕ) (x : MState) (k : OnNode rom cert n entry base x) (count : ℕ) → Means n.state entry base (counted count x)
+    → IsMarkHarmless rom x → IsMarkHarmless rom (counted count x)
+mark_waited rom cert n entry base x k count m (inl clear) = inl clear
+mark_waited rom cert n entry base x k count m (inr nop) =
+    let later : OnNode rom cert n entry base (counted count x) =
+    record { cartridge = k.cartridge; is_node = k.is_node; state = k.state; passes = k.passes; address = k.address; means = m; main = k.main; room = k.room } in
+    let first = FetchesFirst-known rom n entry base (counted count x) k.passes.bytes (is_known rom cert n entry base x k) (on_code rom cert n entry base (counted count x) later) in
+    inr (nop.0, first.fixed, same_bytes rom x count x.processor.pc ∙ nop.2)
+
+wait_safe : (rom : List ℕ) (cert : Certificate) (n : Node) (entry : MState) (base : ℕ) (x : MState) (k : OnNode rom cert n entry base x) (cycles : ℕ) → IsMarkHarmless rom x
+    → IsSafeHappening rom cert n.procedure entry base x (event.Wait cycles)
+wait_safe rom cert n entry base x k cycles mark =
+    let after = waited_is rom x cycles k.means.core.locked k.means.core.stopped in
+    let means : Means n.state entry base (counted (x.storage.count - cycles) x) = same_core n.state entry base x (counted (x.storage.count - cycles) x) k.means refl (omega arith) refl refl refl refl refl refl in
+    record {
+      faults = no_faults_waited cert.region rom x cycles;
+      places = no_places_waited rom cert x cycles;
+      meant = subst (IsMeant rom cert n.procedure entry base) (sym after)
+          (itself rom cert n entry base x (counted (x.storage.count - cycles) x) k k.address means (mark_waited rom cert n entry base x k (x.storage.count - cycles) means mark));
+      kept = λ b kept. ap (λ (y : MState). peek y.storage b) after ∙ count_peek x.storage (x.storage.count - cycles) b;
+    }
+
+-- ---- every event but a dispatch
+
+run_safe : (rom : List ℕ) (cert : Certificate) (n : Node) (entry : MState) (base : ℕ) (x : MState) (k : OnNode rom cert n entry base x) (fetch reads : List ℕ) → IsMarkHarmless rom x
+    → is_possible (within rom x) (event.Run fetch reads) ≡ true → IsSafeHappening rom cert n.procedure entry base x (event.Run fetch reads)
+run_safe rom cert n entry base x k fetch reads (inl clear) possible = run_unmarked rom cert n entry base x k fetch reads clear (reads_byte rom x fetch reads possible)
+run_safe rom cert n entry base x k fetch reads (inr nop) possible = by x.processor.halt_mark refl
+  where
+    by : (b : Bool) → x.processor.halt_mark ≡ b → IsSafeHappening rom cert n.procedure entry base x (event.Run fetch reads)
+    by true e = run_marked rom cert n entry base x k fetch reads e nop.0 nop.2
+    by false e = run_unmarked rom cert n entry base x k fetch reads e (reads_byte rom x fetch reads possible)
+
+event_safe : (rom : List ℕ) (cert : Certificate) (n : Node) (entry : MState) (base : ℕ) (x : MState) (e : Event) → OnNode rom cert n entry base x → IsMarkHarmless rom x → IsNoDispatch e
+    → is_possible (within rom x) e ≡ true → IsSafeHappening rom cert n.procedure entry base x e
+event_safe rom cert n entry base x (event.Run fetch reads) k mark other possible = run_safe rom cert n entry base x k fetch reads mark possible
+event_safe rom cert n entry base x event.HaltStay k mark other possible = stay_safe rom cert n entry base x k mark possible
+event_safe rom cert n entry base x event.HaltBug k mark other possible = bug_safe rom cert n entry base x k mark possible
+event_safe rom cert n entry base x (event.Irq i) k mark other possible = absurd other
+event_safe rom cert n entry base x (event.Wait cycles) k mark other possible = wait_safe rom cert n entry base x k cycles mark
 
 unchanged : (rom : List ℕ) (x : MState) → outside (within rom x) ≡ x
 unfolding outside within
 unchanged rom x = refl
 
 -- an event is possible or changes nothing
-pub IsSafeEvent-where : (rom : List ℕ) (cert : Certificate) (entry : MState) (base : ℕ) (x : MState) (e : Event) (b : Bool) → is_possible (within rom x) e ≡ b
-    → IsMeant cert entry base x → (b ≡ true → IsSafeHappening rom cert entry base x e) → IsSafeEvent rom cert entry base x e
+pub IsSafeEvent-where : (rom : List ℕ) (cert : Certificate) (procedure : ℕ) (entry : MState) (base : ℕ) (x : MState) (e : Event) (b : Bool) → is_possible (within rom x) e ≡ b
+    → IsMeant rom cert procedure entry base x → (b ≡ true → IsSafeHappening rom cert procedure entry base x e) → IsSafeEvent rom cert procedure entry base x e
 unfolding next faults places Machine.next only
-IsSafeEvent-where rom cert entry base x e true is m safe =
+IsSafeEvent-where rom cert procedure entry base x e true is m safe =
     let s = safe refl in
     record {
       faults = ap (λ b. faults_where b (event_faults cert.region (within rom x) e)) is ∙ s.faults;
       places = subst (λ b. All (IsCertified rom cert) (places_where b (event_places (within rom x) e))) (sym is) s.places;
-      meant = subst (λ b. IsMeant cert entry base (outside (only b (happened (within rom x) e) (within rom x)))) (sym is) s.meant;
+      meant = subst (λ b. IsMeant rom cert procedure entry base (outside (only b (happened (within rom x) e) (within rom x)))) (sym is) s.meant;
+      kept = λ a kept. ap (λ b. peek (outside (only b (happened (within rom x) e) (within rom x))).storage a) is ∙ s.kept a kept;
     }
-IsSafeEvent-where rom cert entry base x e false is m safe =
+IsSafeEvent-where rom cert procedure entry base x e false is m safe =
     record {
       faults = ap (λ b. faults_where b (event_faults cert.region (within rom x) e)) is;
       places = subst (λ b. All (IsCertified rom cert) (places_where b (event_places (within rom x) e))) (sym is) (All-nil _);
-      meant = subst (λ b. IsMeant cert entry base (outside (only b (happened (within rom x) e) (within rom x)))) (sym is) (subst (IsMeant cert entry base) (sym (unchanged rom x)) m);
+      meant = subst (λ b. IsMeant rom cert procedure entry base (outside (only b (happened (within rom x) e) (within rom x)))) (sym is) (subst (IsMeant rom cert procedure entry base) (sym (unchanged rom x)) m);
+      kept = λ a kept. ap (λ b. peek (outside (only b (happened (within rom x) e) (within rom x))).storage a) is ∙ ap (λ (y : MState). peek y.storage a) (unchanged rom x);
     }
 
--- what is possible of each event but a dispatch, at a node that passes
-IsSafeHappening-event : (rom : List ℕ) (cert : Certificate) (n : Node) (entry : MState) (base : ℕ) (x : MState) (e : Event) → Contains cert.nodes n → Passes rom cert n
-    → Means n.state entry base x → x.processor.pc ≡ n.address → IsNoDispatch e → is_possible (within rom x) e ≡ true → IsSafeHappening rom cert entry base x e
-unfolding is_possible
-IsSafeHappening-event rom cert n entry base x (event.Run fetch reads) is_node p m at other possible = run_safe rom cert n entry base x fetch reads is_node p m at
-IsSafeHappening-event rom cert n entry base x event.HaltStay is_node p m at other possible =
-    absurd (no_halting _ _ _ _ (not_halted rom cert n entry base x p m at) possible)
-IsSafeHappening-event rom cert n entry base x event.HaltBug is_node p m at other possible =
-    absurd (no_halting _ _ _ _ (not_halted rom cert n entry base x p m at) possible)
-IsSafeHappening-event rom cert n entry base x (event.Irq i) is_node p m at other possible = absurd other
-IsSafeHappening-event rom cert n entry base x (event.Wait cycles) is_node p m at other possible = IsSafeHappening-wait rom cert n entry base x cycles is_node m at
-
 -- one event but a dispatch, from a state of a node that no reason applies to
-pub IsSafeNode-right : (rom : List ℕ) (cert : Certificate) (n : Node) → Contains cert.nodes n → reason_of rom cert n ≡ None → IsSafeNode rom cert n
-IsSafeNode-right rom cert n is_node right entry base x e other at m =
-    let p = Passes-from rom cert n right in
-    IsSafeEvent-where rom cert entry base x e (is_possible (within rom x) e) refl (record { node = n; is_node = is_node; at = at; means = m })
-    (λ possible. IsSafeHappening-event rom cert n entry base x e is_node p m at other possible)
+pub IsSafeNode-right : (rom : List ℕ) (cert : Certificate) (n : Node) → IsRom rom → IsCertificate cert → Contains cert.nodes n → reason_of rom cert n ≡ None → IsSafeNode rom cert n
+IsSafeNode-right rom cert n cartridge certificate is_node right entry base x e other at =
+    let k : OnNode rom cert n entry base x = record {
+      cartridge = cartridge;
+      is_node = is_node;
+      state = IsNodeState-node cert n certificate is_node;
+      passes = Passes-from rom cert n right;
+      address = at.address;
+      means = at.means;
+      main = at.main;
+      room = at.room;
+    } in
+    IsSafeEvent-where rom cert n.procedure entry base x e (is_possible (within rom x) e) refl (record { node = n; is_node = is_node; procedure_is = refl; at = at })
+    (λ possible. event_safe rom cert n entry base x e k at.mark other possible)
 
 -- the node with a number is safe where no reason is against it
-pub IsSafeNode-at : (rom : List ℕ) (cert : Certificate) (i : ℕ) (n : Node) → slice_get cert.nodes i ≡ Some n → reason_at rom cert i ≡ None → IsSafeNode rom cert n
-IsSafeNode-at rom cert i n is right =
-    IsSafeNode-right rom cert n (Contains-slice_get cert.nodes i n is) (ap (option_and_then (reason_of rom cert)) (sym is) ∙ right)
+pub IsSafeNode-at : (rom : List ℕ) (cert : Certificate) (i : ℕ) (n : Node) → IsRom rom → IsCertificate cert → slice_get cert.nodes i ≡ Some n → reason_at rom cert i ≡ None → IsSafeNode rom cert n
+IsSafeNode-at rom cert i n cartridge certificate is right =
+    IsSafeNode-right rom cert n cartridge certificate (Contains-slice_get cert.nodes i n is) (ap (option_and_then (reason_of rom cert)) (sym is) ∙ right)

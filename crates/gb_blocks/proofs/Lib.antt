@@ -1,7 +1,6 @@
-pub mod AnswerLaws
-pub mod BankLaws
-pub mod EventLaws
-pub mod FetchLaws
 pub mod SearchLaws
-pub mod ReasonLaws
-pub mod StepLaws
+pub mod CoveredLaws
+pub mod NodeLaws
+pub mod StandLaws
+pub mod EventLaws
+pub mod AnswerLaws

@@ -9,7 +9,7 @@ use Rattle.gb_rows.specs.Rows.{IsFound}
 use Rattle.gb_cert.specs.Types.{AbsState, Node}
 use Rattle.gb_cert.specs.Rules.{key}
 use Rattle.gb_abs.specs.Covering.{covers}
-use Rattle.gb_blocks.specs.Rules.{is_cover, covered_at}
+use Rattle.gb_blocks.specs.Covered.{is_cover, is_covered_by_one}
 
 -- one that passes
 found_at : {X : Type 0} (test : X → Bool) (xs : List X) (i : ℕ) (x : X) → slice_get xs i ≡ Some x → test x ≡ true → list_any test xs ≡ true
@@ -65,15 +65,15 @@ none_yet nodes procedure a s i n at apart before = λ j m lt there.
 
 -- behind the nodes with the key none covers
 pub none_covers : (nodes : List Node) (procedure a : ℕ) (s : AbsState) (first after i : ℕ) → IsFound (map key nodes) (procedure, a) first after → after ≤ i
-    → NoneBefore (is_cover procedure a s) nodes i → false ≡ covered_at nodes procedure a s
-unfolding covered_at
+    → NoneBefore (is_cover procedure a s) nodes i → false ≡ is_covered_by_one nodes procedure a s
+unfolding is_covered_by_one
 none_covers nodes procedure a s first after i found le before = sym (none_at (is_cover procedure a s) nodes (λ j n at.
     from_true (is_cover procedure a s n) (λ h. let p = found.all j (keyed nodes j n (procedure, a) at (has_key procedure a s n h)) in let most : j < after = p.1 in let no : is_cover procedure a s n ≡ false = before j n (omega arith) at in cc)))
 
 -- a node among those with the key covers
 pub one_covers : (nodes : List Node) (procedure a : ℕ) (s : AbsState) (first after i : ℕ) (n : Node) → IsFound (map key nodes) (procedure, a) first after → first ≤ i → i < after
-    → slice_get nodes i ≡ Some n → covers s n.state ≡ true → true ≡ covered_at nodes procedure a s
-unfolding covered_at
+    → slice_get nodes i ≡ Some n → covers s n.state ≡ true → true ≡ is_covered_by_one nodes procedure a s
+unfolding is_covered_by_one
 one_covers nodes procedure a s first after i n found least most at h =
     let e = found.each i least most in
     let f = keyed nodes i n (key n) at refl in

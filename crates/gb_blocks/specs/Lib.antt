@@ -1,4 +1,3 @@
-pub mod Code
-pub mod Places
+pub mod Covered
 pub mod Rules
 pub mod Safety

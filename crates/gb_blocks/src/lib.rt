@@ -1,12 +1,11 @@
 //! The rules of a certificate's single nodes. `check_node` answers the lowest reason against a node
 //! (`exact`); where there is none, each event but an interrupt's dispatch, from each state that the
-//! node stands for, has no fault, fetches certified places and leaves a state that some node stands
-//! for (`safe`).
+//! node stands for, has no fault, fetches certified places, leaves a state that some node of the
+//! procedure stands for, and changes nothing that the procedure keeps (`safe`).
 //!
-//! Read `code` (what is known of the instruction's bytes), `covered` (the search for a node that
-//! covers), and then `rules`. Of the definitions, `Code`, `Rules`, `Places` and `Safety`.
+//! Read `covered` (the nodes that stand for a successor's states), and then `rules`. Of the
+//! definitions, `Covered`, `Rules` and `Safety`.
 #![tactic(auto)]
 
-pub mod code;
 pub mod covered;
 pub mod rules;

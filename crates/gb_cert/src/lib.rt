@@ -4,23 +4,24 @@
 //! (`specs/Rules.antt`, `specs/Spelling.antt`), with the first fault else (`specs/Reading.antt`).
 //!
 //! To be read in this order: types, abs (values and states), fields and states (reading them),
-//! walk (passing over them), head, parse, then cert with node and procedure, and find.
+//! walk (passing over them), head, parse, then cert with node and procedure, and find. Fields, states,
+//! walk, head and role are public for `gb_cert_place`, which reads a faulty file again, part by part.
 #![tactic(auto)]
 
 mod abs;
 mod cert;
 mod fault;
-mod fields;
+pub mod fields;
 mod find;
-mod head;
+pub mod head;
 pub mod limits;
 mod node;
 mod parse;
 mod procedure;
-mod role;
-mod states;
+pub mod role;
+pub mod states;
 pub mod types;
-mod walk;
+pub mod walk;
 
 pub use cert::encode;
 pub use fault::CertFault;

@@ -169,7 +169,11 @@ pub fn skip_procedure(
 /// The procedure's number, of so many, and the address of a node, behind those of the node before.
 #[inline(always)]
 #[tactic(auto, unfolding(crate::specs::Reading::key_at))]
-fn key_at(procedures: u8, before: (u8, u16), bytes: &[u8]) -> Result<((u8, u16), &[u8]), CertFault>
+pub fn key_at(
+    procedures: u8,
+    before: (u8, u16),
+    bytes: &[u8],
+) -> Result<((u8, u16), &[u8]), CertFault>
     ensures { Gives (λ x. (x.0, x.1.now)) result (key_at procedures before bytes.now) }
 {
     let (procedure, rest) = byte(bytes)?;

@@ -1,4 +1,4 @@
-//! Whole programs on the console, by steps and frames.
+//! Whole programs on the console, by steps and frames. An example is a list of steps, which one function plays.
 
 use bitflags::Flags;
 use gb_console::{Console, Ending};
@@ -7,40 +7,44 @@ use gb_ops::machine::Event;
 use gb_samples::cartridges::{PLAIN, put, small};
 use gb_samples::programs::{LOCKS_AT_A, WAITS};
 use gb_timer::irqs::Keys;
+use std::alloc::Global;
+use std::process::Abort;
 use std::test::Fail;
 
-/// HALT behind EI stays, and RETI leads back to it: the word that the dispatch pushed is its own address.
-#[test]
-fn halt_behind_ei_stays_and_is_left_by_the_interrupt(rt: HostRuntime) -> Result<(), Fail> {
-    let mut bytes = small(PLAIN, WAITS);
-    put(&mut bytes, 0x40, &[0xD9]);
-    let rom = Rom::parse(&bytes)?;
-    let mut console = Console::new(rt.alloc(), &rom)?;
-    assert_eq!(rt; console.pc(), 0x0100);
-    for _ in 0..6 {
-        console.step(Keys::empty(), 0);
-    }
-    assert_eq!(rt; console.pc(), 0x0158);
-    assert_eq!(rt; console.step(Keys::empty(), 0), Event::HaltStay);
-    assert_eq!(rt; console.step(Keys::empty(), 0), Event::Irq(0));
-    assert_eq!(rt; console.pc(), 0x0040);
-    console.step(Keys::empty(), 0);
-    assert_eq!(rt; console.pc(), 0x0158);
-    Ok(())
+/// What is done with a console, with what comes of it, or what it shows.
+#[derive(Clone, Copy)]
+enum Step {
+    /// A frame with a key or none, and how it ends.
+    Frame(Option<Keys>, Ending),
+    /// A frame with no key, after a second.
+    SecondFrame(Ending),
+    /// So many steps with no key.
+    Run(u8),
+    /// A step with no key, and its event.
+    Event(Event),
+    /// A step with no key, after a second.
+    SecondEvent(Event),
+    /// So many steps with a key or none, in which the joypad's interrupt is dispatched so often.
+    Dispatches(Option<Keys>, u16, u16),
+    Pc(u16),
+    /// PC stands from one address to another.
+    PcIn(u16, u16),
+    /// The shade of a line's pixel.
+    Shade(usize, usize, u8),
+    Dark,
 }
 
-#[test]
-fn a_key_leads_to_an_undefined_opcode(rt: HostRuntime) -> Result<(), Fail> {
-    let bytes = small(PLAIN, LOCKS_AT_A);
-    let rom = Rom::parse(&bytes)?;
-    let mut console = Console::new(rt.alloc(), &rom)?;
-    assert_eq!(rt; console.frame(Keys::empty(), 0), Ending::Whole);
-    assert_eq!(rt; console.frame(Keys::empty(), 0), Ending::Whole);
-    assert_eq!(rt; console.frame(Keys::A, 0), Ending::Locked);
-    assert_eq!(rt; console.pc(), 0x015A);
-    assert_eq!(rt; console.step(Keys::empty(), 1), Event::Wait(0));
-    assert_eq!(rt; console.frame(Keys::empty(), 1), Ending::Locked);
-    Ok(())
+fn held(key: Option<Keys>) -> Keys {
+    match key {
+        Some(keys) => keys,
+        None => Keys::empty(),
+    }
+}
+
+fn run(console: &mut Console<'_>, steps: u8) {
+    for _ in 0..steps {
+        console.step(Keys::empty(), 0);
+    }
 }
 
 /// How often the joypad's interrupt is dispatched in so many steps.
@@ -54,78 +58,166 @@ fn dispatches(console: &mut Console<'_>, keys: Keys, steps: u16) -> u16 {
     count
 }
 
-/// LD SP,E000; LD A,10; LDH (FF),A; LDH (00),A; EI; JR to itself. The interrupt's dispatch takes the request back, and a
-/// key that is held makes no other.
+fn is_shade(console: &Console<'_>, line: usize, column: usize, shade: u8) -> bool {
+    line < 144 && column < 160 && console.screen()[line][column] == shade
+}
+
+fn is_dark(console: &Console<'_>) -> bool {
+    for line in console.screen() {
+        if *line != [0; 160] {
+            return false;
+        }
+    }
+    true
+}
+
+/// Does a step, and answers whether the console does what it says.
+fn agrees(console: &mut Console<'_>, step: Step) -> bool {
+    match step {
+        Step::Frame(key, ending) => console.frame(held(key), 0) == ending,
+        Step::SecondFrame(ending) => console.frame(Keys::empty(), 1) == ending,
+        Step::Run(steps) => {
+            run(console, steps);
+            true
+        }
+        Step::Event(event) => console.step(Keys::empty(), 0) == event,
+        Step::SecondEvent(event) => console.step(Keys::empty(), 1) == event,
+        Step::Dispatches(key, steps, count) => dispatches(console, held(key), steps) == count,
+        Step::Pc(pc) => console.pc() == pc,
+        Step::PcIn(first, last) => first <= console.pc() && console.pc() <= last,
+        Step::Shade(line, column, shade) => is_shade(console, line, column, shade),
+        Step::Dark => is_dark(console),
+    }
+}
+
+fn play(rt: &impl Abort, console: &mut Console<'_>, steps: &[Step]) {
+    for (i, step) in steps.iter().enumerate() {
+        assert!(rt; agrees(console, *step), "step {i}");
+    }
+}
+
+/// Plays steps on a console at power-up, with a cartridge of this program and RETI at an address.
+fn play_program(
+    rt: &impl Abort,
+    alloc: Global,
+    program: &[u8],
+    handler: usize,
+    steps: &[Step],
+) -> Result<(), Fail> {
+    let mut bytes = small(PLAIN, program);
+    put(&mut bytes, handler, &[0xD9]);
+    let rom = Rom::parse(&bytes)?;
+    let mut console = Console::new(alloc, &rom)?;
+    play(rt, &mut console, steps);
+    Ok(())
+}
+
+const VBLANK: usize = 0x40;
+
+const JOYPAD: usize = 0x60;
+
+const STAYS: &[Step] = &[
+    Step::Pc(0x0100),
+    Step::Run(6),
+    Step::Pc(0x0158),
+    Step::Event(Event::HaltStay),
+    Step::Event(Event::Irq(0)),
+    Step::Pc(0x0040),
+    Step::Run(1),
+    Step::Pc(0x0158),
+];
+
+/// HALT behind EI stays, and RETI leads back to it: the word that the dispatch pushed is its own address.
+#[test]
+fn halt_behind_ei_stays_and_is_left_by_the_interrupt(rt: HostRuntime) -> Result<(), Fail> {
+    play_program(&rt, rt.alloc(), WAITS, VBLANK, STAYS)
+}
+
+const LOCKS: &[Step] = &[
+    Step::Frame(None, Ending::Whole),
+    Step::Frame(None, Ending::Whole),
+    Step::Frame(Some(Keys::A), Ending::Locked),
+    Step::Pc(0x015A),
+    Step::SecondEvent(Event::Wait(0)),
+    Step::SecondFrame(Ending::Locked),
+];
+
+#[test]
+fn a_key_leads_to_an_undefined_opcode(rt: HostRuntime) -> Result<(), Fail> {
+    play_program(&rt, rt.alloc(), LOCKS_AT_A, VBLANK, LOCKS)
+}
+
+/// LD SP,E000; LD A,10; LDH (FF),A; LDH (00),A; EI; JR to itself.
+const ENABLES_KEYS: &[u8] = &[
+    0x31, 0x00, 0xE0, 0x3E, 0x10, 0xE0, 0xFF, 0xE0, 0x00, 0xFB, 0x18, 0xFE,
+];
+
+const HELD: &[Step] = &[
+    Step::Dispatches(None, 2_000, 0),
+    Step::Dispatches(Some(Keys::A), 2_000, 1),
+    Step::Dispatches(Some(Keys::A), 2_000, 0),
+    Step::Dispatches(None, 2_000, 0),
+    Step::Dispatches(Some(Keys::A), 2_000, 1),
+];
+
+/// The interrupt's dispatch takes the request back, and a key that is held makes no other.
 #[test]
 fn a_held_key_interrupts_once(rt: HostRuntime) -> Result<(), Fail> {
-    let program = [
-        0x31, 0x00, 0xE0, 0x3E, 0x10, 0xE0, 0xFF, 0xE0, 0x00, 0xFB, 0x18, 0xFE,
-    ];
-    let mut bytes = small(PLAIN, &program);
-    put(&mut bytes, 0x60, &[0xD9]);
-    let rom = Rom::parse(&bytes)?;
-    let mut console = Console::new(rt.alloc(), &rom)?;
-    for (keys, count) in [
-        (Keys::empty(), 0),
-        (Keys::A, 1),
-        (Keys::A, 0),
-        (Keys::empty(), 0),
-        (Keys::A, 1),
-    ] {
-        assert_eq!(rt; dispatches(&mut console, keys, 2_000), count);
-    }
-    Ok(())
+    play_program(&rt, rt.alloc(), ENABLES_KEYS, JOYPAD, HELD)
 }
 
 /// LD A,10; LDH (00),A; then bit 4 of IF is asked for and taken back, and from then on a request leads to an undefined
 /// opcode at 0164.
+const ASKS_FOR_KEYS: &[u8] = &[
+    0x3E, 0x10, 0xE0, 0x00, 0xF0, 0x0F, 0xE6, 0x10, 0x28, 0xFA, 0xAF, 0xE0, 0x0F, 0xF0, 0x0F, 0xE6,
+    0x10, 0x28, 0xFA, 0x00, 0xD3,
+];
+
+const ASKED: &[Step] = &[
+    Step::Frame(None, Ending::Whole),
+    Step::PcIn(0x0000, 0x0159),
+    Step::Frame(Some(Keys::A), Ending::Whole),
+    Step::PcIn(0x015D, 0xFFFF),
+    Step::Frame(Some(Keys::A), Ending::Whole),
+    Step::PcIn(0x015D, 0xFFFF),
+    Step::Frame(Some(Keys::A), Ending::Whole),
+    Step::PcIn(0x015D, 0xFFFF),
+    Step::Frame(None, Ending::Whole),
+    Step::Frame(Some(Keys::A), Ending::Locked),
+    Step::Pc(0x0164),
+];
+
 #[test]
 fn a_held_key_leaves_if_clear(rt: HostRuntime) -> Result<(), Fail> {
-    let program = [
-        0x3E, 0x10, 0xE0, 0x00, 0xF0, 0x0F, 0xE6, 0x10, 0x28, 0xFA, 0xAF, 0xE0, 0x0F, 0xF0, 0x0F,
-        0xE6, 0x10, 0x28, 0xFA, 0x00, 0xD3,
-    ];
-    let bytes = small(PLAIN, &program);
-    let rom = Rom::parse(&bytes)?;
-    let mut console = Console::new(rt.alloc(), &rom)?;
-    assert_eq!(rt; console.frame(Keys::empty(), 0), Ending::Whole);
-    assert!(rt; console.pc() < 0x015A);
-    for _ in 0..3 {
-        assert_eq!(rt; console.frame(Keys::A, 0), Ending::Whole);
-        assert!(rt; console.pc() >= 0x015D);
-    }
-    assert_eq!(rt; console.frame(Keys::empty(), 0), Ending::Whole);
-    assert_eq!(rt; console.frame(Keys::A, 0), Ending::Locked);
-    assert_eq!(rt; console.pc(), 0x0164);
-    Ok(())
+    play_program(&rt, rt.alloc(), ASKS_FOR_KEYS, JOYPAD, ASKED)
 }
+
+const STOPS: &[Step] = &[Step::Frame(None, Ending::Stopped), Step::Pc(0x0150)];
 
 #[test]
 fn stop_ends_the_run(rt: HostRuntime) -> Result<(), Fail> {
-    let bytes = small(PLAIN, &[0x10, 0x00]);
-    let rom = Rom::parse(&bytes)?;
-    let mut console = Console::new(rt.alloc(), &rom)?;
-    assert_eq!(rt; console.frame(Keys::empty(), 0), Ending::Stopped);
-    assert_eq!(rt; console.pc(), 0x0150);
-    Ok(())
+    play_program(&rt, rt.alloc(), &[0x10, 0x00], VBLANK, STOPS)
 }
 
 /// BGP becomes FF, so that each colour of the background is black; then HALT with nothing enabled.
+const BLACKENS: &[u8] = &[0x3E, 0xFF, 0xE0, 0x47, 0x76, 0x00];
+
+const DRAWN: &[Step] = &[
+    Step::Shade(143, 159, 0),
+    Step::Run(5),
+    Step::Event(Event::Wait(1)),
+    Step::Frame(None, Ending::Whole),
+    Step::Shade(0, 0, 3),
+    Step::Shade(143, 159, 3),
+];
+
 #[test]
 fn a_frame_draws_the_screen(rt: HostRuntime) -> Result<(), Fail> {
-    let bytes = small(PLAIN, &[0x3E, 0xFF, 0xE0, 0x47, 0x76, 0x00]);
-    let rom = Rom::parse(&bytes)?;
-    let mut console = Console::new(rt.alloc(), &rom)?;
-    assert_eq!(rt; console.screen()[143][159], 0);
-    for _ in 0..5 {
-        console.step(Keys::empty(), 0);
-    }
-    assert_eq!(rt; console.step(Keys::empty(), 0), Event::Wait(1));
-    assert_eq!(rt; console.frame(Keys::empty(), 0), Ending::Whole);
-    assert_eq!(rt; console.screen()[0][0], 3);
-    assert_eq!(rt; console.screen()[143][159], 3);
-    Ok(())
+    play_program(&rt, rt.alloc(), BLACKENS, VBLANK, DRAWN)
 }
+
+/// NOP, and then the jump.
+const POWER_UP: &[Step] = &[Step::Pc(0x0100), Step::Dark, Step::Run(2), Step::Pc(0x0150)];
 
 /// With ample memory the console at power-up; where an allocation is refused, nothing else.
 #[test]
@@ -133,14 +225,7 @@ fn powers_up_or_wants_memory(rt: HostRuntime) -> Result<(), Fail> {
     let bytes = small(PLAIN, &[]);
     let rom = Rom::parse(&bytes)?;
     if let Ok(mut console) = Console::new(rt.alloc(), &rom) {
-        assert_eq!(rt; console.pc(), 0x0100);
-        for line in console.screen() {
-            assert!(rt; line.iter().all(|shade| *shade == 0));
-        }
-        // NOP, and then the jump.
-        console.step(Keys::empty(), 0);
-        console.step(Keys::empty(), 0);
-        assert_eq!(rt; console.pc(), 0x0150);
+        play(&rt, &mut console, POWER_UP);
     }
     Ok(())
 }

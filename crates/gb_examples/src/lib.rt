@@ -2,9 +2,11 @@
 //! what no contract says (text, want of memory, failing sinks), and each public call once. The functions here promise
 //! nothing but to be safe.
 //!
-//! Read processors.rt and consoles.rt first, then scripts.rt, texts.rt and words.rt.
+//! Read processors.rt and consoles.rt first, then scripts.rt, texts.rt, certificates.rt and words.rt.
 #![tactic(auto)]
 
+#[cfg(test)]
+mod certificates;
 #[cfg(test)]
 mod consoles;
 #[cfg(test)]

@@ -58,36 +58,37 @@ fn ending_of(line: &[u8]) -> Ending {
 /// A program, a script, frames, and the last line of the text; the screen stays light.
 type Case<'a> = (&'a [u8], &'a [u8], u32, &'a [u8]);
 
+const CASES: [Case<'static>; 12] = [
+    (LOOP, &[], 1, b"WHOLE frames 1\n"),
+    (LOOP, &[], 0, b"WHOLE frames 0\n"),
+    (&[0xD3, 0xFE], &[], 1, b"LOCKED frame 0 pc 0150\n"),
+    (&[0x10, 0x00], &[], 1, b"STOPPED frame 0 pc 0150\n"),
+    (&[0x10, 0x00], &[], 0, b"WHOLE frames 0\n"),
+    (WAITS, &[], 3, b"WHOLE frames 3\n"),
+    // Byte k of a script holds the keys of frame k, the key A in bit 0.
+    (LOCKS_AT_A, &[0, 0, 1], 5, b"LOCKED frame 2 pc 015A\n"),
+    (LOCKS_AT_A, &[0, 0, 1], 2, b"WHOLE frames 2\n"),
+    (LOCKS_AT_A, &[0, 0, 1, 0], 3, b"LOCKED frame 2 pc 015A\n"),
+    (LOCKS_AT_A, &[0, 0], 4, b"WHOLE frames 4\n"),
+    (
+        LOCKS_AT_A,
+        &[0xFE, 0x80, 0xFF],
+        4,
+        b"LOCKED frame 2 pc 015A\n",
+    ),
+    (LOCKS_AT_A, &[0xFE, 0x80, 0x7E], 4, b"WHOLE frames 4\n"),
+];
+
 #[test]
 fn runs_end_with_their_line(rt: HostRuntime) -> Result<(), Fail> {
-    let cases: [Case<'_>; 12] = [
-        (LOOP, &[], 1, b"WHOLE frames 1\n"),
-        (LOOP, &[], 0, b"WHOLE frames 0\n"),
-        (&[0xD3, 0xFE], &[], 1, b"LOCKED frame 0 pc 0150\n"),
-        (&[0x10, 0x00], &[], 1, b"STOPPED frame 0 pc 0150\n"),
-        (&[0x10, 0x00], &[], 0, b"WHOLE frames 0\n"),
-        (WAITS, &[], 3, b"WHOLE frames 3\n"),
-        // Byte k of a script holds the keys of frame k, the key A in bit 0.
-        (LOCKS_AT_A, &[0, 0, 1], 5, b"LOCKED frame 2 pc 015A\n"),
-        (LOCKS_AT_A, &[0, 0, 1], 2, b"WHOLE frames 2\n"),
-        (LOCKS_AT_A, &[0, 0, 1, 0], 3, b"LOCKED frame 2 pc 015A\n"),
-        (LOCKS_AT_A, &[0, 0], 4, b"WHOLE frames 4\n"),
-        (
-            LOCKS_AT_A,
-            &[0xFE, 0x80, 0xFF],
-            4,
-            b"LOCKED frame 2 pc 015A\n",
-        ),
-        (LOCKS_AT_A, &[0xFE, 0x80, 0x7E], 4, b"WHOLE frames 4\n"),
-    ];
-    for (program, script, frames, line) in cases {
+    for (program, script, frames, line) in CASES {
         let mut bytes = small(PLAIN, program);
         put(&mut bytes, 0x40, &[0xD9]);
         let mut out = room();
         let ended = run(rt.alloc(), &bytes, script, frames, &mut out)?;
-        assert_eq!(rt; ended, Ok(ending_of(line)));
+        assert!(rt; ended == Ok(ending_of(line)));
         let expected = text(rt.alloc(), 0, b"", line)?;
-        assert_eq!(rt; out.kept(), expected.as_slice());
+        assert!(rt; out.kept() == expected.as_slice());
     }
     Ok(())
 }
@@ -98,9 +99,9 @@ fn a_second_passes_with_each_sixtieth_frame(rt: HostRuntime) -> Result<(), Fail>
     let bytes = small([0x0F, 0x00, 0x00], WAITS_A_SECOND);
     let mut out = room();
     let ended = run(rt.alloc(), &bytes, &[], 200, &mut out)?;
-    assert_eq!(rt; ended, Ok(Ending::Locked));
+    assert!(rt; ended == Ok(Ending::Locked));
     let expected = text(rt.alloc(), 0, b"", b"LOCKED frame 59 pc 0168\n")?;
-    assert_eq!(rt; out.kept(), expected.as_slice());
+    assert!(rt; out.kept() == expected.as_slice());
     Ok(())
 }
 
@@ -112,10 +113,10 @@ fn a_screen_is_drawn(rt: HostRuntime) -> Result<(), Fail> {
     put(&mut bytes, 0x230, &OBJECTS);
     let mut out = room();
     let ended = run(rt.alloc(), &bytes, &[], 2, &mut out)?;
-    assert_eq!(rt; ended, Ok(Ending::Whole));
+    assert!(rt; ended == Ok(Ending::Whole));
     let line = b"ffff0000aaaaffffffffffffffffffffffffffff0000000000000000000000000000000000000000";
     let expected = text(rt.alloc(), 8, line, b"WHOLE frames 2\n")?;
-    assert_eq!(rt; out.kept(), expected.as_slice());
+    assert!(rt; out.kept() == expected.as_slice());
     Ok(())
 }
 
@@ -128,15 +129,15 @@ fn a_sink_that_fails_has_a_beginning(rt: HostRuntime) -> Result<(), Fail> {
         assert!(rt; most < whole.len());
         let mut out = KeptBytes::new(7, most);
         let ended = run(rt.alloc(), &bytes, &[], 1, &mut out)?;
-        assert_eq!(rt; ended, Err(OutFault));
-        assert_eq!(rt; out.kept(), &whole[..most]);
+        assert!(rt; ended == Err(OutFault));
+        assert!(rt; out.kept() == &whole[..most]);
     }
     let mut out = KeptBytes::new(7, 11_687);
     assert_eq!(rt;
         run(rt.alloc(), &bytes, &[], 1, &mut out)?,
         Ok(Ending::Locked)
     );
-    assert_eq!(rt; out.kept(), whole.as_slice());
+    assert!(rt; out.kept() == whole.as_slice());
     Ok(())
 }
 
@@ -177,36 +178,38 @@ fn progress_is_heard_of_each_frame(rt: HostRuntime) -> Result<(), Fail> {
     let mut out = room();
     let mut counter = at_rest();
     let ended = run_script_shown(&mut console, &[0, 0, 1], 4, &mut out, &mut counter);
-    assert_eq!(rt; ended, Ok(Ending::Locked));
-    assert_eq!(rt; counter.heard, 3);
+    assert!(rt; ended == Ok(Ending::Locked));
+    assert!(rt; counter.heard == 3);
     assert!(rt; counter.is_done);
     Ok(())
 }
 
+/// A checksum, a program, and what becomes of the file.
+const FILES: [(u8, &[u8], RunOutcome); 3] = [
+    (0xE7, LOOP, RunOutcome::Ended(Ending::Whole)),
+    (0xE7, &[0x10], RunOutcome::Ended(Ending::Stopped)),
+    (0xE6, LOOP, RunOutcome::NoCartridge(HeaderFault::Checksum)),
+];
+
 #[test]
 fn a_file_is_run_or_its_fault_is_written(rt: HostRuntime) -> Result<(), Fail> {
-    let cases: [(u8, &[u8], RunOutcome); 3] = [
-        (0xE7, LOOP, RunOutcome::Ended(Ending::Whole)),
-        (0xE7, &[0x10], RunOutcome::Ended(Ending::Stopped)),
-        (0xE6, LOOP, RunOutcome::NoCartridge(HeaderFault::Checksum)),
-    ];
-    for (checksum, program, outcome) in cases {
+    for (checksum, program, outcome) in FILES {
         let mut bytes = small(PLAIN, program);
         put(&mut bytes, 0x14D, &[checksum]);
         let mut out = room();
         let became = run_bytes(rt.alloc(), &bytes, &[], 3, &mut out, &mut at_rest());
-        assert_eq!(rt; became, Ok(outcome));
+        assert!(rt; became == Ok(outcome));
         let expected = match outcome {
             RunOutcome::Ended(Ending::Whole) => text(rt.alloc(), 0, b"", b"WHOLE frames 3\n")?,
             RunOutcome::Ended(_) => text(rt.alloc(), 0, b"", b"STOPPED frame 0 pc 0150\n")?,
             _ => Vec::from_slice(rt.alloc(), b"CARTRIDGE H7\n")?,
         };
-        assert_eq!(rt; out.kept(), expected.as_slice());
+        assert!(rt; out.kept() == expected.as_slice());
         let mut out = KeptBytes::new(4_000, 10);
         let became = run_bytes(rt.alloc(), &bytes, &[], 3, &mut out, &mut at_rest());
-        assert_eq!(rt; became, Err(OutFault));
+        assert!(rt; became == Err(OutFault));
         assert!(rt; 10 < expected.len());
-        assert_eq!(rt; out.kept(), &expected[..10]);
+        assert!(rt; out.kept() == &expected[..10]);
     }
     Ok(())
 }
@@ -220,11 +223,11 @@ fn a_file_is_run_or_wants_memory(rt: HostRuntime) {
     match run_bytes(rt.alloc(), &bytes, &[], 4, &mut out, &mut counter) {
         Ok(RunOutcome::NoMemory) => {
             assert!(rt; out.kept().is_empty());
-            assert_eq!(rt; (counter.heard, counter.is_done), (0, false));
+            assert!(rt; counter.heard == 0 && !counter.is_done);
         }
         became => {
-            assert_eq!(rt; became, Ok(RunOutcome::Ended(Ending::Whole)));
-            assert_eq!(rt; (counter.heard, counter.is_done), (4, true));
+            assert!(rt; became == Ok(RunOutcome::Ended(Ending::Whole)));
+            assert!(rt; counter.heard == 4 && counter.is_done);
         }
     }
 }

@@ -15,7 +15,7 @@ fn a_plain_sink_hands_on_what_its_writer_takes(rt: HostRuntime) {
     let mut out = Plain::new(Vec::new(rt.alloc()));
     match out.put(b"GB") {
         Ok(taken) => {
-            assert_eq!(rt; taken, 2);
+            assert!(rt; taken == 2);
             assert!(rt; !out.failed());
         }
         // The vector found no room.
@@ -27,82 +27,87 @@ fn a_plain_sink_hands_on_what_its_writer_takes(rt: HostRuntime) {
 #[test]
 fn a_plain_sink_fails_with_its_writer(rt: HostRuntime) {
     let mut out = Plain::new(FailingWriter::new(5));
-    assert_eq!(rt; put_all(&mut out, b"ACCEPTED"), Err(OutFault));
+    assert!(rt; put_all(&mut out, b"ACCEPTED") == Err(OutFault));
     assert!(rt; out.failed());
     let mut out = Plain::new(FailingWriter::new(8));
-    assert_eq!(rt; put_all(&mut out, b"ACCEPTED"), Ok(()));
+    assert!(rt; put_all(&mut out, b"ACCEPTED") == Ok(()));
     assert!(rt; !out.failed());
 }
 
+/// A file's length and sizes, and the line on its header.
+const LINES: [(usize, Sizes, &[u8]); 3] = [
+    (
+        0x8000,
+        PLAIN,
+        b"type 00 ROM rom 2 ram 0 clock no checksum E7\n",
+    ),
+    (
+        0x800000,
+        [0x19, 0x08, 0x00],
+        b"type 19 MBC5 rom 512 ram 0 clock no checksum C6\n",
+    ),
+    (
+        0x8000,
+        [0x10, 0x00, 0x03],
+        b"type 10 MBC3 rom 2 ram 4 clock yes checksum D4\n",
+    ),
+];
+
 #[test]
 fn header_lines(rt: HostRuntime) -> Result<(), Fail> {
-    let cases: [(usize, Sizes, &[u8]); 3] = [
-        (
-            0x8000,
-            PLAIN,
-            b"type 00 ROM rom 2 ram 0 clock no checksum E7\n",
-        ),
-        (
-            0x800000,
-            [0x19, 0x08, 0x00],
-            b"type 19 MBC5 rom 512 ram 0 clock no checksum C6\n",
-        ),
-        (
-            0x8000,
-            [0x10, 0x00, 0x03],
-            b"type 10 MBC3 rom 2 ram 4 clock yes checksum D4\n",
-        ),
-    ];
-    for (length, sizes, line) in cases {
+    for (length, sizes, line) in LINES {
         assert!(rt; length >= 0x150);
         let bytes = file(rt.alloc(), length, sizes, &[])?;
         let rom = Rom::parse(bytes.as_slice())?;
         let mut out = KeptBytes::new(96, 96);
-        assert_eq!(rt; header_line(&rom, &mut out), Ok(()));
-        assert_eq!(rt; out.kept(), line);
+        assert!(rt; header_line(&rom, &mut out) == Ok(()));
+        assert!(rt; out.kept() == line);
     }
     Ok(())
 }
 
+const HEADER: &[u8] = b"type 00 ROM rom 2 ram 0 clock no checksum E7\n";
+
+/// A file's size, type and checksum, its fault, and what is written.
+const FAULTS: [(usize, u8, u8, Option<HeaderFault>, &[u8]); 4] = [
+    (0x8000, 0x00, 0xE7, None, HEADER),
+    (
+        0x8000,
+        0x00,
+        0xE6,
+        Some(HeaderFault::Checksum),
+        b"CARTRIDGE H7\n",
+    ),
+    (
+        0x8000,
+        0x05,
+        0xE6,
+        Some(HeaderFault::Type),
+        b"CARTRIDGE H2\n",
+    ),
+    (
+        0x7FFF,
+        0x05,
+        0xE6,
+        Some(HeaderFault::TooShort),
+        b"CARTRIDGE H1\n",
+    ),
+];
+
 #[test]
 fn a_file_gives_its_header_or_its_fault(rt: HostRuntime) {
-    let header = b"type 00 ROM rom 2 ram 0 clock no checksum E7\n".as_slice();
-    let cases: [(usize, u8, u8, Option<HeaderFault>, &[u8]); 4] = [
-        (0x8000, 0x00, 0xE7, None, header),
-        (
-            0x8000,
-            0x00,
-            0xE6,
-            Some(HeaderFault::Checksum),
-            b"CARTRIDGE H7\n",
-        ),
-        (
-            0x8000,
-            0x05,
-            0xE6,
-            Some(HeaderFault::Type),
-            b"CARTRIDGE H2\n",
-        ),
-        (
-            0x7FFF,
-            0x05,
-            0xE6,
-            Some(HeaderFault::TooShort),
-            b"CARTRIDGE H1\n",
-        ),
-    ];
-    for (size, kind, checksum, fault, line) in cases {
+    for (size, kind, checksum, fault, line) in FAULTS {
         let mut bytes = small(PLAIN, LOOP);
         put(&mut bytes, 0x147, &[kind]);
         put(&mut bytes, 0x14D, &[checksum]);
         let file = bytes.get(..size).unwrap_or(&[]);
         let mut out = KeptBytes::new(96, 96);
-        assert_eq!(rt; header_bytes(file, &mut out), Ok(fault));
-        assert_eq!(rt; out.kept(), line);
+        assert!(rt; header_bytes(file, &mut out) == Ok(fault));
+        assert!(rt; out.kept() == line);
         for most in 0..line.len() {
             let mut out = KeptBytes::new(5, most);
-            assert_eq!(rt; header_bytes(file, &mut out), Err(OutFault));
-            assert_eq!(rt; out.kept(), &line[..most]);
+            assert!(rt; header_bytes(file, &mut out) == Err(OutFault));
+            assert!(rt; out.kept() == &line[..most]);
         }
     }
 }

@@ -9,76 +9,127 @@ const VERIFY: Task<'static> = Task::Verify {
     cert: "B",
 };
 
-/// A run of the cartridge A with the script B.
-fn run(frames: u32) -> Task<'static> {
-    Task::Run {
-        rom: "A",
-        script: "B",
-        frames,
-    }
-}
+const DASHES: Task<'static> = Task::Verify {
+    rom: "-a",
+    cert: "--",
+};
+
+/// Words, and the task that they stand for.
+const TASKS: [(&[&str], Task<'static>); 12] = [
+    (&[], Task::Stored),
+    (&["verify", "A", "B"], VERIFY),
+    (&["verify", "--", "-a", "--"], DASHES),
+    (&["header", "A"], Task::Header { rom: "A" }),
+    (&["show", "A"], Task::Show { cert: "A" }),
+    (&["upgrade", "-"], Task::Upgrade { cert: "-" }),
+    (
+        &["run", "A", "B", "36000"],
+        Task::Run {
+            rom: "A",
+            script: "B",
+            frames: 36_000,
+        },
+    ),
+    (
+        &["run", "A", "B", "0"],
+        Task::Run {
+            rom: "A",
+            script: "B",
+            frames: 0,
+        },
+    ),
+    (
+        &["run", "A", "B", "+60"],
+        Task::Run {
+            rom: "A",
+            script: "B",
+            frames: 60,
+        },
+    ),
+    (
+        &["run", "A", "B", "007"],
+        Task::Run {
+            rom: "A",
+            script: "B",
+            frames: 7,
+        },
+    ),
+    (
+        &["run", "A", "--", "B", "1"],
+        Task::Run {
+            rom: "A",
+            script: "B",
+            frames: 1,
+        },
+    ),
+    (
+        &["run", "--", "A", "B", "-0"],
+        Task::Run {
+            rom: "A",
+            script: "B",
+            frames: 0,
+        },
+    ),
+];
 
 #[test]
 fn reads_each_task(rt: HostRuntime) -> Result<(), Fail> {
-    let dashes = Task::Verify {
-        rom: "-a",
-        cert: "--",
-    };
-    let cases: [(&[&str], Task<'_>); 10] = [
-        (&[], Task::Stored),
-        (&["verify", "A", "B"], VERIFY),
-        (&["verify", "--", "-a", "--"], dashes),
-        (&["header", "A"], Task::Header { rom: "A" }),
-        (&["run", "A", "B", "36000"], run(36_000)),
-        (&["run", "A", "B", "0"], run(0)),
-        (&["run", "A", "B", "+60"], run(60)),
-        (&["run", "A", "B", "007"], run(7)),
-        (&["run", "A", "--", "B", "1"], run(1)),
-        (&["run", "--", "A", "B", "-0"], run(0)),
-    ];
-    for (words, expected) in cases {
+    for (words, expected) in TASKS {
         let task = read_words(rt.alloc(), words)?;
         assert!(rt; task == expected);
     }
     Ok(())
 }
 
+/// Words that stand for no task, and the kind of the error.
+const OTHERS: [(&[&str], ErrorKind); 20] = [
+    (&["verify", "A"], ErrorKind::MissingRequiredArgument),
+    (&["turn"], ErrorKind::InvalidSubcommand),
+    (&["verify", "A", "B", "C"], ErrorKind::UnknownArgument),
+    (&["verify", "--fast", "A", "B"], ErrorKind::UnknownArgument),
+    (&["--"], ErrorKind::MissingSubcommand),
+    (&["--help"], ErrorKind::DisplayHelp),
+    (&["--version"], ErrorKind::DisplayVersion),
+    (&["header"], ErrorKind::MissingRequiredArgument),
+    (&["header", "A", "B"], ErrorKind::UnknownArgument),
+    (&["header", "--help"], ErrorKind::DisplayHelp),
+    (&["show"], ErrorKind::MissingRequiredArgument),
+    (&["upgrade", "A", "B"], ErrorKind::UnknownArgument),
+    (&["run", "A"], ErrorKind::MissingRequiredArgument),
+    (&["run", "A", "B"], ErrorKind::MissingRequiredArgument),
+    (&["run", "A", "B", "36001"], ErrorKind::ValueValidation),
+    (&["run", "A", "B", "x"], ErrorKind::ValueValidation),
+    (&["run", "A", "B", "-1"], ErrorKind::UnknownArgument),
+    (&["run", "--", "A", "B", "-1"], ErrorKind::ValueValidation),
+    (&["run", "A", "B", ""], ErrorKind::ValueValidation),
+    (&["run", "A", "B", "1", "2"], ErrorKind::UnknownArgument),
+];
+
 #[test]
 fn refuses_other_words(rt: HostRuntime) -> Result<(), Fail> {
-    let cases: [(&[&str], ErrorKind); 18] = [
-        (&["verify", "A"], ErrorKind::MissingRequiredArgument),
-        (&["turn"], ErrorKind::InvalidSubcommand),
-        (&["verify", "A", "B", "C"], ErrorKind::UnknownArgument),
-        (&["verify", "--fast", "A", "B"], ErrorKind::UnknownArgument),
-        (&["--"], ErrorKind::MissingSubcommand),
-        (&["--help"], ErrorKind::DisplayHelp),
-        (&["--version"], ErrorKind::DisplayVersion),
-        (&["header"], ErrorKind::MissingRequiredArgument),
-        (&["header", "A", "B"], ErrorKind::UnknownArgument),
-        (&["header", "--help"], ErrorKind::DisplayHelp),
-        (&["run", "A"], ErrorKind::MissingRequiredArgument),
-        (&["run", "A", "B"], ErrorKind::MissingRequiredArgument),
-        (&["run", "A", "B", "36001"], ErrorKind::ValueValidation),
-        (&["run", "A", "B", "x"], ErrorKind::ValueValidation),
-        (&["run", "A", "B", "-1"], ErrorKind::UnknownArgument),
-        (&["run", "--", "A", "B", "-1"], ErrorKind::ValueValidation),
-        (&["run", "A", "B", ""], ErrorKind::ValueValidation),
-        (&["run", "A", "B", "1", "2"], ErrorKind::UnknownArgument),
-    ];
-    for (words, kind) in cases {
+    for (words, kind) in OTHERS {
         let error = read_words(rt.alloc(), words).err().ok_or("an error")?;
         assert!(rt; error.kind() == kind);
     }
     Ok(())
 }
 
+const WANTED: [(&[&str], Task<'static>); 2] = [
+    (&["verify", "A", "B"], VERIFY),
+    (
+        &["run", "A", "B", "5"],
+        Task::Run {
+            rom: "A",
+            script: "B",
+            frames: 5,
+        },
+    ),
+];
+
 /// Where an allocation is refused, want of memory is the only other answer.
 #[test]
 fn reads_words_or_wants_memory(rt: HostRuntime) {
-    for (words, expected) in [
-        (["verify", "A", "B"].as_slice(), VERIFY),
-        (["run", "A", "B", "5"].as_slice(), run(5)),
-    ] {
+    for (words, expected) in WANTED {
         match read_words(rt.alloc(), words) {
             Ok(task) => assert!(rt; task == expected),
             Err(error) => assert!(rt; error.kind() == ErrorKind::OutOfMemory),

@@ -2,11 +2,16 @@
 
 use gb_cert::types::{Cell, Cert, Item};
 use gb_cert::{CertFault, Found, encode, one_spelling};
+use gb_header::Rom;
 use gb_ops::machine::Region;
 use gb_ops::op::Register;
-use gb_samples::cartridges::put;
-use gb_samples::certificates::{least, write_nodes};
+use gb_samples::cartridges::{PLAIN, put, small};
+use gb_samples::certificates::{least, least_in_version_2, write_nodes};
+use gb_samples::programs::LOOP;
 use gb_samples::states::{ANY, copy_of};
+use gb_verify::check::{check, verdict_ignores_version};
+use gb_verify::verdict::Verdict;
+use std::alloc::{AllocError, Global};
 use std::test::Fail;
 
 /// Three nodes of main; what is written of it is what was read.
@@ -133,4 +138,82 @@ fn is_read_and_written_or_wants_memory(rt: HostRuntime) {
             }
         }
     }
+}
+
+/// Both versions of one certificate are read and written again, and have one verdict.
+#[test]
+fn reads_both_versions(rt: HostRuntime) -> Result<(), Fail> {
+    verdict_ignores_version();
+    let (bytes, second_bytes) = (least(), least_in_version_2());
+    let first = Cert::parse(rt.alloc(), &bytes)?;
+    let second = Cert::parse(rt.alloc(), &second_bytes)?;
+    assert_eq!(rt; (first.version(), second.version()), (1, 2));
+    assert_eq!(rt; first.upgraded_head().as_slice(), &second_bytes[..14]);
+    assert_eq!(rt; first.procedure(0).body(), &second_bytes[18..22]);
+    assert_eq!(rt; first.node_bytes(), &second_bytes[22..]);
+    assert_eq!(rt;
+        encode(rt.alloc(), &second)?.as_slice(),
+        second_bytes.as_slice()
+    );
+    let file = small(PLAIN, LOOP);
+    let rom = Rom::parse(&file)?;
+    let verdict = check(&rom, &second);
+    assert!(rt; matches!(verdict, Verdict::Accepted { nodes: 3, .. }));
+    assert_eq!(rt; check(&rom, &first), verdict);
+    Ok(())
+}
+
+/// Adds the state of power-up with its stack set, so many words on it and so many cells from C100 on.
+fn add_state(bytes: &mut Vec<u8>, items: u8, cells: u8) -> Result<(), AllocError> {
+    let least = least();
+    bytes.extend_from_slice(&[least[23], least[24], 0x01])?;
+    bytes.extend_from_slice(&least[26..63])?;
+    bytes.extend_from_slice(&[items])?;
+    for i in 0..items {
+        bytes.extend_from_slice(&[i, 0xFF, 0x03, 0x00, i, 0x00])?;
+    }
+    bytes.extend_from_slice(&[cells])?;
+    for i in 0..cells {
+        bytes.extend_from_slice(&[i, 0xC1, 0x05, 0x06, 0x01])?;
+    }
+    Ok(())
+}
+
+/// 255 procedures with a node each; the last has 8 ranges, 16 items and 32 cells.
+fn largest(alloc: Global) -> Result<Vec<u8>, AllocError> {
+    let mut bytes = Vec::new(alloc);
+    bytes.extend_from_slice(&least()[..9])?;
+    bytes.extend_from_slice(&[0xFF, 0xFF, 0x00])?;
+    for i in 0..255 {
+        let ranges = if i == 254 { 8 } else { 0 };
+        bytes.extend_from_slice(&[i, 0x00, 0x00, 0x00, ranges])?;
+        for j in 0..ranges {
+            bytes.extend_from_slice(&[0x00, 0xC0 | j, 0x7F, 0xC0 | j])?;
+        }
+        bytes.extend_from_slice(&[0x00])?;
+    }
+    for i in 0..255 {
+        bytes.extend_from_slice(&[i, 0x00, 0x01, 0x00, 0x00])?;
+        let (items, cells) = if i == 254 { (16, 32) } else { (0, 0) };
+        add_state(&mut bytes, items, cells)?;
+    }
+    Ok(bytes)
+}
+
+/// What is written of as many procedures, ranges, items and cells as there may be is what was read.
+#[test]
+fn reads_the_most_of_each(rt: HostRuntime) -> Result<(), Fail> {
+    let bytes = largest(rt.alloc())?;
+    let cert = Cert::parse(rt.alloc(), &bytes)?;
+    assert_eq!(rt; (cert.procedures(), cert.nodes()), (255, 255));
+    let ranges = cert.procedure(254).ranges();
+    let state = cert.node(254).state();
+    let sizes = (
+        ranges.as_slice().len(),
+        state.items().len(),
+        state.cells().len(),
+    );
+    assert_eq!(rt; sizes, (8, 16, 32));
+    assert_eq!(rt; encode(rt.alloc(), &cert)?, bytes);
+    Ok(())
 }

@@ -2,7 +2,8 @@
 //! implementation's verdicts), what no contract says (text, want of memory, failing sinks), and each public call once.
 //! The functions here promise nothing but to be safe.
 //!
-//! Read controllers.rt and memory.rt first (loads and stores), then certificates.rt, versions.rt and verdicts.rt.
+//! Read controllers.rt and memory.rt first (loads and stores), then certificates.rt and verdicts.rt; examples.rt has whole
+//! programs, and judged.rt plays them.
 #![tactic(auto)]
 
 #[cfg(test)]
@@ -10,8 +11,10 @@ mod certificates;
 #[cfg(test)]
 mod controllers;
 #[cfg(test)]
+mod examples;
+#[cfg(test)]
+mod judged;
+#[cfg(test)]
 mod memory;
 #[cfg(test)]
 mod verdicts;
-#[cfg(test)]
-mod versions;

@@ -46,11 +46,12 @@ fn line_of(alloc: Global, rom: &[u8], cert: &[u8]) -> Line {
 
 #[test]
 fn lines_of_cartridges(rt: HostRuntime) {
-    let cases: [(Changes<'_>, usize, &[u8]); 7] = [
+    let cases: [(Changes<'_>, usize, &[u8]); 8] = [
         (&[], 0x8000, ACCEPTED),
-        // An undefined opcode, and an instruction that has no rules yet.
+        // An undefined opcode, INC A, which leads to no node, and RST, which has no rules yet.
         (&[(0x150, 0xD3)], 0x8000, b"REFUSED node 2 reason 5\n"),
-        (&[(0x150, 0x3C)], 0x8000, b"REFUSED node 2 reason 8\n"),
+        (&[(0x150, 0x3C)], 0x8000, b"REFUSED node 2 reason 14\n"),
+        (&[(0x150, 0xFF)], 0x8000, b"REFUSED node 2 reason 8\n"),
         (&[(0x14D, 0xE6)], 0x8000, b"CARTRIDGE H7\n"),
         (&[(0x14D, 0xE6), (0x147, 0x05)], 0x8000, b"CARTRIDGE H2\n"),
         (&[(0x14D, 0xE6), (0x147, 0x05)], 0x7FFF, b"CARTRIDGE H1\n"),

@@ -60,7 +60,7 @@ fn assert_runs(rt: &impl Abort, line: &[u8; WIDTH], runs: &[(u8, usize)]) {
             }
         }
     }
-    assert_eq!(rt; x, WIDTH);
+    assert!(rt; x == WIDTH);
     assert!(rt; line == &expected);
 }
 
@@ -70,7 +70,7 @@ fn assert_same(rt: &impl Abort, scene: &Scene<'_>) {
         let mut line = [9; WIDTH];
         render_line(scene, y, &mut line);
         for x in 0..160 {
-            assert_eq!(rt; line[usize::from(x)], pixel(scene, x, y));
+            assert!(rt; line[usize::from(x)] == pixel(scene, x, y));
         }
     }
 }
@@ -158,7 +158,7 @@ fn draws_the_window_from_its_line_on(rt: HostRuntime) {
         let line_1 = next_line(&mut ppu, &video_ram);
         assert_runs(&rt, &line_1, &[(0, 160)]);
         let line_2 = next_line(&mut ppu, &video_ram);
-        assert_eq!(rt; ppu.line(), 2);
+        assert!(rt; ppu.line() == 2);
         assert_runs(&rt, &line_2, &[(0, 160 - shown), (3, shown)]);
     }
 }
@@ -180,54 +180,108 @@ fn counts_the_windows_own_lines(rt: HostRuntime) {
     assert!(rt; seen == [0, 3, 0, 0, 3]);
 }
 
+/// What is done to a picture, with the interrupts that it then requests, or what it shows.
+#[derive(Clone, Copy)]
+enum Step {
+    /// So many M-cycles pass.
+    Pass(u8, Option<Irqs>),
+    Write(LcdRegister, u8, Option<Irqs>),
+    Reads(LcdRegister, u8),
+    Mode(Mode),
+    Line(u8),
+    IsOn(bool),
+    UntilDrawing(Option<u16>),
+}
+
+/// Whether these requests are the expected ones, or none.
+fn is_requested(requests: Irqs, expected: Option<Irqs>) -> bool {
+    match expected {
+        Some(irqs) => requests == irqs,
+        None => requests == Irqs::empty(),
+    }
+}
+
+/// Does a step, and answers whether the picture does what it says.
+fn agrees(ppu: &mut Ppu, step: Step) -> bool {
+    match step {
+        Step::Pass(n, requests) => is_requested(ppu.advance(n), requests),
+        Step::Write(register, value, requests) => {
+            is_requested(ppu.write(register, value), requests)
+        }
+        Step::Reads(register, value) => ppu.read(register) == value,
+        Step::Mode(mode) => ppu.mode() == mode,
+        Step::Line(line) => ppu.line() == line,
+        Step::IsOn(is_on) => ppu.is_on() == is_on,
+        Step::UntilDrawing(n) => ppu.until_drawing() == n,
+    }
+}
+
+fn play(rt: &impl Abort, ppu: &mut Ppu, steps: &[Step]) {
+    for (i, step) in steps.iter().enumerate() {
+        assert!(rt; agrees(ppu, *step), "step {i}");
+    }
+}
+
+/// The first line with its modes.
+const FIRST: &[Step] = &[
+    Step::IsOn(true),
+    Step::Reads(LcdRegister::Stat, 0x86),
+    Step::Pass(20, None),
+    Step::Mode(Mode::Drawing),
+    Step::Pass(43, None),
+    Step::Mode(Mode::HBlank),
+    Step::Pass(51, None),
+    Step::Line(1),
+    Step::Mode(Mode::ObjectScan),
+];
+
+/// From 114 M-cycles on: with 67 times 243 and 20 they are 16,415.
+const TO_VBLANK: &[Step] = &[
+    Step::Pass(20, None),
+    Step::Line(143),
+    Step::Pass(1, Some(Irqs::VBLANK)),
+    Step::Mode(Mode::VBlank),
+    Step::UntilDrawing(Some(1160)),
+];
+
 #[test]
 fn goes_through_a_frame(rt: HostRuntime) {
     let mut ppu = Ppu::new();
-    assert!(rt; ppu.is_on());
-    assert_eq!(rt; ppu.read(LcdRegister::Stat), 0x86);
-    let _ = ppu.advance(20);
-    assert!(rt; ppu.mode() == Mode::Drawing);
-    let _ = ppu.advance(43);
-    assert!(rt; ppu.mode() == Mode::HBlank);
-    let _ = ppu.advance(51);
-    assert_eq!(rt; ppu.line(), 1);
-    assert!(rt; ppu.mode() == Mode::ObjectScan);
-    // 114 + 67 * 243 + 20 = 16,415
+    play(&rt, &mut ppu, FIRST);
     for _ in 0..67 {
-        assert!(rt; ppu.advance(243) == Irqs::empty());
+        play(&rt, &mut ppu, &[Step::Pass(243, None)]);
     }
-    assert!(rt; ppu.advance(20) == Irqs::empty());
-    assert_eq!(rt; ppu.line(), 143);
-    assert!(rt; ppu.advance(1) == Irqs::VBLANK);
-    assert!(rt; ppu.mode() == Mode::VBlank);
-    assert_eq!(rt; ppu.until_drawing(), Some(1160));
+    play(&rt, &mut ppu, TO_VBLANK);
 }
+
+const SIGNALS: &[Step] = &[
+    Step::Write(LcdRegister::Lyc, 0xFF, None),
+    // Sources mode 2 and mode 0: the write comes in mode 2.
+    Step::Write(LcdRegister::Stat, 0x28, Some(Irqs::STAT)),
+    Step::Pass(62, None),
+    Step::Pass(1, Some(Irqs::STAT)),
+    // From mode 0 to mode 2 the signal stays.
+    Step::Pass(113, None),
+    Step::Pass(1, Some(Irqs::STAT)),
+    // LY becomes LYC.
+    Step::Write(LcdRegister::Stat, 0x40, None),
+    Step::Write(LcdRegister::Lyc, 2, None),
+    Step::Pass(50, None),
+    Step::Pass(1, Some(Irqs::STAT)),
+    Step::Pass(114, None),
+    // Off: LY is 0, and goes on being compared.
+    Step::Write(LcdRegister::Lcdc, 0x11, None),
+    Step::Reads(LcdRegister::Ly, 0),
+    Step::Write(LcdRegister::Lyc, 0, None),
+    Step::Reads(LcdRegister::Stat, 0xC4),
+    Step::Pass(255, None),
+    Step::IsOn(false),
+    Step::UntilDrawing(None),
+    // On again: line 0 begins.
+    Step::Write(LcdRegister::Lcdc, 0x91, Some(Irqs::STAT)),
+];
 
 #[test]
 fn requests_where_the_signal_rises(rt: HostRuntime) {
-    let mut ppu = Ppu::new();
-    let _ = ppu.write(LcdRegister::Lyc, 0xFF);
-    // Sources mode 2 and mode 0: the write comes in mode 2.
-    assert!(rt; ppu.write(LcdRegister::Stat, 0x28) == Irqs::STAT);
-    assert!(rt; ppu.advance(62) == Irqs::empty());
-    assert!(rt; ppu.advance(1) == Irqs::STAT);
-    // From mode 0 to mode 2 the signal stays.
-    assert!(rt; ppu.advance(113) == Irqs::empty());
-    assert!(rt; ppu.advance(1) == Irqs::STAT);
-    // LY becomes LYC.
-    let _ = ppu.write(LcdRegister::Stat, 0x40);
-    assert!(rt; ppu.write(LcdRegister::Lyc, 2) == Irqs::empty());
-    assert!(rt; ppu.advance(50) == Irqs::empty());
-    assert!(rt; ppu.advance(1) == Irqs::STAT);
-    assert!(rt; ppu.advance(114) == Irqs::empty());
-    // Off: LY is 0, and goes on being compared.
-    assert!(rt; ppu.write(LcdRegister::Lcdc, 0x11) == Irqs::empty());
-    assert_eq!(rt; ppu.read(LcdRegister::Ly), 0);
-    assert!(rt; ppu.write(LcdRegister::Lyc, 0) == Irqs::empty());
-    assert_eq!(rt; ppu.read(LcdRegister::Stat), 0xC4);
-    assert!(rt; ppu.advance(255) == Irqs::empty());
-    assert!(rt; !ppu.is_on());
-    assert_eq!(rt; ppu.until_drawing(), None);
-    // On again: line 0 begins.
-    assert!(rt; ppu.write(LcdRegister::Lcdc, 0x91) == Irqs::STAT);
+    play(&rt, &mut Ppu::new(), SIGNALS);
 }

@@ -102,11 +102,8 @@ fn check_sum(rt: &impl Abort, op: AluOp, a: Val, operand: Val, carry: May) {
         is_own: false,
     };
     let outcome = alu(op, a, operand, with_carry(carry));
-    assert_eq!(rt;
-        outcome,
-        Outcome { val, flags },
-        "{op:?} {a:?} {operand:?} {carry:?}"
-    );
+    let want = Outcome { val, flags };
+    assert!(rt; outcome == want, "{op:?} {a:?} {operand:?} {carry:?}");
 }
 
 const INTERVALS: [(u8, u8); 6] = [
@@ -168,7 +165,7 @@ fn check_count(rt: &impl Abort, val: Val, carry: May, is_up: bool) {
         val: counted,
         flags,
     };
-    assert_eq!(rt; outcome, want, "{val:?} {is_up}");
+    assert!(rt; outcome == want, "{val:?} {is_up}");
 }
 
 #[test]
@@ -191,87 +188,94 @@ fn flags(zero: bool, subtract: bool, half_carry: bool, carry: bool) -> Flg {
     })
 }
 
+fn is_known(outcome: Outcome, byte: u8, flags: Flg) -> bool {
+    outcome.val == single(byte) && outcome.flags == flags
+}
+
 /// Of known bytes, by hand: ADD 3A and C6, DAA of 7D, SWAP and RLCA of F1 and 85, CPL and BIT 7.
 #[test]
 fn known_bytes_are_computed(rt: HostRuntime) {
     let none = flags(false, false, false, false);
     let sum = alu(AluOp::Add, single(0x3A), single(0xC6), none);
-    assert_eq!(rt;
-        (sum.val, sum.flags),
-        (single(0x00), flags(true, false, true, true))
-    );
+    assert!(rt; is_known(sum, 0x00, flags(true, false, true, true)));
     let digits = adjust(single(0x7D), none);
-    assert_eq!(rt; (digits.val, digits.flags), (single(0x83), none));
+    assert!(rt; is_known(digits, 0x83, none));
     let swapped = shift(Shift::Swap, single(0xF1), none);
-    assert_eq!(rt; (swapped.val, swapped.flags), (single(0x1F), none));
+    assert!(rt; is_known(swapped, 0x1F, none));
     let rotated = rotate_a(Shift::Rlc, single(0x85), none);
-    assert_eq!(rt;
-        (rotated.val, rotated.flags),
-        (single(0x0B), flags(false, false, false, true))
-    );
+    assert!(rt; is_known(rotated, 0x0B, flags(false, false, false, true)));
     let turned = complement(single(0x35), none);
-    assert_eq!(rt;
-        (turned.val, turned.flags),
-        (single(0xCA), flags(false, true, true, false))
-    );
-    assert_eq!(rt;
-        test_bit(7, single(0x80), none),
-        flags(false, false, true, false)
-    );
-    assert_eq!(rt; reset_bit(7, single(0x8A)), single(0x0A));
-    assert_eq!(rt; set_bit(3, single(0x80)), single(0x88));
+    assert!(rt; is_known(turned, 0xCA, flags(false, true, true, false)));
+    let tested = test_bit(7, single(0x80), none);
+    assert!(rt; tested == flags(false, false, true, false));
+    assert!(rt; reset_bit(7, single(0x8A)) == single(0x0A));
+    assert!(rt; set_bit(3, single(0x80)) == single(0x88));
 }
+
+const A: Val = Val {
+    lo: 3,
+    hi: 9,
+    origin: Some(Origin::Register(Register::A)),
+};
+
+const KNOWN_A: Val = Val { hi: 3, ..A };
+
+const THREE: Val = Val {
+    origin: None,
+    ..KNOWN_A
+};
+
+const ZERO: Val = Val {
+    lo: 0,
+    hi: 0,
+    origin: None,
+};
+
+/// An operation, A before and after it, and Z, N and H; the carry is clear.
+const WITH_ITSELF: [(AluOp, Val, Val, bool, bool, bool); 8] = [
+    (AluOp::Sub, A, ZERO, true, true, false),
+    (AluOp::Cp, A, A, true, true, false),
+    (AluOp::Xor, A, ZERO, true, false, false),
+    (AluOp::And, A, A, false, false, true),
+    (AluOp::Or, A, A, false, false, false),
+    // A known A has no origin afterwards, but where CP leaves it.
+    (AluOp::And, KNOWN_A, THREE, false, false, true),
+    (AluOp::Or, KNOWN_A, THREE, false, false, false),
+    (AluOp::Cp, KNOWN_A, KNOWN_A, true, true, false),
+];
 
 /// With itself any A is 0 after SUB and XOR, and stays after AND, OR and CP.
 #[test]
 fn operations_with_a_itself(rt: HostRuntime) {
-    let a = copy_of(Register::A, 3, 9);
-    let known_a = copy_of(Register::A, 3, 3);
-    for (op, of, val, flags) in [
-        (AluOp::Sub, a, single(0), flags(true, true, false, false)),
-        (AluOp::Cp, a, a, flags(true, true, false, false)),
-        (AluOp::Xor, a, single(0), flags(true, false, false, false)),
-        (AluOp::And, a, a, flags(false, false, true, false)),
-        (AluOp::Or, a, a, flags(false, false, false, false)),
-        // A known A has no origin afterwards, but where CP leaves it.
-        (
-            AluOp::And,
-            known_a,
-            single(3),
-            flags(false, false, true, false),
-        ),
-        (
-            AluOp::Or,
-            known_a,
-            single(3),
-            flags(false, false, false, false),
-        ),
-        (AluOp::Cp, known_a, known_a, flags(true, true, false, false)),
-    ] {
+    for (op, of, val, zero, subtract, half_carry) in WITH_ITSELF {
         let outcome = alu_itself(op, of, with_carry(SET));
-        assert_eq!(rt; outcome, Outcome { val, flags }, "{op:?} {of:?}");
+        let flags = flags(zero, subtract, half_carry, false);
+        assert!(rt; outcome == Outcome { val, flags }, "{op:?} {of:?}");
     }
-    for (op, val) in [
-        (AluOp::Add, from_to(6, 18)),
-        (AluOp::Adc, from_to(7, 19)),
-        (AluOp::Sbc, ANY),
-    ] {
-        assert_eq!(rt; alu_itself(op, a, with_carry(SET)).val, val, "{op:?}");
+    assert!(rt; alu_itself(AluOp::Add, A, with_carry(SET)).val == from_to(6, 18));
+    assert!(rt; alu_itself(AluOp::Adc, A, with_carry(SET)).val == from_to(7, 19));
+    assert!(rt; alu_itself(AluOp::Sbc, A, with_carry(SET)).val == ANY);
+}
+
+/// A carry, and what CCF makes of it.
+const CARRIES: [(May, May); 3] = [(SET, CLEAR), (CLEAR, SET), (EITHER, EITHER)];
+
+/// N and H clear, and this carry.
+fn left(carry: May) -> Flg {
+    Flg {
+        subtract: CLEAR,
+        half_carry: CLEAR,
+        ..with_carry(carry)
     }
 }
 
 /// SCF and CCF leave Z, clear N and H, and set C or turn it round.
 #[test]
 fn carries_are_set_and_turned(rt: HostRuntime) {
-    for (before, after) in [(SET, CLEAR), (CLEAR, SET), (EITHER, EITHER)] {
-        let left = |carry| Flg {
-            subtract: CLEAR,
-            half_carry: CLEAR,
-            ..with_carry(carry)
-        };
+    for (before, after) in CARRIES {
         let set = with_carry(before);
-        assert_eq!(rt; complement_carry(set), left(after), "{before:?}");
-        assert_eq!(rt; set_carry(set), left(SET), "{before:?}");
+        assert!(rt; complement_carry(set) == left(after), "{before:?}");
+        assert!(rt; set_carry(set) == left(SET), "{before:?}");
     }
 }
 
@@ -287,18 +291,15 @@ fn flags_go_on_the_stack_and_come_back(rt: HostRuntime) {
         origin: Some(Origin::F),
         ..from_to(0x20, 0xB0)
     };
-    assert_eq!(rt; flags_val(own), byte);
+    assert!(rt; flags_val(own) == byte);
     // A byte that isn't known gives any flags; they stay F's own where it was F.
     let any_flags = with_carry(EITHER);
-    assert_eq!(rt; flags_of_val(copy_of(Register::B, 0, 255)), any_flags);
-    let popped = flags_of_val(byte);
-    assert_eq!(rt;
-        popped,
-        Flg {
-            is_own: true,
-            ..any_flags
-        }
-    );
+    assert!(rt; flags_of_val(copy_of(Register::B, 0, 255)) == any_flags);
+    let own_flags = Flg {
+        is_own: true,
+        ..any_flags
+    };
+    assert!(rt; flags_of_val(byte) == own_flags);
     // The low bits of a known byte are dropped.
-    assert_eq!(rt; flags_of_val(single(0xBF)), flags(true, false, true, true));
+    assert!(rt; flags_of_val(single(0xBF)) == flags(true, false, true, true));
 }

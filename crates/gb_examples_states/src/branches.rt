@@ -7,19 +7,23 @@ use gb_cert::types::{Core, Flg};
 use gb_ops::op::{AluOp, Condition, Op, Register};
 use gb_samples::states::{CLEAR, EITHER, SET, copy_of, entered, with_carry};
 use gb_vals::branch::{Branch, side, test_of_immediate, test_of_itself};
+use std::process::Abort;
+
+/// An operation, and its test with the byte 7 and with A itself.
+const LEFT: [(AluOp, Option<u8>, Option<u8>); 5] = [
+    (AluOp::Cp, Some(7), None),
+    (AluOp::And, None, Some(0)),
+    (AluOp::Or, None, Some(0)),
+    (AluOp::Sub, None, None),
+    (AluOp::Xor, None, None),
+];
 
 /// CP with a byte leaves it as the test; AND and OR of A with itself leave 0.
 #[test]
 fn tests_are_left(rt: HostRuntime) {
-    for (op, of_byte, of_itself) in [
-        (AluOp::Cp, Some(7), None),
-        (AluOp::And, None, Some(0)),
-        (AluOp::Or, None, Some(0)),
-        (AluOp::Sub, None, None),
-        (AluOp::Xor, None, None),
-    ] {
-        assert_eq!(rt; test_of_immediate(op, 7), of_byte, "{op:?}");
-        assert_eq!(rt; test_of_itself(op), of_itself, "{op:?}");
+    for (op, of_byte, of_itself) in LEFT {
+        assert!(rt; test_of_immediate(op, 7) == of_byte, "{op:?}");
+        assert!(rt; test_of_itself(op) == of_itself, "{op:?}");
     }
 }
 
@@ -56,7 +60,7 @@ fn tests_narrow_a(rt: HostRuntime) {
         let got = side(Some(n), condition, a, with_carry(EITHER));
         let narrowed = got.map(|branch| branch.a);
         let want = want.map(|(lo, hi)| copy_of(Register::A, lo, hi));
-        assert_eq!(rt; narrowed, want, "{n} {condition:?} {lo} {hi}");
+        assert!(rt; narrowed == want, "{n} {condition:?} {lo} {hi}");
     }
 }
 
@@ -64,12 +68,12 @@ fn tests_narrow_a(rt: HostRuntime) {
 fn a_flag_is_known_on_its_side(rt: HostRuntime) {
     let a = copy_of(Register::A, 0, 255);
     let flags = with_carry(SET);
-    assert_eq!(rt; side(None, Condition::NotCarry, a, flags), None);
+    assert!(rt; side(None, Condition::NotCarry, a, flags) == None);
     let taken = side(None, Condition::Carry, a, flags);
-    assert_eq!(rt; taken, Some(Branch { a, flags }));
+    assert!(rt; taken == Some(Branch { a, flags }));
     let zero = Flg { zero: SET, ..flags };
     let taken = side(None, Condition::Zero, a, flags);
-    assert_eq!(rt; taken, Some(Branch { a, flags: zero }));
+    assert!(rt; taken == Some(Branch { a, flags: zero }));
 }
 
 /// A in 0 to 20, compared with 10.
@@ -89,6 +93,11 @@ fn narrowed(core: Core, lo: u8, hi: u8, flags: Flg) -> Option<Core> {
     Some(narrowed)
 }
 
+/// An instruction's two sides.
+fn has_sides(rt: &impl Abort, op: Op, core: &Core, taken: Option<Core>, not_taken: Option<Core>) {
+    assert!(rt; sides_of(op, core) == Sides { taken, not_taken }, "{op:?}");
+}
+
 #[test]
 fn sides_are_narrowed(rt: HostRuntime) {
     let core = compared();
@@ -105,20 +114,20 @@ fn sides_are_narrowed(rt: HostRuntime) {
     );
     let carry = narrowed(core, 0, 9, with_carry(SET));
     let not_carry = narrowed(core, 10, 20, with_carry(CLEAR));
-    for (op, taken, not_taken) in [
-        (Op::JumpRelativeIf(Condition::Zero, 5), zero, not_zero),
-        (Op::JumpIf(Condition::NotZero, 0x4000), not_zero, zero),
-        (Op::CallIf(Condition::Carry, 0x4000), carry, not_carry),
-        (Op::ReturnIf(Condition::NotCarry), not_carry, carry),
-        (Op::Jump(0x4000), Some(core), None),
-    ] {
-        assert_eq!(rt; sides_of(op, &core), Sides { taken, not_taken }, "{op:?}");
-    }
+    let jump = Op::JumpRelativeIf(Condition::Zero, 5);
+    has_sides(&rt, jump, &core, zero, not_zero);
+    let jump = Op::JumpIf(Condition::NotZero, 0x4000);
+    has_sides(&rt, jump, &core, not_zero, zero);
+    let call = Op::CallIf(Condition::Carry, 0x4000);
+    has_sides(&rt, call, &core, carry, not_carry);
+    let leave = Op::ReturnIf(Condition::NotCarry);
+    has_sides(&rt, leave, &core, not_carry, carry);
+    has_sides(&rt, Op::Jump(0x4000), &core, Some(core), None);
     // Where Z is known, one side is possible.
     let mut known_zero = core;
     known_zero.flags.zero = SET;
-    let sides = sides_of(Op::JumpRelativeIf(Condition::NotZero, 5), &known_zero);
-    assert_eq!(rt; (sides.taken, sides.not_taken), (None, zero));
+    let jump = Op::JumpRelativeIf(Condition::NotZero, 5);
+    has_sides(&rt, jump, &known_zero, None, zero);
     let left = untaken(&core);
-    assert_eq!(rt; (left.core, left.write), (core, AbsWrite::Nothing));
+    assert!(rt; left.core == core && left.write == AbsWrite::Nothing);
 }

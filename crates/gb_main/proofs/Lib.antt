@@ -2,3 +2,4 @@ pub mod Lines
 pub mod Packing
 pub mod Playing
 pub mod Files
+pub mod ShowLaws

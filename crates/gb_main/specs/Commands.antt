@@ -1,5 +1,5 @@
 -- What the commands write of the bytes of their files (own texts).
-use Rattle.std.specs.Prelude.{◌≡◌, ℕ, List, Option, Some, None, ◌⊎◌}
+use Rattle.std.specs.Prelude.{◌≡◌, ℕ, List, Option, Some, None, Result, Ok, Err, ◌⊎◌}
 use Rattle.gb_text.specs.Sink.{Gains}
 use Rattle.gb_header.specs.declared.fault.HeaderFault.{HeaderFault}
 use Rattle.gb_header.specs.Header.{IsCartridge, IsLowestFault, fault_of}
@@ -7,8 +7,15 @@ use Rattle.gb_console.specs.declared.frame.Ending.{Ending}
 use Rattle.gb_console.specs.Console.{ConsoleState, at_power_up}
 use Rattle.gb_text.specs.Cartridge.{cartridge_text}
 use Rattle.gb_text.specs.Text.{GainsBeginning}
+use Rattle.gb_cert.specs.declared.fault.CertFault.{CertFault}
+use Rattle.gb_cert.specs.declared.fault.CertFault.TheVariants.{Memory}
+use Rattle.gb_cert.specs.Certificate.{Certificate}
+use Rattle.gb_cert.specs.Reading.{read_certificate}
+use Rattle.gb_verify.specs.Text.{memory_line}
+use Rattle.gb_verify.specs.CertificateFile.{text_of}
 use Rattle.gb_main.specs.HeaderLine.{header_text}
 use Rattle.gb_main.specs.Script.{IsWrittenRun, IsBegunRun}
+use Rattle.gb_main.specs.Show.{show_text}
 use Rattle.gb_main.specs.declared.commands.RunOutcome.{RunOutcome}
 use Rattle.gb_main.specs.declared.commands.RunOutcome.TheVariants as outcome
 
@@ -21,6 +28,23 @@ header_or_fault (Some fault) file = cartridge_text fault
 -- the header's line of a file, or the line of its lowest fault
 abbrev pub file_text : List ℕ → List ℕ
 file_text file = header_or_fault (fault_of file) file
+
+-- ---- show
+
+-- the first fault of a certificate's bytes, if they have one
+abbrev pub certificate_fault : Result Certificate CertFault → Option CertFault
+certificate_fault (Ok c) = None
+certificate_fault (Err fault) = Some fault
+
+-- what was written, by the fault: the certificate's lines, or the line of the first fault, or where memory ran out its own
+abbrev pub written_lines : Option CertFault → List ℕ → List ℕ
+written_lines (Some Memory) file = memory_line
+written_lines _ file = text_of show_text file
+
+-- it is the first fault of the bytes, or none, or memory ran out
+abbrev pub IsCertificateFault : Option CertFault → List ℕ → Type 0
+IsCertificateFault (Some Memory) file = Unit {0}
+IsCertificateFault fault file = fault ≡ certificate_fault (read_certificate file)
 
 -- ---- run
 

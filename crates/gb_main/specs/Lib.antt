@@ -2,3 +2,4 @@ pub mod Commands
 pub mod HeaderLine
 pub mod Screen
 pub mod Script
+pub mod Show

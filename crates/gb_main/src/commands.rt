@@ -4,16 +4,22 @@ ghost use Rattle.std.specs.Prelude.{◌≡◌, false, is_err, IfOk, OnOk, OnErr}
 ghost use Rattle.gb_text.specs.Sink.{Gains};
 ghost use Rattle.gb_header.specs.Header.{fault_of};
 ghost use Rattle.gb_text.specs.Text.{GainsBeginning};
-ghost use Rattle.gb_main.specs.Commands.{file_text, IsRunWritten, IsRunBegun};
+ghost use Rattle.gb_verify.specs.CertificateFile.{HasBeginning};
+ghost use Rattle.gb_main.specs.Show.{show_text};
+ghost use Rattle.gb_main.specs.Commands.{file_text, written_lines, IsCertificateFault, IsRunWritten, IsRunBegun};
 
 use crate::header::text_of;
 use crate::script::{Progress, run_script_shown};
+use crate::show::show_cert;
+use gb_cert::CertFault;
+use gb_cert::types::Cert;
 use gb_console::{Console, Ending};
 use gb_header::{HeaderFault, Rom};
 use gb_text::cartridge::cartridge_line;
 use gb_text::line::Line;
 use gb_text::put::put_all;
 use gb_text::sink::{OutFault, Sink};
+use gb_verify::verify::certificate_line;
 use std::alloc::Global;
 
 /// What became of a run.
@@ -54,6 +60,40 @@ pub fn header_bytes<W: Sink>(file: &[u8], out: &mut W) -> Result<Option<HeaderFa
     let (line, fault) = file_line(file);
     put_all(out, line.as_slice())?;
     Ok(fault)
+}
+
+/// Writes the lines of the certificate that the bytes spell, or `CERTIFICATE Cn` where they are none, C9 where memory ran
+/// out. Answers their fault.
+///
+/// # Errors
+///
+/// OutFault where the sink fails before it took them all; it then has a beginning of them.
+#[tactic(auto, using(crate::proofs::ShowLaws::show_written, crate::proofs::ShowLaws::show_begins, crate::proofs::ShowLaws::fault_written))]
+pub fn show_bytes<W: Sink>(
+    alloc: Global,
+    file: &[u8],
+    out: &mut W,
+) -> Result<Option<CertFault>, OutFault>
+    requires { W.has_failed out.old ≡ false }
+    // What was written is the certificate's lines, or the line of the first fault, or where memory ran out its own.
+    ensures written { IfOk result (λ fault. Gains (W.contents out.old) (written_lines fault file.now) (W.contents out.new)) }
+    // It is the first fault, or none, or memory ran out.
+    ensures fault { IfOk result (λ fault. IsCertificateFault fault file.now) }
+    // On OutFault what went out is a beginning of it.
+    ensures beginning { OnErr result (HasBeginning show_text (W.contents out.old) file.now (W.contents out.new)) }
+    // OutFault exactly where the sink failed.
+    ensures failed { W.has_failed out.new ≡ is_err result }
+{
+    match Cert::parse(alloc, file) {
+        Ok(cert) => {
+            show_cert(&cert, out)?;
+            Ok(None)
+        }
+        Err(fault) => {
+            put_all(out, certificate_line(fault).as_slice())?;
+            Ok(Some(fault))
+        }
+    }
 }
 
 /// Runs a file's cartridge from power-up, as `run_script_shown` does, and writes the run's text, or `CARTRIDGE Hn` where

@@ -23,7 +23,7 @@ fn kind_name(kind: Kind) -> &'static [u8]
     }
 }
 
-fn yes_or_no(is_so: bool) -> &'static [u8]
+pub(crate) fn yes_or_no(is_so: bool) -> &'static [u8]
     ensures text { result.now ≡ yes_or_no is_so }
     ensures short { length result.now ≤ 3 }
 {

@@ -110,8 +110,7 @@ fn processor(words: &mut SplitWhitespace<'_>) -> Option<Processor> {
 impl Setup {
     /// The smallest cartridge, all bytes 00, at power-up.
     pub fn new(alloc: Global) -> Result<Setup, AllocError> {
-        let cartridge = Cartridge::blank(alloc)?;
-        let state = MachineState::at_power_up(alloc, cartridge)?;
+        let state = MachineState::at_power_up(alloc)?;
         Ok(Setup {
             machine: PlainMachine::new(state),
             region: Region {

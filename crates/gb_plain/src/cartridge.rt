@@ -1,6 +1,6 @@
 //! A cartridge with its controller, over any bytes whose header the check accepts but for the checksum.
 
-ghost use Rattle.std.specs.Prelude.{◌≡◌, ◌<◌, true, slice_set, IfOk, IfSome};
+ghost use Rattle.std.specs.Prelude.{◌≡◌, ◌≢◌, ◌<◌, true, false, length, slice_set, IfOk, IfSome};
 ghost use Rattle.gb_ops.specs.Cartridge as Spec;
 ghost use Rattle.gb_mbc.specs.Controllers.{features_of};
 ghost use Rattle.gb_ops.specs.Memory.{rom_byte};
@@ -174,6 +174,7 @@ impl Cartridge {
     pub fn set_banks(&mut self, banks: Banks) -> bool
         ensures rom { self.new.rom ≡ self.old.rom }
         ensures held { result ≡ true → self.new.banks ≡ banks }
+        ensures refused { result ≡ false → self.new.banks ≢ banks }
     {
         let gate = if banks.gate { 0x0A } else { 0x00 };
         self.controller.write(0x0000, gate);
@@ -191,6 +192,9 @@ impl Cartridge {
     pub fn set_byte(&mut self, at: usize, value: u8) -> bool
         ensures banks { self.new.banks ≡ self.old.banks }
         ensures changed { result ≡ true → self.new.rom ≡ slice_set self.old.rom at value }
+        ensures kept { result ≡ false → self.new.rom ≡ self.old.rom }
+        ensures before { at < length self.old.rom → at < 0x147 → result ≡ true }
+        ensures behind { at < length self.old.rom → 0x149 < at → result ≡ true }
     {
         if at >= self.rom.len() {
             return false;

@@ -1,7 +1,8 @@
 //! Machine states.
 
-ghost use Rattle.std.specs.Prelude.{◌≡◌, ◌<◌, ◌≤◌, true, length, vec_len, replicate, slice_index, slice_set, IfOk, ◌-◌, if◌then◌else◌};
+ghost use Rattle.std.specs.Prelude.{◌≡◌, ◌≢◌, ◌<◌, ◌≤◌, true, false, length, vec_len, replicate, slice_index, slice_set, IfOk, ◌-◌, if◌then◌else◌};
 ghost use Rattle.gb_ops.specs.Cartridge as Spec;
+ghost use Rattle.gb_plain.specs.Shown.{zeros as zero_bytes};
 ghost use Rattle.gb_dma.specs.Transfer.{started};
 
 use crate::cartridge::Cartridge;
@@ -73,12 +74,12 @@ fn zeros(alloc: Global, size: usize) -> Result<Vec<u8>, AllocError>
 impl MachineState {
     ghost use Rattle.gb_ops.specs.Play.{IsStart};
 
-    /// The state of power-up, with zeros in work RAM and high RAM.
-    pub fn at_power_up(alloc: Global, cartridge: Cartridge) -> Result<MachineState, AllocError>
-        requires { cartridge.banks ≡ Spec.banks_at_power_up }
+    /// The smallest cartridge, all bytes 00, at power-up, with zeros in work RAM and high RAM.
+    pub fn at_power_up(alloc: Global) -> Result<MachineState, AllocError>
         ensures start { IfOk result (λ state. IsStart state.rom state.machine) }
-        ensures rom { IfOk result (λ state. state.rom ≡ cartridge.rom) }
+        ensures rom { IfOk result (λ state. state.rom ≡ zero_bytes 0x8000) }
     {
+        let cartridge = Cartridge::blank(alloc)?;
         Ok(MachineState {
             processor: Cpu::at_power_up(cartridge.bytes()).processor,
             cartridge,
@@ -176,6 +177,7 @@ impl MachineState {
     pub fn set_banks(&mut self, banks: Banks) -> bool
         ensures rest { self.new ≡ record self.old { machine = record self.old.machine { storage = record self.old.machine.storage { banks = self.new.machine.storage.banks } } } }
         ensures held { result ≡ true → self.new.machine.storage.banks ≡ banks }
+        ensures refused { result ≡ false → self.new.machine.storage.banks ≢ banks }
     {
         self.cartridge.set_banks(banks)
     }
@@ -185,6 +187,9 @@ impl MachineState {
     pub fn set_rom_byte(&mut self, at: usize, value: u8) -> bool
         ensures rest { self.new ≡ record self.old { rom = self.new.rom } }
         ensures changed { result ≡ true → self.new.rom ≡ slice_set self.old.rom at value }
+        ensures kept { result ≡ false → self.new.rom ≡ self.old.rom }
+        ensures before { at < length self.old.rom → at < 0x147 → result ≡ true }
+        ensures behind { at < length self.old.rom → 0x149 < at → result ≡ true }
     {
         self.cartridge.set_byte(at, value)
     }

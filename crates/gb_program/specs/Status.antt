@@ -3,6 +3,10 @@ use Rattle.std.specs.Prelude.{Option, Some, None, Result, Ok, Err}
 use Rattle.gb_header.specs.declared.fault.HeaderFault.{HeaderFault}
 use Rattle.gb_console.specs.declared.frame.Ending.{Ending}
 use Rattle.gb_console.specs.declared.frame.Ending.TheVariants as ending
+use Rattle.gb_cert.specs.declared.fault.CertFault.{CertFault}
+use Rattle.gb_cert.specs.declared.fault.CertFault.TheVariants.{Memory}
+use Rattle.gb_verify.specs.declared.upgrade.Upgraded.{Upgraded}
+use Rattle.gb_verify.specs.declared.upgrade.Upgraded.TheVariants as upgrade
 use Rattle.gb_verify.specs.declared.verify.Outcome.{Outcome}
 use Rattle.gb_verify.specs.declared.verify.Outcome.TheVariants as outcome
 use Rattle.gb_main.specs.declared.commands.RunOutcome.{RunOutcome}
@@ -22,6 +26,17 @@ verify_status outcome.NoMemory = status.Failed
 abbrev pub header_status : Option HeaderFault → Status
 header_status None = status.Done
 header_status (Some fault) = status.Unreadable
+
+-- of a certificate's file with this fault, or none; Memory is no fault of the file
+abbrev pub show_status : Option CertFault → Status
+show_status None = status.Done
+show_status (Some Memory) = status.Failed
+show_status (Some fault) = status.Unreadable
+
+abbrev pub upgrade_status : Upgraded → Status
+upgrade_status upgrade.Written = status.Done
+upgrade_status upgrade.Unreadable = status.Unreadable
+upgrade_status upgrade.NoMemory = status.Failed
 
 abbrev pub ending_status : Ending → Status
 ending_status ending.Whole = status.Done

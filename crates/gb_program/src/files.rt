@@ -60,6 +60,15 @@ fn is_input(name: &str) -> bool
     name == "-"
 }
 
+/// How a person is told of a file with this name.
+pub fn shown_name<'a>(name: &'a str) -> &'a str {
+    if is_input(name) {
+        "standard input"
+    } else {
+        name
+    }
+}
+
 /// Whether two files of a task are standard input, which can be read only once.
 pub fn has_input_twice(task: &Task<'_>) -> bool
     ensures { result ≡ has_input_twice task.now }
@@ -67,7 +76,7 @@ pub fn has_input_twice(task: &Task<'_>) -> bool
     match *task {
         Task::Verify { rom, cert } => is_input(rom) && is_input(cert),
         Task::Run { rom, script, .. } => is_input(rom) && is_input(script),
-        Task::Stored | Task::Header { .. } => false,
+        Task::Stored | Task::Header { .. } | Task::Show { .. } | Task::Upgrade { .. } => false,
     }
 }
 
@@ -101,12 +110,7 @@ pub fn read_file<R: Eprint + Input + Files + AllocGlobal>(
     match read {
         Ok(bytes) => Ok(bytes),
         Err(error) => {
-            let shown = if is_input(name) {
-                "standard input"
-            } else {
-                name
-            };
-            tell_file(rt, shown, &error);
+            tell_file(rt, shown_name(name), &error);
             Err(Trouble::from(error))
         }
     }

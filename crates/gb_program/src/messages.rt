@@ -4,8 +4,10 @@ ghost use Rattle.std.specs.Prelude.{◌≡◌};
 ghost use Rattle.gb_program.specs.Messages.{fault_text};
 ghost use Rattle.gb_program.specs.declared.status.Status.TheVariants as status;
 
-use crate::files::Trouble;
+use crate::files::{Trouble, shown_name};
 use crate::status::Status;
+use gb_cert_place::place::{Sought, fault_place};
+use gb_explain::explain;
 use std::io;
 
 /// The line of a fault.
@@ -37,6 +39,24 @@ pub fn tell_file<R: Eprint>(rt: &R, name: &str, error: &io::Error) {
         io::ErrorKind::OutOfMemory => eprintln!(rt; "gulmyrek: {name}: memory ran out"),
         _ => eprintln!(rt; "gulmyrek: {name}: {error}"),
     };
+}
+
+/// Says where in a certificate's file its fault is, if it has one. The bytes are read again; where that
+/// takes more memory than there is, nothing is said.
+pub fn tell_fault<R: Eprint + AllocGlobal>(rt: &R, name: &str, cert: &[u8]) {
+    if let Sought::Fault(place) = fault_place(rt.alloc(), cert) {
+        let name = shown_name(name);
+        let _ = eprintln!(rt; "gulmyrek: {name}: {place}");
+    }
+}
+
+/// Says of a refused certificate which node it is, what is wrong with it, and what usually mends that. The
+/// certificate is checked again; where memory runs out, nothing is said.
+pub fn tell_refusal<R: Eprint + AllocGlobal>(rt: &R, name: &str, rom: &[u8], cert: &[u8]) {
+    if let Some(explanation) = explain(rt.alloc(), rom, cert) {
+        let name = shown_name(name);
+        let _ = eprintln!(rt; "gulmyrek: {name}: {explanation}");
+    }
 }
 
 /// Says that standard output takes no more.

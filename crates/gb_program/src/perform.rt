@@ -1,14 +1,20 @@
 //! The commands, and what becomes of the words.
 
 use crate::files::{Trouble, has_input_twice, read_cartridge, read_certificate, read_file};
-use crate::messages::{complain, explain_input, explain_name, tell_output};
+use crate::messages::{
+    complain, explain_input, explain_name, tell_fault, tell_output, tell_refusal,
+};
 use crate::progress::Shown;
-use crate::status::{Status, header_status, run_status, verify_status};
+use crate::status::{
+    Status, header_status, run_status, show_status, upgrade_status, verify_status,
+};
 use crate::stored;
 use clap::Error;
 use clap::error::ErrorKind;
-use gb_main::{header_bytes, run_bytes};
+use gb_header::Rom;
+use gb_main::{header_bytes, run_bytes, show_bytes};
 use gb_text::sink::Plain;
+use gb_verify::upgrade::upgrade_bytes;
 use gb_verify::verify::verify_bytes;
 use gb_words::{Task, read_words};
 use std::io::Input;
@@ -24,15 +30,22 @@ fn verify<R: Print + Eprint + AllocGlobal>(rt: &R, rom: &[u8], cert: &[u8]) -> S
     }
 }
 
-/// The command `verify`.
+/// The command `verify`. Where the cartridge can't be read, the line says nothing of the certificate.
 fn verify_files<R: Print + Eprint + Input + Files + AllocGlobal>(
     rt: &R,
     rom: &str,
     cert: &str,
 ) -> Result<Status, Trouble> {
     let rom = read_cartridge(rt, rom)?;
-    let cert = read_certificate(rt, cert)?;
-    Ok(verify(rt, &rom, &cert))
+    let bytes = read_certificate(rt, cert)?;
+    let status = verify(rt, &rom, &bytes);
+    if status == Status::Unreadable && Rom::parse(&rom).is_ok() {
+        tell_fault(rt, cert, &bytes);
+    }
+    if status == Status::Refused {
+        tell_refusal(rt, cert, &rom, &bytes);
+    }
+    Ok(status)
 }
 
 /// The command `header`.
@@ -46,6 +59,40 @@ fn header<R: Print + Eprint + Input + Files + AllocGlobal>(
         Ok(fault) => Ok(header_status(fault)),
         Err(_) => Ok(tell_output(rt)),
     }
+}
+
+/// The command `show`.
+fn show<R: Print + Eprint + Input + Files + AllocGlobal>(
+    rt: &R,
+    cert: &str,
+) -> Result<Status, Trouble> {
+    let bytes = read_certificate(rt, cert)?;
+    let mut out = Plain::new(io::writer(rt));
+    let status = match show_bytes(rt.alloc(), &bytes, &mut out) {
+        Ok(fault) => show_status(fault),
+        Err(_) => return Ok(tell_output(rt)),
+    };
+    if status == Status::Unreadable {
+        tell_fault(rt, cert, &bytes);
+    }
+    Ok(status)
+}
+
+/// The command `upgrade`.
+fn upgrade<R: Print + Eprint + Input + Files + AllocGlobal>(
+    rt: &R,
+    cert: &str,
+) -> Result<Status, Trouble> {
+    let bytes = read_certificate(rt, cert)?;
+    let mut out = Plain::new(io::writer(rt));
+    let status = match upgrade_bytes(rt.alloc(), &bytes, &mut out) {
+        Ok(upgraded) => upgrade_status(upgraded),
+        Err(_) => return Ok(tell_output(rt)),
+    };
+    if status == Status::Unreadable {
+        tell_fault(rt, cert, &bytes);
+    }
+    Ok(status)
 }
 
 /// The command `run`; of a script no more is read than there are frames.
@@ -98,6 +145,8 @@ fn perform<R: Print + Eprint + Input + Files + AllocGlobal>(
         Task::Stored => Ok(verify(rt, &stored::cartridge(), stored::CERTIFICATE)),
         Task::Verify { rom, cert } => verify_files(rt, rom, cert),
         Task::Header { rom } => header(rt, rom),
+        Task::Show { cert } => show(rt, cert),
+        Task::Upgrade { cert } => upgrade(rt, cert),
         Task::Run {
             rom,
             script,

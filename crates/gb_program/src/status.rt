@@ -1,12 +1,14 @@
 //! What the program ends with.
 
 ghost use Rattle.std.specs.Prelude.{◌≡◌};
-ghost use Rattle.gb_program.specs.Status.{verify_status, header_status, run_status};
+ghost use Rattle.gb_program.specs.Status.{verify_status, header_status, show_status, upgrade_status, run_status};
 
 use crate::files::Trouble;
+use gb_cert::CertFault;
 use gb_console::Ending;
 use gb_header::HeaderFault;
 use gb_main::RunOutcome;
+use gb_verify::upgrade::Upgraded;
 use gb_verify::verify::Outcome;
 
 /// The statuses that the program ends with.
@@ -41,6 +43,28 @@ pub fn header_status(fault: Option<HeaderFault>) -> Status
     match fault {
         None => Status::Done,
         Some(_) => Status::Unreadable,
+    }
+}
+
+/// The status of a certificate's lines, or of the fault in their place.
+pub fn show_status(fault: Option<CertFault>) -> Status
+    ensures { result ≡ show_status fault }
+{
+    match fault {
+        None => Status::Done,
+        Some(CertFault::Memory) => Status::Failed,
+        Some(_) => Status::Unreadable,
+    }
+}
+
+/// The status of an upgrade.
+pub fn upgrade_status(upgraded: Upgraded) -> Status
+    ensures { result ≡ upgrade_status upgraded }
+{
+    match upgraded {
+        Upgraded::Written => Status::Done,
+        Upgraded::Unreadable => Status::Unreadable,
+        Upgraded::NoMemory => Status::Failed,
     }
 }
 

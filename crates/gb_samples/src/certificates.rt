@@ -40,3 +40,42 @@ pub fn least() -> [u8; 159] {
     write_nodes(&mut bytes, &[0x0100, 0x0101, 0x0150]);
     bytes
 }
+
+/// The same certificate in version 2, where the number of nodes and main's entry take four bytes.
+pub fn least_in_version_2() -> [u8; 163] {
+    let mut bytes = [0; 163];
+    put(
+        &mut bytes,
+        0,
+        &[
+            0x47, 0x42, 0x42, 0x43, 0x02, 0x00, 0xDF, 0xFF, 0xDF, 0x01, 0x03, 0x00, 0x00, 0x00,
+        ],
+    );
+    put(&mut bytes, 22, &least()[18..]);
+    bytes
+}
+
+/// A certificate of two procedures with a node each, the second at 4000 in bank 1FF. Main needs 128 words; the other
+/// needs 4,096, may write C000 to C0FF and FF80, and returns. From byte 20 on, behind its entry, both versions are alike.
+pub fn two_procedures() -> [u8; 168] {
+    let mut bytes = [0; 168];
+    put(&mut bytes, 0, &HEAD);
+    put(&mut bytes, 9, &[0x02, 0x02, 0x00]);
+    put(&mut bytes, 14, &[0x80]);
+    // Entry 1, need 4,096, two ranges, and an exit with its stack set.
+    put(
+        &mut bytes,
+        18,
+        &[
+            0x01, 0x00, 0x00, 0x10, 0x02, 0x00, 0xC0, 0xFF, 0xC0, 0x80, 0xFF, 0x80, 0xFF, 0x01,
+        ],
+    );
+    put(&mut bytes, 32, &STATE);
+    put(&mut bytes, 34, &[0x01]);
+    put(&mut bytes, 74, &[0x00, 0x00, 0x01, 0x00, 0x00]);
+    put(&mut bytes, 79, &STATE);
+    put(&mut bytes, 121, &[0x01, 0x00, 0x40, 0xFF, 0x01]);
+    put(&mut bytes, 126, &STATE);
+    put(&mut bytes, 128, &[0x01]);
+    bytes
+}

@@ -1,5 +1,6 @@
--- BIT, RES and SET stand for those of the machine.
-use Rattle.std.proofs.Common.{◌≡◌, ℕ, ◌-◌, ◌%◌, ◌<◌, ◌≤◌, Bool, true, false, ◌==◌, cond, bit_and, refl, sym, subst, arith}
+-- BIT, RES and SET stand for those of the machine, and a value may have a bit where one within the bounds has it.
+use Rattle.std.proofs.Common.{◌≡◌, ℕ, zero, suc, ◌+◌, ◌-◌, ◌*◌, ◌/◌, ◌%◌, ◌^◌, ◌<◌, ◌≤◌, Bool, true, false, not, ◌||◌, ◌==◌, nat_lt, cond, bit_and, refl, sym, ◌∙◌, subst, arith}
+use Rattle.std.proofs.lemmas.Bool.Decides.{nat_tests}
 use Rattle.std.proofs.lemmas.Nat.{and_le_l, le_or_l, or_lt}
 use Rattle.std.proofs.Math.Pow.{pow-lt}
 use Rattle.gb_ops.specs.declared.registers.Flags.{Flags}
@@ -9,8 +10,8 @@ use Rattle.gb_cert.specs.declared.types.Flg.{Flg}
 use Rattle.gb_cert.specs.Rules.{IsVal, IsFlg}
 use Rattle.gb_vals.specs.Vals.{between, single, is_single}
 use Rattle.gb_vals.specs.Flags.{known, greatest_flags}
-use Rattle.gb_vals.specs.Meaning.{In, FlagsIn, may_be, IsSoundOfVal, IsSoundOfTest}
-use Rattle.gb_vals.specs.Bits.{tested, tested_any, test_bit, reset_bit, set_bit}
+use Rattle.gb_vals.specs.Meaning.{In, FlagsIn, may_be, IsSoundOfVal, IsSoundOfTest, IsSoundAnswer, HasOne}
+use Rattle.gb_vals.specs.Bits.{tested, tested_any, test_bit, reset_bit, set_bit, has_bit, may_have_bit, enables, may_enable}
 use Rattle.gb_vals.proofs.MeaningLaws.{known-may_be, either-may_be, single-is, In-single, In-least, IsVal-from, IsFlg-from, FlagsIn-greatest}
 
 -- ---- BIT
@@ -109,3 +110,129 @@ reset_bit_inhabited n v o e h =
 pub set_bit_inhabited : (n : ℕ) (v o : Val) → o ≡ set_bit n v → IsVal v → IsVal o
 set_bit_inhabited n v o e h =
     subst (λ r. IsVal r) (sym e) (IsVal-from (set_bit n v) _ (In-set_bit n v v.lo h.hi (In-least v h)) (set_bit-byte n v h))
+
+-- ---- a bit that a value may have
+
+-- a fact about the weight of each bit of a byte
+each_weight : (P : ℕ → Type 0) → P 1 → P 2 → P 4 → P 8 → P 16 → P 32 → P 64 → P 128 → (i : ℕ) → i < 8 → P (2 ^ i)
+each_weight P a b c d e f g h zero lt = a
+each_weight P a b c d e f g h (suc zero) lt = b
+each_weight P a b c d e f g h (suc (suc zero)) lt = c
+each_weight P a b c d e f g h (suc (suc (suc zero))) lt = d
+each_weight P a b c d e f g h (suc (suc (suc (suc zero)))) lt = e
+each_weight P a b c d e f g h (suc (suc (suc (suc (suc zero))))) lt = f
+each_weight P a b c d e f g h (suc (suc (suc (suc (suc (suc zero)))))) lt = g
+each_weight P a b c d e f g h (suc (suc (suc (suc (suc (suc (suc zero))))))) lt = h
+each_weight P a b c d e f g h (suc (suc (suc (suc (suc (suc (suc (suc i)))))))) lt = absurd (omega arith)
+
+-- the bits from this weight on keep the order
+abbrev KeepsOrder : ℕ → Type 0
+KeepsOrder w = (a b : ℕ) → a ≤ b → a / w ≤ b / w
+
+keeps-order : (i : ℕ) → i < 8 → KeepsOrder (2 ^ i)
+keeps-order =
+    each_weight KeepsOrder (λ a b h. omega arith) (λ a b h. omega arith) (λ a b h. omega arith) (λ a b h. omega arith)
+    (λ a b h. omega arith) (λ a b h. omega arith) (λ a b h. omega arith) (λ a b h. omega arith)
+
+-- an odd number between two others
+odd_between : (a b y : ℕ) → a ≤ y → y ≤ b → (y % 2 == 1) ≡ true → ((a % 2 == 1) || (b % 2 == 1) || nat_lt (a / 2) (b / 2)) ≡ true
+odd_between a b y low high odd = grind (arith, nat_tests)
+
+pub may_have_bit_sound : (i : ℕ) (v : Val) (o : Bool) → o ≡ may_have_bit v i → i < 8 → IsSoundAnswer (has_bit i) v o
+unfolding may_have_bit
+may_have_bit_sound i v o e lt =
+    subst (λ b. IsSoundAnswer (has_bit i) v b) (sym e)
+    (record { gives = λ x m h. odd_between (v.lo / 2 ^ i) (v.hi / 2 ^ i) (x / 2 ^ i) (keeps-order i lt v.lo x m.least) (keeps-order i lt x v.hi m.most) h })
+
+-- the next number with the bit, where the bits above it change
+record IsNext (w lo hi : ℕ) : Type 0 where
+  least : lo ≤ w * (lo / w + 1)
+  most : w * (lo / w + 1) ≤ hi
+  odd : (w * (lo / w + 1) / w % 2 == 1) ≡ true
+
+abbrev HasNext : ℕ → Type 0
+HasNext w = (lo hi : ℕ) → (lo / w % 2 == 1) ≡ false → nat_lt (lo / w / 2) (hi / w / 2) ≡ true → IsNext w lo hi
+
+even : (n : ℕ) → (n % 2 == 1) ≡ false → n % 2 ≡ 0
+even n h = grind (arith, nat_tests)
+
+below : (a b : ℕ) → nat_lt a b ≡ true → a < b
+below a b h = grind (arith, nat_tests)
+
+odd-is : (n : ℕ) → n % 2 ≡ 1 → (n % 2 == 1) ≡ true
+odd-is n h = grind (arith, nat_tests)
+
+has-next : (i : ℕ) → i < 8 → HasNext (2 ^ i)
+has-next =
+    each_weight HasNext
+    (λ lo hi e l.
+    let n : lo / 1 % 2 ≡ 0 = even (lo / 1) e in
+    let m : lo / 1 / 2 < hi / 1 / 2 = below (lo / 1 / 2) (hi / 1 / 2) l in
+    record { least = omega arith; most = omega arith; odd = odd-is (1 * (lo / 1 + 1) / 1) (omega arith) })
+    (λ lo hi e l.
+    let n : lo / 2 % 2 ≡ 0 = even (lo / 2) e in
+    let m : lo / 2 / 2 < hi / 2 / 2 = below (lo / 2 / 2) (hi / 2 / 2) l in
+    record { least = omega arith; most = omega arith; odd = odd-is (2 * (lo / 2 + 1) / 2) (omega arith) })
+    (λ lo hi e l.
+    let n : lo / 4 % 2 ≡ 0 = even (lo / 4) e in
+    let m : lo / 4 / 2 < hi / 4 / 2 = below (lo / 4 / 2) (hi / 4 / 2) l in
+    record { least = omega arith; most = omega arith; odd = odd-is (4 * (lo / 4 + 1) / 4) (omega arith) })
+    (λ lo hi e l.
+    let n : lo / 8 % 2 ≡ 0 = even (lo / 8) e in
+    let m : lo / 8 / 2 < hi / 8 / 2 = below (lo / 8 / 2) (hi / 8 / 2) l in
+    record { least = omega arith; most = omega arith; odd = odd-is (8 * (lo / 8 + 1) / 8) (omega arith) })
+    (λ lo hi e l.
+    let n : lo / 16 % 2 ≡ 0 = even (lo / 16) e in
+    let m : lo / 16 / 2 < hi / 16 / 2 = below (lo / 16 / 2) (hi / 16 / 2) l in
+    record { least = omega arith; most = omega arith; odd = odd-is (16 * (lo / 16 + 1) / 16) (omega arith) })
+    (λ lo hi e l.
+    let n : lo / 32 % 2 ≡ 0 = even (lo / 32) e in
+    let m : lo / 32 / 2 < hi / 32 / 2 = below (lo / 32 / 2) (hi / 32 / 2) l in
+    record { least = omega arith; most = omega arith; odd = odd-is (32 * (lo / 32 + 1) / 32) (omega arith) })
+    (λ lo hi e l.
+    let n : lo / 64 % 2 ≡ 0 = even (lo / 64) e in
+    let m : lo / 64 / 2 < hi / 64 / 2 = below (lo / 64 / 2) (hi / 64 / 2) l in
+    record { least = omega arith; most = omega arith; odd = odd-is (64 * (lo / 64 + 1) / 64) (omega arith) })
+    (λ lo hi e l.
+    let n : lo / 128 % 2 ≡ 0 = even (lo / 128) e in
+    let m : lo / 128 / 2 < hi / 128 / 2 = below (lo / 128 / 2) (hi / 128 / 2) l in
+    record { least = omega arith; most = omega arith; odd = odd-is (128 * (lo / 128 + 1) / 128) (omega arith) })
+
+HasOne-bit : (i : ℕ) (v : Val) → i < 8 → IsVal v → may_have_bit v i ≡ true → HasOne (has_bit i) v
+unfolding may_have_bit
+HasOne-bit i v lt is h = choose (has_bit i v.lo) refl (has_bit i v.hi) refl h
+  where
+    choose :
+        (b : Bool) → has_bit i v.lo ≡ b → (c : Bool) → has_bit i v.hi ≡ c
+        → (b || c || nat_lt (v.lo / 2 ^ i / 2) (v.hi / 2 ^ i / 2)) ≡ true → HasOne (has_bit i) v
+    choose true e c f h = record { value = v.lo; within = record { least = omega arith; most = is.order }; holds = e }
+    choose false e true f h = record { value = v.hi; within = record { least = is.order; most = omega arith }; holds = f }
+    choose false e false f h =
+        let n = has-next i lt v.lo v.hi e h in
+        record { value = 2 ^ i * (v.lo / 2 ^ i + 1); within = record { least = n.least; most = n.most }; holds = n.odd }
+
+pub may_have_bit_complete : (i : ℕ) (v : Val) (o : Bool) → o ≡ may_have_bit v i → i < 8 → o ≡ true → IsVal v → HasOne (has_bit i) v
+may_have_bit_complete i v o e lt h is = HasOne-bit i v lt is (sym e ∙ h)
+
+-- ---- IE
+
+pub may_enable_sound : (v : Val) (o : Bool) → o ≡ may_enable v → IsSoundAnswer enables v o
+unfolding may_enable
+may_enable_sound v o e =
+    subst (λ b. IsSoundAnswer enables v b) (sym e) (record { gives = λ x m h. one_of v.lo v.hi x m.least m.most h })
+  where
+    one_of : (lo hi x : ℕ) → lo ≤ x → x ≤ hi → not (x % 32 == 0) ≡ true → (nat_lt lo hi || not (lo % 32 == 0)) ≡ true
+    one_of lo hi x low high h = grind (arith, nat_tests)
+
+pub may_enable_complete : (v : Val) (o : Bool) → o ≡ may_enable v → o ≡ true → IsVal v → HasOne enables v
+unfolding may_enable
+may_enable_complete v o e h is = choose (enables v.lo) refl (sym e ∙ h)
+  where
+    next : (lo hi : ℕ) → not (lo % 32 == 0) ≡ false → (nat_lt lo hi || false) ≡ true → (lo + 1 ≤ hi) × (not ((lo + 1) % 32 == 0) ≡ true)
+    next lo hi e h = (grind (arith, nat_tests), grind (arith, nat_tests))
+
+    choose : (b : Bool) → enables v.lo ≡ b → (nat_lt v.lo v.hi || b) ≡ true → HasOne enables v
+    choose true e h = record { value = v.lo; within = record { least = omega arith; most = is.order }; holds = e }
+    choose false e h =
+        let n = next v.lo v.hi e h in
+        record { value = v.lo + 1; within = record { least = omega arith; most = n.0 }; holds = n.1 }

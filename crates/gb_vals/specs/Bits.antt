@@ -1,5 +1,5 @@
--- BIT, RES and SET on intervals (CPU instruction set: single bits; own).
-use Rattle.std.specs.Prelude.{ℕ, false, true, if◌then◌else◌}
+-- BIT, RES and SET on intervals, and whether a value may have a bit (CPU instruction set: single bits; own).
+use Rattle.std.specs.Prelude.{ℕ, ◌/◌, ◌%◌, ◌^◌, Bool, false, true, not, ◌||◌, ◌==◌, nat_lt, if◌then◌else◌}
 use Rattle.gb_cert.specs.declared.types.Val.{Val}
 use Rattle.gb_cert.specs.declared.types.May.{May}
 use Rattle.gb_cert.specs.declared.types.Flg.{Flg}
@@ -24,3 +24,21 @@ reset_bit n v = if is_single v then single (machine.bit_reset n v.lo) else betwe
 
 unfoldable pub set_bit : ℕ → Val → Val
 set_bit n v = if is_single v then single (machine.bit_set n v.lo) else between v.lo 255
+
+-- ---- bits that a value may have
+
+-- bit i of n is set
+abbrev pub has_bit : ℕ → ℕ → Bool
+has_bit i n = n / 2 ^ i % 2 == 1
+
+-- one of the values has bit i: an end has it, or the bits above it change from the least value to the greatest
+unfoldable pub may_have_bit : Val → ℕ → Bool
+may_have_bit v i = has_bit i v.lo || has_bit i v.hi || nat_lt (v.lo / 2 ^ i / 2) (v.hi / 2 ^ i / 2)
+
+-- n enables an interrupt: it has one of bits 0 to 4
+abbrev pub enables : ℕ → Bool
+enables n = not (n % 32 == 0)
+
+-- one of the values enables an interrupt: of two that follow one another one does
+unfoldable pub may_enable : Val → Bool
+may_enable v = nat_lt v.lo v.hi || enables v.lo

@@ -50,6 +50,16 @@ pub record IsSoundOfTest (machine : ℕ → Flags → Flags) (v : Val) (f o : Fl
 pub record IsSoundOfFlags (machine : Flags → Flags) (f o : Flg) : Type 0 where
   pub gives : (g : Flags) → FlagsIn f g → FlagsIn o (machine g)
 
+-- the answer is yes where one of the values has a property
+pub record IsSoundAnswer (property : ℕ → Bool) (v : Val) (answer : Bool) : Type 0 where
+  pub gives : (x : ℕ) → In v x → property x ≡ true → answer ≡ true
+
+-- one of the values has a property
+pub record HasOne (property : ℕ → Bool) (v : Val) : Type 0 where
+  pub value : ℕ
+  pub within : In v value
+  pub holds : property value ≡ true
+
 -- an outcome has a value, and each flag has one
 pub record IsOutcome (o : Outcome) : Type 0 where
   pub val : IsVal o.val

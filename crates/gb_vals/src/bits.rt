@@ -1,9 +1,9 @@
-//! Single bits of intervals.
+//! Single bits of intervals: BIT, RES and SET, and whether a value may have a bit.
 
-ghost use Rattle.std.specs.Prelude.{◌≡◌, false};
+ghost use Rattle.std.specs.Prelude.{◌≡◌, ◌<◌, true, false};
 ghost use Rattle.gb_ops.specs.Arithmetic as machine;
 ghost use Rattle.gb_cert.specs.Rules.{IsVal, IsFlg};
-ghost use Rattle.gb_vals.specs.Meaning.{IsSoundOfVal, IsSoundOfTest};
+ghost use Rattle.gb_vals.specs.Meaning.{IsSoundOfVal, IsSoundOfTest, IsSoundAnswer, HasOne};
 ghost use Rattle.gb_vals.specs.Bits as Bits;
 
 use crate::flags::{either, greatest_flags, known, known_flags};
@@ -70,4 +70,40 @@ pub fn set_bit(n: u8, val: Val) -> Val
     } else {
         between(val.lo, 255)
     }
+}
+
+fn has_bit(bit: u8, value: u8) -> bool
+    requires { bit < 8 }
+    ensures { result ≡ Bits.has_bit bit value }
+{
+    (value >> bit) % 2 == 1
+}
+
+#[tactic(auto, unfolding(crate::specs::Bits::may_have_bit))]
+fn any_has_bit(val: &Val, bit: u8) -> bool
+    requires { bit < 8 }
+    ensures { result ≡ Bits.may_have_bit val.now bit }
+{
+    has_bit(bit, val.lo) || has_bit(bit, val.hi) || (val.lo >> bit) / 2 < (val.hi >> bit) / 2
+}
+
+/// Whether a value may have bit 0 to 7: whether one within the bounds has it.
+#[tactic(auto, using(crate::proofs::BitLaws::may_have_bit_sound, crate::proofs::BitLaws::may_have_bit_complete))]
+pub fn may_have_bit(val: &Val, bit: u8) -> bool
+    requires { bit < 8 }
+    ensures exact { result ≡ Bits.may_have_bit val.now bit }
+    ensures sound { IsSoundAnswer (Bits.has_bit bit) val.now result }
+    ensures complete { result ≡ true → IsVal val.now → HasOne (Bits.has_bit bit) val.now }
+{
+    any_has_bit(val, bit)
+}
+
+/// Whether IE, within these bounds, may enable one of the five interrupts (Interrupts: bits 0 to 4).
+#[tactic(auto, using(crate::proofs::BitLaws::may_enable_sound, crate::proofs::BitLaws::may_enable_complete), unfolding(crate::specs::Bits::may_enable))]
+pub fn may_enable(val: &Val) -> bool
+    ensures exact { result ≡ Bits.may_enable val.now }
+    ensures sound { IsSoundAnswer Bits.enables val.now result }
+    ensures complete { result ≡ true → IsVal val.now → HasOne Bits.enables val.now }
+{
+    val.lo < val.hi || val.lo % 32 != 0
 }

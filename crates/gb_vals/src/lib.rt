@@ -5,7 +5,8 @@
 //!
 //! Read `vals` and `flags`, then `sums`, `logic`, `shifts`, `bits`, `daa` and `carry`, then `alu`, and
 //! last `branch`, which narrows A and the flags by a condition. `Meaning` of the definitions says what
-//! an interval stands for.
+//! an interval stands for. `bits` also answers whether one of an interval's values
+//! has a bit (`sound`, `complete`).
 #![tactic(auto)]
 
 pub mod alu;

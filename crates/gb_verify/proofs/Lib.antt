@@ -1,4 +1,6 @@
 pub mod AnswerLaws
+pub mod FileLaws
 pub mod RunLaws
 pub mod StartLaws
+pub mod UpgradeLaws
 pub mod VerdictLaws

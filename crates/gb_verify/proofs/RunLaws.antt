@@ -11,17 +11,21 @@ use Rattle.gb_ops.specs.declared.machine.Event.TheVariants as event
 use Rattle.gb_ops.specs.Machine.{is_possible, is_ime, is_running, has_enabled_bit}
 use Rattle.gb_ops.specs.Faults.{no_faults, either_faults}
 use Rattle.gb_ops.specs.Play.{MState, IsStart, within, next, play}
+use Rattle.gb_cert.specs.declared.types.Val.{Val}
 use Rattle.gb_cert.specs.declared.types.ImeSet.{ImeSet}
 use Rattle.gb_cert.specs.declared.types.Core.{Core}
 use Rattle.gb_cert.specs.Types.{Node}
 use Rattle.gb_cert.specs.Certificate.{Certificate}
-use Rattle.gb_abs.specs.Meaning.{Means, ime_may_be}
+use Rattle.gb_cert.specs.Rules.{IsCertificate}
+use Rattle.gb_vals.specs.Bits.{may_enable}
+use Rattle.gb_abs_memory.specs.Sound.{IsRom}
+use Rattle.gb_abs.specs.Meaning.{Holds, Means, ime_may_be}
 use Rattle.gb_abs.specs.declared.reason.Reason.{Reason}
 use Rattle.gb_blocks.specs.Rules.{reason_of}
-use Rattle.gb_blocks.specs.Places.{IsCertified}
-use Rattle.gb_blocks.specs.Safety.{IsMeant, IsSafeEvent}
+use Rattle.gb_code.specs.Places.{IsCertified}
+use Rattle.gb_blocks.specs.Safety.{IsMeant, IsSafeEvent, IsNoDispatch}
 use Rattle.gb_blocks.proofs.EventLaws.{IsSafeNode-right, IsSafeEvent-where}
-use Rattle.gb_verify.specs.Verdict.{IsRight, IsVerdict, may_enable, may_be_interrupted, or_interrupt, reason_against}
+use Rattle.gb_verify.specs.Verdict.{IsRight, IsVerdict, may_be_interrupted, or_interrupt, reason_against}
 use Rattle.gb_verify.specs.Headline.{IsSafe, IfAccepted}
 use Rattle.gb_verify.specs.declared.verdict.Verdict.{Verdict}
 use Rattle.gb_verify.specs.declared.verdict.Verdict.TheVariants.{Accepted, Refused}
@@ -57,19 +61,22 @@ no_bit ie i none lt = elim (cases i lt) [
     bit4 : (n : ℕ) → n % 32 ≡ 0 → n / 16 % 2 ≡ 0
     bit4 n h = omega arith
 
-none_enabled : (lo hi ie : ℕ) → may_enable lo hi ≡ false → lo ≤ ie → ie ≤ hi → ie % 32 ≡ 0
-none_enabled lo hi ie h least most =
+zero_of : (n : ℕ) → not (n == 0) ≡ false → n ≡ 0
+zero_of n h = grind (arith, nat_tests)
+
+none_enabled : (v : Val) (entry : MState) (ie : ℕ) → may_enable v ≡ false → Holds v entry ie → ie % 32 ≡ 0
+unfolding may_enable
+none_enabled v entry ie h k =
     let p = or_parts _ _ h in
-    let single : hi ≤ lo = not_less lo hi p.0 in
-    let even : lo % 32 ≡ 0 = zero_of (lo % 32) p.1 in
-    let e : ie ≡ lo = omega arith in
+    let single : v.hi ≤ v.lo = not_less v.lo v.hi p.0 in
+    let even : v.lo % 32 ≡ 0 = zero_of (v.lo % 32) p.1 in
+    let least = k.least in
+    let most = k.most in
+    let e : ie ≡ v.lo = omega arith in
     rw e even
   where
     not_less : (a b : ℕ) → nat_lt a b ≡ false → b ≤ a
     not_less a b h = grind (arith, nat_tests)
-
-    zero_of : (n : ℕ) → not (n == 0) ≡ false → n ≡ 0
-    zero_of n h = grind (arith, nat_tests)
 
 -- where interrupts may be on, none is enabled
 is_calm : (set : ImeSet) (i : Ime) (may : Bool) → (set.on && may) ≡ false → ime_may_be set i ≡ true → is_ime i ime.On ≡ true → may ≡ false
@@ -81,7 +88,7 @@ is_calm set ime.On may h m on = and_true set.on may m h
     and_true true b e h = h
     and_true false b e h = cc
 
-calm_core : (s : Core) → may_be_interrupted s ≡ false → (s.ime.on && may_enable s.ie.lo s.ie.hi) ≡ false
+calm_core : (s : Core) → may_be_interrupted s ≡ false → (s.ime.on && may_enable s.ie) ≡ false
 unfolding may_be_interrupted
 calm_core s h = h
 
@@ -93,9 +100,7 @@ no_dispatch rom n entry base x i calm m =
     decide (is_running (within rom x)) (is_ime x.processor.ime ime.On) (nat_lt i 5) (has_enabled_bit (within rom x) i)
     (λ on lt.
     let none = is_calm n.state.core.ime x.processor.ime _ (calm_core n.state.core calm) m.core.ime on in
-    let least = m.core.ie.least in
-    let most = m.core.ie.most in
-    rw (no_bit x.storage.ie i (none_enabled _ _ x.storage.ie none least most) (below i 5 lt)) refl)
+    rw (no_bit x.storage.ie i (none_enabled n.state.core.ie entry x.storage.ie none m.core.ie) (below i 5 lt)) refl)
   where
     below : (a b : ℕ) → nat_lt a b ≡ true → a < b
     below a b h = grind (arith, nat_tests)
@@ -116,16 +121,18 @@ unfolding reason_against
 right_node rom cert n h = right_reason (reason_of rom cert n) (may_be_interrupted n.state.core) h
 
 -- one event, from a state that a node of a right certificate means
-pub IsSafeEvent-right : (rom : List ℕ) (cert : Certificate) (entry : MState) (base : ℕ) (s : MState) (e : Event) → IsRight rom cert → IsMeant cert entry base s → IsSafeEvent rom cert entry base s e
-IsSafeEvent-right rom cert entry base s e right m =
+pub IsSafeEvent-right : (rom : List ℕ) (cert : Certificate) (procedure : ℕ) (entry : MState) (base : ℕ) (s : MState) (e : Event) → IsRom rom → IsCertificate cert → IsRight rom cert
+    → IsMeant rom cert procedure entry base s → IsSafeEvent rom cert procedure entry base s e
+IsSafeEvent-right rom cert procedure entry base s e cartridge certificate right m =
     let p = right_node rom cert m.node (All-contains (λ n. reason_against rom cert n ≡ None) cert.nodes m.node right.nodes m.is_node) in
-    let safe = IsSafeNode-right rom cert m.node m.is_node p.0 entry base s in
-    elim e as (λ e. IsSafeEvent rom cert entry base s e) [
-      | event.Run fetch reads ↦ safe (event.Run fetch reads) tt m.at m.means
-      | event.HaltStay ↦ safe event.HaltStay tt m.at m.means
-      | event.HaltBug ↦ safe event.HaltBug tt m.at m.means
-      | event.Irq i ↦ IsSafeEvent-where rom cert entry base s (event.Irq i) false (no_dispatch rom m.node entry base s i p.1 m.means) m (λ h. absurd (different h))
-      | event.Wait cycles ↦ safe (event.Wait cycles) tt m.at m.means
+    let safe = IsSafeNode-right rom cert m.node cartridge certificate m.is_node p.0 entry base s in
+    let here : (e : Event) → IsNoDispatch e → IsSafeEvent rom cert procedure entry base s e = λ e other. subst (λ q. IsSafeEvent rom cert q entry base s e) m.procedure_is (safe e other m.at) in
+    elim e as (λ e. IsSafeEvent rom cert procedure entry base s e) [
+      | event.Run fetch reads ↦ here (event.Run fetch reads) tt
+      | event.HaltStay ↦ here event.HaltStay tt
+      | event.HaltBug ↦ here event.HaltBug tt
+      | event.Irq i ↦ IsSafeEvent-where rom cert procedure entry base s (event.Irq i) false (no_dispatch rom m.node entry base s i p.1 m.at.means) m (λ h. absurd (different h))
+      | event.Wait cycles ↦ here (event.Wait cycles) tt
     ]
   where
     different : false ≡ true → ⊥
@@ -133,38 +140,39 @@ IsSafeEvent-right rom cert entry base s e right m =
 
 -- ---- runs
 
--- a run has no fault, fetches certified places, and leads to a state that a node means
-pub record IsSafeRun (rom : List ℕ) (cert : Certificate) (entry : MState) (base : ℕ) (s : MState) (events : List Event) : Type 0 where
+-- a run has no fault, fetches certified places, and leads to a state that a node of the procedure means
+pub record IsSafeRun (rom : List ℕ) (cert : Certificate) (procedure : ℕ) (entry : MState) (base : ℕ) (s : MState) (events : List Event) : Type 0 where
   pub faults : (play rom cert.region s events).faults ≡ no_faults
   pub places : All (IsCertified rom cert) (play rom cert.region s events).places
-  pub meant : IsMeant cert entry base (play rom cert.region s events).state
+  pub meant : IsMeant rom cert procedure entry base (play rom cert.region s events).state
 
 -- every list of events, from a state that a node of a right certificate means
-pub run_safe : (rom : List ℕ) (cert : Certificate) (entry : MState) (base : ℕ) (s : MState) (events : List Event) → IsRight rom cert → IsMeant cert entry base s → IsSafeRun rom cert entry base s events
+pub run_safe : (rom : List ℕ) (cert : Certificate) (procedure : ℕ) (entry : MState) (base : ℕ) (s : MState) (events : List Event) → IsRom rom → IsCertificate cert → IsRight rom cert
+    → IsMeant rom cert procedure entry base s → IsSafeRun rom cert procedure entry base s events
 unfolding play either_faults
-run_safe rom cert entry base s [] right m = record { faults = refl; places = All-nil _; meant = m }
-run_safe rom cert entry base s (e ∷ events) right m =
-    let first = IsSafeEvent-right rom cert entry base s e right m in
-    let rest = run_safe rom cert entry base (next rom s e) events right first.meant in
+run_safe rom cert procedure entry base s [] cartridge certificate right m = record { faults = refl; places = All-nil _; meant = m }
+run_safe rom cert procedure entry base s (e ∷ events) cartridge certificate right m =
+    let first = IsSafeEvent-right rom cert procedure entry base s e cartridge certificate right m in
+    let rest = run_safe rom cert procedure entry base (next rom s e) events cartridge certificate right first.meant in
     record {
       faults = rw (first.faults, rest.faults) refl;
       places = All-append (IsCertified rom cert) _ _ first.places rest.places;
       meant = rest.meant;
     }
 
-pub IsSafe-right : (rom : List ℕ) (cert : Certificate) → IsRight rom cert → IsSafe rom cert
-IsSafe-right rom cert right =
-    let run : (s : MState) (events : List Event) → IsStart rom s → IsSafeRun rom cert s (main_base cert) s events =
-    λ s events start. run_safe rom cert s (main_base cert) s events right (IsMeant-start rom cert s right.entry start) in
+pub IsSafe-right : (rom : List ℕ) (cert : Certificate) → IsRom rom → IsCertificate cert → IsRight rom cert → IsSafe rom cert
+IsSafe-right rom cert cartridge certificate right =
+    let run : (s : MState) (events : List Event) → IsStart rom s → IsSafeRun rom cert 0 s (main_base cert) s events =
+    λ s events start. run_safe rom cert 0 s (main_base cert) s events cartridge certificate right (IsMeant-start rom cert s certificate right.entry start) in
     record {
       faults = λ s events start. (run s events start).faults;
       places = λ s events start. (run s events start).places;
       running = λ s reached.
-          let m = subst (IsMeant cert reached.start (main_base cert)) reached.leads (run reached.start reached.events reached.is_start).meant in
-          (m.means.core.locked, m.means.core.stopped);
+          let m = subst (IsMeant rom cert 0 reached.start (main_base cert)) reached.leads (run reached.start reached.events reached.is_start).meant in
+          (m.at.means.core.locked, m.at.means.core.stopped);
     }
 
 -- what the verdict says is what is promised
-pub check_safe : (rom : List ℕ) (cert : Certificate) (v : Verdict) → IsVerdict rom cert v → IfAccepted v (IsSafe rom cert)
-check_safe rom cert (Accepted nodes procedures) h = IsSafe-right rom cert h.0
-check_safe rom cert (Refused i r) h = tt
+pub check_safe : (rom : List ℕ) (cert : Certificate) (v : Verdict) → IsRom rom → IsCertificate cert → IsVerdict rom cert v → IfAccepted v (IsSafe rom cert)
+check_safe rom cert (Accepted nodes procedures) cartridge certificate h = IsSafe-right rom cert cartridge certificate h.0
+check_safe rom cert (Refused i r) cartridge certificate h = tt

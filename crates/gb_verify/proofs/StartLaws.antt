@@ -1,6 +1,8 @@
 -- Power-up is one of the machine states that its abstract state means.
-use Rattle.std.proofs.Common.{◌≡◌, ℕ, ◌+◌, ◌*◌, ◌≤◌, ◌<◌, Bool, true, false, not, ◌==◌, ◌⊎◌, inl, inr, List, Option, Some, None, length, get_or, slice_get, slice_index, refl, sym, ◌∙◌, ap, arith}
-use Rattle.std.proofs.lemmas.Bool.{eqb-true, not-false, or_parts}
+use Rattle.std.proofs.Common.{◌≡◌, ℕ, ◌+◌, ◌*◌, ◌≤◌, ◌<◌, Bool, true, false, not, ◌==◌, nat_le, ◌⊎◌, inl, inr, List, [], ◌∷◌, Option, Some, None, length, get_or, slice_get, slice_index, refl, sym, ◌∙◌, ap, arith}
+use Rattle.std.proofs.lemmas.Bool.{eqb-true, not-false, or_parts, and_parts}
+use Rattle.std.proofs.lemmas.Bool.Decides.{nat_tests}
+use Rattle.gb_ops.specs.declared.machine.Region.{Region}
 use Rattle.std.specs.List.{All, Contains}
 use Rattle.std.proofs.lemmas.List.{get_or_past}
 use Rattle.gb_ops.specs.declared.op.Register.{Register}
@@ -13,18 +15,22 @@ use Rattle.gb_ops.specs.Play.{MState, IsStart, processor_at_power_up}
 use Rattle.gb_cert.specs.declared.types.Origin.{Origin}
 use Rattle.gb_cert.specs.declared.types.Origin.TheVariants as origin
 use Rattle.gb_cert.specs.declared.types.Val.{Val}
-use Rattle.gb_cert.specs.Types.{Node}
+use Rattle.gb_cert.specs.Types.{AbsState, ProcedureParts, Node}
+use Rattle.gb_cert.specs.Rules.{IsCertificate, is_of, have_entries}
 use Rattle.gb_cert.specs.Certificate.{Certificate}
 use Rattle.gb_abs.specs.Storage.{peek, peek_by}
 use Rattle.gb_abs.specs.Meaning.{Holds, HoldsFlags, MeansCore, Means, IsMemory, origin_value, ime_may_be}
 use Rattle.gb_vals.specs.Flags.{known}
 use Rattle.gb_vals.specs.Meaning.{may_be}
 use Rattle.gb_vals.proofs.MeaningLaws.{known-may_be}
+use Rattle.gb_abs.specs.Covering.{covers}
+use Rattle.gb_abs.specs.Stack.{AreInRegion}
 use Rattle.gb_abs.proofs.CoveringLaws.{Means-covered}
 use Rattle.gb_blocks.specs.Safety.{IsMeant}
 use Rattle.gb_blocks.proofs.SearchLaws.{Contains-slice_get}
+use Rattle.gb_blocks.proofs.StandLaws.{covered_items}
 use Rattle.gb_verify.specs.PowerUp.{core_at_power_up, state_at_power_up}
-use Rattle.gb_verify.specs.Verdict.{is_bad_entry, is_bad_node, main_entry}
+use Rattle.gb_verify.specs.Verdict.{is_bad_entry, is_bad_node, main_entry, entry_of}
 
 Holds-own : (v : Val) (entry : MState) (x : ℕ) (o : Origin) → v.lo ≡ x → v.hi ≡ x → v.origin ≡ Some o → x ≡ origin_value o entry → Holds v entry x
 Holds-own v entry x o l h e s =
@@ -73,7 +79,6 @@ MeansCore-at_start rom cert s h =
       };
       count = let a = h.count in omega arith;
       test = tt;
-      mark = ap (λ p. p.halt_mark) h.processor;
       locked = ap (λ p. p.locked) h.processor;
       stopped = ap (λ p. p.stopped) h.processor;
     }
@@ -108,12 +113,16 @@ main_base cert = cert.region.last + 1
 stack_start : (last : ℕ) → (last == 0xFFFD) ≡ true → 0xFFFE + 2 * 0 ≡ last + 1
 stack_start last h = let e : last ≡ 0xFFFD = eqb-true last 0xFFFD h in omega arith
 
+small_start : (sp : ℕ) → sp ≡ 0xFFFE → sp < 65536
+small_start sp h = omega arith
+
 Means-start : (rom : List ℕ) (cert : Certificate) (s : MState) → IsStart rom s → Means (state_at_power_up rom cert.region) s (main_base cert) s
 unfolding core_at_power_up processor_at_power_up
 Means-start rom cert s h =
     record {
       core = MeansCore-at_start rom cert s h;
       memory = IsMemory-start rom s h;
+      sp = small_start s.processor.sp (ap (λ p. p.sp) h.processor);
       stack = λ e. ap (λ p. p.sp + 2 * 0) h.processor ∙ stack_start cert.region.last e;
       items = tt;
       cells = tt;
@@ -123,21 +132,58 @@ pc_start : (rom : List ℕ) (s : MState) → IsStart rom s → s.processor.pc �
 unfolding processor_at_power_up
 pc_start rom s h = ap (λ p. p.pc) h.processor
 
-IsMeant-entry : (rom : List ℕ) (cert : Certificate) (o : Option Node) (s : MState) → ((n : Node) → o ≡ Some n → Contains cert.nodes n)
-    → is_bad_node rom cert o ≡ false → IsStart rom s → IsMeant cert s (main_base cert) s
-IsMeant-entry rom cert None s f h i = cc
-IsMeant-entry rom cert (Some n) s f h i =
+mark_start : (rom : List ℕ) (s : MState) → IsStart rom s → s.processor.halt_mark ≡ false
+unfolding processor_at_power_up
+mark_start rom s h = ap (λ p. p.halt_mark) h.processor
+
+items_covered : (rom : List ℕ) (region : Region) (t : AbsState) → covers (state_at_power_up rom region) t ≡ true → length t.items ≡ 0
+items_covered rom region t h = covered_items (state_at_power_up rom region) t h
+
+-- main's stack has room for no words
+room_start : (cert : Certificate) (n : Node) → IsCertificate cert → length n.state.items ≡ 0 → AreInRegion cert.region (main_base cert) (length n.state.items)
+room_start cert n c none =
+    let area = and_parts _ _ c.region.area in
+    let order : cert.region.first ≤ cert.region.last = ordered cert.region.first cert.region.last area.0 in
+    record { first = omega arith; last = omega arith }
+  where
+    ordered : (a b : ℕ) → nat_le a b ≡ true → a ≤ b
+    ordered a b h = grind (arith, nat_tests)
+
+-- main's entry is a node of main's
+is_of_main : (o : Option Node) (n : Node) → o ≡ Some n → is_of 0 o ≡ true → n.procedure ≡ 0
+is_of_main None n e h = cc
+is_of_main (Some m) n e h = let same : m ≡ n = cc in sym (ap (λ (k : Node). k.procedure) same) ∙ eqb-true m.procedure 0 h
+
+main_entry_node : (cert : Certificate) (n : Node) → IsCertificate cert → slice_get cert.nodes (main_entry cert) ≡ Some n → n.procedure ≡ 0
+unfolding have_entries
+main_entry_node cert n c at = by cert.procedures c.some_procedure c.entries at
+  where
+    by : (ps : List ProcedureParts) → 0 < length ps → have_entries 0 ps cert.nodes ≡ true → slice_get cert.nodes (entry_of (slice_get ps 0)) ≡ Some n → n.procedure ≡ 0
+    by [] lt h e = absurd (omega arith)
+    by (p ∷ ps) lt h e = is_of_main (slice_get cert.nodes p.entry) n e (and_parts _ _ h).0
+
+IsMeant-entry : (rom : List ℕ) (cert : Certificate) (o : Option Node) (s : MState) → IsCertificate cert → ((n : Node) → o ≡ Some n → Contains cert.nodes n) → ((n : Node) → o ≡ Some n → n.procedure ≡ 0)
+    → is_bad_node rom cert o ≡ false → IsStart rom s → IsMeant rom cert 0 s (main_base cert) s
+IsMeant-entry rom cert None s c f g h i = cc
+IsMeant-entry rom cert (Some n) s c f g h i =
     let p = or_parts _ _ h in
     let q = or_parts _ _ p.0 in
+    let covered = not-false _ p.1 in
     record {
       node = n;
       is_node = f n refl;
-      at = pc_start rom s i ∙ sym (eqb-true _ _ (not-false _ q.0));
-      means = Means-covered _ _ _ _ _ (not-false _ p.1) (Means-start rom cert s i);
+      procedure_is = g n refl;
+      at = record {
+        address = pc_start rom s i ∙ sym (eqb-true _ _ (not-false _ q.0));
+        means = Means-covered _ _ _ _ _ covered (Means-start rom cert s i);
+        mark = inl (mark_start rom s i);
+        main = λ is. refl;
+        room = room_start cert n c (items_covered rom cert.region n.state covered);
+      };
     }
 
 -- a start is meant by main's entry
-pub IsMeant-start : (rom : List ℕ) (cert : Certificate) (s : MState) → is_bad_entry rom cert ≡ false → IsStart rom s → IsMeant cert s (main_base cert) s
+pub IsMeant-start : (rom : List ℕ) (cert : Certificate) (s : MState) → IsCertificate cert → is_bad_entry rom cert ≡ false → IsStart rom s → IsMeant rom cert 0 s (main_base cert) s
 unfolding is_bad_entry
-IsMeant-start rom cert s good start =
-    IsMeant-entry rom cert (slice_get cert.nodes (main_entry cert)) s (Contains-slice_get cert.nodes (main_entry cert)) (or_parts _ _ good).1 start
+IsMeant-start rom cert s c good start =
+    IsMeant-entry rom cert (slice_get cert.nodes (main_entry cert)) s c (Contains-slice_get cert.nodes (main_entry cert)) (λ n at. main_entry_node cert n c at) good start

@@ -6,7 +6,7 @@ use Rattle.gb_cert.specs.Types.{Node}
 use Rattle.gb_cert.specs.Certificate.{Certificate}
 use Rattle.gb_abs.specs.declared.reason.Reason.{Reason}
 use Rattle.gb_abs.specs.declared.reason.Reason.TheVariants as reason
-use Rattle.gb_blocks.specs.Rules.{applies, reason_of}
+use Rattle.gb_blocks.specs.Rules.{applies, reason_of, stores_outside, leads_uncovered, ranges_of}
 use Rattle.gb_verify.specs.declared.verdict.Verdict.TheVariants.{Refused}
 use Rattle.gb_verify.specs.Verdict.{reason_against, reason_against_at, refusal_or, verdict_from, verdict_of, is_bad_entry, main_entry, IsVerdict, IgnoresVersion}
 
@@ -81,7 +81,7 @@ IsVerdict-verdict_of rom cert = by (is_bad_entry rom cert) refl
 -- ---- the version
 
 same_reason : (rom : List ℕ) (cert : Certificate) (version : ℕ) (n : Node) → reason_against rom (record cert { version = version }) n ≡ reason_against rom cert n
-unfolding reason_against reason_of applies
+unfolding reason_against reason_of applies stores_outside leads_uncovered ranges_of
 same_reason rom cert version n = refl
 
 same_from : (rom : List ℕ) (cert : Certificate) (version i : ℕ) (xs : List Node) → verdict_from rom (record cert { version = version }) i xs ≡ verdict_from rom cert i xs

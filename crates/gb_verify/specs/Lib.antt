@@ -1,4 +1,6 @@
 pub mod Headline
 pub mod PowerUp
+pub mod CertificateFile
 pub mod Text
+pub mod Upgrade
 pub mod Verdict

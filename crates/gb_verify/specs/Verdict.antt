@@ -1,12 +1,10 @@
 -- When a certificate is right for a cartridge, and the verdict (own rules).
-use Rattle.std.specs.Prelude.{◌≡◌, ℕ, ◌+◌, ◌%◌, ◌<◌, Bool, true, false, not, ◌&&◌, ◌||◌, ◌==◌, nat_lt, if◌then◌else◌, List, [], ◌∷◌, length, ◌⊎◌, slice_get, Option, Some, None, option_and_then}
+use Rattle.std.specs.Prelude.{◌≡◌, ℕ, ◌+◌, ◌<◌, Bool, true, false, not, ◌&&◌, ◌||◌, ◌==◌, if◌then◌else◌, List, [], ◌∷◌, length, ◌⊎◌, slice_get, Option, Some, None, option_and_then}
 use Rattle.std.specs.List.{All}
-use Rattle.gb_ops.specs.declared.machine.Kind.{Kind}
-use Rattle.gb_ops.specs.declared.machine.Kind.TheVariants as kind
-use Rattle.gb_ops.specs.Cartridge.{kind_of}
 use Rattle.gb_cert.specs.declared.types.Core.{Core}
 use Rattle.gb_cert.specs.Types.{ProcedureParts, Node}
 use Rattle.gb_cert.specs.Certificate.{Certificate}
+use Rattle.gb_vals.specs.Bits.{may_enable}
 use Rattle.gb_abs.specs.declared.reason.Reason.{Reason}
 use Rattle.gb_abs.specs.declared.reason.Reason.TheVariants as reason
 use Rattle.gb_abs.specs.Covering.{covers}
@@ -25,13 +23,6 @@ entry_of (Some p) = p.entry
 abbrev pub main_entry : Certificate → ℕ
 main_entry cert = entry_of (slice_get cert.procedures 0)
 
--- cartridges with a controller have no rules yet
-abbrev pub has_controller : Kind → Bool
-has_controller kind.Rom = false
-has_controller kind.Mbc1 = true
-has_controller kind.Mbc3 = true
-has_controller kind.Mbc5 = true
-
 abbrev pub is_bad_node : List ℕ → Certificate → Option Node → Bool
 is_bad_node rom cert None = true
 is_bad_node rom cert (Some n) =
@@ -39,17 +30,13 @@ is_bad_node rom cert (Some n) =
 
 -- main doesn't begin at 0100 in bank 0, or not in a state that covers power-up
 unfoldable pub is_bad_entry : List ℕ → Certificate → Bool
-is_bad_entry rom cert = has_controller (kind_of rom) || is_bad_node rom cert (slice_get cert.nodes (main_entry cert))
+is_bad_entry rom cert = is_bad_node rom cert (slice_get cert.nodes (main_entry cert))
 
 -- ---- interrupts
 
--- IE may have one of bits 0 to 4: of two values that follow each other one has
-abbrev pub may_enable : ℕ → ℕ → Bool
-may_enable lo hi = nat_lt lo hi || not (lo % 32 == 0)
-
 -- Interrupts have no rules yet: where one may come, the node is refused.
 unfoldable pub may_be_interrupted : Core → Bool
-may_be_interrupted s = s.ime.on && may_enable s.ie.lo s.ie.hi
+may_be_interrupted s = s.ime.on && may_enable s.ie
 
 -- ---- the verdict
 

@@ -2,20 +2,21 @@
 
 ghost use Rattle.std.specs.Prelude.{◌≡◌, ◌<◌, length, Option};
 ghost use Rattle.gb_ops.specs.declared.machine.Region.{Region};
-ghost use Rattle.gb_blocks.specs.Rules.{reason_at};
 ghost use Rattle.gb_verify.specs.PowerUp.{own, core_at_power_up, state_at_power_up};
-ghost use Rattle.gb_verify.specs.Verdict.{IsVerdict, verdict_of, IgnoresVersion, is_bad_entry, main_entry, may_be_interrupted, has_controller, reason_against_at, entry_of, is_bad_node};
+ghost use Rattle.gb_verify.specs.Verdict.{IsVerdict, verdict_of, IgnoresVersion, is_bad_entry, main_entry, may_be_interrupted, reason_against_at, entry_of, is_bad_node};
 ghost use Rattle.gb_verify.specs.Headline.{IfAccepted, IsSafe};
 
 use crate::verdict::Verdict;
 use gb_abs::covering::covers;
 use gb_abs::reason::Reason;
-use gb_blocks::rules::check_node;
+use gb_abs_memory::load::holds_bytes;
+use gb_blocks::rules::reason_of;
 use gb_cert::types::{Abs, Cert, Core, Ctl, Flg, ImeSet, Origin, Val};
 use gb_header::Rom;
-use gb_ops::machine::{Kind, Region};
+use gb_ops::machine::Region;
 use gb_ops::op::Register;
 use gb_ops::registers::Registers;
+use gb_vals::bits::may_enable;
 use gb_vals::flags::known;
 
 /// A register's value at power-up, which is its own origin.
@@ -88,20 +89,13 @@ fn main_entry(cert: &Cert<'_>) -> u32
     }
 }
 
-/// Whether a cartridge has a controller, which has no rules yet.
-fn has_controller(kind: Kind) -> bool
-    ensures { result ≡ has_controller kind }
-{
-    !matches!(kind, Kind::Rom)
-}
-
 /// Whether main doesn't begin at 0100 in bank 0, or not in a state that covers power-up.
 #[tactic(auto, unfolding(crate::specs::Verdict::is_bad_entry))]
 fn is_bad_entry(rom: &Rom<'_>, cert: &Cert<'_>, entry: u32) -> bool
     requires { entry ≡ main_entry cert.now }
     ensures { result ≡ is_bad_entry rom.now cert.now }
 {
-    if has_controller(rom.kind()) || entry >= cert.nodes() {
+    if entry >= cert.nodes() {
         return true;
     }
     let node = cert.node(entry);
@@ -116,7 +110,7 @@ fn is_bad_entry(rom: &Rom<'_>, cert: &Cert<'_>, entry: u32) -> bool
 fn may_be_interrupted(core: &Core) -> bool
     ensures { result ≡ may_be_interrupted core.now }
 {
-    core.ime.on && (core.ie.lo < core.ie.hi || core.ie.lo % 32 != 0)
+    core.ime.on && may_enable(&core.ie)
 }
 
 /// The lowest reason against the node with a number.
@@ -125,10 +119,12 @@ fn reason_against(rom: &Rom<'_>, cert: &Cert<'_>, i: u32) -> Option<Reason>
     requires { i < length cert.now.nodes }
     ensures { result ≡ reason_against_at rom.now cert.now i }
 {
-    match check_node(rom, cert, i) {
-        Err(reason) => Some(reason),
-        Ok(()) if may_be_interrupted(cert.node(i).state().core()) => Some(Reason::Interrupt),
-        Ok(()) => None,
+    let node = cert.node(i);
+    let state = node.state();
+    match reason_of(rom, cert, &node, &state) {
+        Some(reason) => Some(reason),
+        None if may_be_interrupted(state.core()) => Some(Reason::Interrupt),
+        None => None,
     }
 }
 
@@ -166,6 +162,9 @@ pub fn check(rom: &Rom<'_>, cert: &Cert<'_>) -> Verdict
     // Where it accepts, every run from power-up is safe.
     ensures safe { IfAccepted result (IsSafe rom.now cert.now) }
 {
+    // Behind the promise stand that a cartridge holds bytes, and the rules of certificates.
+    holds_bytes(rom);
+    let _region = cert.region();
     verdict(rom, cert)
 }
 

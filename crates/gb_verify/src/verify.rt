@@ -2,7 +2,7 @@
 
 ghost use Rattle.std.specs.Prelude.{◌≡◌, ◌+◌, ◌≤◌, false, is_err, IfOk, OnErr, length};
 ghost use Rattle.gb_text.specs.Sink.{Gains};
-ghost use Rattle.gb_verify.specs.Text.{IsAnswer, IfAcceptedAnswer, IsVerified, IfVerified, IsOutcome, HasBeginning, written};
+ghost use Rattle.gb_verify.specs.Text.{certificate_text, IsAnswer, IfAcceptedAnswer, IsVerified, IfVerified, IsOutcome, HasBeginning, written};
 
 use crate::check::check;
 use crate::verdict::Verdict;
@@ -33,6 +33,17 @@ pub enum Outcome {
     NoMemory,
 }
 
+/// `CERTIFICATE Cn`, with the number of the fault (own text).
+pub fn certificate_line(fault: CertFault) -> Line
+    ensures { result ≡ certificate_text fault }
+{
+    let mut line = Line::new();
+    line.push_text(b"CERTIFICATE C");
+    line.push_number(u64::from(fault.number()));
+    line.end();
+    line
+}
+
 impl Answer {
     ghost use Rattle.gb_verify.specs.Text.{outcome_of, answer_text};
 
@@ -53,10 +64,7 @@ impl Answer {
         let mut line = Line::new();
         match self {
             Answer::Cartridge(fault) => return cartridge_line(fault),
-            Answer::Certificate(fault) => {
-                line.push_text(b"CERTIFICATE C");
-                line.push_number(u64::from(fault.number()));
-            }
+            Answer::Certificate(fault) => return certificate_line(fault),
             Answer::Judged(Verdict::Accepted { nodes, procedures }) => {
                 line.push_text(b"ACCEPTED nodes ");
                 line.push_number(u64::from(nodes));

@@ -18,7 +18,7 @@ use Rattle.gb_words.specs.CommandLine.{program_app}
 use Rattle.gb_words.specs.Words.{begins_with_hyphen}
 use Rattle.gb_words.proofs.PlainWords.{word_is_value}
 use Rattle.gb_words.proofs.LeafWalk.{HasAll, HasNoDefaults, HasRoom, Takes, TakesOne, at, below, exactly, held_at, last_value, position_at, rows_before}
-use Rattle.gb_words.proofs.Leaves.{Command, header, leaf_of, name_of, rules_for, run, takes, verify, whole}
+use Rattle.gb_words.proofs.Leaves.{Command, header, leaf_of, name_of, rules_for, run, show, takes, upgrade, verify, whole}
 use Rattle.gb_words.proofs.CommandWalk.{command_fault, names, settling, start, stopped_at, stopped_walk, top}
 
 -- ---- a word that begins with no hyphen
@@ -113,6 +113,8 @@ line_walk : (c : Command) (values : List Text)
 unfolding walk_fault walked
 line_walk verify values = stopped_walk (name_of verify) [] values
 line_walk header values = stopped_walk (name_of header) [] values
+line_walk show values = stopped_walk (name_of show) [] values
+line_walk upgrade values = stopped_walk (name_of upgrade) [] values
 line_walk run values = stopped_walk (name_of run) [] values
 
 top_taken : (c : Command) (values : List Text) → level_fault top names nothing_held (line c values) true [] ≡ []
@@ -131,6 +133,8 @@ fault_from app words stop e has below level =
 is_entered : (c : Command) (values : List Text) → is_some (entered whole (Some (name_of c, values))) ≡ true
 is_entered verify values = refl
 is_entered header values = refl
+is_entered show values = refl
+is_entered upgrade values = refl
 is_entered run values = refl
 
 command_taken : (c : Command) (values : List Text) → ArePlain values → length values ≡ length (rules_for c) → settling c values ≡ [] → fault_of program_app (line c values) ≡ []

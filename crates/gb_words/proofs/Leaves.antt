@@ -5,27 +5,34 @@ use Rattle.std.specs.Str.{bytes_eq}
 use Rattle.clap.specs.Faults.{defaults_fault, long_fault, short_fault}
 use Rattle.clap.specs.Walk.{Rule, Text, answers_to, arg_by_long, arg_by_short}
 use Rattle.clap.specs.Simple.{App, Shape, built, label_of}
-use Rattle.gb_words.specs.CommandLine.{header_rules, program_app, run_rules, verify_rules}
+use Rattle.gb_words.specs.CommandLine.{certificate_rules, header_rules, program_app, run_rules, verify_rules}
 use Rattle.gb_words.proofs.PlainWords.{HasNoFlags, flag_named, no_long, no_short}
 use Rattle.gb_words.proofs.LeafWalk.{Takes}
 
 pub data Command : Type 0 where
   verify : Command
   header : Command
+  show : Command
+  upgrade : Command
   run : Command
 
 abbrev pub name_of : Command → Text
 name_of verify = codes "verify"
 name_of header = codes "header"
+name_of show = codes "show"
+name_of upgrade = codes "upgrade"
 name_of run = codes "run"
 
 by_name : Text → Command
-by_name name = if bytes_eq (codes "verify") name then verify else (if bytes_eq (codes "header") name then header else run)
+by_name name = if bytes_eq (codes "verify") name then verify else (if bytes_eq (codes "header") name then header
+    else (if bytes_eq (codes "show") name then show else (if bytes_eq (codes "upgrade") name then upgrade else run)))
 
 by_name_is : (c : Command) → by_name (name_of c) ≡ c
 unfolding by_name
 by_name_is verify = refl
 by_name_is header = refl
+by_name_is show = refl
+by_name_is upgrade = refl
 by_name_is run = refl
 
 pub same_command : (c d : Command) → name_of c ≡ name_of d → c ≡ d
@@ -34,6 +41,8 @@ same_command c d e = sym (by_name_is c) ∙ ap by_name e ∙ by_name_is d
 abbrev pub rules_for : Command → List Rule
 rules_for verify = verify_rules
 rules_for header = header_rules
+rules_for show = certificate_rules
+rules_for upgrade = certificate_rules
 rules_for run = run_rules
 
 -- the program's command, as it is built
@@ -76,6 +85,32 @@ header_takes = record {
   no_defaults = λ a. refl;
 }
 
+show_takes : Takes (leaf_of show) certificate_rules
+unfolding defaults_fault
+show_takes = record {
+  no_flags = flags_are_two (leaf_of show) (λ name. refl) (λ x. refl);
+  has_room = (refl, λ a. tt);
+  takes_one = λ t word. (refl, λ a. tt);
+  is_full = λ a clear. cc;
+  misses = (λ clear. cc, λ a. tt);
+  has_all = λ a. refl;
+  keeps_all = λ a. refl;
+  no_defaults = λ a. refl;
+}
+
+upgrade_takes : Takes (leaf_of upgrade) certificate_rules
+unfolding defaults_fault
+upgrade_takes = record {
+  no_flags = flags_are_two (leaf_of upgrade) (λ name. refl) (λ x. refl);
+  has_room = (refl, λ a. tt);
+  takes_one = λ t word. (refl, λ a. tt);
+  is_full = λ a clear. cc;
+  misses = (λ clear. cc, λ a. tt);
+  has_all = λ a. refl;
+  keeps_all = λ a. refl;
+  no_defaults = λ a. refl;
+}
+
 run_takes : Takes (leaf_of run) run_rules
 unfolding defaults_fault
 run_takes = record {
@@ -92,4 +127,6 @@ run_takes = record {
 pub takes : (c : Command) → Takes (leaf_of c) (rules_for c)
 takes verify = verify_takes
 takes header = header_takes
+takes show = show_takes
+takes upgrade = upgrade_takes
 takes run = run_takes

@@ -1,5 +1,5 @@
 -- The command that a parse met, and what the program reads of its matches.
-use Rattle.std.proofs.Common.{◌≡◌, ℕ, List, [], ◌∷◌, length, Option, Some, None, option_map, is_some, true, pos, ap, sym, subst, ◌∙◌, codes, Box, box_value}
+use Rattle.std.proofs.Common.{◌≡◌, ℕ, List, [], ◌∷◌, length, Option, Some, None, option_map, is_some, true, pos, ap, refl, sym, subst, ◌∙◌, codes, Box, box_value}
 use Rattle.std.specs.Str.Parse.{signed_digits_value}
 use Rattle.clap.specs.Words.{IsSignedIn}
 use Rattle.clap.specs.Faults.{fault_of, is_simple_and_free}
@@ -10,10 +10,10 @@ use Rattle.clap.specs.declared.parser.matches.ArgMatches.{ArgMatches}
 use Rattle.clap.specs.declared.parser.matches.ArgMatches.TheViews.{out-ArgMatches, out-SubCommand}
 use Rattle.clap.specs.declared.parser.matches.SubCommand.{SubCommand}
 use Rattle.clap.proofs.WalkLemmas.{first_value-rows, one_text-rows}
-use Rattle.gb_words.specs.CommandLine.{header_rules, program_app, run_rules, verify_rules}
+use Rattle.gb_words.specs.CommandLine.{file_rule, program_app, run_rules, verify_rules}
 use Rattle.gb_words.specs.Words.{IsCommand, IsRun}
 use Rattle.gb_words.proofs.LeafWalk.{exactly, value_rows}
-use Rattle.gb_words.proofs.Leaves.{Command, header, name_of, rules_for, run, same_command, verify}
+use Rattle.gb_words.proofs.Leaves.{Command, header, name_of, rules_for, run, same_command, show, upgrade, verify}
 use Rattle.gb_words.proofs.CommandWalk.{parsed, settling}
 use Rattle.gb_words.proofs.Frames.{is_taken}
 
@@ -52,12 +52,14 @@ met words app m name rows is has clear name_is rows_are =
 
 -- it is one of the program's commands
 pub is_known : (words : List Text) (name : Text) (rows : List Row) → IsMet words name rows → (name ≡ codes "verify" → ⊥) → (name ≡ codes "header" → ⊥)
-    → (name ≡ codes "run" → ⊥) → ⊥
-is_known words name rows g not_verify not_header not_run = go g.command g.name_is
+    → (name ≡ codes "show" → ⊥) → (name ≡ codes "upgrade" → ⊥) → (name ≡ codes "run" → ⊥) → ⊥
+is_known words name rows g not_verify not_header not_show not_upgrade not_run = go g.command g.name_is
   where
     go : (c : Command) → name ≡ name_of c → ⊥
     go verify e = not_verify e
     go header e = not_header e
+    go show e = not_show e
+    go upgrade e = not_upgrade e
     go run e = not_run e
 
 -- ---- each command
@@ -68,10 +70,11 @@ pub record GivesVerify (words : List Text) (rows : List Row) : Type 0 where
   pub is : IsCommand words (codes "verify") (rom ∷ cert ∷ [])
   pub rows_are : rows ≡ value_rows (rom ∷ cert ∷ []) verify_rules
 
-pub record GivesHeader (words : List Text) (rows : List Row) : Type 0 where
-  pub rom : Text
-  pub is : IsCommand words (codes "header") (rom ∷ [])
-  pub rows_are : rows ≡ value_rows (rom ∷ []) header_rules
+-- of a command that takes one file
+pub record GivesFile (words : List Text) (rows : List Row) (name id : Text) : Type 0 where
+  pub file : Text
+  pub is : IsCommand words name (file ∷ [])
+  pub rows_are : rows ≡ value_rows (file ∷ []) (file_rule id ∷ [])
 
 pub record GivesRun (words : List Text) (rows : List Row) : Type 0 where
   pub rom : Text
@@ -94,10 +97,20 @@ gives_verify words name rows g e = named (GivesVerify words rows) words name row
     (λ values r i s count. exactly 2 (λ vs. rows ≡ value_rows vs verify_rules → IsCommand words (codes "verify") vs → GivesVerify words rows)
     (λ rom cert are is. record { rom = rom; cert = cert; is = is; rows_are = are }) values count r i)
 
-pub gives_header : (words : List Text) (name : Text) (rows : List Row) → IsMet words name rows → name ≡ codes "header" → GivesHeader words rows
-gives_header words name rows g e = named (GivesHeader words rows) words name rows g header e
-    (λ values r i s count. exactly 1 (λ vs. rows ≡ value_rows vs header_rules → IsCommand words (codes "header") vs → GivesHeader words rows)
-    (λ rom are is. record { rom = rom; is = is; rows_are = are }) values count r i)
+gives_file : (c : Command) (id : Text) → rules_for c ≡ file_rule id ∷ [] → (words : List Text) (name : Text) (rows : List Row) → IsMet words name rows
+    → name ≡ name_of c → GivesFile words rows (name_of c) id
+gives_file c id rules words name rows g e = named (GivesFile words rows (name_of c) id) words name rows g c e
+    (λ values r i s count. exactly 1 (λ vs. rows ≡ value_rows vs (rules_for c) → IsCommand words (name_of c) vs → GivesFile words rows (name_of c) id)
+    (λ file are is. record { file = file; is = is; rows_are = are ∙ ap (value_rows (file ∷ [])) rules }) values (count ∙ ap length rules) r i)
+
+pub gives_header : (words : List Text) (name : Text) (rows : List Row) → IsMet words name rows → name ≡ codes "header" → GivesFile words rows (codes "header") (codes "rom")
+gives_header = gives_file header (codes "rom") refl
+
+pub gives_show : (words : List Text) (name : Text) (rows : List Row) → IsMet words name rows → name ≡ codes "show" → GivesFile words rows (codes "show") (codes "cert")
+gives_show = gives_file show (codes "cert") refl
+
+pub gives_upgrade : (words : List Text) (name : Text) (rows : List Row) → IsMet words name rows → name ≡ codes "upgrade" → GivesFile words rows (codes "upgrade") (codes "cert")
+gives_upgrade = gives_file upgrade (codes "cert") refl
 
 pub gives_run : (words : List Text) (name : Text) (rows : List Row) → IsMet words name rows → name ≡ codes "run" → GivesRun words rows
 gives_run words name rows g e = named (GivesRun words rows) words name rows g run e
@@ -128,8 +141,8 @@ one_is m id text rows rows_are e = one_text-rows (found_of m) id ∙ ap (one_of 
 
 -- ---- the same words, by values that are equal
 
-pub as_header : (words : List Text) (a rom : Text) → rom ≡ a → IsCommand words (codes "header") (rom ∷ []) → IsCommand words (codes "header") (a ∷ [])
-as_header words a rom e is = subst (λ x. IsCommand words (codes "header") (x ∷ [])) e is
+pub as_file : (words : List Text) (name a file : Text) → file ≡ a → IsCommand words name (file ∷ []) → IsCommand words name (a ∷ [])
+as_file words name a file e is = subst (λ x. IsCommand words name (x ∷ [])) e is
 
 pub as_verify : (words : List Text) (a b rom cert : Text) → rom ≡ a → cert ≡ b → IsCommand words (codes "verify") (rom ∷ cert ∷ [])
     → IsCommand words (codes "verify") (a ∷ b ∷ [])

@@ -23,6 +23,9 @@ verify_rules = file_rule (codes "rom") ∷ file_rule (codes "cert") ∷ []
 abbrev pub header_rules : List Rule
 header_rules = file_rule (codes "rom") ∷ []
 
+abbrev pub certificate_rules : List Rule
+certificate_rules = file_rule (codes "cert") ∷ []
+
 abbrev pub run_rules : List Rule
 run_rules = file_rule (codes "rom") ∷ file_rule (codes "script") ∷ frames_rule (codes "frames") ∷ []
 
@@ -31,6 +34,12 @@ verify_app = command_app (codes "verify") verify_rules
 
 abbrev pub header_app : App
 header_app = command_app (codes "header") header_rules
+
+abbrev pub show_app : App
+show_app = command_app (codes "show") certificate_rules
+
+abbrev pub upgrade_app : App
+upgrade_app = command_app (codes "upgrade") certificate_rules
 
 abbrev pub run_app : App
 run_app = command_app (codes "run") run_rules
@@ -46,4 +55,4 @@ plain_app = let a = new_app (codes "gulmyrek") in record a {
 }
 
 abbrev pub program_app : App
-program_app = with_subcommand (with_subcommand (with_subcommand plain_app verify_app.top) header_app.top) run_app.top
+program_app = with_subcommand (with_subcommand (with_subcommand (with_subcommand (with_subcommand plain_app verify_app.top) header_app.top) show_app.top) upgrade_app.top) run_app.top

@@ -39,4 +39,6 @@ abbrev pub StandFor : List Text → Task → Type 0
 StandFor words task.Stored = words ≡ []
 StandFor words (task.Verify rom cert) = IsCommand words (codes "verify") (rom.now ∷ cert.now ∷ [])
 StandFor words (task.Header rom) = IsCommand words (codes "header") (rom.now ∷ [])
+StandFor words (task.Show cert) = IsCommand words (codes "show") (cert.now ∷ [])
+StandFor words (task.Upgrade cert) = IsCommand words (codes "upgrade") (cert.now ∷ [])
 StandFor words (task.Run rom script frames) = IsRun words rom.now script.now frames

@@ -7,7 +7,7 @@ Without a command it checks the cartridge and the certificate that it brings alo
 A file that is named - is standard input, for one file of a command. A file of that name is ./-
 
 Status:
-  0  accepted; all frames ran; a line was printed
+  0  accepted; all frames ran; the header, the certificate's lines or its bytes were written
   1  refused; a run locked or stopped
   2  the words are wrong, or a file is no cartridge or no certificate
   3  memory ran out (FAULT memory, CERTIFICATE C9), or a file or device can't be read or written (FAULT device)
@@ -33,6 +33,28 @@ TT and CC are hexadecimal, NAME is the controller; N counts banks of 16 KiB, M o
 H1 to H7: too short, its type, its ROM size, its length, its RAM size, too large for its type, its checksum.
 
 ROM may be - for standard input.";
+
+/// Below the help of `show`.
+pub(crate) const SHOW: &str = "\
+It prints lines (status 0), of either version of a certificate:
+  stack BBBB..TTTT procedures P nodes N                         the stack region and the two counts
+  procedure I entry E need W ranges R returns yes               for each procedure (or returns no)
+  node I procedure P address AAAA bank BBB                      for each node
+Addresses and banks are hexadecimal; E is the number of a node, W counts words of stack; numbers begin with 0.
+Where CERT is no certificate it prints one line:
+  CERTIFICATE Cn  what is wrong with it (C1 to C8, status 2), or memory ran out (C9, status 3)
+
+CERT may be - for standard input.";
+
+/// Below the help of `upgrade`.
+pub(crate) const UPGRADE: &str = "\
+It writes the bytes of the same certificate in version 2 on standard output (status 0), so redirect it:
+  gulmyrek upgrade old.cert > new.cert
+A certificate of version 2 comes out as it is. The verdict doesn't depend on the version.
+Where CERT is no certificate it prints one line:
+  CERTIFICATE Cn  what is wrong with it (C1 to C8, status 2), or memory ran out (C9, status 3)
+
+CERT may be - for standard input.";
 
 /// Below the help of `run`.
 pub(crate) const RUN: &str = "\

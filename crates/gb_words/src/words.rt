@@ -28,6 +28,14 @@ pub enum Task<'a> {
     Header {
         rom: &'a str,
     },
+    /// The lines of this certificate.
+    Show {
+        cert: &'a str,
+    },
+    /// This certificate in version 2.
+    Upgrade {
+        cert: &'a str,
+    },
     /// A run of so many frames of this cartridge, with the keys of this script.
     Run {
         rom: &'a str,
@@ -53,6 +61,14 @@ fn rom_arg<'a>(alloc: Global) -> Arg<'a>
     ensures local { result.global ≡ false }
 {
     file_arg(alloc, "rom", "ROM", "The cartridge's file")
+}
+
+/// The argument that names the certificate's file.
+fn cert_arg<'a>(alloc: Global) -> Arg<'a>
+    ensures rule { rule_of result ≡ CommandLine.file_rule (codes "cert") }
+    ensures local { result.global ≡ false }
+{
+    file_arg(alloc, "cert", "CERT", "The certificate's file")
 }
 
 /// The argument that says how many frames to run.
@@ -86,7 +102,7 @@ fn verify_command<'a>(alloc: Global) -> Result<Command<'a>, AllocError>
         help::VERIFY,
     )
     .arg(rom_arg(alloc))?
-    .arg(file_arg(alloc, "cert", "CERT", "The certificate's file"))
+    .arg(cert_arg(alloc))
 }
 
 /// The command `header`.
@@ -100,6 +116,32 @@ fn header_command<'a>(alloc: Global) -> Result<Command<'a>, AllocError>
         help::HEADER,
     )
     .arg(rom_arg(alloc))
+}
+
+/// The command `show`.
+fn show_command<'a>(alloc: Global) -> Result<Command<'a>, AllocError>
+    ensures { IfOk result (λ command. (app_of command ≡ CommandLine.show_app) × ((fields_of command).has_globals ≡ false)) }
+{
+    texts_of(
+        alloc,
+        "show",
+        "Prints what a certificate claims, line by line",
+        help::SHOW,
+    )
+    .arg(cert_arg(alloc))
+}
+
+/// The command `upgrade`.
+fn upgrade_command<'a>(alloc: Global) -> Result<Command<'a>, AllocError>
+    ensures { IfOk result (λ command. (app_of command ≡ CommandLine.upgrade_app) × ((fields_of command).has_globals ≡ false)) }
+{
+    texts_of(
+        alloc,
+        "upgrade",
+        "Writes a certificate in version 2 of its format",
+        help::UPGRADE,
+    )
+    .arg(cert_arg(alloc))
 }
 
 /// The command `run`.
@@ -128,16 +170,20 @@ fn program_command<'a>(alloc: Global) -> Result<Command<'a>, AllocError>
 {
     let verify = verify_command(alloc)?;
     let header = header_command(alloc)?;
+    let show = show_command(alloc)?;
+    let upgrade = upgrade_command(alloc)?;
     let run = run_command(alloc)?;
     Command::new(alloc, "gulmyrek")
         .bin_name("gulmyrek")?
         .about("Gulmyrek checks Game Boy cartridges against certificates, and runs cartridges")
         .after_help(help::PROGRAM)
-        .version("0.4.0")
+        .version("0.5.0")
         .no_binary_name(true)
         .subcommand_required(true)
         .subcommand(verify)?
         .subcommand(header)?
+        .subcommand(show)?
+        .subcommand(upgrade)?
         .subcommand(run)
 }
 
@@ -161,6 +207,12 @@ pub fn read_words<'a>(alloc: Global, words: &'a [&'a str]) -> Result<Task<'a>, E
         → IfErr result (λ e. kind_of e ≡ ErrorKind.OutOfMemory) }
     ensures header { (rom : List ℕ) → map (λ word. word.now) words.now ≡ codes "header" ∷ rom ∷ []
         → Words.begins_with_hyphen rom ≡ false
+        → IfErr result (λ e. kind_of e ≡ ErrorKind.OutOfMemory) }
+    ensures show { (cert : List ℕ) → map (λ word. word.now) words.now ≡ codes "show" ∷ cert ∷ []
+        → Words.begins_with_hyphen cert ≡ false
+        → IfErr result (λ e. kind_of e ≡ ErrorKind.OutOfMemory) }
+    ensures upgrade { (cert : List ℕ) → map (λ word. word.now) words.now ≡ codes "upgrade" ∷ cert ∷ []
+        → Words.begins_with_hyphen cert ≡ false
         → IfErr result (λ e. kind_of e ≡ ErrorKind.OutOfMemory) }
     ensures run { (rom script frames : List ℕ) (n : ℕ) → map (λ word. word.now) words.now ≡ codes "run" ∷ rom ∷ script ∷ frames ∷ []
         → Words.begins_with_hyphen rom ≡ false → Words.begins_with_hyphen script ≡ false
@@ -186,6 +238,14 @@ pub fn read_words<'a>(alloc: Global, words: &'a [&'a str]) -> Result<Task<'a>, E
         "header" => {
             let rom = value(arguments, "rom");
             Ok(Task::Header { rom })
+        }
+        "show" => {
+            let cert = value(arguments, "cert");
+            Ok(Task::Show { cert })
+        }
+        "upgrade" => {
+            let cert = value(arguments, "cert");
+            Ok(Task::Upgrade { cert })
         }
         "run" => {
             let rom = value(arguments, "rom");

@@ -9,4 +9,4 @@ returns-clause-exact c =
     subst (IsVerdict c.args.rom.now c.args.cert.now) (sym c.verdict.ensures) (IsVerdict-verdict_of c.args.rom.now c.args.cert.now)
 
 pub returns-clause-safe : goal.returns-clause-safe
-returns-clause-safe c = check_safe c.args.rom.now c.args.cert.now _ (returns-clause-exact c)
+returns-clause-safe c = check_safe c.args.rom.now c.args.cert.now _ c.holds_bytes.ensures c.region-region.ensures.rules (returns-clause-exact c)

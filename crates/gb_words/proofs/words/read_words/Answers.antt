@@ -2,10 +2,10 @@ use Rattle.std.proofs.Common.{◌≡◌, ◌∷◌, ◌∙◌, [], codes, decima
 use Rattle.std.specs.Str.Parse.{ExplainsUnsignedError, HasUnsignedDigitsIfOk, ParsesUnsigned}
 use Rattle.clap.specs.Words.{app_of, found_of, rows_of, without_minus}
 use Rattle.clap.proofs.TakesLemmas.{passed_up}
-use Rattle.gb_words.proofs.Leaves.{header, run, verify}
+use Rattle.gb_words.proofs.Leaves.{header, run, show, upgrade, verify}
 use Rattle.gb_words.proofs.CommandTaken.{wants_memory}
 use Rattle.gb_words.proofs.Frames.{decimal_is_frames, reads, settles}
-use Rattle.gb_words.proofs.MetCommand.{as_header, as_run, as_verify, met, gives_header, gives_run, gives_verify, has_value, is_known, one_is, some_same, value_is}
+use Rattle.gb_words.proofs.MetCommand.{as_file, as_run, as_verify, met, gives_header, gives_run, gives_show, gives_upgrade, gives_verify, has_value, is_known, one_is, some_same, value_is}
 use Rattle.gb_words.proofs.words.read_words.Goals as goal
 
 -- ---- `verify`
@@ -36,13 +36,41 @@ pub value-rom-requires-in-header : goal.value-rom-requires-in-header
 value-rom-requires-in-header c =
     let g = met (map (λ s. s.now) c.args.words.now) (app_of c.in_ok-program_command.field-0) c.in_ok-matches.matches c.in-Some.name.now (rows_of (found_of c.in-Some.arguments.now)) c.in_ok-program_command.ensures c.in_ok-matches.ensures.matches c.in_ok-matches.ensures.kinds c.in-Some.ensures.name c.in-Some.ensures.rows in
     let h = gives_header _ _ _ g c.in-header.is in
-    record { present = has_value c.in-Some.arguments.now (codes "rom") h.rom _ h.rows_are refl }
+    record { present = has_value c.in-Some.arguments.now (codes "rom") h.file _ h.rows_are refl }
 
 pub returns-in-header-clause-stands : goal.returns-in-header-clause-stands
 returns-in-header-clause-stands c =
     let g = met (map (λ s. s.now) c.args.words.now) (app_of c.in_ok-program_command.field-0) c.in_ok-matches.matches c.in-Some.name.now (rows_of (found_of c.in-Some.arguments.now)) c.in_ok-program_command.ensures c.in_ok-matches.ensures.matches c.in_ok-matches.ensures.kinds c.in-Some.ensures.name c.in-Some.ensures.rows in
     let h = gives_header _ _ _ g c.in-header.is in
-    as_header (map (λ s. s.now) c.args.words.now) _ h.rom (value_is c.in-Some.arguments.now (codes "rom") h.rom c.value-rom-in-header.result.now _ h.rows_are refl c.value-rom-in-header.ensures) h.is
+    as_file (map (λ s. s.now) c.args.words.now) _ _ h.file (value_is c.in-Some.arguments.now (codes "rom") h.file c.value-rom-in-header.result.now _ h.rows_are refl c.value-rom-in-header.ensures) h.is
+
+-- ---- `show`
+
+pub value-cert-requires-in-show : goal.value-cert-requires-in-show
+value-cert-requires-in-show c =
+    let g = met (map (λ s. s.now) c.args.words.now) (app_of c.in_ok-program_command.field-0) c.in_ok-matches.matches c.in-Some.name.now (rows_of (found_of c.in-Some.arguments.now)) c.in_ok-program_command.ensures c.in_ok-matches.ensures.matches c.in_ok-matches.ensures.kinds c.in-Some.ensures.name c.in-Some.ensures.rows in
+    let h = gives_show _ _ _ g c.in-show.is in
+    record { present = has_value c.in-Some.arguments.now (codes "cert") h.file _ h.rows_are refl }
+
+pub returns-in-show-clause-stands : goal.returns-in-show-clause-stands
+returns-in-show-clause-stands c =
+    let g = met (map (λ s. s.now) c.args.words.now) (app_of c.in_ok-program_command.field-0) c.in_ok-matches.matches c.in-Some.name.now (rows_of (found_of c.in-Some.arguments.now)) c.in_ok-program_command.ensures c.in_ok-matches.ensures.matches c.in_ok-matches.ensures.kinds c.in-Some.ensures.name c.in-Some.ensures.rows in
+    let h = gives_show _ _ _ g c.in-show.is in
+    as_file (map (λ s. s.now) c.args.words.now) _ _ h.file (value_is c.in-Some.arguments.now (codes "cert") h.file c.value-cert-in-show.result.now _ h.rows_are refl c.value-cert-in-show.ensures) h.is
+
+-- ---- `upgrade`
+
+pub value-cert-requires-in-upgrade : goal.value-cert-requires-in-upgrade
+value-cert-requires-in-upgrade c =
+    let g = met (map (λ s. s.now) c.args.words.now) (app_of c.in_ok-program_command.field-0) c.in_ok-matches.matches c.in-Some.name.now (rows_of (found_of c.in-Some.arguments.now)) c.in_ok-program_command.ensures c.in_ok-matches.ensures.matches c.in_ok-matches.ensures.kinds c.in-Some.ensures.name c.in-Some.ensures.rows in
+    let h = gives_upgrade _ _ _ g c.in-upgrade.is in
+    record { present = has_value c.in-Some.arguments.now (codes "cert") h.file _ h.rows_are refl }
+
+pub returns-in-upgrade-clause-stands : goal.returns-in-upgrade-clause-stands
+returns-in-upgrade-clause-stands c =
+    let g = met (map (λ s. s.now) c.args.words.now) (app_of c.in_ok-program_command.field-0) c.in_ok-matches.matches c.in-Some.name.now (rows_of (found_of c.in-Some.arguments.now)) c.in_ok-program_command.ensures c.in_ok-matches.ensures.matches c.in_ok-matches.ensures.kinds c.in-Some.ensures.name c.in-Some.ensures.rows in
+    let h = gives_upgrade _ _ _ g c.in-upgrade.is in
+    as_file (map (λ s. s.now) c.args.words.now) _ _ h.file (value_is c.in-Some.arguments.now (codes "cert") h.file c.value-cert-in-upgrade.result.now _ h.rows_are refl c.value-cert-in-upgrade.ensures) h.is
 
 -- ---- `run`
 
@@ -82,7 +110,7 @@ returns-in-run-clause-stands c =
 pub unreachable-requires-in_default-name : goal.unreachable-requires-in_default-name
 unreachable-requires-in_default-name c =
     let g = met (map (λ s. s.now) c.args.words.now) (app_of c.in_ok-program_command.field-0) c.in_ok-matches.matches c.in-Some.name.now (rows_of (found_of c.in-Some.arguments.now)) c.in_ok-program_command.ensures c.in_ok-matches.ensures.matches c.in_ok-matches.ensures.kinds c.in-Some.ensures.name c.in-Some.ensures.rows in
-    is_known _ _ _ g c.in_default-name.not-verify c.in_default-name.not-header c.in_default-name.not-run
+    is_known _ _ _ g c.in_default-name.not-verify c.in_default-name.not-header c.in_default-name.not-show c.in_default-name.not-upgrade c.in_default-name.not-run
 
 -- ---- an error of words that are taken
 
@@ -94,6 +122,16 @@ returns-in_err-matches-clause-verify c rom cert words_are plain_rom plain_cert =
 pub returns-in_err-matches-clause-header : goal.returns-in_err-matches-clause-header
 returns-in_err-matches-clause-header c rom words_are plain =
     let wants = wants_memory header (rom ∷ []) (app_of c.in_ok-program_command.field-0) (map (λ s. s.now) c.args.words.now) c.in_err-matches.field-0.0 c.in_ok-program_command.ensures words_are (plain, tt) refl refl c.in_err-matches.ensures.kinds in
+    passed_up c.from_residual-in_err-matches.result c.in_err-matches.field-0.0 _ c.from_residual-in_err-matches.ensures.1 wants
+
+pub returns-in_err-matches-clause-show : goal.returns-in_err-matches-clause-show
+returns-in_err-matches-clause-show c cert words_are plain =
+    let wants = wants_memory show (cert ∷ []) (app_of c.in_ok-program_command.field-0) (map (λ s. s.now) c.args.words.now) c.in_err-matches.field-0.0 c.in_ok-program_command.ensures words_are (plain, tt) refl refl c.in_err-matches.ensures.kinds in
+    passed_up c.from_residual-in_err-matches.result c.in_err-matches.field-0.0 _ c.from_residual-in_err-matches.ensures.1 wants
+
+pub returns-in_err-matches-clause-upgrade : goal.returns-in_err-matches-clause-upgrade
+returns-in_err-matches-clause-upgrade c cert words_are plain =
+    let wants = wants_memory upgrade (cert ∷ []) (app_of c.in_ok-program_command.field-0) (map (λ s. s.now) c.args.words.now) c.in_err-matches.field-0.0 c.in_ok-program_command.ensures words_are (plain, tt) refl refl c.in_err-matches.ensures.kinds in
     passed_up c.from_residual-in_err-matches.result c.in_err-matches.field-0.0 _ c.from_residual-in_err-matches.ensures.1 wants
 
 pub returns-in_err-matches-clause-run : goal.returns-in_err-matches-clause-run

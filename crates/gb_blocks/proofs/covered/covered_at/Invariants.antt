@@ -1,6 +1,0 @@
-use Rattle.gb_blocks.specs.Rules.{is_cover}
-use Rattle.gb_blocks.proofs.SearchLaws.{NoneBefore}
-use Rattle.gb_blocks.proofs.covered.covered_at.Given as goal
-
-abbrev pub invariant-loop-i : goal.invariant-loop-i
-invariant-loop-i l = NoneBefore (is_cover l.procedure l.address l.state) l.cert.nodes l.i

@@ -1,0 +1,8 @@
+use Rattle.std.proofs.Common.{◌-◌}
+use Rattle.gb_cert.specs.Format.{several}
+use Rattle.gb_cert.specs.Reading.{item_at}
+use Rattle.gb_cert_place.proofs.WalkLaws.{Leads}
+use Rattle.gb_cert_place.proofs.walk.walk_some_items.Given as goal
+
+abbrev pub invariant-loop-index : goal.invariant-loop-index
+invariant-loop-index l = Leads (several (λ (s : Unit {0}). item_at) (λ i. tt) tt l.count) l.bytes (several (λ (s : Unit {0}). item_at) (λ i. tt) tt (l.count - l.index)) l.rest

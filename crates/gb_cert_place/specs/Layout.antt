@@ -1,0 +1,80 @@
+-- The fields of a block, each with its bytes, in their order (own format).
+use Rattle.std.specs.Prelude.{ℕ, ◌+◌, ◌==◌, nat_lt, Bool, true, false, List, [], ◌∷◌}
+use Rattle.gb_ops.specs.declared.op.Register.TheVariants.{A, B, C, D, E, H, L}
+use Rattle.gb_cert_place.specs.declared.block.Block.{Block}
+use Rattle.gb_cert_place.specs.declared.block.Block.TheVariants as block
+use Rattle.gb_cert_place.specs.declared.field.Field.{Field}
+use Rattle.gb_cert_place.specs.declared.field.Field.TheVariants as field
+use Rattle.gb_cert_place.specs.declared.field.Owner.{Owner}
+use Rattle.gb_cert_place.specs.declared.field.Owner.TheVariants as owner
+
+abbrev pub Layout : Type 0
+Layout = List (Field × ℕ)
+
+abbrev pub number_width_by : Bool → ℕ
+number_width_by true = 2
+number_width_by false = 4
+
+-- a node's number: two bytes in version 1, else four
+abbrev pub number_width : ℕ → ℕ
+number_width version = number_width_by (version == 1)
+
+abbrev pub head_layout : ℕ → Layout
+head_layout version = (field.Magic, 4) ∷ (field.Version, 1) ∷ (field.RegionFirst, 2) ∷ (field.RegionLast, 2) ∷ (field.ProcedureCount, 1) ∷ (field.NodeCount, number_width version) ∷ []
+
+abbrev pub entry_layout : ℕ → Layout
+entry_layout version = (field.Entry, number_width version) ∷ []
+
+abbrev pub range_layout : ℕ → Layout
+range_layout index = (field.RangeFirst index, 2) ∷ (field.RangeLast index, 2) ∷ []
+
+-- a value, and what is behind it
+abbrev pub value_then : Owner → Layout → Layout
+value_then o rest = (field.ValueLeast o, 1) ∷ (field.ValueGreatest o, 1) ∷ (field.ValueOrigin o, 1) ∷ rest
+
+abbrev pub values_layout : Layout
+values_layout =
+    value_then owner.Ie (value_then (owner.Register A) (value_then (owner.Register B) (value_then (owner.Register C) (value_then (owner.Register D) (value_then (owner.Register E) (value_then (owner.Register H) (value_then (owner.Register L) [])))))))
+
+abbrev pub flags_then : Layout → Layout
+flags_then rest = (field.Flags, 1) ∷ (field.FlagsOrigin, 1) ∷ rest
+
+abbrev pub controller_then : Layout → Layout
+controller_then rest = (field.BankLeast, 2) ∷ (field.BankGreatest, 2) ∷ (field.SecondLeast, 1) ∷ (field.SecondGreatest, 1) ∷ (field.GateSet, 1) ∷ (field.ModeSet, 1) ∷ (field.Kept, 1) ∷ rest
+
+abbrev pub core_layout : Layout
+core_layout = (field.ImeSet, 1) ∷ (field.TransferBound, 1) ∷ (field.StackSet, 1) ∷ (field.Test, 1) ∷ (field.TestValue, 1) ∷ controller_then (flags_then values_layout)
+
+abbrev pub item_layout : ℕ → Layout
+item_layout index = value_then (owner.ItemHigh index) (value_then (owner.ItemLow index) [])
+
+abbrev pub cell_layout : ℕ → Layout
+cell_layout index = (field.CellAddress index, 2) ∷ value_then (owner.Cell index) []
+
+unfoldable pub layout : Block → Layout
+layout (block.Head version) = head_layout version
+layout (block.Entry version nodes) = entry_layout version
+layout (block.Need is_main region) = (field.Need, 2) ∷ []
+layout block.RangeCount = (field.RangeCount, 1) ∷ []
+layout (block.Range index region least) = range_layout index
+layout (block.Returns is_main) = (field.Returns, 1) ∷ []
+layout (block.Core role) = core_layout
+layout (block.ItemCount role stack_set) = (field.ItemCount, 1) ∷ []
+layout (block.Item index) = item_layout index
+layout block.CellCount = (field.CellCount, 1) ∷ []
+layout (block.Cell index region least) = cell_layout index
+layout (block.Key procedures before) = (field.Procedure, 1) ∷ (field.Address, 2) ∷ []
+layout block.Bank = (field.Bank, 2) ∷ []
+
+abbrev pub choose : {X : Type 0} → Bool → X → X → X
+choose true x y = x
+choose false x y = y
+
+-- the field that contains the byte, and where it begins; the one before where there is none more
+unfoldable pub lookup : Field × ℕ → ℕ → Layout → ℕ → Field × ℕ
+lookup found start [] byte = found
+lookup found start (f ∷ fs) byte = choose (nat_lt byte (start + f.1)) (f.0, start) (lookup (f.0, start) (start + f.1) fs byte)
+
+-- the field of a block that contains a byte of the block, and where in the block it begins
+abbrev pub field_at : Block → ℕ → Field × ℕ
+field_at b byte = lookup (field.Magic, 0) 0 (layout b) byte

@@ -1,0 +1,263 @@
+//! Walking over the parts of a certificate, up to where reading stops.
+
+ghost use Rattle.std.specs.Prelude.{◌≡◌, slice_index_or};
+ghost use Rattle.gb_cert.specs.Format.{mapped, several};
+ghost use Rattle.gb_cert.specs.Rules.{after_cell, after_range, key};
+ghost use Rattle.gb_cert.specs.Reading.{item_at, items_at, cell_at, cells_at, state_at, range_at, ranges_at, exit_at, procedure_at, node_at, procedures_at, nodes_at};
+ghost use Rattle.gb_cert_place.specs.Stops.{Walks, Finds, parts_at};
+
+use crate::block::{Block, Part, Stop, item_count_at, stopped};
+use gb_cert::fields::{core_at, count_within, word_between};
+use gb_cert::head::{Head, head_at};
+use gb_cert::limits::{CELL_LIMIT, RANGE_LIMIT};
+use gb_cert::role::Role;
+use gb_cert::states::{cell_at, item_at, range_at};
+use gb_cert::walk::{entry_at, key_at, need_at, returns_at};
+use gb_ops::machine::Region;
+
+/// Passes over as many items as the count says.
+fn walk_some_items(part: Part, count: u8, bytes: &[u8]) -> Result<&[u8], Stop>
+    ensures { Walks (λ x. x.now) result (several {S = Unit {0}} (λ s. item_at) (λ i. tt) tt count) bytes.now }
+{
+    let mut rest = bytes;
+    for index in 0..count {
+        match item_at(rest) {
+            Ok((_item, after)) => rest = after,
+            Err(fault) => return Err(stopped(part, Block::Item { index }, fault, rest)),
+        }
+    }
+    Ok(rest)
+}
+
+#[tactic(auto, using(crate::proofs::PartLaws::walk_items))]
+fn walk_items(part: Part, role: Role, stack_set: bool, bytes: &[u8]) -> Result<&[u8], Stop>
+    ensures { Walks (λ x. x.now) result (items_at role stack_set) bytes.now }
+{
+    match item_count_at(role, stack_set, bytes) {
+        Ok((count, rest)) => {
+            let end = walk_some_items(part, count, rest)?;
+            Ok(end)
+        }
+        Err(fault) => {
+            let block = Block::ItemCount { role, stack_set };
+            Err(stopped(part, block, fault, bytes))
+        }
+    }
+}
+
+/// Passes over as many cells as the count says.
+fn walk_some_cells(part: Part, region: Region, count: u8, bytes: &[u8]) -> Result<&[u8], Stop>
+    ensures { Walks (λ x. x.now) result (several (cell_at region) after_cell 0 count) bytes.now }
+{
+    let mut least = 0;
+    let mut rest = bytes;
+    for index in 0..count {
+        match cell_at(region, least, rest) {
+            Ok((cell, after)) => {
+                least = cell.address as u32 + 1;
+                rest = after;
+            }
+            Err(fault) => {
+                let block = Block::Cell {
+                    index,
+                    region,
+                    least,
+                };
+                return Err(stopped(part, block, fault, rest));
+            }
+        }
+    }
+    Ok(rest)
+}
+
+#[tactic(auto, using(crate::proofs::PartLaws::walk_cells))]
+fn walk_cells(part: Part, region: Region, bytes: &[u8]) -> Result<&[u8], Stop>
+    ensures { Walks (λ x. x.now) result (cells_at region) bytes.now }
+{
+    match count_within(CELL_LIMIT, bytes) {
+        Ok((count, rest)) => {
+            let end = walk_some_cells(part, region, count, rest)?;
+            Ok(end)
+        }
+        Err(fault) => Err(stopped(part, Block::CellCount, fault, bytes)),
+    }
+}
+
+#[tactic(auto, using(crate::proofs::PartLaws::walk_state))]
+fn walk_state(part: Part, role: Role, region: Region, bytes: &[u8]) -> Result<&[u8], Stop>
+    ensures { Walks (λ x. x.now) result (state_at role region) bytes.now }
+{
+    match core_at(role, bytes) {
+        Ok((core, rest)) => {
+            let rest = walk_items(part, role, core.stack_set, rest)?;
+            let end = walk_cells(part, region, rest)?;
+            Ok(end)
+        }
+        Err(fault) => Err(stopped(part, Block::Core { role }, fault, bytes)),
+    }
+}
+
+/// Passes over as many ranges as the count says.
+fn walk_some_ranges(part: Part, region: Region, count: u8, bytes: &[u8]) -> Result<&[u8], Stop>
+    ensures { Walks (λ x. x.now) result (several (range_at region) after_range 0 count) bytes.now }
+{
+    let mut least = 0;
+    let mut rest = bytes;
+    for index in 0..count {
+        match range_at(region, least, rest) {
+            Ok((range, after)) => {
+                least = range.last as u32 + 1;
+                rest = after;
+            }
+            Err(fault) => {
+                let block = Block::Range {
+                    index,
+                    region,
+                    least,
+                };
+                return Err(stopped(part, block, fault, rest));
+            }
+        }
+    }
+    Ok(rest)
+}
+
+#[tactic(auto, using(crate::proofs::PartLaws::walk_ranges))]
+fn walk_ranges(part: Part, region: Region, bytes: &[u8]) -> Result<&[u8], Stop>
+    ensures { Walks (λ x. x.now) result (ranges_at region) bytes.now }
+{
+    match count_within(RANGE_LIMIT, bytes) {
+        Ok((count, rest)) => {
+            let end = walk_some_ranges(part, region, count, rest)?;
+            Ok(end)
+        }
+        Err(fault) => Err(stopped(part, Block::RangeCount, fault, bytes)),
+    }
+}
+
+/// Passes over whether the procedure with this number returns, and over its exit.
+#[tactic(auto, using(crate::proofs::PartLaws::walk_exit))]
+fn walk_exit(number: u8, region: Region, is_main: bool, bytes: &[u8]) -> Result<&[u8], Stop>
+    ensures { Walks (λ x. x.now) result (exit_at region is_main) bytes.now }
+{
+    match returns_at(is_main, bytes) {
+        Ok((true, rest)) => {
+            let end = walk_state(Part::Exit(number), Role::Exit, region, rest)?;
+            Ok(end)
+        }
+        Ok((false, rest)) => Ok(rest),
+        Err(fault) => {
+            let block = Block::Returns { is_main };
+            Err(stopped(Part::Procedure(number), block, fault, bytes))
+        }
+    }
+}
+
+/// Passes over the procedure with this number, which begins at one of so many nodes.
+#[tactic(auto, using(crate::proofs::PartLaws::walk_procedure))]
+fn walk_procedure(
+    number: u8,
+    version: u8,
+    region: Region,
+    nodes: u32,
+    is_main: bool,
+    bytes: &[u8],
+) -> Result<&[u8], Stop>
+    ensures { Walks (λ x. x.now) result (procedure_at version region nodes is_main) bytes.now }
+{
+    let part = Part::Procedure(number);
+    let rest = match entry_at(version, nodes, bytes) {
+        Ok((_entry, rest)) => rest,
+        Err(fault) => return Err(stopped(part, Block::Entry { version, nodes }, fault, bytes)),
+    };
+    let rest = match need_at(is_main, region, rest) {
+        Ok((_need, after)) => after,
+        Err(fault) => return Err(stopped(part, Block::Need { is_main, region }, fault, rest)),
+    };
+    let rest = walk_ranges(part, region, rest)?;
+    let end = walk_exit(number, region, is_main, rest)?;
+    Ok(end)
+}
+
+/// Passes over the node with this number, of one of so many procedures, and finds its key.
+#[tactic(auto, using(crate::proofs::PartLaws::walk_node))]
+fn walk_node(
+    number: u32,
+    region: Region,
+    procedures: u8,
+    before: (u8, u16),
+    bytes: &[u8],
+) -> Result<((u8, u16), &[u8]), Stop>
+    ensures { Finds (λ x. (x.0, x.1.now)) result (mapped key (node_at region procedures before)) bytes.now }
+{
+    let part = Part::Node(number);
+    let (key, rest) = match key_at(procedures, before, bytes) {
+        Ok(x) => x,
+        Err(fault) => return Err(stopped(part, Block::Key { procedures, before }, fault, bytes)),
+    };
+    let rest = match word_between(0, 511, rest) {
+        Ok((_bank, after)) => after,
+        Err(fault) => return Err(stopped(part, Block::Bank, fault, rest)),
+    };
+    let rest = walk_state(part, Role::of(key.0), region, rest)?;
+    Ok((key, rest))
+}
+
+/// Passes over the procedures behind the head.
+#[tactic(auto, unfolding(gb_cert::specs::Reading::procedures_at))]
+fn walk_procedures(head: Head, bytes: &[u8]) -> Result<&[u8], Stop>
+    ensures { Walks (λ x. x.now) result (procedures_at head.version head.region head.nodes head.procedures) bytes.now }
+{
+    let mut is_main = true;
+    let mut rest = bytes;
+    for number in 0..head.procedures {
+        rest = walk_procedure(number, head.version, head.region, head.nodes, is_main, rest)?;
+        is_main = false;
+    }
+    Ok(rest)
+}
+
+/// Passes over the nodes behind the procedures.
+#[tactic(auto, unfolding(gb_cert::specs::Reading::nodes_at))]
+fn walk_nodes(head: Head, bytes: &[u8]) -> Result<&[u8], Stop>
+    ensures { Walks (λ x. x.now) result (nodes_at head.region head.procedures head.nodes) bytes.now }
+{
+    let mut before = (0, 0);
+    let mut rest = bytes;
+    for number in 0..head.nodes {
+        let (key, after) = walk_node(number, head.region, head.procedures, before, rest)?;
+        before = key;
+        rest = after;
+    }
+    Ok(rest)
+}
+
+/// The version that stands in the head, 1 where the bytes end before it.
+fn version_in(bytes: &[u8]) -> u8
+    ensures { result ≡ slice_index_or bytes.now 4 1 }
+{
+    match bytes.get(4) {
+        Some(number) => *number,
+        None => 1,
+    }
+}
+
+/// Passes over the head, the procedures and the nodes.
+#[tactic(auto, using(crate::proofs::PlaceLaws::walk_parts))]
+pub fn walk_parts(bytes: &[u8]) -> Result<&[u8], Stop>
+    ensures { Walks (λ x. x.now) result parts_at bytes.now }
+{
+    match head_at(bytes) {
+        Ok((head, rest)) => {
+            let rest = walk_procedures(head, rest)?;
+            let end = walk_nodes(head, rest)?;
+            Ok(end)
+        }
+        Err(fault) => {
+            let block = Block::Head {
+                version: version_in(bytes),
+            };
+            Err(stopped(Part::Head, block, fault, bytes))
+        }
+    }
+}

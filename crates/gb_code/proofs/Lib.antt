@@ -1,0 +1,2 @@
+pub mod ByteLaws
+pub mod CodeLaws

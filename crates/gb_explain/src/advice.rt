@@ -1,0 +1,118 @@
+//! The texts: what each reason says of a node, and what usually mends it.
+
+use gb_abs::reason::Reason;
+
+/// What a reason means, in a sentence, and what usually mends it.
+#[derive(Clone, Copy, Debug, PartialEq, Eq)]
+pub struct Advice {
+    pub problem: &'static str,
+    pub remedy: &'static str,
+}
+
+const ENTRY: Advice = Advice {
+    problem: "Main does not begin where and as the console starts: at 0100 in bank 000, in the state of power-up.",
+    remedy: "Let procedure 0 begin at a node there whose state has A = 01, BC = 0013, DE = 00D8, HL = 014D, IE = 00, interrupts off, bank 1, the gate to cartridge RAM closed, and the stack set only where its region ends at FFFD.",
+};
+
+const AREA: Advice = Advice {
+    problem: "Code may lie in 0000-3FFF, 4000-7FFF, C000-DFFF and FF80-FFFE alone, and no instruction may cross their ends.",
+    remedy: "Look for a wrong jump, or for code that runs on over the end of a bank; a missing JP, JR or RET is the usual cause.",
+};
+
+const BANK: Advice = Advice {
+    problem: "The ROM bank shown at this address is not known, or is not the one that the node names.",
+    remedy: "Let the code that leads here write a bank number that is known, keep it in the states up to here, and name that bank in the node; code in RAM has bank 000.",
+};
+
+const UNREADABLE: Advice = Advice {
+    problem: "A byte of this code in RAM is not known.",
+    remedy: "Give the node's state a cell of a single value for each byte of the instruction, or run the code from ROM.",
+};
+
+const UNDEFINED_OPCODE: Advice = Advice {
+    problem: "The opcode is undefined: the processor locks up on it.",
+    remedy: "Look for data that is run as code: a wrong jump, a wrong bank, or a missing JP, JR or RET before a table.",
+};
+
+const STOP: Advice = Advice {
+    problem: "STOP puts the whole console to sleep, and no certificate may reach it.",
+    remedy: "Wait with HALT in its place, or see that this code is never reached.",
+};
+
+const HALT: Advice = Advice {
+    problem: "Interrupts may be off at this HALT, and the byte behind it, which may then be read twice, is not known to be NOP's.",
+    remedy: "Put a NOP behind HALT, or an EI before it.",
+};
+
+const STACK: Advice = Advice {
+    problem: "The instruction uses the stack or moves SP where there is no rule that allows it.",
+    remedy: "Set SP once, in procedure 0, by LD SP to the address behind the stack region, and don't move it by INC SP, DEC SP, ADD SP or LD SP,HL. PUSH, POP, calls and returns want the stack set in the node's state; the README says which of them are accepted so far.",
+};
+
+const DEPTH: Advice = Advice {
+    problem: "The stack may grow over the words that the procedure says it needs, or over 16 pushed words.",
+    remedy: "Raise the procedure's need and its callers', or push less.",
+};
+
+const STORE: Advice = Advice {
+    problem: "The store may reach an address that this procedure may not write.",
+    remedy: "Add the address to the procedure's ranges, or bound the registers that hold it in the node's state. No range has the stack region or echo RAM, a store may not meet two areas, and IE and other bytes are not written by one store.",
+};
+
+const CARTRIDGE_RAM: Advice = Advice {
+    problem: "Cartridge RAM (A000-BFFF) may be met while its gate is closed, or the cartridge has neither RAM nor a clock.",
+    remedy: "Write 0A to 0000-1FFF first and keep the open gate in the states up to here, or bound the address or the source page of the OAM transfer away from A0-BF.",
+};
+
+const OAM_TRANSFER: Advice = Advice {
+    problem: "An OAM transfer may be going on, which closes all but high RAM (FF80-FFFE), or may start unseen.",
+    remedy: "Start the transfer from code in high RAM and wait there until the state's bound is 0, and write FF46 by an instruction that names it.",
+};
+
+const JUMP_HL: Advice = Advice {
+    problem: "JP HL leads to an address that is not known.",
+    remedy: "Give H and L single values in the node's state; for a jump table, compare the index and JP to each target by its address.",
+};
+
+const UNCOVERED: Advice = Advice {
+    problem: "Where the program goes on from here, no node of this procedure covers the state that it is in.",
+    remedy: "Add a node at that address, or widen its state to what this instruction leaves: registers, flags, interrupts, banks, items and cells.",
+};
+
+const CALLEE: Advice = Advice {
+    problem: "No procedure may be called here: none begins at the address in a state that covers this one, or it may write what its caller may not.",
+    remedy: "Add a procedure that begins at a node there, widen that node's state, or put its ranges inside the caller's.",
+};
+
+const RETURN: Advice = Advice {
+    problem: "The procedure may not return here.",
+    remedy: "End main in a loop; in another procedure pop all that was pushed, say that it returns, and widen its exit until it covers this state.",
+};
+
+const INTERRUPT: Advice = Advice {
+    problem: "An interrupt may come here for which nothing is provided.",
+    remedy: "Keep interrupts off by DI, or bits 0 to 4 of IE clear, and say so in the node's state. The README says whether interrupts are accepted so far.",
+};
+
+/// The texts of a reason.
+pub fn advice_on(reason: Reason) -> Advice {
+    match reason {
+        Reason::Entry => ENTRY,
+        Reason::Area => AREA,
+        Reason::Bank => BANK,
+        Reason::Unreadable => UNREADABLE,
+        Reason::UndefinedOpcode => UNDEFINED_OPCODE,
+        Reason::Stop => STOP,
+        Reason::Halt => HALT,
+        Reason::Stack => STACK,
+        Reason::Depth => DEPTH,
+        Reason::Store => STORE,
+        Reason::CartridgeRam => CARTRIDGE_RAM,
+        Reason::OamTransfer => OAM_TRANSFER,
+        Reason::JumpHl => JUMP_HL,
+        Reason::Uncovered => UNCOVERED,
+        Reason::Callee => CALLEE,
+        Reason::Return => RETURN,
+        Reason::Interrupt => INTERRUPT,
+    }
+}

@@ -1,0 +1,66 @@
+//! What there is to say of a refused node.
+
+ghost use Rattle.std.specs.Prelude.{◌≡◌, ◌<◌, length, slice_get, Some};
+ghost use Rattle.gb_cert.specs.Types.{Node};
+
+use crate::advice::advice_on;
+use crate::code::Code;
+use gb_abs::reason::Reason;
+use gb_cert::types::Cert;
+use gb_header::Rom;
+use std::fmt;
+
+/// A refused node with its place, its instruction and the reason. It prints three lines, the last without its end: the
+/// place and the instruction, what is wrong, and what usually mends it.
+#[derive(Clone, Copy, Debug, PartialEq, Eq)]
+pub struct Explanation {
+    pub node: u32,
+    pub procedure: u8,
+    pub address: u16,
+    /// The bank that the certificate claims to be shown at the address.
+    pub bank: u16,
+    pub code: Code,
+    pub reason: Reason,
+}
+
+impl Explanation {
+    /// What there is to say of the node with a number and a reason against it.
+    pub fn of(rom: &Rom<'_>, cert: &Cert<'_>, number: u32, reason: Reason) -> Explanation
+        requires { number < length cert.now.nodes }
+        ensures node { result.node ≡ number }
+        ensures reason { result.reason ≡ reason }
+        // The place is the node's.
+        ensures place { (n : Node) → slice_get cert.now.nodes number ≡ Some n → (result.procedure ≡ n.procedure) × (result.address ≡ n.address) × (result.bank ≡ n.bank) }
+    {
+        let node = cert.node(number);
+        let state = node.state();
+        let address = node.address();
+        Explanation {
+            node: number,
+            procedure: node.procedure(),
+            address,
+            bank: node.bank(),
+            code: Code::at(rom, &state, address),
+            reason,
+        }
+    }
+}
+
+impl fmt::Display for Explanation {
+    fn fmt<W: fmt::Write>(&self, f: &mut fmt::Formatter<W>) -> fmt::Result {
+        let Explanation {
+            node,
+            procedure,
+            address,
+            bank,
+            code,
+            reason,
+        } = *self;
+        let advice = advice_on(reason);
+        write!(
+            f,
+            "node {node}: procedure {procedure}, address {address:04X}, bank {bank:03X}: {code}\n"
+        )?;
+        write!(f, "{}\n{}", advice.problem, advice.remedy)
+    }
+}

@@ -1,0 +1,235 @@
+-- Reads and writes of an instruction that nothing refuses: no fault, and what is known of them is what happens.
+use Rattle.std.proofs.Common.{◌≡◌, ℕ, ◌%◌, ◌/◌, ◌≤◌, ◌<◌, Bool, true, false, ◌||◌, ◌==◌, List, length, slice_index, refl, sym, ◌∙◌, ap, subst, arith}
+use Rattle.std.proofs.lemmas.Bool.{not-false, eqb-true}
+use Rattle.std.specs.List.{list_any}
+use Rattle.gb_ops.specs.declared.machine.Region.{Region}
+use Rattle.gb_ops.specs.declared.machine.Read.{Read}
+use Rattle.gb_ops.specs.declared.machine.Read.TheVariants as machine_read
+use Rattle.gb_ops.specs.declared.machine.Write.{Write}
+use Rattle.gb_ops.specs.declared.machine.Write.TheVariants as machine_write
+use Rattle.gb_ops.specs.Cartridge.{kind_of}
+use Rattle.gb_ops.specs.Memory.{View, wrote, stored}
+use Rattle.gb_ops.specs.Machine.{loaded}
+use Rattle.gb_ops.specs.Faults.{no_faults, either_faults, write_faults, load_faults, store_faults}
+use Rattle.gb_ops.specs.Play.{MState}
+use Rattle.gb_cert.specs.declared.types.Val.{Val}
+use Rattle.gb_cert.specs.declared.types.Core.{Core}
+use Rattle.gb_cert.specs.declared.types.Range.{Range}
+use Rattle.gb_cert.specs.Types.{AbsState}
+use Rattle.gb_cert.specs.Rules.{IsVal, IsRegion}
+use Rattle.gb_vals.specs.Vals.{any_val}
+use Rattle.gb_abs.specs.declared.span.Span.{Span}
+use Rattle.gb_abs.specs.Span.{IsIn, one}
+use Rattle.gb_abs.specs.Storage.{is_ram, peek}
+use Rattle.gb_abs.specs.Cells.{ArePlaced}
+use Rattle.gb_abs.specs.Stack.{AreInRegion}
+use Rattle.gb_abs.specs.Meaning.{Holds, Means}
+use Rattle.gb_abs_effects.specs.declared.reads.AbsRead.{AbsRead}
+use Rattle.gb_abs_effects.specs.declared.reads.AbsRead.TheVariants as read
+use Rattle.gb_abs_effects.specs.declared.writes.AbsWrite.{AbsWrite}
+use Rattle.gb_abs_effects.specs.declared.writes.AbsWrite.TheVariants as write
+use Rattle.gb_abs_effects.specs.Sound.{HoldsRead, HoldsWrite, IsWrite}
+use Rattle.gb_abs_memory.specs.declared.store.Stored.{Stored}
+use Rattle.gb_abs_memory.specs.Access.{is_range, is_storable, may_be_closed, meets_closed_ram, may_copy_closed_ram, store_meets_closed_ram, is_limited, is_store_limited, stored_state, starts_oam_transfer}
+use Rattle.gb_abs_memory.specs.Sound.{IsRom, IsStored, view}
+use Rattle.gb_abs_memory.proofs.LoadLaws.{IsLoaded-loaded_val}
+use Rattle.gb_abs_memory.proofs.StoreLaws.{IsSoundStore-stored_state, stored-view}
+use Rattle.gb_abs_memory.proofs.AfterStoreLaws.{is_store_limited-stored, store_meets_closed_ram-stored}
+use Rattle.gb_successors.specs.Successors.{read_val, behind, written, starts}
+use Rattle.gb_successors.specs.Refused.{is_unstorable, reads_closed_ram, writes_closed_ram, is_read_limited, is_write_limited}
+use Rattle.gb_successors.specs.Sound.{IsKept}
+use Rattle.gb_successors.proofs.PlainLaws.{Keeps, IsPlainRead, IsPlainWrite}
+
+-- ---- the tests ask the controller and the bound alone
+
+pub closed_same : (rom : List ℕ) (s c : Core) (what : AbsRead) → Keeps s c → reads_closed_ram rom c what ≡ reads_closed_ram rom s what
+unfolding reads_closed_ram meets_closed_ram may_be_closed
+closed_same rom s c read.Nothing k = refl
+closed_same rom s c (read.Byte span) k = rw k.ctl refl
+closed_same rom s c read.Top k = refl
+
+pub limited_same : (s c : Core) (what : AbsRead) → Keeps s c → is_read_limited c what ≡ is_read_limited s what
+unfolding is_read_limited is_limited
+limited_same s c read.Nothing k = refl
+limited_same s c (read.Byte span) k = rw k.bound refl
+limited_same s c read.Top k = refl
+
+-- the gate and the bound are the same
+pub record IsSameGate (s c : Core) : Type 0 where
+  pub ctl : c.ctl ≡ s.ctl
+  pub bound : c.bound ≡ s.bound
+
+pub writes_same : (rom : List ℕ) (s c : Core) (w : AbsWrite) → IsSameGate s c → writes_closed_ram rom c w ≡ writes_closed_ram rom s w
+unfolding writes_closed_ram store_meets_closed_ram meets_closed_ram may_copy_closed_ram may_be_closed
+writes_same rom s c write.Nothing k = refl
+writes_same rom s c (write.Byte span v) k = rw k.ctl refl
+writes_same rom s c (write.Word a low high) k = rw k.ctl refl
+writes_same rom s c (write.Push high low) k = refl
+
+pub write_limited_same : (s c : Core) (w : AbsWrite) → IsSameGate s c → is_write_limited c w ≡ is_write_limited s w
+unfolding is_write_limited is_store_limited is_limited
+write_limited_same s c write.Nothing k = refl
+write_limited_same s c (write.Byte span v) k = rw k.bound refl
+write_limited_same s c (write.Word a low high) k = rw k.bound refl
+write_limited_same s c (write.Push high low) k = refl
+
+-- ---- reads
+
+any_holds : (entry : MState) (n : ℕ) → n ≤ 255 → Holds any_val entry n
+any_holds entry n h = record { least = omega arith; most = h; origin = λ o e. cc }
+
+-- what an instruction reads, without a fault
+pub record Loads (rom : List ℕ) (s : AbsState) (what : AbsRead) (entry : MState) (m : View) (r : Read) (reads : List ℕ) : Type 0 where
+  pub low : Holds (read_val rom s what) entry (loaded m r reads).low
+  pub high : Holds any_val entry (loaded m r reads).high
+  pub faults : load_faults m r ≡ no_faults
+
+in_span : (span : Span) (a : ℕ) → IsIn span a → span.last < 65536 → a < 65536
+in_span span a i h =
+    let most = i.last in
+    omega arith
+
+pub Loads-read :
+    (rom : List ℕ) (s : AbsState) (entry : MState) (base : ℕ) (x : MState) (reads : List ℕ) (sp : ℕ) (what : AbsRead) (r : Read) → IsRom rom → Means s entry base x → IsVal s.core.ie
+    → slice_index reads 0 ≤ 255 → IsPlainRead what → HoldsRead what sp r → reads_closed_ram rom s.core what ≡ false → is_read_limited s.core what ≡ false
+    → Loads rom s what entry (view rom x false) r reads
+unfolding read_val loaded load_faults reads_closed_ram is_read_limited
+Loads-read rom s entry base x reads sp read.Nothing machine_read.Nothing c m ie byte plain h ram limited =
+    record { low = any_holds entry 0 (omega arith); high = any_holds entry 0 (omega arith); faults = refl }
+Loads-read rom s entry base x reads sp (read.Byte span) (machine_read.Byte a) c m ie byte plain h ram limited =
+    let l = IsLoaded-loaded_val rom s span entry base x false a reads ram limited h (in_span span a h plain) m ie c byte in
+    record { low = l.holds; high = any_holds entry 0 (omega arith); faults = l.faults }
+Loads-read rom s entry base x reads sp read.Top r c m ie byte plain h ram limited = absurd plain
+Loads-read rom s entry base x reads sp read.Nothing (machine_read.Byte a) c m ie byte plain h ram limited = absurd h
+Loads-read rom s entry base x reads sp read.Nothing (machine_read.Word a) c m ie byte plain h ram limited = absurd h
+Loads-read rom s entry base x reads sp (read.Byte span) machine_read.Nothing c m ie byte plain h ram limited = absurd h
+Loads-read rom s entry base x reads sp (read.Byte span) (machine_read.Word a) c m ie byte plain h ram limited = absurd h
+
+-- ---- writes
+
+-- what an instruction writes, without a fault
+pub record Stores (rom : List ℕ) (region : Region) (ranges : List Range) (s : AbsState) (w : AbsWrite) (entry : MState) (base : ℕ) (x : MState) (m : View) (mw : Write) : Type 0 where
+  pub means : Means (written (kind_of rom) w s) entry base (record x { storage = (stored m mw).storage })
+  pub items : (written (kind_of rom) w s).items ≡ s.items
+  pub starting : (stored m mw).starting ≡ starts w
+  pub faults : store_faults region m mw ≡ no_faults
+  pub kept : (b : ℕ) → IsKept region ranges base b → peek (stored m mw).storage b ≡ peek x.storage b
+
+-- the state at a store, and where it may be
+pub record AtWrite (region : Region) (s : AbsState) (entry : MState) (base : ℕ) (x : MState) : Type 0 where
+  pub means : Means s entry base x
+  pub placed : ArePlaced region s.cells
+  pub room : AreInRegion region base (length s.items)
+  pub is_region : IsRegion region
+
+-- a byte that is kept isn't stored to
+is_other : (m : View) (a n : ℕ) (region : Region) (ranges : List Range) (s : AbsState) (entry : MState) (base : ℕ) (x : MState) (o : Stored) (b : ℕ)
+    → IsStored m a n region ranges s entry base x o → IsKept region ranges base b → (b == a) ≡ false
+is_other m a n region ranges s entry base x o b st k = choose (b == a) refl
+  where
+    choose : (t : Bool) → (b == a) ≡ t → (b == a) ≡ false
+    choose true e =
+        let same : b ≡ a = eqb-true b a e in
+        let inside = st.inside (subst (λ c. is_ram c ≡ true) same k.ram) in
+        let bad : true ≡ false = sym (subst (λ c. list_any (is_range (one c)) ranges ≡ true) (sym same) inside.inside) ∙ k.outside in
+        cc
+    choose false e = e
+
+store_one :
+    (rom : List ℕ) (region : Region) (ranges : List Range) (s : AbsState) (span : Span) (v : Val) (entry : MState) (base : ℕ) (x : MState) (starting : Bool) (a n : ℕ) → AtWrite region s entry base x
+    → is_storable (kind_of rom) region ranges span ≡ true → store_meets_closed_ram rom s.core span v ≡ false → is_store_limited s.core span ≡ false
+    → IsIn span a → a < 65536 → Holds v entry n → n ≤ 255
+    → IsStored (view rom x starting) a n region ranges s entry base x (record { state = stored_state (kind_of rom) span v s; starts = starts_oam_transfer span })
+store_one rom region ranges s span v entry base x starting a n w storable ram limited i lt h le =
+    (IsSoundStore-stored_state rom region ranges s span v storable ram limited).gives entry base x starting a n w.means w.placed w.room w.is_region i lt h le
+
+or_false : (b c : Bool) → (b || c) ≡ false → (b ≡ false) × (c ≡ false)
+or_false true c h = cc
+or_false false c h = (refl, h)
+
+at_one : (a : ℕ) → IsIn (one a) a
+at_one a = record { first = omega arith; last = omega arith }
+
+Stores-byte :
+    (rom : List ℕ) (region : Region) (ranges : List Range) (s : AbsState) (span : Span) (v : Val) (entry : MState) (base : ℕ) (x : MState) (a n : ℕ) → AtWrite region s entry base x
+    → is_storable (kind_of rom) region ranges span ≡ true → store_meets_closed_ram rom s.core span v ≡ false → is_store_limited s.core span ≡ false
+    → IsIn span a → a < 65536 → Holds v entry n → n ≤ 255
+    → Stores rom region ranges s (write.Byte span v) entry base x (view rom x false) (machine_write.Byte a n)
+unfolding written starts stored store_faults
+Stores-byte rom region ranges s span v entry base x a n w storable ram limited i lt h le =
+    let st = store_one rom region ranges s span v entry base x false a n w storable ram limited i lt h le in
+    record {
+      means = st.means;
+      items = st.items;
+      starting = st.starting;
+      faults = st.faults;
+      kept = λ b k. st.others b k.ram (is_other _ a n region ranges s entry base x _ b st k);
+    }
+
+word_byte : (v : Val) (entry : MState) (n : ℕ) → IsVal v → Holds v entry n → n ≤ 255
+word_byte v entry n is h =
+    let most = h.most in
+    let hi = is.hi in
+    omega arith
+
+Stores-word :
+    (rom : List ℕ) (region : Region) (ranges : List Range) (s : AbsState) (a : ℕ) (low high : Val) (entry : MState) (base : ℕ) (x : MState) (n : ℕ) → AtWrite region s entry base x
+    → is_storable (kind_of rom) region ranges (one a) ≡ true → is_storable (kind_of rom) region ranges (one (behind a)) ≡ true
+    → store_meets_closed_ram rom s.core (one a) low ≡ false → store_meets_closed_ram rom s.core (one (behind a)) high ≡ false
+    → is_store_limited s.core (one a) ≡ false → is_store_limited s.core (one (behind a)) ≡ false
+    → a < 65536 → IsVal low → IsVal high → Holds low entry (n % 256) → Holds high entry (n / 256)
+    → Stores rom region ranges s (write.Word a low high) entry base x (view rom x false) (machine_write.Word a n)
+unfolding written starts stored store_faults either_faults
+Stores-word rom region ranges s a low high entry base x n w here there ram_here ram_there clear_here clear_there lt is_low is_high l h =
+    let first = store_one rom region ranges s (one a) low entry base x false a (n % 256) w here ram_here clear_here (at_one a) lt l (word_byte low entry _ is_low l) in
+    let y : MState = record x { storage = (wrote (view rom x false) a (n % 256)).storage } in
+    let middle : AbsState = stored_state (kind_of rom) (one a) low s in
+    let begun : Bool = starts_oam_transfer (one a) in
+    let seen : wrote (view rom x false) a (n % 256) ≡ view rom y begun = stored-view rom region ranges s entry base x false a (n % 256) _ first in
+    let second = store_one rom region ranges middle (one (behind a)) high entry base y begun (behind a) (n / 256)
+    (record {
+      means = first.means;
+      placed = first.placed;
+      room = subst (λ items. AreInRegion region base (length items)) (sym first.items) w.room;
+      is_region = w.is_region;
+    })
+    there
+    (store_meets_closed_ram-stored rom (kind_of rom) a low s high ∙ ram_there)
+    (is_store_limited-stored (kind_of rom) (one a) (one (behind a)) low s ∙ clear_there)
+    (at_one (behind a)) (omega arith) h (word_byte high entry _ is_high h) in
+    record {
+      means = subst (λ (m : View). Means (stored_state (kind_of rom) (one (behind a)) high middle) entry base (record x { storage = (wrote m (behind a) (n / 256)).storage })) (sym seen) second.means;
+      items = second.items ∙ first.items;
+      starting = ap (λ (m : View). (wrote m (behind a) (n / 256)).starting) seen ∙ second.starting;
+      faults = rw (first.faults, ap (λ (m : View). write_faults m (behind a) (n / 256)) seen ∙ second.faults) refl;
+      kept = λ b k.
+          ap (λ (m : View). peek (wrote m (behind a) (n / 256)).storage b) seen
+          ∙ (second.others b k.ram (is_other _ (behind a) (n / 256) region ranges middle entry base y _ b second k)
+          ∙ first.others b k.ram (is_other _ a (n % 256) region ranges s entry base x _ b first k));
+    }
+
+pub Stores-write :
+    (rom : List ℕ) (region : Region) (ranges : List Range) (s : AbsState) (entry : MState) (base : ℕ) (x : MState) (sp : ℕ) (w : AbsWrite) (mw : Write) → AtWrite region s entry base x
+    → IsPlainWrite w → IsWrite w → HoldsWrite w entry sp mw → is_unstorable (kind_of rom) region ranges w ≡ false → writes_closed_ram rom s.core w ≡ false → is_write_limited s.core w ≡ false
+    → Stores rom region ranges s w entry base x (view rom x false) mw
+unfolding written starts stored store_faults is_unstorable writes_closed_ram is_write_limited
+Stores-write rom region ranges s entry base x sp write.Nothing machine_write.Nothing at plain is h allowed ram limited =
+    record { means = at.means; items = refl; starting = refl; faults = refl; kept = λ b k. refl }
+Stores-write rom region ranges s entry base x sp (write.Byte span v) (machine_write.Byte a n) at plain is h allowed ram limited =
+    Stores-byte rom region ranges s span v entry base x a n at (not-false _ allowed) ram limited h.0 (in_span span a h.0 plain) h.1 h.2
+Stores-write rom region ranges s entry base x sp (write.Word a low high) (machine_write.Word b n) at plain is h allowed ram limited =
+    let stores = or_false _ _ allowed in
+    let rams = or_false _ _ ram in
+    let clear = or_false _ _ limited in
+    subst (λ c. Stores rom region ranges s (write.Word a low high) entry base x (view rom x false) (machine_write.Word c n)) (sym h.0)
+    (Stores-word rom region ranges s a low high entry base x n at (not-false _ stores.0) (not-false _ stores.1) rams.0 rams.1 clear.0 clear.1 plain is.0 is.1 h.1 h.2)
+Stores-write rom region ranges s entry base x sp (write.Push high low) mw at plain is h allowed ram limited = absurd plain
+Stores-write rom region ranges s entry base x sp write.Nothing (machine_write.Byte a n) at plain is h allowed ram limited = absurd h
+Stores-write rom region ranges s entry base x sp write.Nothing (machine_write.Word a n) at plain is h allowed ram limited = absurd h
+Stores-write rom region ranges s entry base x sp write.Nothing (machine_write.Push a n) at plain is h allowed ram limited = absurd h
+Stores-write rom region ranges s entry base x sp (write.Byte span v) machine_write.Nothing at plain is h allowed ram limited = absurd h
+Stores-write rom region ranges s entry base x sp (write.Byte span v) (machine_write.Word a n) at plain is h allowed ram limited = absurd h
+Stores-write rom region ranges s entry base x sp (write.Byte span v) (machine_write.Push a n) at plain is h allowed ram limited = absurd h
+Stores-write rom region ranges s entry base x sp (write.Word a low high) machine_write.Nothing at plain is h allowed ram limited = absurd h
+Stores-write rom region ranges s entry base x sp (write.Word a low high) (machine_write.Byte b n) at plain is h allowed ram limited = absurd h
+Stores-write rom region ranges s entry base x sp (write.Word a low high) (machine_write.Push b n) at plain is h allowed ram limited = absurd h

@@ -1,0 +1,5 @@
+pub mod PlainLaws
+pub mod AccessLaws
+pub mod SuccessorLaws
+pub mod MarkLaws
+pub mod WayLaws

@@ -1,0 +1,238 @@
+-- Instructions that leave SP, or set it: what they leave of a core, and that they neither push nor pop.
+use Rattle.std.proofs.Common.{◌≡◌, ℕ, ◌<◌, false, Option, Some, None, refl, sym, ◌∙◌, subst, arith}
+use Rattle.std.proofs.lemmas.Option.{same_Some}
+use Rattle.gb_ops.specs.declared.op.Register.{Register}
+use Rattle.gb_ops.specs.declared.op.Register.TheVariants.{A, B, C, D, E, H, L}
+use Rattle.gb_ops.specs.declared.op.Condition.{Condition}
+use Rattle.gb_ops.specs.declared.op.Pair.{Pair}
+use Rattle.gb_ops.specs.declared.op.Pair.TheVariants as pair
+use Rattle.gb_ops.specs.declared.op.StackPair.{StackPair}
+use Rattle.gb_ops.specs.declared.op.StackPair.TheVariants as stack
+use Rattle.gb_ops.specs.declared.op.Indirect.{Indirect}
+use Rattle.gb_ops.specs.declared.op.Indirect.TheVariants as indirect
+use Rattle.gb_ops.specs.declared.op.Operand.{Operand}
+use Rattle.gb_ops.specs.declared.op.Operand.TheVariants as operand
+use Rattle.gb_ops.specs.declared.op.AluOp.{AluOp}
+use Rattle.gb_ops.specs.declared.op.Op.{Op}
+use Rattle.gb_ops.specs.declared.op.Op.TheVariants as op
+use Rattle.gb_cert.specs.declared.types.Val.{Val}
+use Rattle.gb_cert.specs.declared.types.Core.{Core}
+use Rattle.gb_cert.specs.Rules.{IsVal, IsCore}
+use Rattle.gb_vals.specs.declared.branch.Branch.{Branch}
+use Rattle.gb_abs.specs.declared.span.Span.{Span}
+use Rattle.gb_abs.specs.Span.{pair_span}
+use Rattle.gb_abs.specs.Operations.{core_set_register, core_settle}
+use Rattle.gb_abs_effects.specs.declared.pairs.Halves.{Halves}
+use Rattle.gb_abs_effects.specs.declared.reads.AbsRead.{AbsRead}
+use Rattle.gb_abs_effects.specs.declared.reads.AbsRead.TheVariants as read
+use Rattle.gb_abs_effects.specs.declared.writes.AbsWrite.{AbsWrite}
+use Rattle.gb_abs_effects.specs.declared.writes.AbsWrite.TheVariants as write
+use Rattle.gb_abs_effects.specs.declared.writes.AbsEffect.{AbsEffect}
+use Rattle.gb_abs_effects.specs.Accesses.{hl_span, indirect_span, high_span, operand_read, read_of}
+use Rattle.gb_abs_effects.specs.Pairs.{with_pair, with_indirect, with_stack_pair}
+use Rattle.gb_abs_effects.specs.Sides.{with_branch, side_of, sides_by, sides_of, condition_of}
+use Rattle.gb_abs_effects.specs.Targets.{moves_sp}
+use Rattle.gb_abs_effects.specs.Transfer.{transfer, store_operand, update_operand, update_a, apply_alu}
+use Rattle.gb_abs_effects.specs.Sound.{HasBytes}
+
+-- ---- what stays of a core
+
+-- the controller, the bound, IE and the stack are the same
+pub record Keeps (s c : Core) : Type 0 where
+  pub ctl : c.ctl ≡ s.ctl
+  pub bound : c.bound ≡ s.bound
+  pub ie : c.ie ≡ s.ie
+  pub stack : c.stack_set ≡ s.stack_set
+
+pub Keeps-both : (a b c : Core) → Keeps a b → Keeps b c → Keeps a c
+Keeps-both a b c h k = record { ctl = k.ctl ∙ h.ctl; bound = k.bound ∙ h.bound; ie = k.ie ∙ h.ie; stack = k.stack ∙ h.stack }
+
+Keeps-itself : (s : Core) → Keeps s s
+Keeps-itself s = record { ctl = refl; bound = refl; ie = refl; stack = refl }
+
+pub Keeps-settle : (s : Core) → Keeps s (core_settle s)
+unfolding core_settle
+Keeps-settle s = record { ctl = refl; bound = refl; ie = refl; stack = refl }
+
+Keeps-with_branch : (s c : Core) (b : Option Branch) → with_branch s b ≡ Some c → Keeps s c
+Keeps-with_branch s c None h = cc
+Keeps-with_branch s c (Some b) h = subst (λ k. Keeps s k) (same_Some _ c h) (record { ctl = refl; bound = refl; ie = refl; stack = refl })
+
+Keeps-side_of : (k : Condition) (s c : Core) → side_of k s ≡ Some c → Keeps s c
+unfolding side_of
+Keeps-side_of k s c h = Keeps-with_branch s c _ h
+
+pub Keeps-taken : (o : Op) (s c : Core) → (sides_of o s).taken ≡ Some c → Keeps s c
+unfolding sides_of
+Keeps-taken o s c h = choose (condition_of o) h
+  where
+    choose : (k : Option Condition) → (sides_by k s).taken ≡ Some c → Keeps s c
+    choose None e = subst (λ k. Keeps s k) (same_Some s c e) (Keeps-itself s)
+    choose (Some k) e = Keeps-side_of k s c e
+
+pub Keeps-not_taken : (o : Op) (s c : Core) → (sides_of o s).not_taken ≡ Some c → Keeps s c
+unfolding sides_of
+Keeps-not_taken o s c h = choose (condition_of o) h
+  where
+    choose : (k : Option Condition) → (sides_by k s).not_taken ≡ Some c → Keeps s c
+    choose None e = cc
+    choose (Some k) e = Keeps-side_of _ s c e
+
+Keeps-set : (r : Register) (v : Val) (s c : Core) → Keeps s c → Keeps s (core_set_register r v c)
+unfolding core_set_register
+Keeps-set r v s c h = record { ctl = h.ctl; bound = h.bound; ie = h.ie; stack = h.stack }
+
+Keeps-pair : (which : Pair) (w : Halves) (s c : Core) → Keeps s c → Keeps s (with_pair which w c)
+unfolding with_pair
+Keeps-pair pair.Bc w s c h = record { ctl = h.ctl; bound = h.bound; ie = h.ie; stack = h.stack }
+Keeps-pair pair.De w s c h = record { ctl = h.ctl; bound = h.bound; ie = h.ie; stack = h.stack }
+Keeps-pair pair.Hl w s c h = record { ctl = h.ctl; bound = h.bound; ie = h.ie; stack = h.stack }
+Keeps-pair pair.Sp w s c h = h
+
+Keeps-indirect : (which : Indirect) (s : Core) → Keeps s (with_indirect which s)
+unfolding with_indirect
+Keeps-indirect indirect.Bc s = Keeps-itself s
+Keeps-indirect indirect.De s = Keeps-itself s
+Keeps-indirect indirect.HlIncrement s = Keeps-pair pair.Hl _ s s (Keeps-itself s)
+Keeps-indirect indirect.HlDecrement s = Keeps-pair pair.Hl _ s s (Keeps-itself s)
+
+Keeps-stack_pair : (which : StackPair) (w : Halves) (s : Core) → Keeps s (with_stack_pair which w s)
+unfolding with_stack_pair
+Keeps-stack_pair stack.Bc w s = Keeps-pair pair.Bc w s s (Keeps-itself s)
+Keeps-stack_pair stack.De w s = Keeps-pair pair.De w s s (Keeps-itself s)
+Keeps-stack_pair stack.Hl w s = Keeps-pair pair.Hl w s s (Keeps-itself s)
+Keeps-stack_pair stack.Af w s = record { ctl = refl; bound = refl; ie = refl; stack = refl }
+
+Keeps-store : (to : Operand) (v : Val) (s c : Core) → Keeps s c → Keeps s (store_operand to v c).core
+unfolding store_operand
+Keeps-store (operand.Register r) v s c h = Keeps-set r v s c h
+Keeps-store operand.AtHl v s c h = h
+
+Keeps-update_a : (o : AbsEffect) (s : Core) → o.core.ctl ≡ s.ctl → o.core.bound ≡ s.bound → o.core.ie ≡ s.ie → o.core.stack_set ≡ s.stack_set → Keeps s o.core
+Keeps-update_a o s a b c d = record { ctl = a; bound = b; ie = c; stack = d }
+
+Keeps-alu : (how : AluOp) (from : Operand) (s : Core) (low : Val) → Keeps s (apply_alu how from s low).core
+unfolding apply_alu update_a
+Keeps-alu how (operand.Register A) s low = record { ctl = refl; bound = refl; ie = refl; stack = refl }
+Keeps-alu how (operand.Register r) s low = record { ctl = refl; bound = refl; ie = refl; stack = refl }
+Keeps-alu how operand.AtHl s low = record { ctl = refl; bound = refl; ie = refl; stack = refl }
+
+pub Keeps-transfer : (o : Op) (next : ℕ) (s : Core) (low high : Val) → Keeps s (transfer o next s low high).core
+unfolding transfer update_operand update_a
+Keeps-transfer (op.LoadPair to w) next s low high = Keeps-pair to _ s s (Keeps-itself s)
+Keeps-transfer (op.StoreA to) next s low high = Keeps-indirect to s
+Keeps-transfer (op.LoadA from) next s low high = Keeps-set A low s _ (Keeps-indirect from s)
+Keeps-transfer (op.IncrementPair which) next s low high = Keeps-pair which _ s s (Keeps-itself s)
+Keeps-transfer (op.DecrementPair which) next s low high = Keeps-pair which _ s s (Keeps-itself s)
+Keeps-transfer (op.Increment which) next s low high = Keeps-store which _ s _ (record { ctl = refl; bound = refl; ie = refl; stack = refl })
+Keeps-transfer (op.Decrement which) next s low high = Keeps-store which _ s _ (record { ctl = refl; bound = refl; ie = refl; stack = refl })
+Keeps-transfer (op.LoadImmediate to v) next s low high = Keeps-store to _ s s (Keeps-itself s)
+Keeps-transfer (op.AddHl which) next s low high =
+    let h = Keeps-pair pair.Hl _ s s (Keeps-itself s) in
+    record { ctl = h.ctl; bound = h.bound; ie = h.ie; stack = h.stack }
+Keeps-transfer (op.Load to from) next s low high = Keeps-store to _ s s (Keeps-itself s)
+Keeps-transfer (op.Alu how from) next s low high = Keeps-alu how from s low
+Keeps-transfer (op.Pop to) next s low high = Keeps-stack_pair to _ s
+Keeps-transfer (op.LoadHigh b) next s low high = Keeps-set A low s s (Keeps-itself s)
+Keeps-transfer op.LoadHighC next s low high = Keeps-set A low s s (Keeps-itself s)
+Keeps-transfer (op.LoadAbsolute w) next s low high = Keeps-set A low s s (Keeps-itself s)
+Keeps-transfer (op.LoadHlSp e8) next s low high =
+    let h = Keeps-pair pair.Hl _ s s (Keeps-itself s) in
+    record { ctl = h.ctl; bound = h.bound; ie = h.ie; stack = h.stack }
+Keeps-transfer (op.Shift how which) next s low high = Keeps-store which _ s _ (record { ctl = refl; bound = refl; ie = refl; stack = refl })
+Keeps-transfer (op.Reset n which) next s low high = Keeps-store which _ s s (Keeps-itself s)
+Keeps-transfer (op.Set n which) next s low high = Keeps-store which _ s s (Keeps-itself s)
+Keeps-transfer o next s low high = record { ctl = refl; bound = refl; ie = refl; stack = refl }
+
+-- ---- addresses
+
+-- the addresses of a read are addresses, and it isn't a word of the stack
+abbrev pub IsPlainRead : AbsRead → Type 0
+IsPlainRead read.Nothing = Unit {0}
+IsPlainRead (read.Byte span) = span.last < 65536
+IsPlainRead read.Top = ⊥
+
+abbrev pub IsPlainWrite : AbsWrite → Type 0
+IsPlainWrite write.Nothing = Unit {0}
+IsPlainWrite (write.Byte span v) = span.last < 65536
+IsPlainWrite (write.Word a low high) = a < 65536
+IsPlainWrite (write.Push high low) = ⊥
+
+small_pair : (high low : Val) → IsVal high → IsVal low → (pair_span high low).last < 65536
+unfolding pair_span
+small_pair high low h l =
+    let a = h.hi in
+    let b = l.hi in
+    omega arith
+
+small_hl : (s : Core) → IsCore s → (hl_span s).last < 65536
+unfolding hl_span
+small_hl s c = small_pair s.registers.h s.registers.l (c.registers H) (c.registers L)
+
+small_indirect : (which : Indirect) (s : Core) → IsCore s → (indirect_span which s).last < 65536
+unfolding indirect_span
+small_indirect indirect.Bc s c = small_pair s.registers.b s.registers.c (c.registers B) (c.registers C)
+small_indirect indirect.De s c = small_pair s.registers.d s.registers.e (c.registers D) (c.registers E)
+small_indirect indirect.HlIncrement s c = small_hl s c
+small_indirect indirect.HlDecrement s c = small_hl s c
+
+small_high : (s : Core) → IsCore s → (high_span s).last < 65536
+unfolding high_span
+small_high s c = small_pair _ s.registers.c (record { order = omega arith; hi = omega arith }) (c.registers C)
+
+IsPlainRead-operand : (which : Operand) (s : Core) → IsCore s → IsPlainRead (operand_read which s)
+unfolding operand_read
+IsPlainRead-operand (operand.Register r) s c = tt
+IsPlainRead-operand operand.AtHl s c = small_hl s c
+
+pub IsPlainRead-read_of : (o : Op) (s : Core) → moves_sp o ≡ false → HasBytes o → IsCore s → IsPlainRead (read_of o s)
+unfolding read_of
+IsPlainRead-read_of (op.LoadA from) s e b c = small_indirect from s c
+IsPlainRead-read_of (op.Increment which) s e b c = IsPlainRead-operand which s c
+IsPlainRead-read_of (op.Decrement which) s e b c = IsPlainRead-operand which s c
+IsPlainRead-read_of (op.Load to from) s e b c = IsPlainRead-operand from s c
+IsPlainRead-read_of (op.Alu how which) s e b c = IsPlainRead-operand which s c
+IsPlainRead-read_of (op.ReturnIf condition) s e b c = cc
+IsPlainRead-read_of op.Return s e b c = cc
+IsPlainRead-read_of op.ReturnFromInterrupt s e b c = cc
+IsPlainRead-read_of (op.Pop pair) s e b c = cc
+IsPlainRead-read_of (op.LoadHigh n) s e b c = let small : n < 256 = b in omega arith
+IsPlainRead-read_of op.LoadHighC s e b c = small_high s c
+IsPlainRead-read_of (op.LoadAbsolute w) s e b c = b
+IsPlainRead-read_of (op.Shift how which) s e b c = IsPlainRead-operand which s c
+IsPlainRead-read_of (op.Bit n which) s e b c = IsPlainRead-operand which s c
+IsPlainRead-read_of (op.Reset n which) s e b c = IsPlainRead-operand which s c
+IsPlainRead-read_of (op.Set n which) s e b c = IsPlainRead-operand which s c
+IsPlainRead-read_of o s e b c = tt
+
+IsPlainWrite-store : (to : Operand) (v : Val) (s c : Core) → hl_span c ≡ hl_span s → IsCore s → IsPlainWrite (store_operand to v c).write
+unfolding store_operand
+IsPlainWrite-store (operand.Register r) v s c e h = tt
+IsPlainWrite-store operand.AtHl v s c e h = subst (λ (x : Span). x.last < 65536) (sym e) (small_hl s h)
+
+IsPlainWrite-alu : (how : AluOp) (from : Operand) (s : Core) (low : Val) → IsPlainWrite (apply_alu how from s low).write
+unfolding apply_alu update_a
+IsPlainWrite-alu how (operand.Register A) s low = tt
+IsPlainWrite-alu how (operand.Register r) s low = tt
+IsPlainWrite-alu how operand.AtHl s low = tt
+
+pub IsPlainWrite-transfer : (o : Op) (next : ℕ) (s : Core) (low high : Val) → moves_sp o ≡ false → HasBytes o → IsCore s → IsPlainWrite (transfer o next s low high).write
+unfolding transfer update_operand update_a hl_span
+IsPlainWrite-transfer (op.StoreA to) next s low high e b c = small_indirect to s c
+IsPlainWrite-transfer (op.Increment which) next s low high e b c = IsPlainWrite-store which _ s _ refl c
+IsPlainWrite-transfer (op.Decrement which) next s low high e b c = IsPlainWrite-store which _ s _ refl c
+IsPlainWrite-transfer (op.LoadImmediate to v) next s low high e b c = IsPlainWrite-store to _ s s refl c
+IsPlainWrite-transfer (op.StoreSp w) next s low high e b c = b
+IsPlainWrite-transfer (op.Load to from) next s low high e b c = IsPlainWrite-store to _ s s refl c
+IsPlainWrite-transfer (op.Alu how from) next s low high e b c = IsPlainWrite-alu how from s low
+IsPlainWrite-transfer (op.Push from) next s low high e b c = cc
+IsPlainWrite-transfer (op.CallIf condition w) next s low high e b c = cc
+IsPlainWrite-transfer (op.Call w) next s low high e b c = cc
+IsPlainWrite-transfer (op.Restart w) next s low high e b c = cc
+IsPlainWrite-transfer (op.StoreHigh n) next s low high e b c = let small : n < 256 = b in omega arith
+IsPlainWrite-transfer op.StoreHighC next s low high e b c = small_high s c
+IsPlainWrite-transfer (op.StoreAbsolute w) next s low high e b c = b
+IsPlainWrite-transfer (op.Shift how which) next s low high e b c = IsPlainWrite-store which _ s _ refl c
+IsPlainWrite-transfer (op.Reset n which) next s low high e b c = IsPlainWrite-store which _ s s refl c
+IsPlainWrite-transfer (op.Set n which) next s low high e b c = IsPlainWrite-store which _ s s refl c
+IsPlainWrite-transfer o next s low high e b c = tt

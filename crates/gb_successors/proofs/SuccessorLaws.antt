@@ -1,0 +1,394 @@
+-- Whatever the machine executes from a state that is meant leads by one of the successors.
+use Rattle.std.proofs.Common.{◌≡◌, ℕ, ◌+◌, ◌-◌, ◌%◌, ◌≤◌, ◌<◌, Bool, true, false, if◌then◌else◌, cond, ◌||◌, inl, inr, List, [], length, slice_index, Some, refl, sym, ◌∙◌, ap, subst, arith}
+use Rattle.std.specs.List.{AllByRecursion}
+use Rattle.gb_ops.specs.declared.machine.Region.{Region}
+use Rattle.gb_ops.specs.declared.machine.Effect.{Effect}
+use Rattle.gb_ops.specs.declared.machine.Loaded.{Loaded}
+use Rattle.gb_ops.specs.declared.registers.Processor.{Processor}
+use Rattle.gb_ops.specs.declared.op.Pair.{Pair}
+use Rattle.gb_ops.specs.declared.op.Pair.TheVariants as pair
+use Rattle.gb_ops.specs.declared.op.Op.{Op}
+use Rattle.gb_ops.specs.declared.op.Op.TheVariants as op
+use Rattle.gb_ops.specs.declared.op.Row.{Row}
+use Rattle.gb_ops.specs.Cartridge.{kind_of}
+use Rattle.gb_ops.specs.Memory.{View, stored, passed}
+use Rattle.gb_ops.specs.Effects as Effects
+use Rattle.gb_ops.specs.Machine.{executed, advanced, way_of, mark_of, loaded, cycles_of}
+use Rattle.gb_ops.specs.Faults.{no_faults, either_faults, row_faults, load_faults, store_faults}
+use Rattle.gb_ops.specs.Play.{MState, within, outside}
+use Rattle.gb_cert.specs.declared.types.Val.{Val}
+use Rattle.gb_cert.specs.declared.types.Core.{Core}
+use Rattle.gb_cert.specs.declared.types.Range.{Range}
+use Rattle.gb_cert.specs.Types.{AbsState}
+use Rattle.gb_cert.specs.Rules.{IsVal, IsCore, IsRegion}
+use Rattle.gb_vals.specs.Vals.{any_val}
+use Rattle.gb_abs.specs.Storage.{peek}
+use Rattle.gb_abs.specs.Operations.{core_settle, core_end, with_core}
+use Rattle.gb_abs.specs.Cells.{ArePlaced}
+use Rattle.gb_abs.specs.Stack.{AreInRegion}
+use Rattle.gb_abs.specs.Meaning.{Holds, MeansCore, Means, IsMemory}
+use Rattle.gb_abs.proofs.OperationLaws.{MeansCore-settle, end_sound}
+use Rattle.gb_abs.proofs.StackLaws.{Means-with_core}
+use Rattle.gb_abs_effects.specs.declared.reads.AbsRead.{AbsRead}
+use Rattle.gb_abs_effects.specs.declared.reads.AbsRead.TheVariants as read
+use Rattle.gb_abs_effects.specs.declared.writes.AbsWrite.{AbsWrite}
+use Rattle.gb_abs_effects.specs.declared.writes.AbsEffect.{AbsEffect}
+use Rattle.gb_abs_effects.specs.Accesses.{read_of}
+use Rattle.gb_abs_effects.specs.Sides.{sides_of}
+use Rattle.gb_abs_effects.specs.Targets.{target_of, moves_sp, is_sp}
+use Rattle.gb_abs_effects.specs.Transfer.{transfer}
+use Rattle.gb_abs_effects.specs.Sound.{HasBytes, HoldsTarget, Follows, Begins}
+use Rattle.gb_abs_effects.proofs.ReadLaws.{read_of_sound}
+use Rattle.gb_abs_effects.proofs.RangeLaws.{transfer_inhabited}
+use Rattle.gb_abs_effects.proofs.TargetLaws.{target_of_sound, sp-kept, sp-loaded}
+use Rattle.gb_abs_effects.proofs.TransferLaws.{transfer_sound}
+use Rattle.gb_abs_memory.specs.Sound.{view, AreVals}
+use Rattle.gb_abs_memory.proofs.LoadLaws.{IsVal-loaded_val}
+use Rattle.gb_successors.specs.declared.successor.Successor.{Successor}
+use Rattle.gb_successors.specs.Successors.{read_val, written, starts, with_stack_of, ended, taken_successor}
+use Rattle.gb_successors.specs.Refused.{is_unstorable, meets_closed, meets_oam_transfer, reads_closed_ram, writes_closed_ram, is_read_limited, is_write_limited}
+use Rattle.gb_successors.specs.Sound.{IsAllowed, Leads, IsStackKnown, Stands, IsRuled}
+use Rattle.gb_successors.proofs.PlainLaws.{Keeps, Keeps-both, Keeps-settle, Keeps-taken, Keeps-transfer, IsPlainRead, IsPlainWrite, IsPlainRead-read_of, IsPlainWrite-transfer}
+use Rattle.gb_successors.proofs.AccessLaws.{IsSameGate, closed_same, limited_same, writes_same, write_limited_same, Loads, Loads-read, Stores, AtWrite, Stores-write}
+
+-- ---- the machine as an instruction begins its work
+
+-- the machine with the instruction's bytes fetched
+abbrev pub begun : Row → MState → MState
+begun row x = record x { processor = advanced x.processor row }
+
+-- what its reads give
+abbrev pub given : List ℕ → Row → MState → List ℕ → Loaded
+given rom row x reads = loaded (view rom x false) (Effects.read_of row.op (advanced x.processor row)) reads
+
+abbrev pub effect : List ℕ → Row → MState → List ℕ → Effect
+effect rom row x reads = Effects.effect_of row.op (advanced x.processor row) (given rom row x reads).low (given rom row x reads).high
+
+-- the address behind an instruction
+abbrev pub behind_row : ℕ → Row → ℕ
+behind_row a row = (a + row.length) % 65536
+
+way_runs : (o : Op) (n m : ℕ) → (o ≡ op.Stop → ⊥) → way_of o n m ≡ n - m
+unfolding way_of
+way_runs op.Stop n m h = absurd (h refl)
+way_runs o n m h = refl
+
+no_mark : (p : Processor) → p.halt_mark ≡ false → mark_of p ≡ 0
+no_mark p h = ap (λ b. cond b 1 0) h
+
+pub begun_pc : (row : Row) (x : MState) (a : ℕ) → (row.op ≡ op.Stop → ⊥) → x.processor.halt_mark ≡ false → x.processor.pc ≡ a → (begun row x).processor.pc ≡ behind_row a row
+unfolding advanced
+begun_pc row x a runs mark at =
+    let none : row.length - 0 ≡ row.length = omega arith in
+    rw (way_runs row.op row.length (mark_of x.processor) runs, no_mark x.processor mark, none, at) refl
+
+pub begun_sp : (row : Row) (x : MState) → (begun row x).processor.sp ≡ x.processor.sp
+unfolding advanced
+begun_sp row x = refl
+
+pub begun_core : (row : Row) (x : MState) (s : Core) (entry : MState) → MeansCore s entry x → MeansCore (core_settle s) entry (begun row x)
+unfolding advanced
+begun_core row x s entry m = MeansCore-settle s entry x _ m
+
+-- ---- what an instruction leaves, by its effect
+
+-- the machine behind an instruction, by its effect and its M-cycles
+abbrev pub left_by : List ℕ → MState → Effect → ℕ → MState
+left_by rom x e n = record { processor = e.processor; storage = (passed (stored (view rom x false) e.write) n).storage }
+
+pub executed_is : (rom : List ℕ) (x : MState) (row : Row) (reads : List ℕ) → outside (executed (within rom x) row reads) ≡ left_by rom x (effect rom row x reads) (cycles_of row (effect rom row x reads).is_taken)
+unfolding executed within outside
+executed_is rom x row reads = refl
+
+pub faults_are : (rom : List ℕ) (region : Region) (x : MState) (row : Row) (reads : List ℕ) → load_faults (view rom x false) (Effects.read_of row.op (advanced x.processor row)) ≡ no_faults
+    → store_faults region (view rom x false) (effect rom row x reads).write ≡ no_faults → row_faults (Some row) region (within rom x) reads ≡ no_faults
+unfolding within either_faults
+faults_are rom region x row reads l s = rw (l, s) refl
+
+ended_stack : (b : Bool) (n : ℕ) (s : Core) → (core_end b n s).stack_set ≡ true → s.stack_set ≡ true
+unfolding core_end
+ended_stack true n s set = set
+ended_stack false n s set = set
+
+-- time passes, and an OAM transfer may start
+pub Means-ended :
+    (rom : List ℕ) (s : AbsState) (entry : MState) (base : ℕ) (p : Processor) (m : View) (is_started : Bool) (n : ℕ) → m.starting ≡ is_started
+    → Means s entry base (record { processor = p; storage = m.storage }) → Means (ended is_started n s) entry base (record { processor = p; storage = (passed m n).storage })
+unfolding ended passed
+Means-ended rom s entry base p m is_started n e h =
+    let x : MState = record { processor = p; storage = m.storage } in
+    let core = (end_sound is_started n s.core (core_end is_started n s.core) refl).gives rom entry x h.core in
+    let y : MState = record { processor = p; storage = record m.storage { count = if m.starting then 161 else m.storage.count - n } } in
+    let same : MeansCore (core_end is_started n s.core) entry y = subst (λ b. MeansCore (core_end is_started n s.core) entry (record { processor = p; storage = record m.storage { count = if b then 161 else m.storage.count - n } })) (sym e) core in
+    Means-with_core s (core_end is_started n s.core) entry base x y h same refl refl refl (ended_stack is_started n s.core)
+
+ended_items : (is_started : Bool) (n : ℕ) (s : AbsState) → (ended is_started n s).items ≡ s.items
+unfolding ended
+ended_items is_started n s = refl
+
+pub passed_peek : (m : View) (n b : ℕ) → peek (passed m n).storage b ≡ peek m.storage b
+unfolding passed peek
+passed_peek m n b = refl
+
+-- ---- taken
+
+-- the instruction is taken, from the side's core
+pub record IsTaken (rom : List ℕ) (region : Region) (ranges : List Range) (row : Row) (a : ℕ) (s : AbsState) (entry : MState) (base : ℕ) (x : MState) (reads : List ℕ) (c : Core) : Type 0 where
+  pub stands : Stands rom region row a s entry base x
+  pub ruled : IsRuled row base
+  pub mark : x.processor.halt_mark ≡ false
+  pub byte : slice_index reads 0 ≤ 255
+  pub side : (sides_of row.op (core_settle s.core)).taken ≡ Some c
+  pub means : MeansCore c entry (begun row x)
+  pub core : IsCore c
+  pub taken : (effect rom row x reads).is_taken ≡ true
+
+pub keeps_side : (o : Op) (s c : Core) → (sides_of o (core_settle s)).taken ≡ Some c → Keeps s c
+keeps_side o s c h = Keeps-both s (core_settle s) c (Keeps-settle s) (Keeps-taken o (core_settle s) c h)
+
+-- an instruction with rules neither pushes nor pops
+plain_read : (o : Op) (base : ℕ) (c : Core) → IsStackKnown o base → HasBytes o → IsCore c → IsPlainRead (read_of o c)
+unfolding read_of
+plain_read o base c (inl still) bytes is = IsPlainRead-read_of o c still bytes is
+plain_read o base c (inr e) bytes is = subst (λ q. IsPlainRead (read_of q c)) (sym e) tt
+
+plain_write : (o : Op) (base next : ℕ) (c : Core) (low high : Val) → IsStackKnown o base → HasBytes o → IsCore c → IsPlainWrite (transfer o next c low high).write
+unfolding transfer
+plain_write o base next c low high (inl still) bytes is = IsPlainWrite-transfer o next c low high still bytes is
+plain_write o base next c low high (inr e) bytes is = subst (λ q. IsPlainWrite (transfer q next c low high).write) (sym e) tt
+
+-- the state before its reads
+means_begun : (rom : List ℕ) (row : Row) (s : AbsState) (entry : MState) (base : ℕ) (x : MState) (c : Core) → Keeps s.core c → Means s entry base x → MeansCore c entry (begun row x)
+    → Means (with_core s c) entry base (begun row x)
+means_begun rom row s entry base x c k m h = Means-with_core s c entry base x (begun row x) m h refl refl (begun_sp row x) (λ set. sym k.stack ∙ set)
+
+-- what its reads give is known, and has no fault
+loads : (rom : List ℕ) (region : Region) (ranges : List Range) (row : Row) (a : ℕ) (s : AbsState) (entry : MState) (base : ℕ) (x : MState) (reads : List ℕ) (c : Core)
+    → IsTaken rom region ranges row a s entry base x reads c → reads_closed_ram rom s.core (read_of row.op c) ≡ false → is_read_limited s.core (read_of row.op c) ≡ false
+    → Loads rom (with_core s c) (read_of row.op c) entry (view rom x false) (Effects.read_of row.op (advanced x.processor row)) reads
+loads rom region ranges row a s entry base x reads c k ram limited =
+    let keeps = keeps_side row.op s.core c k.side in
+    Loads-read rom (with_core s c) entry base (begun row x) reads (begun row x).processor.sp (read_of row.op c) (Effects.read_of row.op (advanced x.processor row))
+    k.stands.cartridge (means_begun rom row s entry base x c keeps k.stands.means k.means) k.core.ie k.byte
+    (plain_read row.op base c k.ruled.stack k.ruled.operands k.core)
+    ((read_of_sound row.op c (read_of row.op c) refl).gives entry (begun row x) (given rom row x reads).low (given rom row x reads).high k.means k.taken)
+    (closed_same rom s.core c (read_of row.op c) keeps ∙ ram)
+    (limited_same s.core c (read_of row.op c) keeps ∙ limited)
+
+-- what is known of the byte that it reads
+abbrev low_of : List ℕ → Row → AbsState → Core → Val
+low_of rom row s c = read_val rom (with_core s c) (read_of row.op c)
+
+IsVal-any : IsVal any_val
+IsVal-any = record { order = omega arith; hi = omega arith }
+
+-- the transfer function's effect
+abbrev abs_effect : List ℕ → Row → ℕ → AbsState → Core → AbsEffect
+abs_effect rom row a s c = transfer row.op (behind_row a row) c (low_of rom row s c) any_val
+
+is_low : (rom : List ℕ) (row : Row) (s : AbsState) (c : Core) (what : AbsRead) → IsVal c.ie → AreVals s.cells → ((i : ℕ) → slice_index rom i ≤ 255) → IsVal (read_val rom (with_core s c) what)
+unfolding read_val
+is_low rom row s c read.Nothing ie cells bytes = IsVal-any
+is_low rom row s c (read.Byte span) ie cells bytes = IsVal-loaded_val rom (with_core s c) span ie cells bytes
+is_low rom row s c read.Top ie cells bytes = IsVal-any
+
+follows : (rom : List ℕ) (region : Region) (ranges : List Range) (row : Row) (a : ℕ) (s : AbsState) (entry : MState) (base : ℕ) (x : MState) (reads : List ℕ) (c : Core)
+    → IsTaken rom region ranges row a s entry base x reads c
+    → Loads rom (with_core s c) (read_of row.op c) entry (view rom x false) (Effects.read_of row.op (advanced x.processor row)) reads
+    → Follows (abs_effect rom row a s c) entry (begun row x) (effect rom row x reads) × ((effect rom row x reads).processor.sp < 65536)
+follows rom region ranges row a s entry base x reads c k l =
+    let sound = transfer_sound row.op (behind_row a row) c (low_of rom row s c) any_val (abs_effect rom row a s c) refl k.ruled.operands k.core
+    (is_low rom row s c (read_of row.op c) k.core.ie k.stands.vals k.stands.cartridge.bytes) in
+    let begins : Begins row.op (behind_row a row) c (low_of rom row s c) any_val entry (begun row x) (given rom row x reads).low (given rom row x reads).high = record {
+      core = k.means;
+      low_read = l.low;
+      high_read = l.high;
+      pc = begun_pc row x a k.ruled.runs k.mark k.stands.at;
+      sp = subst (λ n. n < 65536) (sym (begun_sp row x)) k.stands.means.sp;
+      taken = k.taken;
+    } in (
+      sound.gives entry (begun row x) (given rom row x reads).low (given rom row x reads).high k.ruled.runs begins,
+      sound.sp entry (begun row x) (given rom row x reads).low (given rom row x reads).high begins,
+    )
+
+-- ---- the state behind its effect, before its write
+
+abbrev effect_state : List ℕ → Row → ℕ → AbsState → Core → AbsState
+effect_state rom row a s c = with_stack_of row.op (with_core s (abs_effect rom row a s c).core)
+
+-- the machine with the effect's processor
+abbrev acted : List ℕ → Row → MState → List ℕ → MState
+acted rom row x reads = record x { processor = (effect rom row x reads).processor }
+
+stack_still : (o : Op) (s : AbsState) → moves_sp o ≡ false → with_stack_of o s ≡ s
+unfolding with_stack_of
+stack_still (op.LoadPair pair.Sp w) s h = cc
+stack_still (op.LoadPair which w) s h = other which w h
+  where
+    other : (which : Pair) (w : ℕ) → is_sp which ≡ false → with_stack_of (op.LoadPair which w) s ≡ s
+    other pair.Bc w h = refl
+    other pair.De w h = refl
+    other pair.Hl w h = refl
+    other pair.Sp w h = cc
+stack_still o s h = refl
+
+stack_loaded : (o : Op) (w : ℕ) (t : AbsState) → o ≡ op.LoadPair pair.Sp w → with_stack_of o t ≡ record { core = record t.core { stack_set = true }; items = []; cells = t.cells }
+unfolding with_stack_of
+stack_loaded o w t e = ap (λ q. with_stack_of q t) e
+
+-- what a write may rely on
+record IsActed (region : Region) (s t : AbsState) (entry : MState) (base : ℕ) (y : MState) : Type 0 where
+  pub at : AtWrite region t entry base y
+  pub gate : IsSameGate s.core t.core
+
+acted_still : (region : Region) (s : AbsState) (core : Core) (entry : MState) (base : ℕ) (x y : MState) → Means s entry base x → Keeps s.core core → MeansCore core entry y
+    → y.storage ≡ x.storage → y.processor.sp ≡ x.processor.sp → ArePlaced region s.cells → AreInRegion region base (length s.items) → IsRegion region
+    → IsActed region s (with_core s core) entry base y
+acted_still region s core entry base x y m k h storage sp placed room is = record {
+  at = record {
+    means = Means-with_core s core entry base x y m h (ap (λ t. t.work) storage) (ap (λ t. t.high) storage) sp (λ set. sym k.stack ∙ set);
+    placed = placed;
+    room = room;
+    is_region = is;
+  };
+  gate = record { ctl = k.ctl; bound = k.bound };
+}
+
+-- LD SP,n16: the stack is set, with nothing on it
+acted_set : (region : Region) (s : AbsState) (core : Core) (entry : MState) (base : ℕ) (x y : MState) → Means s entry base x → Keeps s.core core → MeansCore core entry y
+    → y.storage ≡ x.storage → y.processor.sp ≡ base → y.processor.sp < 65536 → ArePlaced region s.cells → AreInRegion region base (length s.items) → IsRegion region
+    → IsActed region s (record { core = record core { stack_set = true }; items = []; cells = s.cells }) entry base y
+acted_set region s core entry base x y m k h storage sp small placed room is = record {
+  at = record {
+    means = record {
+      core = record {
+        registers = h.registers;
+        flags = h.flags;
+        ie = h.ie;
+        ime = h.ime;
+        controller = h.controller;
+        count = h.count;
+        test = h.test;
+        locked = h.locked;
+        stopped = h.stopped;
+      };
+      memory = same_memory (sym storage) m.memory;
+      sp = small;
+      stack = λ set. let at : y.processor.sp ≡ base = sp in omega arith;
+      items = tt;
+      cells = same_cells (sym storage) m.cells;
+    };
+    placed = placed;
+    room = record { first = let first = room.first in omega arith; last = room.last };
+    is_region = is;
+  };
+  gate = record { ctl = k.ctl; bound = k.bound };
+}
+  where
+    same_memory : x.storage ≡ y.storage → IsMemory x.storage → IsMemory y.storage
+    same_memory e i = subst IsMemory e i
+
+    same_cells : x.storage ≡ y.storage → AllByRecursion (λ c. Holds c.val entry (peek x.storage c.address)) s.cells → AllByRecursion (λ c. Holds c.val entry (peek y.storage c.address)) s.cells
+    same_cells e i = subst (λ t. AllByRecursion (λ c. Holds c.val entry (peek t c.address)) s.cells) e i
+
+acts : (rom : List ℕ) (region : Region) (ranges : List Range) (row : Row) (a : ℕ) (s : AbsState) (entry : MState) (base : ℕ) (x : MState) (reads : List ℕ) (c : Core)
+    → IsTaken rom region ranges row a s entry base x reads c → Follows (abs_effect rom row a s c) entry (begun row x) (effect rom row x reads) → (effect rom row x reads).processor.sp < 65536
+    → IsActed region s (effect_state rom row a s c) entry base (acted rom row x reads)
+acts rom region ranges row a s entry base x reads c k f small = choose k.ruled.stack
+  where
+    keeps : Keeps s.core (abs_effect rom row a s c).core
+    keeps = Keeps-both s.core c _ (keeps_side row.op s.core c k.side) (Keeps-transfer row.op (behind_row a row) c (low_of rom row s c) any_val)
+
+    choose : IsStackKnown row.op base → IsActed region s (effect_state rom row a s c) entry base (acted rom row x reads)
+    choose (inl still) =
+        subst (λ t. IsActed region s t entry base (acted rom row x reads)) (sym (stack_still row.op (with_core s (abs_effect rom row a s c).core) still))
+        (acted_still region s (abs_effect rom row a s c).core entry base x (acted rom row x reads) k.stands.means keeps f.core refl
+        (sp-kept row.op (advanced x.processor row) (given rom row x reads).low (given rom row x reads).high still ∙ begun_sp row x) k.stands.placed k.stands.room k.stands.is_region)
+    choose (inr e) =
+        let sp : (effect rom row x reads).processor.sp ≡ base =
+        ap (λ o. (Effects.effect_of o (advanced x.processor row) (given rom row x reads).low (given rom row x reads).high).processor.sp) e
+        ∙ sp-loaded base (advanced x.processor row) (given rom row x reads).low (given rom row x reads).high in
+        subst (λ t. IsActed region s t entry base (acted rom row x reads)) (sym (stack_loaded row.op base (with_core s (abs_effect rom row a s c).core) e))
+        (acted_set region s (abs_effect rom row a s c).core entry base x (acted rom row x reads) k.stands.means keeps f.core refl sp small k.stands.placed k.stands.room k.stands.is_region)
+
+-- ---- the way on
+
+or_parts_of : (b c : Bool) → (b || c) ≡ false → (b ≡ false) × (c ≡ false)
+or_parts_of true c h = cc
+or_parts_of false c h = (refl, h)
+
+allowed_read : (rom : List ℕ) (region : Region) (ranges : List Range) (core : Core) (t : Successor) → IsAllowed rom region ranges core t
+    → (reads_closed_ram rom core t.read ≡ false) × (is_read_limited core t.read ≡ false)
+unfolding meets_closed meets_oam_transfer
+allowed_read rom region ranges core t h = ((or_parts_of _ _ h.ram).0, (or_parts_of _ _ h.oam_transfer).0)
+
+allowed_write : (rom : List ℕ) (region : Region) (ranges : List Range) (core : Core) (t : Successor) → IsAllowed rom region ranges core t
+    → (writes_closed_ram rom core t.write ≡ false) × (is_write_limited core t.write ≡ false)
+unfolding meets_closed meets_oam_transfer
+allowed_write rom region ranges core t h = ((or_parts_of _ _ h.ram).1, (or_parts_of _ _ h.oam_transfer).1)
+
+-- the parts of the successor
+read_is : (rom : List ℕ) (row : Row) (a : ℕ) (s : AbsState) (c : Core) → (taken_successor rom row (behind_row a row) s c).read ≡ read_of row.op c
+unfolding taken_successor
+read_is rom row a s c = refl
+
+write_is : (rom : List ℕ) (row : Row) (a : ℕ) (s : AbsState) (c : Core) → (taken_successor rom row (behind_row a row) s c).write ≡ (abs_effect rom row a s c).write
+unfolding taken_successor
+write_is rom row a s c = refl
+
+target_is : (rom : List ℕ) (row : Row) (a : ℕ) (s : AbsState) (c : Core) → (taken_successor rom row (behind_row a row) s c).target ≡ target_of row.op (behind_row a row) c
+unfolding taken_successor
+target_is rom row a s c = refl
+
+state_is : (rom : List ℕ) (row : Row) (a : ℕ) (s : AbsState) (c : Core) → (taken_successor rom row (behind_row a row) s c).state
+    ≡ ended (starts (abs_effect rom row a s c).write) row.cycles (written (kind_of rom) (abs_effect rom row a s c).write (effect_state rom row a s c))
+unfolding taken_successor
+state_is rom row a s c = refl
+
+-- its write
+stores : (rom : List ℕ) (region : Region) (ranges : List Range) (row : Row) (a : ℕ) (s : AbsState) (entry : MState) (base : ℕ) (x : MState) (reads : List ℕ) (c : Core)
+    → IsTaken rom region ranges row a s entry base x reads c → IsAllowed rom region ranges s.core (taken_successor rom row (behind_row a row) s c)
+    → Follows (abs_effect rom row a s c) entry (begun row x) (effect rom row x reads) → (effect rom row x reads).processor.sp < 65536
+    → Stores rom region ranges (effect_state rom row a s c) (abs_effect rom row a s c).write entry base (acted rom row x reads) (view rom x false) (effect rom row x reads).write
+stores rom region ranges row a s entry base x reads c k allowed f small =
+    let acted_at = acts rom region ranges row a s entry base x reads c k f small in
+    let w : AbsWrite = (abs_effect rom row a s c).write in
+    let may = allowed_write rom region ranges s.core _ allowed in
+    let inhabited = transfer_inhabited row.op (behind_row a row) c (low_of rom row s c) any_val (abs_effect rom row a s c) refl k.ruled.operands (omega arith) k.core
+    (is_low rom row s c (read_of row.op c) k.core.ie k.stands.vals k.stands.cartridge.bytes) IsVal-any in
+    Stores-write rom region ranges (effect_state rom row a s c) entry base (acted rom row x reads) (begun row x).processor.sp w (effect rom row x reads).write acted_at.at
+    (plain_write row.op base (behind_row a row) c (low_of rom row s c) any_val k.ruled.stack k.ruled.operands k.core)
+    inhabited.write f.write
+    (subst (λ v. is_unstorable (kind_of rom) region ranges v ≡ false) (write_is rom row a s c) allowed.stores)
+    (writes_same rom s.core (effect_state rom row a s c).core w acted_at.gate ∙ subst (λ v. writes_closed_ram rom s.core v ≡ false) (write_is rom row a s c) may.0)
+    (write_limited_same s.core (effect_state rom row a s c).core w acted_at.gate ∙ subst (λ v. is_write_limited s.core v ≡ false) (write_is rom row a s c) may.1)
+
+pub taken_executes :
+    (rom : List ℕ) (region : Region) (ranges : List Range) (row : Row) (a : ℕ) (s : AbsState) (entry : MState) (base : ℕ) (x : MState) (reads : List ℕ) (c : Core)
+    → IsTaken rom region ranges row a s entry base x reads c → IsAllowed rom region ranges s.core (taken_successor rom row (behind_row a row) s c)
+    → Leads region ranges (taken_successor rom row (behind_row a row) s c) entry base x (outside (executed (within rom x) row reads)) × (row_faults (Some row) region (within rom x) reads ≡ no_faults)
+taken_executes rom region ranges row a s entry base x reads c k allowed =
+    let may = allowed_read rom region ranges s.core _ allowed in
+    let l = loads rom region ranges row a s entry base x reads c k
+    (subst (λ v. reads_closed_ram rom s.core v ≡ false) (read_is rom row a s c) may.0) (subst (λ v. is_read_limited s.core v ≡ false) (read_is rom row a s c) may.1) in
+    let f = follows rom region ranges row a s entry base x reads c k l in
+    let st = stores rom region ranges row a s entry base x reads c k allowed f.0 f.1 in
+    let e = effect rom row x reads in
+    let cycles : cycles_of row e.is_taken ≡ row.cycles = ap (λ b. cond b row.cycles row.cycles_not_taken) k.taken in
+    let is : outside (executed (within rom x) row reads) ≡ left_by rom x e row.cycles = executed_is rom x row reads ∙ ap (left_by rom x e) cycles in
+    let w : AbsWrite = (abs_effect rom row a s c).write in
+    let after : AbsState = written (kind_of rom) w (effect_state rom row a s c) in
+    let means : Means (ended (starts w) row.cycles after) entry base (left_by rom x e row.cycles) =
+    Means-ended rom after entry base e.processor (stored (view rom x false) e.write) (starts w) row.cycles st.starting st.means in
+    let goes : HoldsTarget (target_of row.op (behind_row a row) c) e.processor.pc =
+    (target_of_sound row.op (behind_row a row) c (target_of row.op (behind_row a row) c) refl).gives entry (begun row x) (given rom row x reads).low (given rom row x reads).high
+    k.means (begun_pc row x a k.ruled.runs k.mark k.stands.at) k.taken in (
+      subst (λ y. Leads region ranges (taken_successor rom row (behind_row a row) s c) entry base x y) (sym is)
+          (record {
+            means = subst (λ t. Means t entry base (left_by rom x e row.cycles)) (sym (state_is rom row a s c)) means;
+            goes = subst (λ t. HoldsTarget t e.processor.pc) (sym (target_is rom row a s c)) goes;
+            room = subst (λ t. AreInRegion region base (length t)) (sym (ap (λ (t : AbsState). t.items) (state_is rom row a s c) ∙ (ended_items (starts w) row.cycles after ∙ st.items))) (acts rom region ranges row a s entry base x reads c k f.0 f.1).at.room;
+            kept = λ b kept. passed_peek (stored (view rom x false) e.write) row.cycles b ∙ st.kept b kept;
+          }),
+      faults_are rom region x row reads l.faults st.faults,
+    )

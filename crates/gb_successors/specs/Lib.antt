@@ -1,0 +1,3 @@
+pub mod Successors
+pub mod Refused
+pub mod Sound

@@ -1,0 +1,11 @@
+//! The possible successors of an instruction (abstract interpretation: abstract semantics): taken, not
+//! taken, and staying on HALT. Each has what is read and written on the way, where it goes on, and
+//! the states behind it. Whatever the machine does from a state that the node's state stands for is
+//! one of them, as long as its accesses are not refused (`Sound` of the definitions).
+//!
+//! Read `successor`, then `successors`, and `refused`: what refuses a successor.
+#![tactic(auto)]
+
+pub mod refused;
+pub mod successor;
+pub mod successors;

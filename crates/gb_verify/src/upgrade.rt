@@ -1,0 +1,127 @@
+//! A certificate in version 2 of its format.
+
+ghost use Rattle.std.specs.Prelude.{◌≡◌, false, is_err, IfOk, OnOk, OnErr};
+ghost use Rattle.std.specs.List.{flat_map};
+ghost use Rattle.gb_cert.specs.Spelling as spelled;
+ghost use Rattle.gb_text.specs.Sink.{Gains};
+ghost use Rattle.gb_text.specs.Text.{GainsBeginning};
+ghost use Rattle.gb_verify.specs.CertificateFile.{HasBeginning};
+ghost use Rattle.gb_verify.specs.Upgrade.{upgraded_text, written, fault_outcome, IsOutcome, IfWritten, GainsUpgrade, GainsSame};
+
+use crate::verify::certificate_line;
+use gb_cert::types::Cert;
+use gb_cert::{CertFault, ProcedureRef};
+use gb_text::put::put_all;
+use gb_text::sink::{OutFault, Sink};
+use std::alloc::Global;
+
+/// What was written of a certificate's bytes.
+#[derive(Clone, Copy, Debug, PartialEq, Eq)]
+pub enum Upgraded {
+    /// The same certificate in version 2.
+    Written,
+    /// The line of their first fault: they are no certificate.
+    Unreadable,
+    /// `CERTIFICATE C9`.
+    NoMemory,
+}
+
+/// A node's number as version 2 spells it, the lowest byte first.
+#[tactic(auto, unfolding(gb_cert::specs::Spelling::node_number))]
+fn node_number(number: u32) -> [u8; 4]
+    ensures { result ≡ spelled.node_number 2 number }
+{
+    let low = number % 65536;
+    let high = number / 65536;
+    [
+        (low % 256) as u8,
+        (low / 256) as u8,
+        (high % 256) as u8,
+        (high / 256) as u8,
+    ]
+}
+
+/// Writes a procedure as version 2 spells it.
+#[tactic(auto, using(gb_text::proofs::Gained::gains_both, gb_text::proofs::Gained::begins_first, gb_text::proofs::Gained::begins_second), unfolding(gb_cert::specs::Spelling::procedure))]
+fn put_procedure<W: Sink>(procedure: &ProcedureRef<'_>, out: &mut W) -> Result<(), OutFault>
+    requires { W.has_failed out.old ≡ false }
+    ensures whole { OnOk result (Gains (W.contents out.old) (spelled.procedure 2 procedure.now) (W.contents out.new)) }
+    ensures beginning { OnErr result (GainsBeginning (W.contents out.old) (spelled.procedure 2 procedure.now) (W.contents out.new)) }
+    ensures failed { W.has_failed out.new ≡ is_err result }
+{
+    put_all(out, &node_number(procedure.entry()))?;
+    put_all(out, procedure.body())
+}
+
+/// Writes all procedures as version 2 spells them.
+#[tactic(auto, using(crate::proofs::UpgradeLaws::procedure_taken))]
+fn put_procedures<W: Sink>(cert: &Cert<'_>, out: &mut W) -> Result<(), OutFault>
+    requires { W.has_failed out.old ≡ false }
+    ensures whole { OnOk result (Gains (W.contents out.old) (flat_map (spelled.procedure 2) cert.now.procedures) (W.contents out.new)) }
+    ensures beginning { OnErr result (GainsBeginning (W.contents out.old) (flat_map (spelled.procedure 2) cert.now.procedures) (W.contents out.new)) }
+    ensures failed { W.has_failed out.new ≡ is_err result }
+{
+    for i in 0..cert.procedures() {
+        put_procedure(&cert.procedure(i), out)?;
+    }
+    Ok(())
+}
+
+/// Writes a certificate in version 2.
+#[tactic(auto, using(gb_text::proofs::Gained::gains_both, gb_text::proofs::Gained::begins_first, gb_text::proofs::Gained::begins_second), unfolding(gb_cert::specs::Spelling::spelling))]
+fn put_upgraded<W: Sink>(cert: &Cert<'_>, out: &mut W) -> Result<(), OutFault>
+    requires { W.has_failed out.old ≡ false }
+    ensures whole { OnOk result (Gains (W.contents out.old) (upgraded_text cert.now) (W.contents out.new)) }
+    ensures beginning { OnErr result (GainsBeginning (W.contents out.old) (upgraded_text cert.now) (W.contents out.new)) }
+    ensures failed { W.has_failed out.new ≡ is_err result }
+{
+    put_all(out, &cert.upgraded_head())?;
+    put_procedures(cert, out)?;
+    put_all(out, cert.node_bytes())
+}
+
+/// What was written where a fault is met.
+fn fault_outcome(fault: CertFault) -> Upgraded
+    ensures { result ≡ fault_outcome fault }
+{
+    match fault {
+        CertFault::Memory => Upgraded::NoMemory,
+        _ => Upgraded::Unreadable,
+    }
+}
+
+/// Writes the certificate that the bytes spell in version 2: the same procedures, nodes and stack region, with the
+/// numbers of nodes in four bytes. One of version 2 comes out as it is. Where the bytes are no certificate it writes
+/// the line `CERTIFICATE Cn` of their first fault, C9 where memory ran out. It takes the memory that `Cert::parse`
+/// takes, and copies nothing.
+///
+/// # Errors
+///
+/// OutFault where the sink failed during the call; it then has a beginning of what was to be written.
+#[tactic(auto, using(crate::proofs::UpgradeLaws::upgrade_written, crate::proofs::UpgradeLaws::upgrade_gained, crate::proofs::UpgradeLaws::upgrade_begins, crate::proofs::UpgradeLaws::fault_written))]
+pub fn upgrade_bytes<W: Sink>(alloc: Global, cert: &[u8], out: &mut W) -> Result<Upgraded, OutFault>
+    requires { W.has_failed out.old ≡ false }
+    // What was written is the certificate in version 2, or the line of the first fault, or where memory ran out its own.
+    ensures written { IfOk result (λ outcome. Gains (W.contents out.old) (written outcome cert.now) (W.contents out.new)) }
+    // The outcome names its kind.
+    ensures outcome { IfOk result (λ outcome. IsOutcome outcome cert.now) }
+    // Where a certificate was written, both spell the same but for the version.
+    ensures upgraded { IfOk result (λ outcome. IfWritten outcome (GainsUpgrade (W.contents out.old) cert.now (W.contents out.new))) }
+    // One of version 2 comes out as it is.
+    ensures same { IfOk result (λ outcome. IfWritten outcome (GainsSame (W.contents out.old) cert.now (W.contents out.new))) }
+    // On OutFault what went out is a beginning of it.
+    ensures beginning { OnErr result (HasBeginning upgraded_text (W.contents out.old) cert.now (W.contents out.new)) }
+    // OutFault exactly where the sink failed.
+    ensures failed { W.has_failed out.new ≡ is_err result }
+{
+    match Cert::parse(alloc, cert) {
+        Ok(cert) => {
+            put_upgraded(&cert, out)?;
+            Ok(Upgraded::Written)
+        }
+        Err(fault) => {
+            put_all(out, certificate_line(fault).as_slice())?;
+            Ok(fault_outcome(fault))
+        }
+    }
+}
