@@ -18,7 +18,7 @@ pub enum Reason {
     Stop,
     /// HALT where interrupts may be off.
     Halt,
-    /// A stack operation without a known stack; and every instruction that has no rules yet.
+    /// A stack operation without a known stack, or an instruction that moves SP to where it isn't known.
     Stack,
     /// The stack would grow over the procedure's need.
     Depth,

@@ -51,3 +51,26 @@ moves_sp (op.Restart w) = true
 moves_sp (op.AddSp e8) = true
 moves_sp op.LoadSpHl = true
 moves_sp _ = false
+
+-- the word goes on its own procedure's stack
+abbrev pub is_push : Op → Bool
+is_push (op.Push from) = true
+is_push _ = false
+
+abbrev pub is_pop : Op → Bool
+is_pop (op.Pop to) = true
+is_pop _ = false
+
+-- the address behind it goes on the stack, if it is taken
+abbrev pub is_call : Op → Bool
+is_call (op.CallIf condition w) = true
+is_call (op.Call w) = true
+is_call (op.Restart w) = true
+is_call _ = false
+
+-- it goes on at the word on top of the stack, if it is taken
+abbrev pub is_return : Op → Bool
+is_return (op.ReturnIf condition) = true
+is_return op.Return = true
+is_return op.ReturnFromInterrupt = true
+is_return _ = false

@@ -1,4 +1,5 @@
 pub mod Access
+pub mod Kept
 pub mod Shown
 pub mod Sound
 pub mod Windows

@@ -1,7 +1,7 @@
 -- One event from a state of a node that passes: no fault, certified places, a node that means the state behind it, and
 -- what the procedure keeps is unchanged.
 use Rattle.std.proofs.Common.{◌≡◌, ℕ, ◌+◌, ◌-◌, ◌%◌, ◌≤◌, ◌<◌, Bool, true, false, cond, not, ◌&&◌, ◌||◌, ◌==◌, nat_lt, inl, inr, List, [], ◌∷◌, map, length, slice_index, slice_get, Option, Some, None, refl, sym, ◌∙◌, ap, subst, arith}
-use Rattle.std.specs.Prelude.{option_and_then}
+use Rattle.std.specs.Prelude.{option_and_then, option_map}
 use Rattle.std.proofs.lemmas.Bool.{and_parts, eqb-true}
 use Rattle.std.proofs.lemmas.Bool.Decides.{nat_tests}
 use Rattle.std.proofs.lemmas.Option.{same_Some}
@@ -43,22 +43,35 @@ use Rattle.gb_code.specs.Places.{IsCertified, IsCertifiedBy}
 use Rattle.gb_code.specs.Code.{area_end, known_byte}
 use Rattle.gb_code.proofs.ByteLaws.{Reads-known}
 use Rattle.gb_code.proofs.CodeLaws.{IsInside, clear_byte, area_small, FetchesFirst-known, FetchesAll-known}
-use Rattle.gb_successors.specs.Sound.{IsKept, IsHalt}
-use Rattle.gb_blocks.specs.Rules.{is_halt, is_nop, is_nop_behind, may_read_twice, ranges_of, reason_of, reason_at}
-use Rattle.gb_blocks.specs.Safety.{IsMeant, IsSafeEvent, IsNoDispatch, IsSafeNode}
+use Rattle.gb_abs.specs.Operations.{core_settle}
+use Rattle.gb_cert.specs.declared.types.Core.{Core}
+use Rattle.gb_abs_effects.specs.declared.targets.Target.TheVariants as target
+use Rattle.gb_abs_effects.specs.Targets.{target_of}
+use Rattle.gb_abs_effects.specs.Sides.{sides_of}
+use Rattle.gb_abs_memory.specs.Kept.{IsKept}
+use Rattle.gb_successors.specs.declared.successor.Successor.{Successor}
+use Rattle.gb_successors.specs.Successors.{successors_of, taken_successor}
+use Rattle.gb_successors.specs.Sound.{IsHalt}
+use Rattle.gb_blocks.specs.Rules.{is_halt, is_nop, is_nop_behind, may_read_twice, reason_of, reason_at}
+use Rattle.gb_blocks.specs.Procedures.{ranges_of}
+use Rattle.gb_blocks.specs.Safety.{IsMeant, Leads, IsSafeEvent, IsNoDispatch, IsSafeNode}
 use Rattle.gb_blocks.proofs.SearchLaws.{Contains-slice_get}
 use Rattle.gb_blocks.proofs.NodeLaws.{IsNodeState-node, Passes-from, ruled, allowed, known_by}
-use Rattle.gb_blocks.proofs.StandLaws.{OnNode, stands, sound_ways, is_known, on_code, IsMeant-way}
+use Rattle.gb_blocks.proofs.StandLaws.{OnNode, stands, sound_ways, is_known, on_code}
+use Rattle.gb_blocks.proofs.WayLaws.{IsElsewhere, words_within, Leads-way}
 
 -- what an event that is possible does
 pub record IsSafeHappening (rom : List ℕ) (cert : Certificate) (procedure : ℕ) (entry : MState) (base : ℕ) (s : MState) (e : Event) : Type 0 where
   pub faults : event_faults cert.region (within rom s) e ≡ no_faults
   pub places : All (IsCertified rom cert) (event_places (within rom s) e)
-  pub meant : IsMeant rom cert procedure entry base (outside (happened (within rom s) e))
+  pub leads : Leads rom cert procedure entry base s (outside (happened (within rom s) e))
   pub kept : (b : ℕ) → IsKept cert.region (ranges_of cert procedure) base b → peek (outside (happened (within rom s) e)).storage b ≡ peek s.storage b
 
 certified_by : (rom : List ℕ) (cert : Certificate) (n : Node) (xs : List CodePlace) → Contains cert.nodes n → All (IsCertifiedBy rom n) xs → All (IsCertified rom cert) xs
 certified_by rom cert n xs is h = λ i d lt. (n, is, h i d lt)
+
+at_most : (a b c : ℕ) → a ≤ b → b ≤ c → a ≤ c
+at_most a b c h k = omega arith
 
 -- ---- an instruction that is executed
 
@@ -106,9 +119,9 @@ run_unmarked : (rom : List ℕ) (cert : Certificate) (n : Node) (entry : MState)
 run_unmarked rom cert n entry base x k fetch reads mark byte =
     let p = k.passes in
     let done = (sound_ways rom cert n entry base x k).executes cert.region (ranges_of cert n.procedure) entry base x reads (stands rom cert n entry base x k)
-    (ruled rom cert n base p k.cartridge k.state k.main) mark byte in
+    (ruled rom cert n base p k.cartridge k.state k.main k.room) mark byte in
     let t = done.successor in
-    let may = allowed rom cert n p t done.is_one in
+    let may = allowed rom cert n p base t done.is_one k.state k.return_word k.room in
     let leads = done.leads may in
     let known = known_by rom cert n p t done.is_one in
     let all = FetchesAll-known rom n entry base x p.bytes known (on_code rom cert n entry base x k) (inl mark) in
@@ -120,7 +133,8 @@ run_unmarked rom cert n entry base x k fetch reads mark byte =
           (ap (λ q. all_fetch_faults (within rom x).memory (fetch_addresses q p.bytes)) (processor_is rom x) ∙ all.faults) (done.faults may);
       places = subst (All (IsCertified rom cert)) (sym (run_places (within rom x) fetch reads p.bytes is ∙ ap (λ q. map (code_place (within rom x).memory) (fetch_addresses q p.bytes)) (processor_is rom x)))
           (certified_by rom cert n _ k.is_node all.places);
-      meant = subst (IsMeant rom cert n.procedure entry base) (sym after) (IsMeant-way rom cert n entry base x k t done.is_one _ leads (inl done.mark));
+      leads = subst (Leads rom cert n.procedure entry base x) (sym after)
+          (Leads-way rom cert n entry base x k t done.is_one _ leads (at_most _ _ _ (done.held may) (words_within rom cert n entry base x k)) (record { harmless = inl done.mark; clear = λ e. done.mark }));
       kept = λ b kept. ap (λ (y : MState). peek y.storage b) after ∙ leads.kept b kept;
     }
 
@@ -163,7 +177,7 @@ itself rom cert n entry base x y k address means mark = record {
   node = n;
   is_node = k.is_node;
   procedure_is = refl;
-  at = record { address = address; means = means; mark = mark; main = k.main; room = k.room };
+  at = record { address = address; means = means; mark = mark; main = k.main; return_word = k.return_word; room = k.room; depth = k.depth };
 }
 
 -- a smaller count, and the same processor but for PC and the mark
@@ -221,9 +235,9 @@ run_marked rom cert n entry base x k fetch reads mark off nop =
           (ap (λ r. row_faults (Some r) cert.region (within rom x) reads) row ∙ nop_fine cert.region (within rom x) reads);
       places = subst (All (IsCertified rom cert)) (sym (run_places (within rom x) fetch reads p.bytes is ∙ ap (λ q. map (code_place (within rom x).memory) (fetch_addresses q p.bytes)) (processor_is rom x)))
           (certified_by rom cert n _ k.is_node all.places);
-      meant = subst (IsMeant rom cert n.procedure entry base) (sym after)
-          (itself rom cert n entry base x (repeated_nop x) k (mod_small x.processor.pc small ∙ k.address)
-          (same_core n.state entry base x (repeated_nop x) k.means refl (omega arith) refl refl (ap Machine.ime_after off ∙ (ime_off ∙ sym off)) refl refl refl) (inl refl));
+      leads = subst (Leads rom cert n.procedure entry base x) (sym after)
+          (inl (itself rom cert n entry base x (repeated_nop x) k (mod_small x.processor.pc small ∙ k.address)
+          (same_core n.state entry base x (repeated_nop x) k.means refl (omega arith) refl refl (ap Machine.ime_after off ∙ (ime_off ∙ sym off)) refl refl refl) (inl refl)));
       kept = λ b kept. ap (λ (y : MState). peek y.storage b) after ∙ count_peek x.storage (x.storage.count - 1) b;
     }
 
@@ -315,7 +329,8 @@ stay_safe rom cert n entry base x k mark possible =
     record {
       faults = (halt_faults cert.region rom x first.faults).0;
       places = (halt_places rom cert x (n, k.is_node, first.place)).0;
-      meant = IsMeant-way rom cert n entry base x k way.successor (inr (inr way.is_way)) _ way.leads (inl (stay_mark rom x ∙ clear));
+      leads = Leads-way rom cert n entry base x k way.successor (inr (inr way.is_way)) _ way.leads (at_most _ _ _ way.held k.depth)
+          (record { harmless = inl (stay_mark rom x ∙ clear); clear = λ e. stay_mark rom x ∙ clear });
       kept = λ b kept. way.leads.kept b kept;
     }
 
@@ -358,6 +373,18 @@ bug_pc : (rom : List ℕ) (x : MState) → (outside (halt_bug (within rom x))).p
 unfolding halt_bug within outside
 bug_pc rom x = refl
 
+-- behind HALT the machine is in the same procedure
+halt_stays_here : (rom : List ℕ) (n : Node) (row : Row) (t : Successor) → IsHalt row → (successors_of rom row n.address n.state).taken ≡ Some t → IsElsewhere t.target → ⊥
+unfolding successors_of taken_successor target_of
+halt_stays_here rom n row t halt is e = by (sides_of row.op (core_settle n.state.core)).taken is
+  where
+    by : (o : Option Core) → option_map (taken_successor rom row ((n.address + row.length) % 65536) n.state) o ≡ Some t → ⊥
+    by None h = cc
+    by (Some c) h =
+        let same : taken_successor rom row ((n.address + row.length) % 65536) n.state c ≡ t = same_Some _ _ h in
+        let here : t.target ≡ target.At ((n.address + row.length) % 65536) = sym (ap (λ (u : Successor). u.target) same) ∙ ap (λ o. target_of o ((n.address + row.length) % 65536) c) halt.op_is in
+        subst IsElsewhere here e
+
 bug_safe : (rom : List ℕ) (cert : Certificate) (n : Node) (entry : MState) (base : ℕ) (x : MState) (k : OnNode rom cert n entry base x) → IsMarkHarmless rom x
     → is_possible (within rom x) event.HaltBug ≡ true → IsSafeHappening rom cert n.procedure entry base x event.HaltBug
 unfolding is_possible happened may_read_twice
@@ -388,7 +415,8 @@ bug_safe rom cert n entry base x k mark possible =
     record {
       faults = (halt_faults cert.region rom x first.faults).1;
       places = (halt_places rom cert x (n, k.is_node, first.place)).1;
-      meant = IsMeant-way rom cert n entry base x k way.successor (inl way.is_way) _ way.leads (inr (bug_ime rom x ∙ off, fixed, byte));
+      leads = Leads-way rom cert n entry base x k way.successor (inl way.is_way) _ way.leads (at_most _ _ _ way.held k.depth)
+          (record { harmless = inr (bug_ime rom x ∙ off, fixed, byte); clear = λ e. absurd (halt_stays_here rom n k.passes.row way.successor halt way.is_way e) });
       kept = λ b kept. way.leads.kept b kept;
     }
 
@@ -427,7 +455,7 @@ mark_waited : (rom : List ℕ) (cert : Certificate) (n : Node) (entry : MState) 
 mark_waited rom cert n entry base x k count m (inl clear) = inl clear
 mark_waited rom cert n entry base x k count m (inr nop) =
     let later : OnNode rom cert n entry base (counted count x) =
-    record { cartridge = k.cartridge; is_node = k.is_node; state = k.state; passes = k.passes; address = k.address; means = m; main = k.main; room = k.room } in
+    record { cartridge = k.cartridge; certificate = k.certificate; is_node = k.is_node; state = k.state; passes = k.passes; address = k.address; means = m; main = k.main; return_word = k.return_word; room = k.room; depth = k.depth } in
     let first = FetchesFirst-known rom n entry base (counted count x) k.passes.bytes (is_known rom cert n entry base x k) (on_code rom cert n entry base (counted count x) later) in
     inr (nop.0, first.fixed, same_bytes rom x count x.processor.pc ∙ nop.2)
 
@@ -439,8 +467,8 @@ wait_safe rom cert n entry base x k cycles mark =
     record {
       faults = no_faults_waited cert.region rom x cycles;
       places = no_places_waited rom cert x cycles;
-      meant = subst (IsMeant rom cert n.procedure entry base) (sym after)
-          (itself rom cert n entry base x (counted (x.storage.count - cycles) x) k k.address means (mark_waited rom cert n entry base x k (x.storage.count - cycles) means mark));
+      leads = subst (Leads rom cert n.procedure entry base x) (sym after)
+          (inl (itself rom cert n entry base x (counted (x.storage.count - cycles) x) k k.address means (mark_waited rom cert n entry base x k (x.storage.count - cycles) means mark)));
       kept = λ b kept. ap (λ (y : MState). peek y.storage b) after ∙ count_peek x.storage (x.storage.count - cycles) b;
     }
 
@@ -476,14 +504,14 @@ IsSafeEvent-where rom cert procedure entry base x e true is m safe =
     record {
       faults = ap (λ b. faults_where b (event_faults cert.region (within rom x) e)) is ∙ s.faults;
       places = subst (λ b. All (IsCertified rom cert) (places_where b (event_places (within rom x) e))) (sym is) s.places;
-      meant = subst (λ b. IsMeant rom cert procedure entry base (outside (only b (happened (within rom x) e) (within rom x)))) (sym is) s.meant;
+      leads = subst (λ b. Leads rom cert procedure entry base x (outside (only b (happened (within rom x) e) (within rom x)))) (sym is) s.leads;
       kept = λ a kept. ap (λ b. peek (outside (only b (happened (within rom x) e) (within rom x))).storage a) is ∙ s.kept a kept;
     }
 IsSafeEvent-where rom cert procedure entry base x e false is m safe =
     record {
       faults = ap (λ b. faults_where b (event_faults cert.region (within rom x) e)) is;
       places = subst (λ b. All (IsCertified rom cert) (places_where b (event_places (within rom x) e))) (sym is) (All-nil _);
-      meant = subst (λ b. IsMeant rom cert procedure entry base (outside (only b (happened (within rom x) e) (within rom x)))) (sym is) (subst (IsMeant rom cert procedure entry base) (sym (unchanged rom x)) m);
+      leads = inl (subst (λ b. IsMeant rom cert procedure entry base (outside (only b (happened (within rom x) e) (within rom x)))) (sym is) (subst (IsMeant rom cert procedure entry base) (sym (unchanged rom x)) m));
       kept = λ a kept. ap (λ b. peek (outside (only b (happened (within rom x) e) (within rom x))).storage a) is ∙ ap (λ (y : MState). peek y.storage a) (unchanged rom x);
     }
 
@@ -492,13 +520,16 @@ pub IsSafeNode-right : (rom : List ℕ) (cert : Certificate) (n : Node) → IsRo
 IsSafeNode-right rom cert n cartridge certificate is_node right entry base x e other at =
     let k : OnNode rom cert n entry base x = record {
       cartridge = cartridge;
+      certificate = certificate;
       is_node = is_node;
       state = IsNodeState-node cert n certificate is_node;
       passes = Passes-from rom cert n right;
       address = at.address;
       means = at.means;
       main = at.main;
+      return_word = at.return_word;
       room = at.room;
+      depth = at.depth;
     } in
     IsSafeEvent-where rom cert n.procedure entry base x e (is_possible (within rom x) e) refl (record { node = n; is_node = is_node; procedure_is = refl; at = at })
     (λ possible. event_safe rom cert n entry base x e k at.mark other possible)

@@ -1,6 +1,12 @@
 pub mod SearchLaws
 pub mod CoveredLaws
+pub mod CoveringLaws
+pub mod ProcedureLaws
+pub mod CallLaws
 pub mod NodeLaws
 pub mod StandLaws
+pub mod WayLaws
 pub mod EventLaws
 pub mod AnswerLaws
+pub mod FrameLaws
+pub mod FrameRunLaws

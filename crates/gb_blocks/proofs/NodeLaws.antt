@@ -1,5 +1,7 @@
 -- What is known of a node of a certificate that no reason applies to.
-use Rattle.std.proofs.Common.{◌≡◌, ℕ, zero, suc, ◌+◌, ◌≤◌, ◌<◌, Bool, true, false, cond, not, ◌||◌, ◌==◌, ◌⊎◌, inl, inr, List, [], ◌∷◌, length, slice_index, get_or, Option, Some, None, is_none, refl, sym, ◌∙◌, ap, subst, arith}
+use Rattle.std.proofs.Common.{◌≡◌, ℕ, zero, suc, ◌+◌, ◌≤◌, ◌<◌, Bool, true, false, cond, not, ◌||◌, ◌==◌, nat_lt, ◌⊎◌, inl, inr, List, [], ◌∷◌, length, slice_index, get_or, Option, Some, None, is_none, refl, sym, ◌∙◌, ap, subst, arith}
+use Rattle.std.proofs.lemmas.Bool.{or_parts, not-false, eqb-true}
+use Rattle.gb_cert.specs.declared.role.Role.TheVariants as role
 use Rattle.std.proofs.lemmas.Bool.Decides.{nat_tests}
 use Rattle.std.proofs.lemmas.Option.{same_Some}
 use Rattle.std.specs.List.{AllByRecursion, Contains, find}
@@ -13,10 +15,14 @@ use Rattle.gb_ops.specs.Table.{decoded}
 use Rattle.gb_ops.specs.Machine.{length_of}
 use Rattle.gb_cert.specs.declared.types.Val.{Val}
 use Rattle.gb_cert.specs.declared.types.Cell.{Cell}
+use Rattle.gb_cert.specs.declared.types.Item.{Item}
 use Rattle.gb_cert.specs.Types.{AbsState, Node}
 use Rattle.gb_cert.specs.Certificate.{Certificate}
-use Rattle.gb_cert.specs.Rules.{IsVal, IsCell, IsChain, IsNode, IsState, IsCore, IsRegion, IsCertificate, after_cell, key, role_of}
+use Rattle.gb_cert.specs.Rules.{IsVal, IsCell, IsChain, IsNode, IsState, IsCore, IsItem, IsRegion, IsCertificate, after_cell, key, role_of, needs_stack}
 use Rattle.gb_abs.specs.Cells.{ArePlaced}
+use Rattle.gb_abs.specs.Stack.{AreInRegion}
+use Rattle.gb_abs_effects.specs.declared.targets.Target.{Target}
+use Rattle.gb_abs_effects.specs.declared.targets.Target.TheVariants as target
 use Rattle.gb_abs_effects.proofs.DecodingLaws.{HasBytes-decoded, length-decoded}
 use Rattle.gb_abs_memory.specs.Access.{val_at}
 use Rattle.gb_abs_memory.specs.Shown.{known_bank}
@@ -29,8 +35,10 @@ use Rattle.gb_successors.specs.declared.successor.Successor.{Successor}
 use Rattle.gb_successors.specs.declared.successors.Successors.{Successors}
 use Rattle.gb_successors.specs.Successors.{has, any_successor, successors_of}
 use Rattle.gb_successors.specs.Refused.{is_unknown}
-use Rattle.gb_successors.specs.Sound.{IsOneOf, IsAllowed, IsStackKnown, IsRuled}
-use Rattle.gb_blocks.specs.Rules.{is_stop, may_read_twice, breaks_stack, ranges_of, is_code_limited, is_uncovered, test_row, test_instruction, is_undefined, node_bytes, any_of, stores_outside, meets_ram, meets_transfer, leads_anywhere, leads_uncovered, applies, reasons, reason_of}
+use Rattle.gb_successors.specs.Sound.{IsOneOf, IsAllowed, IsStackKnown, IsStackFit, IsPushable, IsPoppable, IsReturnable, IsRuled}
+use Rattle.gb_calls.specs.Calls.{callee_of}
+use Rattle.gb_blocks.specs.Procedures.{ranges_of, need_of, exit_of}
+use Rattle.gb_blocks.specs.Rules.{is_stop, may_read_twice, breaks_stack, pushes_too_deep, is_code_limited, callee_by, callee_at, is_over, calls_too_deep, is_uncovered, is_outside_of, is_uncallable_at, is_uncallable, is_exit_missed, is_unreturnable_at, is_unreturnable, test_row, test_instruction, is_undefined, node_bytes, any_of, grows_too_deep, stores_outside, meets_ram, meets_transfer, leads_anywhere, leads_uncovered, calls_wrongly, returns_wrongly, applies_to_row, applies, reasons, reason_of}
 
 -- ---- a node of a certificate is one of its grammar
 
@@ -57,6 +65,16 @@ pub record IsNodeState (cert : Certificate) (n : Node) : Type 0 where
   pub core : IsCore n.state.core
   pub placed : ArePlaced cert.region n.state.cells
   pub vals : AreVals n.state.cells
+  pub items : AllByRecursion IsItem n.state.items
+  pub stack : 0 < n.procedure → n.state.core.stack_set ≡ true
+
+needs_other : (procedure : ℕ) (set : Bool) → 0 < procedure → (set || not (needs_stack (role_of procedure))) ≡ true → set ≡ true
+needs_other procedure set lt h = by (procedure == 0) refl set h
+  where
+    by : (b : Bool) → (procedure == 0) ≡ b → (set : Bool) → (set || not (needs_stack (cond b role.Main role.Other))) ≡ true → set ≡ true
+    by true e set h = let none : procedure ≡ 0 = eqb-true procedure 0 e in absurd (omega arith)
+    by false e true h = refl
+    by false e false h = cc
 
 pub IsNodeState-node : (cert : Certificate) (n : Node) → IsCertificate cert → Contains cert.nodes n → IsNodeState cert n
 IsNodeState-node cert n c is =
@@ -69,6 +87,8 @@ IsNodeState-node cert n c is =
       core = state.core;
       placed = placed_from cert.region 0 n.state.cells state.cells;
       vals = vals_from cert.region 0 n.state.cells state.cells;
+      items = state.items;
+      stack = λ other. needs_other n.procedure n.state.core.stack_set other state.stack;
     }
 
 -- ---- no reason applies
@@ -93,12 +113,15 @@ pub record Passes (rom : List ℕ) (cert : Certificate) (n : Node) : Type 0 wher
   pub bank : known_bank rom n.state.core.ctl n.address ≡ Some n.bank
   pub stop : is_stop row.op ≡ false
   pub halt : may_read_twice rom n row.op ≡ false
-  pub stack : breaks_stack cert.region n.procedure row.op ≡ false
+  pub stack : breaks_stack cert.region n row.op ≡ false
+  pub depth : grows_too_deep rom cert n row ≡ false
   pub stores : stores_outside rom cert n row ≡ false
   pub ram : meets_ram rom n row ≡ false
-  pub oam_transfer : meets_transfer rom n row ≡ false
+  pub oam_transfer : meets_transfer rom cert.region n row ≡ false
   pub jump : leads_anywhere rom n row ≡ false
   pub covered : leads_uncovered rom cert n row ≡ false
+  pub calls : calls_wrongly rom cert n row ≡ false
+  pub returns : returns_wrongly rom cert n row ≡ false
 
 some_from : {X : Type 0} (o : Option X) → is_none o ≡ false → (x : X) × (o ≡ Some x)
 some_from None h = cc
@@ -111,7 +134,7 @@ row_use : (test : Row → Bool) (o : Option (List ℕ)) (bytes : List ℕ) (row 
 row_use test o bytes row e f h = sym (ap (test_row test) f) ∙ (sym (ap (test_instruction test) e) ∙ h)
 
 pub Passes-from : (rom : List ℕ) (cert : Certificate) (n : Node) → reason_of rom cert n ≡ None → Passes rom cert n
-unfolding reason_of applies node_bytes
+unfolding reason_of applies applies_to_row node_bytes
 Passes-from rom cert n h =
     let none = none_found (applies rom cert n) reasons h in
     let bytes = some_from _ none.1.1.0 in
@@ -130,11 +153,14 @@ Passes-from rom cert n h =
       stop = row_use _ _ bytes.0 row.0 bytes.1 row.1 none.1.1.1.1.0;
       halt = row_use _ _ bytes.0 row.0 bytes.1 row.1 none.1.1.1.1.1.0;
       stack = row_use _ _ bytes.0 row.0 bytes.1 row.1 none.1.1.1.1.1.1.0;
-      stores = row_use _ _ bytes.0 row.0 bytes.1 row.1 none.1.1.1.1.1.1.1.0;
-      ram = row_use _ _ bytes.0 row.0 bytes.1 row.1 none.1.1.1.1.1.1.1.1.0;
-      oam_transfer = row_use _ _ bytes.0 row.0 bytes.1 row.1 none.1.1.1.1.1.1.1.1.1.0;
-      jump = row_use _ _ bytes.0 row.0 bytes.1 row.1 none.1.1.1.1.1.1.1.1.1.1.0;
-      covered = row_use _ _ bytes.0 row.0 bytes.1 row.1 none.1.1.1.1.1.1.1.1.1.1.1.0;
+      depth = row_use _ _ bytes.0 row.0 bytes.1 row.1 none.1.1.1.1.1.1.1.0;
+      stores = row_use _ _ bytes.0 row.0 bytes.1 row.1 none.1.1.1.1.1.1.1.1.0;
+      ram = row_use _ _ bytes.0 row.0 bytes.1 row.1 none.1.1.1.1.1.1.1.1.1.0;
+      oam_transfer = row_use _ _ bytes.0 row.0 bytes.1 row.1 none.1.1.1.1.1.1.1.1.1.1.0;
+      jump = row_use _ _ bytes.0 row.0 bytes.1 row.1 none.1.1.1.1.1.1.1.1.1.1.1.0;
+      covered = row_use _ _ bytes.0 row.0 bytes.1 row.1 none.1.1.1.1.1.1.1.1.1.1.1.1.0;
+      calls = row_use _ _ bytes.0 row.0 bytes.1 row.1 none.1.1.1.1.1.1.1.1.1.1.1.1.1.0;
+      returns = row_use _ _ bytes.0 row.0 bytes.1 row.1 none.1.1.1.1.1.1.1.1.1.1.1.1.1.1.0;
     }
 
 -- ---- its bytes are bytes
@@ -166,27 +192,67 @@ where_small false rom s a b r c vals h = let zero_is : 0 ≡ b = same_Some 0 b h
 not_stop : (o : Op) → is_stop o ≡ false → o ≡ op.Stop → ⊥
 not_stop o h e = let stops : is_stop o ≡ true = ap is_stop e in cc
 
-loaded_stack : (region : Region) (procedure base w : ℕ) → (procedure ≡ 0 → base ≡ region.last + 1) → (not (procedure == 0) || not (w == region.last + 1)) ≡ false → IsStackKnown (op.LoadPair pair.Sp w) base
-loaded_stack region procedure base w main h =
-    let first : procedure ≡ 0 = grind (arith, nat_tests) in
-    let word : w ≡ region.last + 1 = grind (arith, nat_tests) in
-    let top : base ≡ region.last + 1 = main first in
-    inr (ap (λ v. op.LoadPair pair.Sp v) (word ∙ sym top))
+loaded_stack : (region : Region) (n : Node) (base w : ℕ) → (n.procedure ≡ 0 → base ≡ region.last + 1) → (not (n.procedure == 0) || not (w == region.last + 1)) ≡ false → op.LoadPair pair.Sp w ≡ op.LoadPair pair.Sp base
+loaded_stack region n base w main h = ap (λ v. op.LoadPair pair.Sp v) (by n.procedure main h)
+  where
+    by : (procedure : ℕ) → (procedure ≡ 0 → base ≡ region.last + 1) → (not (procedure == 0) || not (w == region.last + 1)) ≡ false → w ≡ base
+    by procedure main h =
+        let first : procedure ≡ 0 = grind (arith, nat_tests) in
+        let word : w ≡ region.last + 1 = grind (arith, nat_tests) in
+        let top : base ≡ region.last + 1 = main first in
+        word ∙ sym top
 
-loaded_pair : (region : Region) (procedure base w : ℕ) (which : Pair) → (procedure ≡ 0 → base ≡ region.last + 1) → breaks_stack region procedure (op.LoadPair which w) ≡ false → IsStackKnown (op.LoadPair which w) base
+loaded_pair : (region : Region) (n : Node) (base w : ℕ) (which : Pair) → (n.procedure ≡ 0 → base ≡ region.last + 1) → breaks_stack region n (op.LoadPair which w) ≡ false → IsStackKnown region (op.LoadPair which w) n.state base
 unfolding breaks_stack
-loaded_pair region procedure base w pair.Bc main h = inl refl
-loaded_pair region procedure base w pair.De main h = inl refl
-loaded_pair region procedure base w pair.Hl main h = inl refl
-loaded_pair region procedure base w pair.Sp main h = loaded_stack region procedure base w main h
+loaded_pair region n base w pair.Bc main h = inl refl
+loaded_pair region n base w pair.De main h = inl refl
+loaded_pair region n base w pair.Hl main h = inl refl
+loaded_pair region n base w pair.Sp main h = inr (inl (loaded_stack region n base w main h))
 
-stack_known : (region : Region) (procedure base : ℕ) (o : Op) → (procedure ≡ 0 → base ≡ region.last + 1) → breaks_stack region procedure o ≡ false → IsStackKnown o base
-unfolding breaks_stack
-stack_known region procedure base (op.LoadPair which w) main h = loaded_pair region procedure base w which main h
-stack_known region procedure base o main h = inl h
+-- a word less than the need has room
+pub fewer_words : (region : Region) (base need words : ℕ) → AreInRegion region base need → words ≤ need → AreInRegion region base words
+fewer_words region base need words room le =
+    let first = room.first in
+    record { first = omega arith; last = room.last }
 
-pub ruled : (rom : List ℕ) (cert : Certificate) (n : Node) (base : ℕ) (p : Passes rom cert n) → IsRom rom → IsNodeState cert n → (n.procedure ≡ 0 → base ≡ cert.region.last + 1) → IsRuled p.row base
-ruled rom cert n base p r s main =
+pushable : (region : Region) (need base : ℕ) (s : AbsState) → AreInRegion region base need → not s.core.stack_set ≡ false → (nat_lt need (length s.items + 1) || nat_lt 16 (length s.items + 1)) ≡ false → IsPushable region s base
+pushable region need base s room set h = record {
+  stack_set = not-false _ set;
+  held = held (length s.items) h;
+  room = fewer_words region base need (length s.items + 1) room (fits (length s.items) h);
+}
+  where
+    held : (n : ℕ) → (nat_lt need (n + 1) || nat_lt 16 (n + 1)) ≡ false → (n == 16) ≡ false
+    held n h = grind (arith, nat_tests)
+
+    fits : (n : ℕ) → (nat_lt need (n + 1) || nat_lt 16 (n + 1)) ≡ false → n + 1 ≤ need
+    fits n h = grind (arith, nat_tests)
+
+poppable : (s : AbsState) → (not s.core.stack_set || length s.items == 0) ≡ false → IsPoppable s
+poppable s h = by s.core.stack_set (length s.items) refl refl h
+  where
+    by : (set : Bool) (n : ℕ) → s.core.stack_set ≡ set → length s.items ≡ n → (not set || n == 0) ≡ false → IsPoppable s
+    by true zero e m h = cc
+    by true (suc n) e m h = record { stack_set = e; held = omega arith }
+    by false n e m h = cc
+
+stack_known : (region : Region) (need base : ℕ) (n : Node) (o : Op) → (n.procedure ≡ 0 → base ≡ region.last + 1) → AreInRegion region base need → breaks_stack region n o ≡ false → pushes_too_deep need n o ≡ false → IsStackKnown region o n.state base
+unfolding breaks_stack pushes_too_deep
+stack_known region need base n (op.LoadPair which w) main room h deep = loaded_pair region n base w which main h
+stack_known region need base n (op.Push from) main room h deep = inr (inr (inl (refl, pushable region need base n.state room h deep)))
+stack_known region need base n (op.Pop to) main room h deep = inr (inr (inr (inl (refl, poppable n.state h))))
+stack_known region need base n (op.CallIf k w) main room h deep = inr (inr (inr (inr (inl (refl, not-false _ h)))))
+stack_known region need base n (op.Call w) main room h deep = inr (inr (inr (inr (inl (refl, not-false _ h)))))
+stack_known region need base n (op.Restart w) main room h deep = inr (inr (inr (inr (inl (refl, not-false _ h)))))
+stack_known region need base n (op.ReturnIf k) main room h deep = inr (inr (inr (inr (inr refl))))
+stack_known region need base n op.Return main room h deep = inr (inr (inr (inr (inr refl))))
+stack_known region need base n op.ReturnFromInterrupt main room h deep = inr (inr (inr (inr (inr refl))))
+stack_known region need base n o main room h deep = inl h
+
+pub ruled : (rom : List ℕ) (cert : Certificate) (n : Node) (base : ℕ) (p : Passes rom cert n) → IsRom rom → IsNodeState cert n → (n.procedure ≡ 0 → base ≡ cert.region.last + 1)
+    → AreInRegion cert.region base (need_of cert n.procedure) → IsRuled cert.region p.row n.state base
+unfolding grows_too_deep
+ruled rom cert n base p r s main room =
     let second : p.known.second < 256 = where_small _ rom n.state _ _ r s.core s.vals p.known.is_second in
     let third : p.known.third < 256 = where_small _ rom n.state _ _ r s.core s.vals p.known.is_third in
     let at_second : slice_index p.bytes 1 ≡ p.known.second = ap (λ bytes. slice_index bytes 1) p.known.bytes_are in
@@ -194,7 +260,7 @@ ruled rom cert n base p r s main =
     record {
       operands = HasBytes-decoded p.bytes p.row (subst (λ k. k < 256) (sym at_second) second) (subst (λ k. k < 256) (sym at_third) third) p.is_row;
       runs = not_stop p.row.op p.stop;
-      stack = stack_known cert.region n.procedure base p.row.op main p.stack;
+      stack = stack_known cert.region (need_of cert n.procedure) base n p.row.op main room p.stack (or_parts _ _ p.depth).0;
     }
 
 -- ---- nothing is against a successor
@@ -217,25 +283,74 @@ none_of test ss t h is = by is (parts _ _ _ h)
 abbrev pub ways_of : List ℕ → Node → Row → Successors
 ways_of rom n row = successors_of rom row n.address n.state
 
-pub allowed : (rom : List ℕ) (cert : Certificate) (n : Node) (p : Passes rom cert n) (t : Successor) → IsOneOf (ways_of rom n p.row) t
-    → IsAllowed rom cert.region (ranges_of cert n.procedure) n.state.core t
-unfolding stores_outside meets_ram meets_transfer any_of
-allowed rom cert n p t is =
+-- what a call asks for: a callee, with room for the return address
+callable : (cert : Certificate) (n : Node) (t : Successor) (base a : ℕ) (o : Option ℕ) → is_outside_of cert n.procedure o ≡ false → is_over cert (need_of cert n.procedure) (length t.state.items) o ≡ false
+    → AreInRegion cert.region base (need_of cert n.procedure) → AreInRegion cert.region base (length t.state.items + 1)
+callable cert n t base a None outside over room = cc
+callable cert n t base a (Some q) outside over room = fewer_words cert.region base (need_of cert n.procedure) (length t.state.items + 1) room (fits (need_of cert n.procedure) (length t.state.items) (need_of cert q) over)
+  where
+    fits : (need held more : ℕ) → nat_lt need (held + 1 + more) ≡ false → held + 1 ≤ need
+    fits need held more h = grind (arith, nat_tests)
+
+-- what a return asks for: an exit, with no word held
+returnable : (cert : Certificate) (n : Node) (t : Successor) (base : ℕ) (o : Option AbsState) → IsNodeState cert n → (n.procedure == 0 || is_exit_missed t.state o) ≡ false
+    → (0 < n.procedure → base + 2 ≤ cert.region.last + 1) → AreInRegion cert.region base (need_of cert n.procedure) → IsReturnable cert.region n.state t base
+returnable cert n t base o state h word room =
+    let p = or_parts _ _ h in
+    let other : 0 < n.procedure = not_zero n.procedure p.0 in
+    let last = word other in
+    let first = room.first in
+    record { stack_set = state.stack other; held = no_items o t.state p.1; return_word = record { first = omega arith; last = last } }
+  where
+    not_zero : (m : ℕ) → (m == 0) ≡ false → 0 < m
+    not_zero m h = grind (arith, nat_tests)
+
+    empty : (items : List Item) → length items ≡ 0 → items ≡ []
+    empty [] h = refl
+    empty (i ∷ items) h = cc
+
+    no_items : (o : Option AbsState) (s : AbsState) → is_exit_missed s o ≡ false → s.items ≡ []
+    no_items None s h = cc
+    no_items (Some exit) s h = empty s.items (eqb-true _ _ (not-false _ (or_parts _ _ h).0))
+
+pub allowed : (rom : List ℕ) (cert : Certificate) (n : Node) (p : Passes rom cert n) (base : ℕ) (t : Successor) → IsOneOf (ways_of rom n p.row) t → IsNodeState cert n
+    → (0 < n.procedure → base + 2 ≤ cert.region.last + 1) → AreInRegion cert.region base (need_of cert n.procedure) → IsAllowed rom cert.region (ranges_of cert n.procedure) n.state base t
+unfolding stores_outside meets_ram meets_transfer grows_too_deep calls_wrongly returns_wrongly any_of is_uncallable is_unreturnable calls_too_deep callee_at
+allowed rom cert n p base t is state word room =
     record {
       stores = none_of _ (ways_of rom n p.row) t p.stores is;
       ram = none_of _ (ways_of rom n p.row) t p.ram is;
-      oam_transfer = (either_false _ _ (none_of _ (ways_of rom n p.row) t p.oam_transfer is)).1;
+      oam_transfer = (or_parts _ _ (none_of _ (ways_of rom n p.row) t p.oam_transfer is)).1;
+      stack = by t.target
+          (none_of (is_uncallable cert n.procedure) (ways_of rom n p.row) t p.calls is)
+          (none_of (calls_too_deep cert (need_of cert n.procedure)) (ways_of rom n p.row) t (or_parts _ _ p.depth).1 is)
+          (none_of (is_unreturnable cert n.procedure) (ways_of rom n p.row) t p.returns is);
     }
   where
-    either_false : (b c : Bool) → (b || c) ≡ false → (b ≡ false) × (c ≡ false)
-    either_false true c h = cc
-    either_false false c h = (refl, h)
+    by : (w : Target) → is_uncallable_at cert n.procedure w t.state ≡ false → is_over cert (need_of cert n.procedure) (length t.state.items) (callee_by cert w t.state) ≡ false
+        → is_unreturnable_at cert n.procedure w t.state ≡ false → IsStackFit cert.region w n.state t base
+    by (target.At a) calls deep returns = tt
+    by (target.Call a) calls deep returns = callable cert n t base a (callee_of cert a t.state) calls deep room
+    by target.Return calls deep returns = returnable cert n t base (exit_of cert n.procedure) state returns word room
+    by target.Unknown calls deep returns = tt
+
+pub not_uncallable : (rom : List ℕ) (cert : Certificate) (n : Node) (p : Passes rom cert n) (t : Successor) → IsOneOf (ways_of rom n p.row) t → is_uncallable cert n.procedure t ≡ false
+unfolding calls_wrongly any_of
+not_uncallable rom cert n p t is = none_of _ (ways_of rom n p.row) t p.calls is
+
+pub not_too_deep : (rom : List ℕ) (cert : Certificate) (n : Node) (p : Passes rom cert n) (t : Successor) → IsOneOf (ways_of rom n p.row) t → calls_too_deep cert (need_of cert n.procedure) t ≡ false
+unfolding grows_too_deep any_of
+not_too_deep rom cert n p t is = none_of _ (ways_of rom n p.row) t (or_parts _ _ p.depth).1 is
+
+pub not_unreturnable : (rom : List ℕ) (cert : Certificate) (n : Node) (p : Passes rom cert n) (t : Successor) → IsOneOf (ways_of rom n p.row) t → is_unreturnable cert n.procedure t ≡ false
+unfolding returns_wrongly any_of
+not_unreturnable rom cert n p t is = none_of _ (ways_of rom n p.row) t p.returns is
 
 pub not_unknown : (rom : List ℕ) (cert : Certificate) (n : Node) (p : Passes rom cert n) (t : Successor) → IsOneOf (ways_of rom n p.row) t → is_unknown t.target ≡ false
 unfolding leads_anywhere any_of
 not_unknown rom cert n p t is = none_of _ (ways_of rom n p.row) t p.jump is
 
-pub not_uncovered : (rom : List ℕ) (cert : Certificate) (n : Node) (p : Passes rom cert n) (t : Successor) → IsOneOf (ways_of rom n p.row) t → is_uncovered cert.nodes n.procedure t ≡ false
+pub not_uncovered : (rom : List ℕ) (cert : Certificate) (n : Node) (p : Passes rom cert n) (t : Successor) → IsOneOf (ways_of rom n p.row) t → is_uncovered cert n.procedure t ≡ false
 unfolding leads_uncovered any_of
 not_uncovered rom cert n p t is = none_of _ (ways_of rom n p.row) t p.covered is
 
@@ -247,7 +362,7 @@ pub known_by : (rom : List ℕ) (cert : Certificate) (n : Node) (p : Passes rom 
 unfolding meets_transfer any_of is_code_limited
 known_by rom cert n p t is =
     let length : p.row.length ≡ length_of p.known.opcode = length-decoded p.bytes p.row p.is_row ∙ ap length_of (first_is p.bytes _ _ _ p.known.bytes_are) in
-    let open_ = clear_of n.state.core.bound n.address p.row.length (first_false _ _ (none_of _ (ways_of rom n p.row) t p.oam_transfer is)) in
+    let open_ = clear_of n.state.core.bound n.address p.row.length (or_parts _ _ (none_of _ (ways_of rom n p.row) t p.oam_transfer is)).0 in
     record {
       known = p.known;
       end = p.end;
@@ -256,7 +371,3 @@ known_by rom cert n p t is =
       bank = p.bank;
       clear = subst (λ k. (n.state.core.bound ≡ 0) ⊎ ((0xFF80 ≤ n.address) × (n.address + k ≤ 0xFFFF))) length open_;
     }
-  where
-    first_false : (b c : Bool) → (b || c) ≡ false → b ≡ false
-    first_false true c h = cc
-    first_false false c h = refl

@@ -1,3 +1,5 @@
 pub mod Covered
+pub mod Procedures
 pub mod Rules
 pub mod Safety
+pub mod Frames

@@ -1,11 +1,13 @@
 //! The rules of a certificate's single nodes. `check_node` answers the lowest reason against a node
 //! (`exact`); where there is none, each event but an interrupt's dispatch, from each state that the
 //! node stands for, has no fault, fetches certified places, leaves a state that some node of the
-//! procedure stands for, and changes nothing that the procedure keeps (`safe`).
+//! procedure stands for, or calls, or returns, and changes nothing that the procedure keeps (`safe`).
 //!
-//! Read `covered` (the nodes that stand for a successor's states), and then `rules`. Of the
-//! definitions, `Covered`, `Rules` and `Safety`.
+//! Read `covered` (the nodes that stand for a successor's states), `procedures` (calls and returns), and
+//! then `rules`. Of the definitions, `Covered`, `Procedures`, `Rules` and `Safety`; then `Frames`: the
+//! procedures that wait for one another.
 #![tactic(auto)]
 
 pub mod covered;
+pub mod procedures;
 pub mod rules;

@@ -1,20 +1,20 @@
 //! The rules of one node.
 
-ghost use Rattle.std.specs.Prelude.{◌≡◌, ◌<◌, length, Option, Some, None, MatchResult, OnOk};
+ghost use Rattle.std.specs.Prelude.{◌≡◌, ◌<◌, length, find, Option, Some, None, MatchResult, OnOk};
 ghost use Rattle.gb_abs_effects.specs.Targets as Targets;
-ghost use Rattle.gb_successors.specs.Successors.{has, successors_of};
+ghost use Rattle.gb_successors.specs.Successors.{successors_of};
 ghost use Rattle.gb_blocks.specs.Rules as Rules;
-ghost use Rattle.gb_blocks.specs.Rules.{reason_at};
+ghost use Rattle.gb_blocks.specs.Rules.{callees_of, row_reasons, reason_at};
 ghost use Rattle.gb_blocks.specs.Safety.{IsSafeAt};
 
-use crate::covered::covered_at;
-use arrayvec::ArrayVec;
+use crate::procedures::{
+    Callees, callees_of, has_deep, has_uncallable, has_uncovered, has_unreturnable, need_of, ranges_of,
+};
 use gb_abs::reason::Reason;
-use gb_abs_effects::targets::Target;
 use gb_abs_memory::load::holds_bytes;
 use gb_abs_memory::shown::known_bank;
 use gb_cert::NodeRef;
-use gb_cert::types::{Abs, Cert, Core, Range};
+use gb_cert::types::{Abs, Cert, Core, ITEMS};
 use gb_code::code::{
     area_end, is_other_bank, known_byte, known_bytes, leaves_area, lies_in_high_ram,
 };
@@ -22,7 +22,6 @@ use gb_header::Rom;
 use gb_ops::decode::decode;
 use gb_ops::machine::Region;
 use gb_ops::op::{Op, Pair, Row};
-use gb_successors::successor::Successor;
 use gb_successors::successors::{Successors, successors_of};
 
 fn is_stop(op: Op) -> bool
@@ -68,51 +67,42 @@ fn is_sp(pair: Pair) -> bool
     matches!(pair, Pair::Sp)
 }
 
-/// Whether SP may be another one behind an instruction.
-fn moves_sp(op: Op) -> bool
-    ensures { result ≡ Targets.moves_sp op }
+/// Whether an instruction finds a stack that it can't work with: a word is pushed without a known stack,
+/// POP finds none, or SP would be another one than what is known of it. LD SP,n16 is main's, to the
+/// address behind the region.
+#[tactic(auto, unfolding(crate::specs::Rules::breaks_stack))]
+fn breaks_stack(region: Region, node: &NodeRef<'_>, state: &Abs, op: Op) -> bool
+    requires { state.now ≡ node.now.state }
+    ensures { result ≡ Rules.breaks_stack region node.now op }
 {
     match op {
-        Op::LoadPair(pair, _) | Op::IncrementPair(pair) | Op::DecrementPair(pair) => is_sp(pair),
-        Op::ReturnIf(_)
-        | Op::Return
-        | Op::ReturnFromInterrupt
-        | Op::Pop(_)
-        | Op::Push(_)
-        | Op::CallIf(_, _)
-        | Op::Call(_)
-        | Op::Restart(_)
-        | Op::AddSp(_)
-        | Op::LoadSpHl => true,
+        Op::LoadPair(Pair::Sp, word) => {
+            node.procedure() != 0 || u32::from(word) != u32::from(region.last) + 1
+        }
+        Op::Push(_) | Op::CallIf(_, _) | Op::Call(_) | Op::Restart(_) => !state.core().stack_set,
+        Op::Pop(_) => !state.core().stack_set || state.items().len() == 0,
+        Op::IncrementPair(pair) | Op::DecrementPair(pair) => is_sp(pair),
+        Op::AddSp(_) | Op::LoadSpHl => true,
         _ => false,
     }
 }
 
-/// Whether an instruction moves SP where that has no rules: LD SP,n16 is main's, to the address behind
-/// the region; nothing else has rules so far.
-#[tactic(auto, unfolding(crate::specs::Rules::breaks_stack))]
-fn breaks_stack(region: Region, procedure: u8, op: Op) -> bool
-    ensures { result ≡ Rules.breaks_stack region procedure op }
+fn is_push(op: Op) -> bool
+    ensures { result ≡ Targets.is_push op }
 {
-    match op {
-        Op::LoadPair(Pair::Sp, word) => {
-            procedure != 0 || u32::from(word) != u32::from(region.last) + 1
-        }
-        _ => moves_sp(op),
-    }
+    matches!(op, Op::Push(_))
 }
 
-/// What a procedure may write.
-#[tactic(auto, unfolding(crate::specs::Rules::ranges_of))]
-fn ranges_of(cert: &Cert<'_>, procedure: u8) -> ArrayVec<Range, 8>
-    ensures { result.items ≡ Rules.ranges_of cert.now procedure }
+/// Whether PUSH pushes a word over the need, or over the 16 that a state can hold.
+#[tactic(auto, unfolding(crate::specs::Rules::pushes_too_deep))]
+fn pushes_too_deep(need: u16, node: &NodeRef<'_>, state: &Abs, op: Op) -> bool
+    requires { state.now ≡ node.now.state }
+    ensures { result ≡ Rules.pushes_too_deep need node.now op }
 {
-    if procedure < cert.procedures() {
-        cert.procedure(procedure).ranges()
-    } else {
-        ArrayVec::new()
-    }
+    let words = state.items().len() + 1;
+    is_push(op) && (usize::from(need) < words || ITEMS < words)
 }
+
 
 /// Whether an OAM transfer may close a byte of an instruction of so many bytes.
 #[tactic(auto, unfolding(crate::specs::Rules::is_code_limited))]
@@ -120,26 +110,6 @@ fn is_code_limited(core: &Core, address: u16, length: u8) -> bool
     ensures { result ≡ Rules.is_code_limited core.now address length }
 {
     core.bound != 0 && !lies_in_high_ram(address, length)
-}
-
-/// Whether no node of the procedure stands for the states behind an instruction, where they go on.
-#[tactic(auto, unfolding(crate::specs::Rules::is_uncovered))]
-fn is_uncovered(cert: &Cert<'_>, procedure: u8, successor: &Successor) -> bool
-    ensures { result ≡ Rules.is_uncovered cert.now.nodes procedure successor.now }
-{
-    match successor.target {
-        Target::At(address) => !covered_at(cert, procedure, address, &successor.state),
-        Target::Call(_) | Target::Return | Target::Unknown => false,
-    }
-}
-
-fn has_uncovered(cert: &Cert<'_>, procedure: u8, way: &Option<Successor>) -> bool
-    ensures { result ≡ has (Rules.is_uncovered cert.now.nodes procedure) way.now }
-{
-    match way {
-        None => false,
-        Some(successor) => is_uncovered(cert, procedure, successor),
-    }
 }
 
 /// Whether one of the successors of the node's instruction may store where no store is allowed.
@@ -173,6 +143,7 @@ fn meets_ram(rom: &Rom<'_>, node: &NodeRef<'_>, state: &Abs, row: Row, ways: &Su
 #[tactic(auto, unfolding(crate::specs::Rules::meets_transfer, crate::specs::Rules::any_of))]
 fn meets_transfer(
     rom: &Rom<'_>,
+    region: Region,
     node: &NodeRef<'_>,
     state: &Abs,
     row: Row,
@@ -180,12 +151,12 @@ fn meets_transfer(
 ) -> bool
     requires state { state.now ≡ node.now.state }
     requires ways { ways.now ≡ successors_of rom.now row node.now.address node.now.state }
-    ensures { result ≡ Rules.meets_transfer rom.now node.now row }
+    ensures { result ≡ Rules.meets_transfer rom.now region node.now row }
 {
     if is_code_limited(state.core(), node.address(), row.length) {
         ways.are_some()
     } else {
-        ways.meet_oam_transfer(state.core())
+        ways.meet_oam_transfer(region, state.core())
     }
 }
 
@@ -198,9 +169,72 @@ fn leads_anywhere(rom: &Rom<'_>, node: &NodeRef<'_>, row: Row, ways: &Successors
     ways.lead_anywhere()
 }
 
+/// Whether the stack would grow over the procedure's need.
+#[tactic(auto, unfolding(crate::specs::Rules::grows_too_deep, crate::specs::Rules::callees_of, crate::specs::Rules::any_of, gb_successors::specs::Successors::any_successor))]
+fn grows_too_deep(
+    rom: &Rom<'_>,
+    cert: &Cert<'_>,
+    node: &NodeRef<'_>,
+    state: &Abs,
+    row: Row,
+    ways: &Successors,
+    callees: Callees,
+) -> bool
+    requires state { state.now ≡ node.now.state }
+    requires ways { ways.now ≡ successors_of rom.now row node.now.address node.now.state }
+    requires callees { callees ≡ callees_of cert.now ways.now }
+    ensures { result ≡ Rules.grows_too_deep rom.now cert.now node.now row }
+{
+    let need = need_of(cert, node.procedure());
+    pushes_too_deep(need, node, state, row.op)
+        || has_deep(cert, need, &ways.taken, callees.taken)
+        || has_deep(cert, need, &ways.not_taken, callees.not_taken)
+        || has_deep(cert, need, &ways.stays, callees.stays)
+}
+
 /// Whether the states behind one of them are not covered.
-#[tactic(auto, unfolding(crate::specs::Rules::leads_uncovered, crate::specs::Rules::any_of, gb_successors::specs::Successors::any_successor))]
+#[tactic(auto, unfolding(crate::specs::Rules::leads_uncovered, crate::specs::Rules::callees_of, crate::specs::Rules::any_of, gb_successors::specs::Successors::any_successor))]
 fn leads_uncovered(
+    rom: &Rom<'_>,
+    cert: &Cert<'_>,
+    node: &NodeRef<'_>,
+    row: Row,
+    ways: &Successors,
+    callees: Callees,
+) -> bool
+    requires ways { ways.now ≡ successors_of rom.now row node.now.address node.now.state }
+    requires callees { callees ≡ callees_of cert.now ways.now }
+    ensures { result ≡ Rules.leads_uncovered rom.now cert.now node.now row }
+{
+    let procedure = node.procedure();
+    has_uncovered(cert, procedure, &ways.taken, callees.taken)
+        || has_uncovered(cert, procedure, &ways.not_taken, callees.not_taken)
+        || has_uncovered(cert, procedure, &ways.stays, callees.stays)
+}
+
+/// Whether one of them calls what it may not.
+#[tactic(auto, unfolding(crate::specs::Rules::calls_wrongly, crate::specs::Rules::callees_of, crate::specs::Rules::any_of, gb_successors::specs::Successors::any_successor))]
+fn calls_wrongly(
+    rom: &Rom<'_>,
+    cert: &Cert<'_>,
+    node: &NodeRef<'_>,
+    row: Row,
+    ways: &Successors,
+    callees: Callees,
+) -> bool
+    requires ways { ways.now ≡ successors_of rom.now row node.now.address node.now.state }
+    requires callees { callees ≡ callees_of cert.now ways.now }
+    ensures { result ≡ Rules.calls_wrongly rom.now cert.now node.now row }
+{
+    let procedure = node.procedure();
+    has_uncallable(cert, procedure, &ways.taken, callees.taken)
+        || has_uncallable(cert, procedure, &ways.not_taken, callees.not_taken)
+        || has_uncallable(cert, procedure, &ways.stays, callees.stays)
+}
+
+/// Whether one of them returns as it may not.
+#[tactic(auto, unfolding(crate::specs::Rules::returns_wrongly, crate::specs::Rules::any_of, gb_successors::specs::Successors::any_successor))]
+fn returns_wrongly(
     rom: &Rom<'_>,
     cert: &Cert<'_>,
     node: &NodeRef<'_>,
@@ -208,12 +242,57 @@ fn leads_uncovered(
     ways: &Successors,
 ) -> bool
     requires { ways.now ≡ successors_of rom.now row node.now.address node.now.state }
-    ensures { result ≡ Rules.leads_uncovered rom.now cert.now node.now row }
+    ensures { result ≡ Rules.returns_wrongly rom.now cert.now node.now row }
 {
     let procedure = node.procedure();
-    has_uncovered(cert, procedure, &ways.taken)
-        || has_uncovered(cert, procedure, &ways.not_taken)
-        || has_uncovered(cert, procedure, &ways.stays)
+    has_unreturnable(cert, procedure, &ways.taken)
+        || has_unreturnable(cert, procedure, &ways.not_taken)
+        || has_unreturnable(cert, procedure, &ways.stays)
+}
+
+/// The lowest reason against a node whose instruction is known.
+#[tactic(auto, unfolding(crate::specs::Rules::applies_to_row))]
+fn reason_of_row(
+    rom: &Rom<'_>,
+    cert: &Cert<'_>,
+    node: &NodeRef<'_>,
+    state: &Abs,
+    row: Row,
+) -> Option<Reason>
+    requires { state.now ≡ node.now.state }
+    ensures { result ≡ find (Rules.applies_to_row rom.now cert.now node.now row) row_reasons }
+{
+    if is_stop(row.op) {
+        return Some(Reason::Stop);
+    }
+    if may_read_twice(rom, node, state, row.op) {
+        return Some(Reason::Halt);
+    }
+    let region = cert.region();
+    if breaks_stack(region, node, state, row.op) {
+        return Some(Reason::Stack);
+    }
+    let ways = successors_of(rom, row, node.address(), state);
+    let callees = callees_of(cert, &ways);
+    if grows_too_deep(rom, cert, node, state, row, &ways, callees) {
+        Some(Reason::Depth)
+    } else if stores_outside(rom, cert, node, row, &ways) {
+        Some(Reason::Store)
+    } else if meets_ram(rom, node, state, row, &ways) {
+        Some(Reason::CartridgeRam)
+    } else if meets_transfer(rom, region, node, state, row, &ways) {
+        Some(Reason::OamTransfer)
+    } else if leads_anywhere(rom, node, row, &ways) {
+        Some(Reason::JumpHl)
+    } else if leads_uncovered(rom, cert, node, row, &ways, callees) {
+        Some(Reason::Uncovered)
+    } else if calls_wrongly(rom, cert, node, row, &ways, callees) {
+        Some(Reason::Callee)
+    } else if returns_wrongly(rom, cert, node, row, &ways) {
+        Some(Reason::Return)
+    } else {
+        None
+    }
 }
 
 /// The lowest reason against a node, by the rules of its instruction. Its state is given, so that it is
@@ -224,8 +303,6 @@ pub fn reason_of(rom: &Rom<'_>, cert: &Cert<'_>, node: &NodeRef<'_>, state: &Abs
     ensures { result ≡ Rules.reason_of rom.now cert.now node.now }
 {
     let address = node.address();
-    let procedure = node.procedure();
-    let region = cert.region();
     if leaves_area(address, known_byte(rom, state, address), area_end(address)) {
         return Some(Reason::Area);
     }
@@ -235,31 +312,9 @@ pub fn reason_of(rom: &Rom<'_>, cert: &Cert<'_>, node: &NodeRef<'_>, state: &Abs
     let Some(bytes) = known_bytes(rom, state, address) else {
         return Some(Reason::Unreadable);
     };
-    let Some(row) = decode(&bytes) else {
-        return Some(Reason::UndefinedOpcode);
-    };
-    if is_stop(row.op) {
-        return Some(Reason::Stop);
-    }
-    if may_read_twice(rom, node, state, row.op) {
-        return Some(Reason::Halt);
-    }
-    if breaks_stack(region, procedure, row.op) {
-        return Some(Reason::Stack);
-    }
-    let ways = successors_of(rom, row, address, state);
-    if stores_outside(rom, cert, node, row, &ways) {
-        Some(Reason::Store)
-    } else if meets_ram(rom, node, state, row, &ways) {
-        Some(Reason::CartridgeRam)
-    } else if meets_transfer(rom, node, state, row, &ways) {
-        Some(Reason::OamTransfer)
-    } else if leads_anywhere(rom, node, row, &ways) {
-        Some(Reason::JumpHl)
-    } else if leads_uncovered(rom, cert, node, row, &ways) {
-        Some(Reason::Uncovered)
-    } else {
-        None
+    match decode(&bytes) {
+        None => Some(Reason::UndefinedOpcode),
+        Some(row) => reason_of_row(rom, cert, node, state, row),
     }
 }
 
@@ -273,7 +328,8 @@ pub fn check_node(rom: &Rom<'_>, cert: &Cert<'_>, i: u32) -> Result<(), Reason>
     // Ok exactly where no reason applies, else the lowest that does.
     ensures exact { MatchResult result (λ _. reason_at rom.now cert.now i ≡ None) (λ r. reason_at rom.now cert.now i ≡ Some r) }
     // Each event but a dispatch, from a state of the node, has no fault, fetches certified places,
-    // leaves a state that some node of the procedure means, and changes nothing that it keeps.
+    // leaves a state that some node of the procedure means, or calls, or returns, and changes nothing
+    // that the procedure keeps.
     ensures safe { OnOk result (IsSafeAt rom.now cert.now i) }
 {
     // Behind the promise stand that a cartridge holds bytes, and the rules of certificates.

@@ -46,12 +46,12 @@ const HALT: Advice = Advice {
 
 const STACK: Advice = Advice {
     problem: "The instruction uses the stack or moves SP where there is no rule that allows it.",
-    remedy: "Set SP once, in procedure 0, by LD SP to the address behind the stack region, and don't move it by INC SP, DEC SP, ADD SP or LD SP,HL. PUSH, POP, calls and returns want the stack set in the node's state; the README says which of them are accepted so far.",
+    remedy: "Set SP once, in procedure 0, by LD SP to the address behind the stack region, and don't move it by INC SP, DEC SP, ADD SP or LD SP,HL. PUSH, POP and calls want the stack set in the node's state, and POP a word on it.",
 };
 
 const DEPTH: Advice = Advice {
     problem: "The stack may grow over the words that the procedure says it needs, or over 16 pushed words.",
-    remedy: "Raise the procedure's need and its callers', or push less.",
+    remedy: "A procedure needs the words that it has pushed, one for the return address, and what its callee needs, at the deepest point. Raise its need and its callers', or push less; no need is enough for a procedure that calls itself.",
 };
 
 const STORE: Advice = Advice {
@@ -91,7 +91,7 @@ const RETURN: Advice = Advice {
 
 const INTERRUPT: Advice = Advice {
     problem: "An interrupt may come here for which nothing is provided.",
-    remedy: "Keep interrupts off by DI, or bits 0 to 4 of IE clear, and say so in the node's state. The README says whether interrupts are accepted so far.",
+    remedy: "Keep interrupts off by DI, or bits 0 to 4 of IE clear, and say so in the node's state. Nodes where interrupts may come are not accepted yet.",
 };
 
 /// The texts of a reason.

@@ -1,6 +1,7 @@
 -- Reads and writes of an instruction that nothing refuses: no fault, and what is known of them is what happens.
-use Rattle.std.proofs.Common.{◌≡◌, ℕ, ◌%◌, ◌/◌, ◌≤◌, ◌<◌, Bool, true, false, ◌||◌, ◌==◌, List, length, slice_index, refl, sym, ◌∙◌, ap, subst, arith}
+use Rattle.std.proofs.Common.{◌≡◌, ℕ, ◌%◌, ◌/◌, ◌≤◌, ◌<◌, Bool, true, false, not, ◌&&◌, ◌||◌, ◌==◌, nat_le, ◌⊎◌, List, length, slice_index, refl, sym, ◌∙◌, ap, subst, arith}
 use Rattle.std.proofs.lemmas.Bool.{not-false, eqb-true}
+use Rattle.std.proofs.lemmas.Bool.Decides.{nat_tests}
 use Rattle.std.specs.List.{list_any}
 use Rattle.gb_ops.specs.declared.machine.Region.{Region}
 use Rattle.gb_ops.specs.declared.machine.Read.{Read}
@@ -35,9 +36,9 @@ use Rattle.gb_abs_memory.specs.Sound.{IsRom, IsStored, view}
 use Rattle.gb_abs_memory.proofs.LoadLaws.{IsLoaded-loaded_val}
 use Rattle.gb_abs_memory.proofs.StoreLaws.{IsSoundStore-stored_state, stored-view}
 use Rattle.gb_abs_memory.proofs.AfterStoreLaws.{is_store_limited-stored, store_meets_closed_ram-stored}
-use Rattle.gb_successors.specs.Successors.{read_val, behind, written, starts}
-use Rattle.gb_successors.specs.Refused.{is_unstorable, reads_closed_ram, writes_closed_ram, is_read_limited, is_write_limited}
-use Rattle.gb_successors.specs.Sound.{IsKept}
+use Rattle.gb_successors.specs.Successors.{read_item, behind, written, starts}
+use Rattle.gb_successors.specs.Refused.{is_unstorable, reads_closed_ram, writes_closed_ram, is_stack_limited, is_read_limited, is_write_limited}
+use Rattle.gb_abs_memory.specs.Kept.{IsKept}
 use Rattle.gb_successors.proofs.PlainLaws.{Keeps, IsPlainRead, IsPlainWrite}
 
 -- ---- the tests ask the controller and the bound alone
@@ -48,11 +49,11 @@ closed_same rom s c read.Nothing k = refl
 closed_same rom s c (read.Byte span) k = rw k.ctl refl
 closed_same rom s c read.Top k = refl
 
-pub limited_same : (s c : Core) (what : AbsRead) → Keeps s c → is_read_limited c what ≡ is_read_limited s what
-unfolding is_read_limited is_limited
-limited_same s c read.Nothing k = refl
-limited_same s c (read.Byte span) k = rw k.bound refl
-limited_same s c read.Top k = refl
+pub limited_same : (region : Region) (s c : Core) (what : AbsRead) → Keeps s c → is_read_limited region c what ≡ is_read_limited region s what
+unfolding is_read_limited is_limited is_stack_limited
+limited_same region s c read.Nothing k = refl
+limited_same region s c (read.Byte span) k = rw k.bound refl
+limited_same region s c read.Top k = rw k.bound refl
 
 -- the gate and the bound are the same
 pub record IsSameGate (s c : Core) : Type 0 where
@@ -66,12 +67,20 @@ writes_same rom s c (write.Byte span v) k = rw k.ctl refl
 writes_same rom s c (write.Word a low high) k = rw k.ctl refl
 writes_same rom s c (write.Push high low) k = refl
 
-pub write_limited_same : (s c : Core) (w : AbsWrite) → IsSameGate s c → is_write_limited c w ≡ is_write_limited s w
-unfolding is_write_limited is_store_limited is_limited
-write_limited_same s c write.Nothing k = refl
-write_limited_same s c (write.Byte span v) k = rw k.bound refl
-write_limited_same s c (write.Word a low high) k = rw k.bound refl
-write_limited_same s c (write.Push high low) k = refl
+pub write_limited_same : (region : Region) (s c : Core) (w : AbsWrite) → IsSameGate s c → is_write_limited region c w ≡ is_write_limited region s w
+unfolding is_write_limited is_store_limited is_limited is_stack_limited
+write_limited_same region s c write.Nothing k = refl
+write_limited_same region s c (write.Byte span v) k = rw k.bound refl
+write_limited_same region s c (write.Word a low high) k = rw k.bound refl
+write_limited_same region s c (write.Push high low) k = rw k.bound refl
+
+-- no OAM transfer closes the stack region
+pub clear_stack : (region : Region) (core : Core) → is_stack_limited region core ≡ false → (core.bound ≡ 0) ⊎ (0xFF80 ≤ region.first)
+unfolding is_stack_limited
+clear_stack region core h = by core.bound region.first h
+  where
+    by : (n first : ℕ) → (not (n == 0) && not (nat_le 0xFF80 first)) ≡ false → (n ≡ 0) ⊎ (0xFF80 ≤ first)
+    by n first h = grind (arith, nat_tests)
 
 -- ---- reads
 
@@ -80,8 +89,8 @@ any_holds entry n h = record { least = omega arith; most = h; origin = λ o e. c
 
 -- what an instruction reads, without a fault
 pub record Loads (rom : List ℕ) (s : AbsState) (what : AbsRead) (entry : MState) (m : View) (r : Read) (reads : List ℕ) : Type 0 where
-  pub low : Holds (read_val rom s what) entry (loaded m r reads).low
-  pub high : Holds any_val entry (loaded m r reads).high
+  pub low : Holds (read_item rom s what).low entry (loaded m r reads).low
+  pub high : Holds (read_item rom s what).high entry (loaded m r reads).high
   pub faults : load_faults m r ≡ no_faults
 
 in_span : (span : Span) (a : ℕ) → IsIn span a → span.last < 65536 → a < 65536
@@ -90,20 +99,20 @@ in_span span a i h =
     omega arith
 
 pub Loads-read :
-    (rom : List ℕ) (s : AbsState) (entry : MState) (base : ℕ) (x : MState) (reads : List ℕ) (sp : ℕ) (what : AbsRead) (r : Read) → IsRom rom → Means s entry base x → IsVal s.core.ie
-    → slice_index reads 0 ≤ 255 → IsPlainRead what → HoldsRead what sp r → reads_closed_ram rom s.core what ≡ false → is_read_limited s.core what ≡ false
+    (rom : List ℕ) (region : Region) (s : AbsState) (entry : MState) (base : ℕ) (x : MState) (reads : List ℕ) (sp : ℕ) (what : AbsRead) (r : Read) → IsRom rom → Means s entry base x → IsVal s.core.ie
+    → slice_index reads 0 ≤ 255 → IsPlainRead what → HoldsRead what sp r → reads_closed_ram rom s.core what ≡ false → is_read_limited region s.core what ≡ false
     → Loads rom s what entry (view rom x false) r reads
-unfolding read_val loaded load_faults reads_closed_ram is_read_limited
-Loads-read rom s entry base x reads sp read.Nothing machine_read.Nothing c m ie byte plain h ram limited =
+unfolding read_item loaded load_faults reads_closed_ram is_read_limited
+Loads-read rom region s entry base x reads sp read.Nothing machine_read.Nothing c m ie byte plain h ram limited =
     record { low = any_holds entry 0 (omega arith); high = any_holds entry 0 (omega arith); faults = refl }
-Loads-read rom s entry base x reads sp (read.Byte span) (machine_read.Byte a) c m ie byte plain h ram limited =
+Loads-read rom region s entry base x reads sp (read.Byte span) (machine_read.Byte a) c m ie byte plain h ram limited =
     let l = IsLoaded-loaded_val rom s span entry base x false a reads ram limited h (in_span span a h plain) m ie c byte in
     record { low = l.holds; high = any_holds entry 0 (omega arith); faults = l.faults }
-Loads-read rom s entry base x reads sp read.Top r c m ie byte plain h ram limited = absurd plain
-Loads-read rom s entry base x reads sp read.Nothing (machine_read.Byte a) c m ie byte plain h ram limited = absurd h
-Loads-read rom s entry base x reads sp read.Nothing (machine_read.Word a) c m ie byte plain h ram limited = absurd h
-Loads-read rom s entry base x reads sp (read.Byte span) machine_read.Nothing c m ie byte plain h ram limited = absurd h
-Loads-read rom s entry base x reads sp (read.Byte span) (machine_read.Word a) c m ie byte plain h ram limited = absurd h
+Loads-read rom region s entry base x reads sp read.Top r c m ie byte plain h ram limited = absurd plain
+Loads-read rom region s entry base x reads sp read.Nothing (machine_read.Byte a) c m ie byte plain h ram limited = absurd h
+Loads-read rom region s entry base x reads sp read.Nothing (machine_read.Word a) c m ie byte plain h ram limited = absurd h
+Loads-read rom region s entry base x reads sp (read.Byte span) machine_read.Nothing c m ie byte plain h ram limited = absurd h
+Loads-read rom region s entry base x reads sp (read.Byte span) (machine_read.Word a) c m ie byte plain h ram limited = absurd h
 
 -- ---- writes
 
@@ -210,7 +219,7 @@ Stores-word rom region ranges s a low high entry base x n w here there ram_here 
 
 pub Stores-write :
     (rom : List ℕ) (region : Region) (ranges : List Range) (s : AbsState) (entry : MState) (base : ℕ) (x : MState) (sp : ℕ) (w : AbsWrite) (mw : Write) → AtWrite region s entry base x
-    → IsPlainWrite w → IsWrite w → HoldsWrite w entry sp mw → is_unstorable (kind_of rom) region ranges w ≡ false → writes_closed_ram rom s.core w ≡ false → is_write_limited s.core w ≡ false
+    → IsPlainWrite w → IsWrite w → HoldsWrite w entry sp mw → is_unstorable (kind_of rom) region ranges w ≡ false → writes_closed_ram rom s.core w ≡ false → is_write_limited region s.core w ≡ false
     → Stores rom region ranges s w entry base x (view rom x false) mw
 unfolding written starts stored store_faults is_unstorable writes_closed_ram is_write_limited
 Stores-write rom region ranges s entry base x sp write.Nothing machine_write.Nothing at plain is h allowed ram limited =

@@ -1,5 +1,7 @@
 pub mod PlainLaws
 pub mod AccessLaws
+pub mod WordLaws
 pub mod SuccessorLaws
+pub mod StackWayLaws
 pub mod MarkLaws
 pub mod WayLaws

@@ -1,5 +1,5 @@
 -- Instructions that leave SP, or set it: what they leave of a core, and that they neither push nor pop.
-use Rattle.std.proofs.Common.{◌≡◌, ℕ, ◌<◌, false, Option, Some, None, refl, sym, ◌∙◌, subst, arith}
+use Rattle.std.proofs.Common.{◌≡◌, ℕ, ◌<◌, Bool, true, false, cond, ◌⊎◌, inl, inr, Option, Some, None, refl, sym, ◌∙◌, subst, arith}
 use Rattle.std.proofs.lemmas.Option.{same_Some}
 use Rattle.gb_ops.specs.declared.op.Register.{Register}
 use Rattle.gb_ops.specs.declared.op.Register.TheVariants.{A, B, C, D, E, H, L}
@@ -29,9 +29,11 @@ use Rattle.gb_abs_effects.specs.declared.writes.AbsWrite.{AbsWrite}
 use Rattle.gb_abs_effects.specs.declared.writes.AbsWrite.TheVariants as write
 use Rattle.gb_abs_effects.specs.declared.writes.AbsEffect.{AbsEffect}
 use Rattle.gb_abs_effects.specs.Accesses.{hl_span, indirect_span, high_span, operand_read, read_of}
-use Rattle.gb_abs_effects.specs.Pairs.{with_pair, with_indirect, with_stack_pair}
+use Rattle.gb_abs_effects.specs.Pairs.{is_word_known, pair_halves, with_pair, with_indirect, with_stack_pair}
 use Rattle.gb_abs_effects.specs.Sides.{with_branch, side_of, sides_by, sides_of, condition_of}
-use Rattle.gb_abs_effects.specs.Targets.{moves_sp}
+use Rattle.gb_abs_effects.specs.declared.targets.Target.{Target}
+use Rattle.gb_abs_effects.specs.declared.targets.Target.TheVariants as target
+use Rattle.gb_abs_effects.specs.Targets.{moves_sp, target_of}
 use Rattle.gb_abs_effects.specs.Transfer.{transfer, store_operand, update_operand, update_a, apply_alu}
 use Rattle.gb_abs_effects.specs.Sound.{HasBytes}
 
@@ -236,3 +238,31 @@ IsPlainWrite-transfer (op.Shift how which) next s low high e b c = IsPlainWrite-
 IsPlainWrite-transfer (op.Reset n which) next s low high e b c = IsPlainWrite-store which _ s s refl c
 IsPlainWrite-transfer (op.Set n which) next s low high e b c = IsPlainWrite-store which _ s s refl c
 IsPlainWrite-transfer o next s low high e b c = tt
+
+-- ---- targets
+
+-- an instruction that neither calls nor returns
+abbrev pub IsPlainTarget : Target → Type 0
+IsPlainTarget (target.Call a) = ⊥
+IsPlainTarget target.Return = ⊥
+IsPlainTarget _ = Unit {0}
+
+plain_word : (b : Bool) (a : ℕ) → IsPlainTarget (cond b (target.At a) target.Unknown)
+plain_word true a = tt
+plain_word false a = tt
+
+plain_still : (o : Op) (next : ℕ) (c : Core) → moves_sp o ≡ false → IsPlainTarget (target_of o next c)
+unfolding target_of
+plain_still (op.ReturnIf k) next c h = cc
+plain_still op.Return next c h = cc
+plain_still op.ReturnFromInterrupt next c h = cc
+plain_still (op.CallIf k w) next c h = cc
+plain_still (op.Call w) next c h = cc
+plain_still (op.Restart w) next c h = cc
+plain_still op.JumpHl next c h = plain_word (is_word_known (pair_halves pair.Hl c)) _
+plain_still o next c h = tt
+
+pub plain_target : (o : Op) (base next : ℕ) (c : Core) → (moves_sp o ≡ false) ⊎ (o ≡ op.LoadPair pair.Sp base) → IsPlainTarget (target_of o next c)
+unfolding target_of
+plain_target o base next c (inl still) = plain_still o next c still
+plain_target o base next c (inr e) = subst (λ q. IsPlainTarget (target_of q next c)) (sym e) tt

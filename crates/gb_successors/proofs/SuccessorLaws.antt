@@ -1,5 +1,5 @@
 -- Whatever the machine executes from a state that is meant leads by one of the successors.
-use Rattle.std.proofs.Common.{◌≡◌, ℕ, ◌+◌, ◌-◌, ◌%◌, ◌≤◌, ◌<◌, Bool, true, false, if◌then◌else◌, cond, ◌||◌, inl, inr, List, [], length, slice_index, Some, refl, sym, ◌∙◌, ap, subst, arith}
+use Rattle.std.proofs.Common.{◌≡◌, ℕ, zero, suc, ◌+◌, ◌-◌, ◌%◌, ◌≤◌, ◌<◌, Bool, true, false, if◌then◌else◌, cond, ◌||◌, ◌⊎◌, inl, inr, List, [], ◌∷◌, length, slice_index, slice_get, Some, refl, sym, ◌∙◌, ap, subst, arith}
 use Rattle.std.specs.List.{AllByRecursion}
 use Rattle.gb_ops.specs.declared.machine.Region.{Region}
 use Rattle.gb_ops.specs.declared.machine.Effect.{Effect}
@@ -19,9 +19,10 @@ use Rattle.gb_ops.specs.Play.{MState, within, outside}
 use Rattle.gb_cert.specs.declared.types.Val.{Val}
 use Rattle.gb_cert.specs.declared.types.Core.{Core}
 use Rattle.gb_cert.specs.declared.types.Range.{Range}
-use Rattle.gb_cert.specs.Types.{AbsState}
-use Rattle.gb_cert.specs.Rules.{IsVal, IsCore, IsRegion}
+use Rattle.gb_cert.specs.Types.{AbsState, any_item}
+use Rattle.gb_cert.specs.Rules.{IsVal, IsCore, IsItem, IsRegion}
 use Rattle.gb_vals.specs.Vals.{any_val}
+use Rattle.gb_cert.specs.declared.types.Item.{Item}
 use Rattle.gb_abs.specs.Storage.{peek}
 use Rattle.gb_abs.specs.Operations.{core_settle, core_end, with_core}
 use Rattle.gb_abs.specs.Cells.{ArePlaced}
@@ -33,11 +34,13 @@ use Rattle.gb_abs_effects.specs.declared.reads.AbsRead.{AbsRead}
 use Rattle.gb_abs_effects.specs.declared.reads.AbsRead.TheVariants as read
 use Rattle.gb_abs_effects.specs.declared.writes.AbsWrite.{AbsWrite}
 use Rattle.gb_abs_effects.specs.declared.writes.AbsEffect.{AbsEffect}
+use Rattle.gb_abs_effects.specs.declared.targets.Target.{Target}
+use Rattle.gb_abs_effects.specs.declared.targets.Target.TheVariants as target
 use Rattle.gb_abs_effects.specs.Accesses.{read_of}
 use Rattle.gb_abs_effects.specs.Sides.{sides_of}
-use Rattle.gb_abs_effects.specs.Targets.{target_of, moves_sp, is_sp}
+use Rattle.gb_abs_effects.specs.Targets.{target_of, moves_sp, is_sp, is_push}
 use Rattle.gb_abs_effects.specs.Transfer.{transfer}
-use Rattle.gb_abs_effects.specs.Sound.{HasBytes, HoldsTarget, Follows, Begins}
+use Rattle.gb_abs_effects.specs.Sound.{HasBytes, HoldsTarget, IsWrite, Follows, Begins}
 use Rattle.gb_abs_effects.proofs.ReadLaws.{read_of_sound}
 use Rattle.gb_abs_effects.proofs.RangeLaws.{transfer_inhabited}
 use Rattle.gb_abs_effects.proofs.TargetLaws.{target_of_sound, sp-kept, sp-loaded}
@@ -45,10 +48,11 @@ use Rattle.gb_abs_effects.proofs.TransferLaws.{transfer_sound}
 use Rattle.gb_abs_memory.specs.Sound.{view, AreVals}
 use Rattle.gb_abs_memory.proofs.LoadLaws.{IsVal-loaded_val}
 use Rattle.gb_successors.specs.declared.successor.Successor.{Successor}
-use Rattle.gb_successors.specs.Successors.{read_val, written, starts, with_stack_of, ended, taken_successor}
+use Rattle.gb_successors.specs.Successors.{read_item, written, starts, with_stack_of, ended, taken_successor}
 use Rattle.gb_successors.specs.Refused.{is_unstorable, meets_closed, meets_oam_transfer, reads_closed_ram, writes_closed_ram, is_read_limited, is_write_limited}
-use Rattle.gb_successors.specs.Sound.{IsAllowed, Leads, IsStackKnown, Stands, IsRuled}
-use Rattle.gb_successors.proofs.PlainLaws.{Keeps, Keeps-both, Keeps-settle, Keeps-taken, Keeps-transfer, IsPlainRead, IsPlainWrite, IsPlainRead-read_of, IsPlainWrite-transfer}
+use Rattle.gb_successors.specs.Sound.{words_behind, IsAllowed, Leads, LeadsTo, Stands, IsRuled}
+use Rattle.gb_successors.specs.Words.{item_or_any}
+use Rattle.gb_successors.proofs.PlainLaws.{Keeps, Keeps-both, Keeps-settle, Keeps-taken, Keeps-transfer, IsPlainRead, IsPlainWrite, IsPlainTarget, IsPlainRead-read_of, IsPlainWrite-transfer, plain_target}
 use Rattle.gb_successors.proofs.AccessLaws.{IsSameGate, closed_same, limited_same, writes_same, write_limited_same, Loads, Loads-read, Stores, AtWrite, Stores-write}
 
 -- ---- the machine as an instruction begins its work
@@ -135,7 +139,7 @@ passed_peek m n b = refl
 -- the instruction is taken, from the side's core
 pub record IsTaken (rom : List ℕ) (region : Region) (ranges : List Range) (row : Row) (a : ℕ) (s : AbsState) (entry : MState) (base : ℕ) (x : MState) (reads : List ℕ) (c : Core) : Type 0 where
   pub stands : Stands rom region row a s entry base x
-  pub ruled : IsRuled row base
+  pub ruled : IsRuled region row s base
   pub mark : x.processor.halt_mark ≡ false
   pub byte : slice_index reads 0 ≤ 255
   pub side : (sides_of row.op (core_settle s.core)).taken ≡ Some c
@@ -146,60 +150,78 @@ pub record IsTaken (rom : List ℕ) (region : Region) (ranges : List Range) (row
 pub keeps_side : (o : Op) (s c : Core) → (sides_of o (core_settle s)).taken ≡ Some c → Keeps s c
 keeps_side o s c h = Keeps-both s (core_settle s) c (Keeps-settle s) (Keeps-taken o (core_settle s) c h)
 
--- an instruction with rules neither pushes nor pops
-plain_read : (o : Op) (base : ℕ) (c : Core) → IsStackKnown o base → HasBytes o → IsCore c → IsPlainRead (read_of o c)
+-- SP stays, or LD SP,n16 sets it to the base
+abbrev IsPlain : Op → ℕ → Type 0
+IsPlain o base = (moves_sp o ≡ false) ⊎ (o ≡ op.LoadPair pair.Sp base)
+
+plain_read : (o : Op) (base : ℕ) (c : Core) → IsPlain o base → HasBytes o → IsCore c → IsPlainRead (read_of o c)
 unfolding read_of
 plain_read o base c (inl still) bytes is = IsPlainRead-read_of o c still bytes is
 plain_read o base c (inr e) bytes is = subst (λ q. IsPlainRead (read_of q c)) (sym e) tt
 
-plain_write : (o : Op) (base next : ℕ) (c : Core) (low high : Val) → IsStackKnown o base → HasBytes o → IsCore c → IsPlainWrite (transfer o next c low high).write
+plain_write : (o : Op) (base next : ℕ) (c : Core) (low high : Val) → IsPlain o base → HasBytes o → IsCore c → IsPlainWrite (transfer o next c low high).write
 unfolding transfer
 plain_write o base next c low high (inl still) bytes is = IsPlainWrite-transfer o next c low high still bytes is
 plain_write o base next c low high (inr e) bytes is = subst (λ q. IsPlainWrite (transfer q next c low high).write) (sym e) tt
 
 -- the state before its reads
-means_begun : (rom : List ℕ) (row : Row) (s : AbsState) (entry : MState) (base : ℕ) (x : MState) (c : Core) → Keeps s.core c → Means s entry base x → MeansCore c entry (begun row x)
+pub means_begun : (rom : List ℕ) (row : Row) (s : AbsState) (entry : MState) (base : ℕ) (x : MState) (c : Core) → Keeps s.core c → Means s entry base x → MeansCore c entry (begun row x)
     → Means (with_core s c) entry base (begun row x)
 means_begun rom row s entry base x c k m h = Means-with_core s c entry base x (begun row x) m h refl refl (begun_sp row x) (λ set. sym k.stack ∙ set)
 
 -- what its reads give is known, and has no fault
-loads : (rom : List ℕ) (region : Region) (ranges : List Range) (row : Row) (a : ℕ) (s : AbsState) (entry : MState) (base : ℕ) (x : MState) (reads : List ℕ) (c : Core)
-    → IsTaken rom region ranges row a s entry base x reads c → reads_closed_ram rom s.core (read_of row.op c) ≡ false → is_read_limited s.core (read_of row.op c) ≡ false
+pub loads : (rom : List ℕ) (region : Region) (ranges : List Range) (row : Row) (a : ℕ) (s : AbsState) (entry : MState) (base : ℕ) (x : MState) (reads : List ℕ) (c : Core)
+    → IsTaken rom region ranges row a s entry base x reads c → IsPlainRead (read_of row.op c) → reads_closed_ram rom s.core (read_of row.op c) ≡ false → is_read_limited region s.core (read_of row.op c) ≡ false
     → Loads rom (with_core s c) (read_of row.op c) entry (view rom x false) (Effects.read_of row.op (advanced x.processor row)) reads
-loads rom region ranges row a s entry base x reads c k ram limited =
+loads rom region ranges row a s entry base x reads c k plain ram limited =
     let keeps = keeps_side row.op s.core c k.side in
-    Loads-read rom (with_core s c) entry base (begun row x) reads (begun row x).processor.sp (read_of row.op c) (Effects.read_of row.op (advanced x.processor row))
+    Loads-read rom region (with_core s c) entry base (begun row x) reads (begun row x).processor.sp (read_of row.op c) (Effects.read_of row.op (advanced x.processor row))
     k.stands.cartridge (means_begun rom row s entry base x c keeps k.stands.means k.means) k.core.ie k.byte
-    (plain_read row.op base c k.ruled.stack k.ruled.operands k.core)
+    plain
     ((read_of_sound row.op c (read_of row.op c) refl).gives entry (begun row x) (given rom row x reads).low (given rom row x reads).high k.means k.taken)
     (closed_same rom s.core c (read_of row.op c) keeps ∙ ram)
-    (limited_same s.core c (read_of row.op c) keeps ∙ limited)
+    (limited_same region s.core c (read_of row.op c) keeps ∙ limited)
 
--- what is known of the byte that it reads
-abbrev low_of : List ℕ → Row → AbsState → Core → Val
-low_of rom row s c = read_val rom (with_core s c) (read_of row.op c)
+-- what is known of what it reads
+abbrev pub item_of : List ℕ → Row → AbsState → Core → Item
+item_of rom row s c = read_item rom (with_core s c) (read_of row.op c)
+
+abbrev pub low_of : List ℕ → Row → AbsState → Core → Val
+low_of rom row s c = (item_of rom row s c).low
+
+abbrev pub high_of : List ℕ → Row → AbsState → Core → Val
+high_of rom row s c = (item_of rom row s c).high
 
 IsVal-any : IsVal any_val
 IsVal-any = record { order = omega arith; hi = omega arith }
 
 -- the transfer function's effect
-abbrev abs_effect : List ℕ → Row → ℕ → AbsState → Core → AbsEffect
-abs_effect rom row a s c = transfer row.op (behind_row a row) c (low_of rom row s c) any_val
+abbrev pub abs_effect : List ℕ → Row → ℕ → AbsState → Core → AbsEffect
+abs_effect rom row a s c = transfer row.op (behind_row a row) c (low_of rom row s c) (high_of rom row s c)
 
-is_low : (rom : List ℕ) (row : Row) (s : AbsState) (c : Core) (what : AbsRead) → IsVal c.ie → AreVals s.cells → ((i : ℕ) → slice_index rom i ≤ 255) → IsVal (read_val rom (with_core s c) what)
-unfolding read_val
-is_low rom row s c read.Nothing ie cells bytes = IsVal-any
-is_low rom row s c (read.Byte span) ie cells bytes = IsVal-loaded_val rom (with_core s c) span ie cells bytes
-is_low rom row s c read.Top ie cells bytes = IsVal-any
+IsItem-any : IsItem any_item
+IsItem-any = record { high = IsVal-any; low = IsVal-any }
 
-follows : (rom : List ℕ) (region : Region) (ranges : List Range) (row : Row) (a : ℕ) (s : AbsState) (entry : MState) (base : ℕ) (x : MState) (reads : List ℕ) (c : Core)
+-- the word that was pushed last is one
+IsItem-top : (items : List Item) (n : ℕ) → AllByRecursion IsItem items → IsItem (item_or_any (slice_get items n))
+IsItem-top [] n h = IsItem-any
+IsItem-top (i ∷ items) zero h = h.0
+IsItem-top (i ∷ items) (suc n) h = IsItem-top items n h.1
+
+is_item : (rom : List ℕ) (s : AbsState) (c : Core) (what : AbsRead) → IsVal c.ie → AreVals s.cells → AllByRecursion IsItem s.items → ((i : ℕ) → slice_index rom i ≤ 255) → IsItem (read_item rom (with_core s c) what)
+unfolding read_item
+is_item rom s c read.Nothing ie cells items bytes = IsItem-any
+is_item rom s c (read.Byte span) ie cells items bytes = record { high = IsVal-any; low = IsVal-loaded_val rom (with_core s c) span ie cells bytes }
+is_item rom s c read.Top ie cells items bytes = IsItem-top s.items _ items
+
+pub follows : (rom : List ℕ) (region : Region) (ranges : List Range) (row : Row) (a : ℕ) (s : AbsState) (entry : MState) (base : ℕ) (x : MState) (reads : List ℕ) (c : Core)
     → IsTaken rom region ranges row a s entry base x reads c
     → Loads rom (with_core s c) (read_of row.op c) entry (view rom x false) (Effects.read_of row.op (advanced x.processor row)) reads
     → Follows (abs_effect rom row a s c) entry (begun row x) (effect rom row x reads) × ((effect rom row x reads).processor.sp < 65536)
 follows rom region ranges row a s entry base x reads c k l =
-    let sound = transfer_sound row.op (behind_row a row) c (low_of rom row s c) any_val (abs_effect rom row a s c) refl k.ruled.operands k.core
-    (is_low rom row s c (read_of row.op c) k.core.ie k.stands.vals k.stands.cartridge.bytes) in
-    let begins : Begins row.op (behind_row a row) c (low_of rom row s c) any_val entry (begun row x) (given rom row x reads).low (given rom row x reads).high = record {
+    let sound = transfer_sound row.op (behind_row a row) c (low_of rom row s c) (high_of rom row s c) (abs_effect rom row a s c) refl k.ruled.operands k.core
+    (is_item rom s c (read_of row.op c) k.core.ie k.stands.vals k.stands.items k.stands.cartridge.bytes).low in
+    let begins : Begins row.op (behind_row a row) c (low_of rom row s c) (high_of rom row s c) entry (begun row x) (given rom row x reads).low (given rom row x reads).high = record {
       core = k.means;
       low_read = l.low;
       high_read = l.high;
@@ -214,27 +236,28 @@ follows rom region ranges row a s entry base x reads c k l =
 -- ---- the state behind its effect, before its write
 
 abbrev effect_state : List ℕ → Row → ℕ → AbsState → Core → AbsState
-effect_state rom row a s c = with_stack_of row.op (with_core s (abs_effect rom row a s c).core)
+effect_state rom row a s c = with_stack_of row.op (abs_effect rom row a s c).write (with_core s (abs_effect rom row a s c).core)
 
 -- the machine with the effect's processor
-abbrev acted : List ℕ → Row → MState → List ℕ → MState
+abbrev pub acted : List ℕ → Row → MState → List ℕ → MState
 acted rom row x reads = record x { processor = (effect rom row x reads).processor }
 
-stack_still : (o : Op) (s : AbsState) → moves_sp o ≡ false → with_stack_of o s ≡ s
+stack_still : (o : Op) (w : AbsWrite) (s : AbsState) → moves_sp o ≡ false → with_stack_of o w s ≡ s
 unfolding with_stack_of
-stack_still (op.LoadPair pair.Sp w) s h = cc
-stack_still (op.LoadPair which w) s h = other which w h
+stack_still (op.LoadPair which a) w s h = other which a h
   where
-    other : (which : Pair) (w : ℕ) → is_sp which ≡ false → with_stack_of (op.LoadPair which w) s ≡ s
-    other pair.Bc w h = refl
-    other pair.De w h = refl
-    other pair.Hl w h = refl
-    other pair.Sp w h = cc
-stack_still o s h = refl
+    other : (which : Pair) (a : ℕ) → is_sp which ≡ false → with_stack_of (op.LoadPair which a) w s ≡ s
+    other pair.Bc a h = refl
+    other pair.De a h = refl
+    other pair.Hl a h = refl
+    other pair.Sp a h = cc
+stack_still (op.Push from) w s h = cc
+stack_still (op.Pop to) w s h = cc
+stack_still o w s h = refl
 
-stack_loaded : (o : Op) (w : ℕ) (t : AbsState) → o ≡ op.LoadPair pair.Sp w → with_stack_of o t ≡ record { core = record t.core { stack_set = true }; items = []; cells = t.cells }
+stack_loaded : (o : Op) (a : ℕ) (w : AbsWrite) (t : AbsState) → o ≡ op.LoadPair pair.Sp a → with_stack_of o w t ≡ record { core = record t.core { stack_set = true }; items = []; cells = t.cells }
 unfolding with_stack_of
-stack_loaded o w t e = ap (λ q. with_stack_of q t) e
+stack_loaded o a w t e = ap (λ q. with_stack_of q w t) e
 
 -- what a write may rely on
 record IsActed (region : Region) (s t : AbsState) (entry : MState) (base : ℕ) (y : MState) : Type 0 where
@@ -291,24 +314,29 @@ acted_set region s core entry base x y m k h storage sp small placed room is = r
     same_cells : x.storage ≡ y.storage → AllByRecursion (λ c. Holds c.val entry (peek x.storage c.address)) s.cells → AllByRecursion (λ c. Holds c.val entry (peek y.storage c.address)) s.cells
     same_cells e i = subst (λ t. AllByRecursion (λ c. Holds c.val entry (peek t c.address)) s.cells) e i
 
+pub keeps_effect : (rom : List ℕ) (region : Region) (ranges : List Range) (row : Row) (a : ℕ) (s : AbsState) (entry : MState) (base : ℕ) (x : MState) (reads : List ℕ) (c : Core)
+    → IsTaken rom region ranges row a s entry base x reads c → Keeps s.core (abs_effect rom row a s c).core
+keeps_effect rom region ranges row a s entry base x reads c k =
+    Keeps-both s.core c _ (keeps_side row.op s.core c k.side) (Keeps-transfer row.op (behind_row a row) c (low_of rom row s c) (high_of rom row s c))
+
 acts : (rom : List ℕ) (region : Region) (ranges : List Range) (row : Row) (a : ℕ) (s : AbsState) (entry : MState) (base : ℕ) (x : MState) (reads : List ℕ) (c : Core)
-    → IsTaken rom region ranges row a s entry base x reads c → Follows (abs_effect rom row a s c) entry (begun row x) (effect rom row x reads) → (effect rom row x reads).processor.sp < 65536
+    → IsTaken rom region ranges row a s entry base x reads c → IsPlain row.op base → Follows (abs_effect rom row a s c) entry (begun row x) (effect rom row x reads) → (effect rom row x reads).processor.sp < 65536
     → IsActed region s (effect_state rom row a s c) entry base (acted rom row x reads)
-acts rom region ranges row a s entry base x reads c k f small = choose k.ruled.stack
+acts rom region ranges row a s entry base x reads c k plain f small = choose plain
   where
     keeps : Keeps s.core (abs_effect rom row a s c).core
-    keeps = Keeps-both s.core c _ (keeps_side row.op s.core c k.side) (Keeps-transfer row.op (behind_row a row) c (low_of rom row s c) any_val)
+    keeps = keeps_effect rom region ranges row a s entry base x reads c k
 
-    choose : IsStackKnown row.op base → IsActed region s (effect_state rom row a s c) entry base (acted rom row x reads)
+    choose : IsPlain row.op base → IsActed region s (effect_state rom row a s c) entry base (acted rom row x reads)
     choose (inl still) =
-        subst (λ t. IsActed region s t entry base (acted rom row x reads)) (sym (stack_still row.op (with_core s (abs_effect rom row a s c).core) still))
+        subst (λ t. IsActed region s t entry base (acted rom row x reads)) (sym (stack_still row.op (abs_effect rom row a s c).write (with_core s (abs_effect rom row a s c).core) still))
         (acted_still region s (abs_effect rom row a s c).core entry base x (acted rom row x reads) k.stands.means keeps f.core refl
         (sp-kept row.op (advanced x.processor row) (given rom row x reads).low (given rom row x reads).high still ∙ begun_sp row x) k.stands.placed k.stands.room k.stands.is_region)
     choose (inr e) =
         let sp : (effect rom row x reads).processor.sp ≡ base =
         ap (λ o. (Effects.effect_of o (advanced x.processor row) (given rom row x reads).low (given rom row x reads).high).processor.sp) e
         ∙ sp-loaded base (advanced x.processor row) (given rom row x reads).low (given rom row x reads).high in
-        subst (λ t. IsActed region s t entry base (acted rom row x reads)) (sym (stack_loaded row.op base (with_core s (abs_effect rom row a s c).core) e))
+        subst (λ t. IsActed region s t entry base (acted rom row x reads)) (sym (stack_loaded row.op base (abs_effect rom row a s c).write (with_core s (abs_effect rom row a s c).core) e))
         (acted_set region s (abs_effect rom row a s c).core entry base x (acted rom row x reads) k.stands.means keeps f.core refl sp small k.stands.placed k.stands.room k.stands.is_region)
 
 -- ---- the way on
@@ -317,78 +345,128 @@ or_parts_of : (b c : Bool) → (b || c) ≡ false → (b ≡ false) × (c ≡ fa
 or_parts_of true c h = cc
 or_parts_of false c h = (refl, h)
 
-allowed_read : (rom : List ℕ) (region : Region) (ranges : List Range) (core : Core) (t : Successor) → IsAllowed rom region ranges core t
-    → (reads_closed_ram rom core t.read ≡ false) × (is_read_limited core t.read ≡ false)
+pub allowed_read : (rom : List ℕ) (region : Region) (ranges : List Range) (s : AbsState) (base : ℕ) (t : Successor) → IsAllowed rom region ranges s base t
+    → (reads_closed_ram rom s.core t.read ≡ false) × (is_read_limited region s.core t.read ≡ false)
 unfolding meets_closed meets_oam_transfer
-allowed_read rom region ranges core t h = ((or_parts_of _ _ h.ram).0, (or_parts_of _ _ h.oam_transfer).0)
+allowed_read rom region ranges s base t h = ((or_parts_of _ _ h.ram).0, (or_parts_of _ _ h.oam_transfer).0)
 
-allowed_write : (rom : List ℕ) (region : Region) (ranges : List Range) (core : Core) (t : Successor) → IsAllowed rom region ranges core t
-    → (writes_closed_ram rom core t.write ≡ false) × (is_write_limited core t.write ≡ false)
+pub allowed_write : (rom : List ℕ) (region : Region) (ranges : List Range) (s : AbsState) (base : ℕ) (t : Successor) → IsAllowed rom region ranges s base t
+    → (writes_closed_ram rom s.core t.write ≡ false) × (is_write_limited region s.core t.write ≡ false)
 unfolding meets_closed meets_oam_transfer
-allowed_write rom region ranges core t h = ((or_parts_of _ _ h.ram).1, (or_parts_of _ _ h.oam_transfer).1)
+allowed_write rom region ranges s base t h = ((or_parts_of _ _ h.ram).1, (or_parts_of _ _ h.oam_transfer).1)
 
 -- the parts of the successor
-read_is : (rom : List ℕ) (row : Row) (a : ℕ) (s : AbsState) (c : Core) → (taken_successor rom row (behind_row a row) s c).read ≡ read_of row.op c
+pub read_is : (rom : List ℕ) (row : Row) (a : ℕ) (s : AbsState) (c : Core) → (taken_successor rom row (behind_row a row) s c).read ≡ read_of row.op c
 unfolding taken_successor
 read_is rom row a s c = refl
 
-write_is : (rom : List ℕ) (row : Row) (a : ℕ) (s : AbsState) (c : Core) → (taken_successor rom row (behind_row a row) s c).write ≡ (abs_effect rom row a s c).write
+pub write_is : (rom : List ℕ) (row : Row) (a : ℕ) (s : AbsState) (c : Core) → (taken_successor rom row (behind_row a row) s c).write ≡ (abs_effect rom row a s c).write
 unfolding taken_successor
 write_is rom row a s c = refl
 
-target_is : (rom : List ℕ) (row : Row) (a : ℕ) (s : AbsState) (c : Core) → (taken_successor rom row (behind_row a row) s c).target ≡ target_of row.op (behind_row a row) c
+pub target_is : (rom : List ℕ) (row : Row) (a : ℕ) (s : AbsState) (c : Core) → (taken_successor rom row (behind_row a row) s c).target ≡ target_of row.op (behind_row a row) c
 unfolding taken_successor
 target_is rom row a s c = refl
 
-state_is : (rom : List ℕ) (row : Row) (a : ℕ) (s : AbsState) (c : Core) → (taken_successor rom row (behind_row a row) s c).state
+pub state_is : (rom : List ℕ) (row : Row) (a : ℕ) (s : AbsState) (c : Core) → (taken_successor rom row (behind_row a row) s c).state
     ≡ ended (starts (abs_effect rom row a s c).write) row.cycles (written (kind_of rom) (abs_effect rom row a s c).write (effect_state rom row a s c))
 unfolding taken_successor
 state_is rom row a s c = refl
 
+-- what it writes are bytes
+pub is_write : (rom : List ℕ) (region : Region) (ranges : List Range) (row : Row) (a : ℕ) (s : AbsState) (entry : MState) (base : ℕ) (x : MState) (reads : List ℕ) (c : Core)
+    → IsTaken rom region ranges row a s entry base x reads c → IsWrite (abs_effect rom row a s c).write
+is_write rom region ranges row a s entry base x reads c k =
+    let item = is_item rom s c (read_of row.op c) k.core.ie k.stands.vals k.stands.items k.stands.cartridge.bytes in
+    (transfer_inhabited row.op (behind_row a row) c (low_of rom row s c) (high_of rom row s c) (abs_effect rom row a s c) refl k.ruled.operands (omega arith) k.core item.low item.high).write
+
 -- its write
 stores : (rom : List ℕ) (region : Region) (ranges : List Range) (row : Row) (a : ℕ) (s : AbsState) (entry : MState) (base : ℕ) (x : MState) (reads : List ℕ) (c : Core)
-    → IsTaken rom region ranges row a s entry base x reads c → IsAllowed rom region ranges s.core (taken_successor rom row (behind_row a row) s c)
+    → IsTaken rom region ranges row a s entry base x reads c → IsPlain row.op base → IsAllowed rom region ranges s base (taken_successor rom row (behind_row a row) s c)
     → Follows (abs_effect rom row a s c) entry (begun row x) (effect rom row x reads) → (effect rom row x reads).processor.sp < 65536
     → Stores rom region ranges (effect_state rom row a s c) (abs_effect rom row a s c).write entry base (acted rom row x reads) (view rom x false) (effect rom row x reads).write
-stores rom region ranges row a s entry base x reads c k allowed f small =
-    let acted_at = acts rom region ranges row a s entry base x reads c k f small in
+stores rom region ranges row a s entry base x reads c k plain allowed f small =
+    let acted_at = acts rom region ranges row a s entry base x reads c k plain f small in
     let w : AbsWrite = (abs_effect rom row a s c).write in
-    let may = allowed_write rom region ranges s.core _ allowed in
-    let inhabited = transfer_inhabited row.op (behind_row a row) c (low_of rom row s c) any_val (abs_effect rom row a s c) refl k.ruled.operands (omega arith) k.core
-    (is_low rom row s c (read_of row.op c) k.core.ie k.stands.vals k.stands.cartridge.bytes) IsVal-any in
+    let may = allowed_write rom region ranges s base _ allowed in
     Stores-write rom region ranges (effect_state rom row a s c) entry base (acted rom row x reads) (begun row x).processor.sp w (effect rom row x reads).write acted_at.at
-    (plain_write row.op base (behind_row a row) c (low_of rom row s c) any_val k.ruled.stack k.ruled.operands k.core)
-    inhabited.write f.write
+    (plain_write row.op base (behind_row a row) c (low_of rom row s c) (high_of rom row s c) plain k.ruled.operands k.core)
+    (is_write rom region ranges row a s entry base x reads c k) f.write
     (subst (λ v. is_unstorable (kind_of rom) region ranges v ≡ false) (write_is rom row a s c) allowed.stores)
     (writes_same rom s.core (effect_state rom row a s c).core w acted_at.gate ∙ subst (λ v. writes_closed_ram rom s.core v ≡ false) (write_is rom row a s c) may.0)
-    (write_limited_same s.core (effect_state rom row a s c).core w acted_at.gate ∙ subst (λ v. is_write_limited s.core v ≡ false) (write_is rom row a s c) may.1)
+    (write_limited_same region s.core (effect_state rom row a s c).core w acted_at.gate ∙ subst (λ v. is_write_limited region s.core v ≡ false) (write_is rom row a s c) may.1)
 
-pub taken_executes :
+-- where the machine goes on in the same procedure, it stays; of a jump to somewhere nothing is said
+leads_plain : (region : Region) (w : Target) (t : Successor) (entry : MState) (base : ℕ) (x y : MState) → IsPlainTarget w → Means t.state entry base y → HoldsTarget w y.processor.pc
+    → AreInRegion region base (length t.state.items) → LeadsTo region w t entry base x y
+leads_plain region (target.At a) t entry base x y plain means goes room = record { means = means; goes = goes; room = room }
+leads_plain region (target.Call a) t entry base x y plain means goes room = absurd plain
+leads_plain region target.Return t entry base x y plain means goes room = absurd plain
+leads_plain region target.Unknown t entry base x y plain means goes room = tt
+
+-- the machine behind it
+pub executed_taken : (rom : List ℕ) (region : Region) (ranges : List Range) (row : Row) (a : ℕ) (s : AbsState) (entry : MState) (base : ℕ) (x : MState) (reads : List ℕ) (c : Core)
+    → IsTaken rom region ranges row a s entry base x reads c → outside (executed (within rom x) row reads) ≡ left_by rom x (effect rom row x reads) row.cycles
+executed_taken rom region ranges row a s entry base x reads c k =
+    executed_is rom x row reads ∙ ap (left_by rom x (effect rom row x reads)) (ap (λ b. cond b row.cycles row.cycles_not_taken) k.taken)
+
+-- where it goes on
+pub goes_to : (rom : List ℕ) (region : Region) (ranges : List Range) (row : Row) (a : ℕ) (s : AbsState) (entry : MState) (base : ℕ) (x : MState) (reads : List ℕ) (c : Core)
+    → IsTaken rom region ranges row a s entry base x reads c → HoldsTarget (target_of row.op (behind_row a row) c) (effect rom row x reads).processor.pc
+goes_to rom region ranges row a s entry base x reads c k =
+    (target_of_sound row.op (behind_row a row) c (target_of row.op (behind_row a row) c) refl).gives entry (begun row x) (given rom row x reads).low (given rom row x reads).high
+    k.means (begun_pc row x a k.ruled.runs k.mark k.stands.at) k.taken
+
+-- an instruction leads by a successor, and has no fault
+pub record Done (rom : List ℕ) (region : Region) (ranges : List Range) (row : Row) (s : AbsState) (t : Successor) (entry : MState) (base : ℕ) (x : MState) (reads : List ℕ) : Type 0 where
+  pub held : length t.state.items ≤ words_behind row.op (length s.items)
+  pub leads : Leads region ranges t entry base x (outside (executed (within rom x) row reads))
+  pub faults : row_faults (Some row) region (within rom x) reads ≡ no_faults
+
+pub words-least : (o : Op) (n : ℕ) → n ≤ words_behind o n
+unfolding words_behind
+words-least o n = by (is_push o)
+  where
+    by : (b : Bool) → n ≤ cond b (n + 1) n
+    by true = omega arith
+    by false = omega arith
+
+-- no more words than before
+words_plain : (rom : List ℕ) (row : Row) (a : ℕ) (s : AbsState) (c : Core) (base : ℕ) → IsPlain row.op base → length (effect_state rom row a s c).items ≤ words_behind row.op (length s.items)
+words_plain rom row a s c base (inl still) =
+    subst (λ (t : AbsState). length t.items ≤ words_behind row.op (length s.items)) (sym (stack_still row.op (abs_effect rom row a s c).write (with_core s (abs_effect rom row a s c).core) still)) (words-least row.op (length s.items))
+words_plain rom row a s c base (inr e) =
+    subst (λ (t : AbsState). length t.items ≤ words_behind row.op (length s.items)) (sym (stack_loaded row.op base (abs_effect rom row a s c).write (with_core s (abs_effect rom row a s c).core) e)) (omega arith)
+
+-- one that leaves SP, or sets it
+pub Done-plain :
     (rom : List ℕ) (region : Region) (ranges : List Range) (row : Row) (a : ℕ) (s : AbsState) (entry : MState) (base : ℕ) (x : MState) (reads : List ℕ) (c : Core)
-    → IsTaken rom region ranges row a s entry base x reads c → IsAllowed rom region ranges s.core (taken_successor rom row (behind_row a row) s c)
-    → Leads region ranges (taken_successor rom row (behind_row a row) s c) entry base x (outside (executed (within rom x) row reads)) × (row_faults (Some row) region (within rom x) reads ≡ no_faults)
-taken_executes rom region ranges row a s entry base x reads c k allowed =
-    let may = allowed_read rom region ranges s.core _ allowed in
-    let l = loads rom region ranges row a s entry base x reads c k
-    (subst (λ v. reads_closed_ram rom s.core v ≡ false) (read_is rom row a s c) may.0) (subst (λ v. is_read_limited s.core v ≡ false) (read_is rom row a s c) may.1) in
+    → IsTaken rom region ranges row a s entry base x reads c → IsPlain row.op base → IsAllowed rom region ranges s base (taken_successor rom row (behind_row a row) s c)
+    → Done rom region ranges row s (taken_successor rom row (behind_row a row) s c) entry base x reads
+Done-plain rom region ranges row a s entry base x reads c k plain allowed =
+    let may = allowed_read rom region ranges s base _ allowed in
+    let l = loads rom region ranges row a s entry base x reads c k (plain_read row.op base c plain k.ruled.operands k.core)
+    (subst (λ v. reads_closed_ram rom s.core v ≡ false) (read_is rom row a s c) may.0) (subst (λ v. is_read_limited region s.core v ≡ false) (read_is rom row a s c) may.1) in
     let f = follows rom region ranges row a s entry base x reads c k l in
-    let st = stores rom region ranges row a s entry base x reads c k allowed f.0 f.1 in
+    let st = stores rom region ranges row a s entry base x reads c k plain allowed f.0 f.1 in
     let e = effect rom row x reads in
-    let cycles : cycles_of row e.is_taken ≡ row.cycles = ap (λ b. cond b row.cycles row.cycles_not_taken) k.taken in
-    let is : outside (executed (within rom x) row reads) ≡ left_by rom x e row.cycles = executed_is rom x row reads ∙ ap (left_by rom x e) cycles in
     let w : AbsWrite = (abs_effect rom row a s c).write in
     let after : AbsState = written (kind_of rom) w (effect_state rom row a s c) in
     let means : Means (ended (starts w) row.cycles after) entry base (left_by rom x e row.cycles) =
     Means-ended rom after entry base e.processor (stored (view rom x false) e.write) (starts w) row.cycles st.starting st.means in
-    let goes : HoldsTarget (target_of row.op (behind_row a row) c) e.processor.pc =
-    (target_of_sound row.op (behind_row a row) c (target_of row.op (behind_row a row) c) refl).gives entry (begun row x) (given rom row x reads).low (given rom row x reads).high
-    k.means (begun_pc row x a k.ruled.runs k.mark k.stands.at) k.taken in (
-      subst (λ y. Leads region ranges (taken_successor rom row (behind_row a row) s c) entry base x y) (sym is)
+    let items : (taken_successor rom row (behind_row a row) s c).state.items ≡ (effect_state rom row a s c).items =
+    ap (λ (t : AbsState). t.items) (state_is rom row a s c) ∙ (ended_items (starts w) row.cycles after ∙ st.items) in
+    record {
+      held = subst (λ xs. length xs ≤ words_behind row.op (length s.items)) (sym items) (words_plain rom row a s c base plain);
+      leads = subst (λ y. Leads region ranges (taken_successor rom row (behind_row a row) s c) entry base x y) (sym (executed_taken rom region ranges row a s entry base x reads c k))
           (record {
-            means = subst (λ t. Means t entry base (left_by rom x e row.cycles)) (sym (state_is rom row a s c)) means;
-            goes = subst (λ t. HoldsTarget t e.processor.pc) (sym (target_is rom row a s c)) goes;
-            room = subst (λ t. AreInRegion region base (length t)) (sym (ap (λ (t : AbsState). t.items) (state_is rom row a s c) ∙ (ended_items (starts w) row.cycles after ∙ st.items))) (acts rom region ranges row a s entry base x reads c k f.0 f.1).at.room;
+            to = subst (λ v. LeadsTo region v (taken_successor rom row (behind_row a row) s c) entry base x (left_by rom x e row.cycles)) (sym (target_is rom row a s c))
+                (leads_plain region (target_of row.op (behind_row a row) c) (taken_successor rom row (behind_row a row) s c) entry base x (left_by rom x e row.cycles)
+                (plain_target row.op base (behind_row a row) c plain)
+                (subst (λ t. Means t entry base (left_by rom x e row.cycles)) (sym (state_is rom row a s c)) means)
+                (goes_to rom region ranges row a s entry base x reads c k)
+                (subst (λ t. AreInRegion region base (length t)) (sym items) (acts rom region ranges row a s entry base x reads c k plain f.0 f.1).at.room));
             kept = λ b kept. passed_peek (stored (view rom x false) e.write) row.cycles b ∙ st.kept b kept;
-          }),
-      faults_are rom region x row reads l.faults st.faults,
-    )
+          });
+      faults = faults_are rom region x row reads l.faults st.faults;
+    }

@@ -40,26 +40,13 @@ use Rattle.gb_abs_effects.proofs.TransferLaws.{untaken_sound}
 use Rattle.gb_abs_memory.specs.Sound.{view}
 use Rattle.gb_successors.specs.declared.successors.Successors.{Successors}
 use Rattle.gb_successors.specs.Successors.{starts, written, with_stack_of, ended, taken_successor, untaken_successor, staying_successor, woken, may_stay, stays, successors_of}
-use Rattle.gb_successors.specs.Sound.{Leads, LeadsBy, IsHalt, Stands, IsRuled, Executes, AreSoundSuccessors}
+use Rattle.gb_successors.specs.Sound.{words_behind, Leads, LeadsTo, LeadsBy, IsHalt, Stands, IsRuled, Executes, AreSoundSuccessors}
 use Rattle.gb_successors.proofs.PlainLaws.{Keeps-both, Keeps-settle, Keeps-not_taken}
 use Rattle.gb_successors.proofs.MarkLaws.{executed_mark}
-use Rattle.gb_successors.proofs.SuccessorLaws.{begun, given, effect, behind_row, begun_pc, begun_sp, begun_core, left_by, executed_is, faults_are, Means-ended, passed_peek, IsTaken, taken_executes}
+use Rattle.gb_successors.proofs.SuccessorLaws.{begun, given, effect, behind_row, begun_pc, begun_sp, begun_core, left_by, executed_is, faults_are, Means-ended, passed_peek, words-least, IsTaken}
+use Rattle.gb_successors.proofs.StackWayLaws.{no_write, nothing_stored, no_store_faults, taken_executes}
 
 -- ---- not taken
-
-no_write : (entry : MState) (sp : ℕ) (w : Write) → HoldsWrite write.Nothing entry sp w → w ≡ machine_write.Nothing
-no_write entry sp machine_write.Nothing h = refl
-no_write entry sp (machine_write.Byte a n) h = absurd h
-no_write entry sp (machine_write.Word a n) h = absurd h
-no_write entry sp (machine_write.Push a n) h = absurd h
-
-nothing_stored : (m : View) (w : Write) → w ≡ machine_write.Nothing → stored m w ≡ m
-unfolding stored
-nothing_stored m w e = ap (stored m) e
-
-no_store_faults : (region : Region) (m : View) (w : Write) → w ≡ machine_write.Nothing → store_faults region m w ≡ no_faults
-unfolding store_faults
-no_store_faults region m w e = ap (store_faults region m) e
 
 no_load_faults : (m : View) (r : Read) → r ≡ machine_read.Nothing → load_faults m r ≡ no_faults
 unfolding load_faults
@@ -69,9 +56,17 @@ ended_room : (region : Region) (base : ℕ) (is_started : Bool) (n : ℕ) (s : A
 unfolding ended
 ended_room region base is_started n s h = h
 
+words_ended : (n : ℕ) (s : AbsState) → length (ended false n s).items ≤ length s.items
+unfolding ended
+words_ended n s = omega arith
+
+words_untaken : (row : Row) (next : ℕ) (s : AbsState) (c : Core) → length (untaken_successor row next s c).state.items ≤ words_behind row.op (length s.items)
+unfolding untaken_successor ended
+words_untaken row next s c = words-least row.op (length s.items)
+
 untaken_executes :
     (rom : List ℕ) (region : Region) (ranges : List Range) (row : Row) (a : ℕ) (s : AbsState) (entry : MState) (base : ℕ) (x : MState) (reads : List ℕ) (c : Core)
-    → Stands rom region row a s entry base x → IsRuled row base → x.processor.halt_mark ≡ false
+    → Stands rom region row a s entry base x → IsRuled region row s base → x.processor.halt_mark ≡ false
     → (sides_of row.op (core_settle s.core)).not_taken ≡ Some c → MeansCore c entry (begun row x) → (effect rom row x reads).is_taken ≡ false
     → Leads region ranges (untaken_successor row (behind_row a row) s c) entry base x (outside (executed (within rom x) row reads)) × (row_faults (Some row) region (within rom x) reads ≡ no_faults)
 unfolding untaken_successor untaken
@@ -90,10 +85,12 @@ untaken_executes rom region ranges row a s entry base x reads c stands ruled mar
     ∙ ap (λ (m : View). record { processor = advanced x.processor row; storage = (passed m row.cycles_not_taken).storage }) (nothing_stored (view rom x false) e.write nothing))) in (
       subst (λ y. Leads region ranges (untaken_successor row (behind_row a row) s c) entry base x y) (sym is)
           (record {
-            means = Means-ended rom (with_core s c) entry base (advanced x.processor row) (view rom x false) false row.cycles_not_taken refl
-                (Means-with_core s c entry base x (begun row x) stands.means means refl refl (begun_sp row x) (λ set. sym keeps.stack ∙ set));
-            goes = begun_pc row x a ruled.runs mark stands.at;
-            room = ended_room region base false row.cycles_not_taken (with_core s c) stands.room;
+            to = record {
+              means = Means-ended rom (with_core s c) entry base (advanced x.processor row) (view rom x false) false row.cycles_not_taken refl
+                  (Means-with_core s c entry base x (begun row x) stands.means means refl refl (begun_sp row x) (λ set. sym keeps.stack ∙ set));
+              goes = begun_pc row x a ruled.runs mark stands.at;
+              room = ended_room region base false row.cycles_not_taken (with_core s c) stands.room;
+            };
             kept = λ b kept. passed_peek (view rom x false) row.cycles_not_taken b;
           }),
       faults_are rom region x row reads
@@ -119,7 +116,7 @@ core_in (Some d) c h e = let same : d ≡ c = cc in subst IsCore same h
 
 executes :
     (rom : List ℕ) (row : Row) (a : ℕ) (s : AbsState) (region : Region) (ranges : List Range) (entry : MState) (base : ℕ) (x : MState) (reads : List ℕ)
-    → Stands rom region row a s entry base x → IsRuled row base → x.processor.halt_mark ≡ false → slice_index reads 0 ≤ 255
+    → Stands rom region row a s entry base x → IsRuled region row s base → x.processor.halt_mark ≡ false → slice_index reads 0 ≤ 255
     → Executes rom region ranges row s (successors_of rom row a s) entry base x reads
 executes rom row a s region ranges entry base x reads stands ruled mark byte =
     choose (effect rom row x reads).is_taken refl
@@ -152,8 +149,9 @@ executes rom row a s region ranges entry base x reads stands ruled mark byte =
           successor = taken_successor rom row (behind_row a row) s c;
           is_one = inl (taken_way rom row a s c e);
           mark = executed_mark rom x row reads;
-          leads = λ allowed. (taken_executes rom region ranges row a s entry base x reads c k allowed).0;
-          faults = λ allowed. (taken_executes rom region ranges row a s entry base x reads c k allowed).1;
+          held = λ allowed. (taken_executes rom region ranges row a s entry base x reads c k allowed).held;
+          leads = λ allowed. (taken_executes rom region ranges row a s entry base x reads c k allowed).leads;
+          faults = λ allowed. (taken_executes rom region ranges row a s entry base x reads c k allowed).faults;
         }
 
     by_not_taken : (o : Option Core) → sides.not_taken ≡ o → (effect rom row x reads).is_taken ≡ false → IsMeant o entry (begun row x)
@@ -165,6 +163,7 @@ executes rom row a s region ranges entry base x reads stands ruled mark byte =
           successor = untaken_successor row (behind_row a row) s c;
           is_one = inr (inl (untaken_way rom row a s c e));
           mark = executed_mark rom x row reads;
+          held = λ allowed. words_untaken row (behind_row a row) s c;
           leads = λ allowed. done.0;
           faults = λ allowed. done.1;
         }
@@ -212,19 +211,22 @@ woken_core s entry x m = record {
 halt_stays :
     (rom : List ℕ) (row : Row) (a : ℕ) (s : AbsState) (region : Region) (ranges : List Range) (entry : MState) (base : ℕ) (x : MState)
     → Stands rom region row a s entry base x → IsHalt row → x.processor.ime ≡ ime.Pending → has_enabled (within rom x) ≡ true
-    → LeadsBy region ranges (successors_of rom row a s).stays entry base x (outside (halt_stay (within rom x)))
+    → LeadsBy region ranges (length s.items) (successors_of rom row a s).stays entry base x (outside (halt_stay (within rom x)))
 unfolding halt_stay within outside staying_successor
 halt_stays rom row a s region ranges entry base x stands halt pending enabled =
     let m = stands.means in
     let woke : MState = record x { processor = record x.processor { ime = ime.On } } in
     record {
       successor = staying_successor a s;
+      held = words_ended 1 (with_core s (woken s.core));
       is_way = stays_at rom row a s ∙ stays_way row a s halt.op_is (pending_known s.core.ime x.processor.ime pending m.core.ime) (enabled_known s.core.ie entry x.storage.ie m.core.ie enabled);
       leads = record {
-        means = Means-ended rom (with_core s (woken s.core)) entry base woke.processor (view rom x false) false 1 refl
-            (Means-with_core s (woken s.core) entry base x woke m (woken_core s.core entry x m.core) refl refl refl (λ set. set));
-        goes = stands.at;
-        room = ended_room region base false 1 (with_core s (woken s.core)) stands.room;
+        to = record {
+          means = Means-ended rom (with_core s (woken s.core)) entry base woke.processor (view rom x false) false 1 refl
+              (Means-with_core s (woken s.core) entry base x woke m (woken_core s.core entry x m.core) refl refl refl (λ set. set));
+          goes = stands.at;
+          room = ended_room region base false 1 (with_core s (woken s.core)) stands.room;
+        };
         kept = λ b kept. passed_peek (view rom x false) 1 b;
       };
     }
@@ -265,7 +267,7 @@ halt_target rom row a s c halt = rw (halt.op_is, halt.length_is) refl
 halt_repeats :
     (rom : List ℕ) (row : Row) (a : ℕ) (s : AbsState) (region : Region) (ranges : List Range) (entry : MState) (base : ℕ) (x : MState)
     → Stands rom region row a s entry base x → IsHalt row → x.processor.ime ≡ ime.Off → x.processor.halt_mark ≡ false
-    → LeadsBy region ranges (successors_of rom row a s).taken entry base x (outside (halt_bug (within rom x)))
+    → LeadsBy region ranges (length s.items) (successors_of rom row a s).taken entry base x (outside (halt_bug (within rom x)))
 unfolding halt_bug within outside
 halt_repeats rom row a s region ranges entry base x stands halt off mark =
     let m = stands.means in
@@ -275,12 +277,16 @@ halt_repeats rom row a s region ranges entry base x stands halt off mark =
     record {
       successor = taken_successor rom row (behind_row a row) s c;
       is_way = taken_way rom row a s c (halt_side row c halt.op_is);
+      held = subst (λ (t : AbsState). length t.items ≤ length s.items) (sym (halt_state rom row a s c halt)) (words_ended 1 (with_core s c));
       leads = record {
-        means = subst (λ t. Means t entry base (record { processor = (repeated x).processor; storage = (passed (view rom x false) 1).storage })) (sym (halt_state rom row a s c halt))
-            (Means-ended rom (with_core s c) entry base (repeated x).processor (view rom x false) false 1 refl
-            (Means-with_core s c entry base x (repeated x) m (repeated_core s.core entry x off m.core) refl refl refl (λ set. sym (Keeps-settle s.core).stack ∙ set)));
-        room = subst (λ (t : AbsState). AreInRegion region base (length t.items)) (sym (halt_state rom row a s c halt)) (ended_room region base false 1 (with_core s c) stands.room);
-        goes = subst (λ t. HoldsTarget t ((x.processor.pc + (1 - mark_of x.processor)) % 65536)) (sym (halt_target rom row a s c halt)) pc;
+        to = subst (λ v. LeadsTo region v (taken_successor rom row (behind_row a row) s c) entry base x (record { processor = (repeated x).processor; storage = (passed (view rom x false) 1).storage })) (sym (halt_target rom row a s c halt))
+            (record {
+              means = subst (λ t. Means t entry base (record { processor = (repeated x).processor; storage = (passed (view rom x false) 1).storage })) (sym (halt_state rom row a s c halt))
+                  (Means-ended rom (with_core s c) entry base (repeated x).processor (view rom x false) false 1 refl
+                  (Means-with_core s c entry base x (repeated x) m (repeated_core s.core entry x off m.core) refl refl refl (λ set. sym (Keeps-settle s.core).stack ∙ set)));
+              goes = pc;
+              room = subst (λ (t : AbsState). AreInRegion region base (length t.items)) (sym (halt_state rom row a s c halt)) (ended_room region base false 1 (with_core s c) stands.room);
+            });
         kept = λ b kept. passed_peek (view rom x false) 1 b;
       };
     }

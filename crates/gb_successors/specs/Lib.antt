@@ -1,3 +1,4 @@
 pub mod Successors
 pub mod Refused
 pub mod Sound
+pub mod Words

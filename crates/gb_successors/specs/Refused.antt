@@ -1,6 +1,6 @@
 -- What refuses a successor: stores outside the areas for stores, closed cartridge RAM, OAM transfers, and jumps that
 -- may lead anywhere (own rules; Memory map; MBCs; OAM DMA transfer).
-use Rattle.std.specs.Prelude.{Bool, true, false, not, ◌||◌, List, ℕ}
+use Rattle.std.specs.Prelude.{ℕ, Bool, true, false, not, ◌&&◌, ◌||◌, ◌==◌, nat_le, List}
 use Rattle.gb_ops.specs.declared.machine.Kind.{Kind}
 use Rattle.gb_ops.specs.declared.machine.Region.{Region}
 use Rattle.gb_cert.specs.declared.types.Core.{Core}
@@ -33,23 +33,29 @@ writes_closed_ram rom core (write.Byte span v) = store_meets_closed_ram rom core
 writes_closed_ram rom core (write.Word a low high) = store_meets_closed_ram rom core (one a) low || store_meets_closed_ram rom core (one (behind a)) high
 writes_closed_ram rom core _ = false
 
+-- an OAM transfer may run, and the stack region doesn't lie in high RAM
+unfoldable pub is_stack_limited : Region → Core → Bool
+is_stack_limited region core = not (core.bound == 0) && not (nat_le 0xFF80 region.first)
+
 -- a read that a running OAM transfer may close
-unfoldable pub is_read_limited : Core → AbsRead → Bool
-is_read_limited core (read.Byte span) = is_limited core span
-is_read_limited core _ = false
+unfoldable pub is_read_limited : Region → Core → AbsRead → Bool
+is_read_limited region core (read.Byte span) = is_limited core span
+is_read_limited region core read.Top = is_stack_limited region core
+is_read_limited region core _ = false
 
 -- a write that a running OAM transfer may close, or that may start one unseen
-unfoldable pub is_write_limited : Core → AbsWrite → Bool
-is_write_limited core (write.Byte span v) = is_store_limited core span
-is_write_limited core (write.Word a low high) = is_store_limited core (one a) || is_store_limited core (one (behind a))
-is_write_limited core _ = false
+unfoldable pub is_write_limited : Region → Core → AbsWrite → Bool
+is_write_limited region core (write.Byte span v) = is_store_limited core span
+is_write_limited region core (write.Word a low high) = is_store_limited core (one a) || is_store_limited core (one (behind a))
+is_write_limited region core (write.Push high low) = is_stack_limited region core
+is_write_limited region core _ = false
 
 -- an instruction's accesses, asked for at its own gate and bound
 unfoldable pub meets_closed : List ℕ → Core → Successor → Bool
 meets_closed rom core t = reads_closed_ram rom core t.read || writes_closed_ram rom core t.write
 
-unfoldable pub meets_oam_transfer : Core → Successor → Bool
-meets_oam_transfer core t = is_read_limited core t.read || is_write_limited core t.write
+unfoldable pub meets_oam_transfer : Region → Core → Successor → Bool
+meets_oam_transfer region core t = is_read_limited region core t.read || is_write_limited region core t.write
 
 abbrev pub is_unknown : Target → Bool
 is_unknown target.Unknown = true

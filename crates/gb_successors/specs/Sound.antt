@@ -1,6 +1,6 @@
 -- What successors promise of the machine (abstract interpretation: soundness; own).
-use Rattle.std.specs.Prelude.{◌≡◌, ℕ, ◌≤◌, ◌⊎◌, true, false, List, slice_index, length, Option, Some}
-use Rattle.std.specs.List.{list_any}
+use Rattle.std.specs.Prelude.{◌≡◌, ℕ, ◌+◌, ◌≤◌, ◌<◌, ◌⊎◌, true, false, ◌==◌, if◌then◌else◌, List, [], slice_index, length, Option, Some}
+use Rattle.std.specs.List.{AllByRecursion}
 use Rattle.gb_ops.specs.declared.machine.Region.{Region}
 use Rattle.gb_ops.specs.declared.registers.Ime.TheVariants as ime
 use Rattle.gb_ops.specs.declared.op.Pair.TheVariants as pair
@@ -8,52 +8,112 @@ use Rattle.gb_ops.specs.declared.op.Op.{Op}
 use Rattle.gb_ops.specs.declared.op.Op.TheVariants as op
 use Rattle.gb_ops.specs.declared.op.Row.{Row}
 use Rattle.gb_ops.specs.Cartridge.{kind_of}
+use Rattle.gb_ops.specs.Pairs.{word}
 use Rattle.gb_ops.specs.Machine.{executed, halt_stay, halt_bug, has_enabled}
 use Rattle.gb_ops.specs.Faults.{no_faults, row_faults}
 use Rattle.gb_ops.specs.Play.{MState, within, outside}
 use Rattle.gb_cert.specs.declared.types.Core.{Core}
 use Rattle.gb_cert.specs.declared.types.Range.{Range}
 use Rattle.gb_cert.specs.Types.{AbsState}
-use Rattle.gb_cert.specs.Rules.{IsRegion, IsCore, meets}
-use Rattle.gb_abs.specs.Span.{one}
-use Rattle.gb_abs.specs.Storage.{is_ram, peek}
+use Rattle.gb_cert.specs.Rules.{IsRegion, IsCore, IsItem}
+use Rattle.gb_abs.specs.Storage.{peek}
 use Rattle.gb_abs.specs.Cells.{ArePlaced}
-use Rattle.gb_abs.specs.Stack.{AreInRegion}
+use Rattle.gb_abs.specs.Stack.{AreInRegion, pushed}
 use Rattle.gb_abs.specs.Meaning.{Means}
-use Rattle.gb_abs_effects.specs.Sound.{HasBytes, HoldsTarget}
-use Rattle.gb_abs_effects.specs.Targets.{moves_sp}
-use Rattle.gb_abs_memory.specs.Access.{is_range}
+use Rattle.gb_abs_effects.specs.declared.targets.Target.{Target}
+use Rattle.gb_abs_effects.specs.declared.targets.Target.TheVariants as target
+use Rattle.gb_abs_effects.specs.Sound.{HasBytes}
+use Rattle.gb_abs_effects.specs.Targets.{moves_sp, is_push, is_pop, is_call, is_return}
+use Rattle.gb_abs_memory.specs.Kept.{IsKept}
 use Rattle.gb_abs_memory.specs.Sound.{IsRom, AreVals}
 use Rattle.gb_successors.specs.declared.successor.Successor.{Successor}
 use Rattle.gb_successors.specs.declared.successors.Successors.{Successors}
 use Rattle.gb_successors.specs.Refused.{is_unstorable, meets_closed, meets_oam_transfer}
+use Rattle.gb_successors.specs.Words.{word_item}
 
 -- one of the successors
 abbrev pub IsOneOf : Successors → Successor → Type 0
 IsOneOf ss t = (ss.taken ≡ Some t) ⊎ ((ss.not_taken ≡ Some t) ⊎ (ss.stays ≡ Some t))
 
--- nothing is against its accesses, at the core of the state before it
-pub record IsAllowed (rom : List ℕ) (region : Region) (ranges : List Range) (core : Core) (t : Successor) : Type 0 where
+-- ---- the stack
+
+-- the stack is set, with room for a word behind those that are held
+pub record IsPushable (region : Region) (s : AbsState) (base : ℕ) : Type 0 where
+  pub stack_set : s.core.stack_set ≡ true
+  pub held : (length s.items == 16) ≡ false
+  pub room : AreInRegion region base (length s.items + 1)
+
+-- the stack is set, and a word is held
+pub record IsPoppable (s : AbsState) : Type 0 where
+  pub stack_set : s.core.stack_set ≡ true
+  pub held : 0 < length s.items
+
+-- the stack is set, no word is held, and the return word lies in the region
+pub record IsReturnable (region : Region) (s : AbsState) (t : Successor) (base : ℕ) : Type 0 where
+  pub stack_set : s.core.stack_set ≡ true
+  pub held : t.state.items ≡ []
+  pub return_word : AreInRegion region (base + 2) 1
+
+-- SP stays; LD SP,n16 sets it to the base; or the instruction is one of the stack's, and finds what it asks for. What
+-- calls and returns ask for more is asked where they are taken.
+abbrev pub IsStackKnown : Region → Op → AbsState → ℕ → Type 0
+IsStackKnown region o s base =
+    (moves_sp o ≡ false)
+    ⊎ ((o ≡ op.LoadPair pair.Sp base)
+    ⊎ (((is_push o ≡ true) × IsPushable region s base)
+    ⊎ (((is_pop o ≡ true) × IsPoppable s)
+    ⊎ (((is_call o ≡ true) × (s.core.stack_set ≡ true))
+    ⊎ (is_return o ≡ true)))))
+
+-- what the stack has to have for a successor: a call wants room for the return address, a return finds nothing but its own
+abbrev pub IsStackFit : Region → Target → AbsState → Successor → ℕ → Type 0
+IsStackFit region (target.Call a) s t base = AreInRegion region base (length t.state.items + 1)
+IsStackFit region target.Return s t base = IsReturnable region s t base
+IsStackFit region _ s t base = Unit {0}
+
+-- how many words may be held behind an instruction
+unfoldable pub words_behind : Op → ℕ → ℕ
+words_behind o n = if is_push o then n + 1 else n
+
+-- nothing is against its accesses, in the state before it
+pub record IsAllowed (rom : List ℕ) (region : Region) (ranges : List Range) (s : AbsState) (base : ℕ) (t : Successor) : Type 0 where
   pub stores : is_unstorable (kind_of rom) region ranges t.write ≡ false
-  pub ram : meets_closed rom core t ≡ false
-  pub oam_transfer : meets_oam_transfer core t ≡ false
+  pub ram : meets_closed rom s.core t ≡ false
+  pub oam_transfer : meets_oam_transfer region s.core t ≡ false
+  pub stack : IsStackFit region t.target s t base
 
--- a byte of RAM that a procedure with these ranges leaves as it is: outside them, and in the stack region not below the base
-pub record IsKept (region : Region) (ranges : List Range) (base b : ℕ) : Type 0 where
-  pub ram : is_ram b ≡ true
-  pub outside : list_any (is_range (one b)) ranges ≡ false
-  pub above : meets region b b ≡ true → base ≤ b
+-- ---- where successors lead
 
--- an event leads from x to y by the successor
-pub record Leads (region : Region) (ranges : List Range) (t : Successor) (entry : MState) (base : ℕ) (x y : MState) : Type 0 where
+-- the machine stands in the same procedure at an address
+pub record StaysAt (region : Region) (a : ℕ) (t : Successor) (entry : MState) (base : ℕ) (y : MState) : Type 0 where
   pub means : Means t.state entry base y
-  pub goes : HoldsTarget t.target y.processor.pc
+  pub goes : y.processor.pc ≡ a
   pub room : AreInRegion region base (length t.state.items)
-  pub kept : (b : ℕ) → IsKept region ranges base b → peek y.storage b ≡ peek x.storage b
 
--- SP stays, or LD SP,n16 sets it to the base
-abbrev pub IsStackKnown : Op → ℕ → Type 0
-IsStackKnown o base = (moves_sp o ≡ false) ⊎ (o ≡ op.LoadPair pair.Sp base)
+-- the machine has called: the word of the address behind the call is on its stack
+pub record CallsAt (region : Region) (a : ℕ) (t : Successor) (entry : MState) (base : ℕ) (y : MState) : Type 0 where
+  pub means : Means (pushed (word_item t.next) t.state) entry base y
+  pub next : t.next < 65536
+  pub goes : y.processor.pc ≡ a
+  pub stack_set : t.state.core.stack_set ≡ true
+  pub placed : ArePlaced region t.state.cells
+
+-- from x to y the machine has returned to the word at the base, which is off the stack
+pub record ReturnsTo (t : Successor) (entry : MState) (base : ℕ) (x y : MState) : Type 0 where
+  pub means : Means t.state entry (base + 2) y
+  pub goes : y.processor.pc ≡ word (peek x.storage (base + 1)) (peek x.storage base)
+
+-- of a jump to somewhere nothing is said
+abbrev pub LeadsTo : Region → Target → Successor → MState → ℕ → MState → MState → Type 0
+LeadsTo region (target.At a) t entry base x y = StaysAt region a t entry base y
+LeadsTo region (target.Call a) t entry base x y = CallsAt region a t entry base y
+LeadsTo region target.Return t entry base x y = ReturnsTo t entry base x y
+LeadsTo region target.Unknown t entry base x y = Unit {0}
+
+-- an event leads from x to y by the successor, and leaves what the procedure keeps
+pub record Leads (region : Region) (ranges : List Range) (t : Successor) (entry : MState) (base : ℕ) (x y : MState) : Type 0 where
+  pub to : LeadsTo region t.target t entry base x y
+  pub kept : (b : ℕ) → IsKept region ranges base b → peek y.storage b ≡ peek x.storage b
 
 -- the machine stands before an instruction at an address, in a state that s means
 pub record Stands (rom : List ℕ) (region : Region) (row : Row) (a : ℕ) (s : AbsState) (entry : MState) (base : ℕ) (x : MState) : Type 0 where
@@ -62,29 +122,32 @@ pub record Stands (rom : List ℕ) (region : Region) (row : Row) (a : ℕ) (s : 
   pub core : IsCore s.core
   pub placed : ArePlaced region s.cells
   pub vals : AreVals s.cells
+  pub items : AllByRecursion IsItem s.items
   pub room : AreInRegion region base (length s.items)
   pub means : Means s entry base x
   pub at : x.processor.pc ≡ a
 
--- the instruction is one with rules
-pub record IsRuled (row : Row) (base : ℕ) : Type 0 where
+-- the instruction is one that may stand there
+pub record IsRuled (region : Region) (row : Row) (s : AbsState) (base : ℕ) : Type 0 where
   pub operands : HasBytes row.op
   pub runs : row.op ≡ op.Stop → ⊥
-  pub stack : IsStackKnown row.op base
+  pub stack : IsStackKnown region row.op s base
 
 -- where the HALT mark is clear, an instruction that is executed leads by one of the successors, if nothing is against that
 -- one's accesses, and then without a fault
 pub record Executes (rom : List ℕ) (region : Region) (ranges : List Range) (row : Row) (s : AbsState) (ss : Successors) (entry : MState) (base : ℕ) (x : MState) (reads : List ℕ) : Type 0 where
   pub successor : Successor
   pub is_one : IsOneOf ss successor
-  pub leads : IsAllowed rom region ranges s.core successor → Leads region ranges successor entry base x (outside (executed (within rom x) row reads))
+  pub leads : IsAllowed rom region ranges s base successor → Leads region ranges successor entry base x (outside (executed (within rom x) row reads))
+  pub held : IsAllowed rom region ranges s base successor → length successor.state.items ≤ words_behind row.op (length s.items)
   pub mark : (outside (executed (within rom x) row reads)).processor.halt_mark ≡ false
-  pub faults : IsAllowed rom region ranges s.core successor → row_faults (Some row) region (within rom x) reads ≡ no_faults
+  pub faults : IsAllowed rom region ranges s base successor → row_faults (Some row) region (within rom x) reads ≡ no_faults
 
--- an event leads by a successor
-pub record LeadsBy (region : Region) (ranges : List Range) (way : Option Successor) (entry : MState) (base : ℕ) (x y : MState) : Type 0 where
+-- an event leads by a successor, which holds no more than so many words
+pub record LeadsBy (region : Region) (ranges : List Range) (words : ℕ) (way : Option Successor) (entry : MState) (base : ℕ) (x y : MState) : Type 0 where
   pub successor : Successor
   pub is_way : way ≡ Some successor
+  pub held : length successor.state.items ≤ words
   pub leads : Leads region ranges successor entry base x y
 
 -- HALT, as the table has it
@@ -98,13 +161,13 @@ pub record IsHalt (row : Row) : Type 0 where
 pub record AreSoundSuccessors (rom : List ℕ) (row : Row) (a : ℕ) (s : AbsState) (ss : Successors) : Type 0 where
   pub executes :
       (region : Region) (ranges : List Range) (entry : MState) (base : ℕ) (x : MState) (reads : List ℕ)
-      → Stands rom region row a s entry base x → IsRuled row base → x.processor.halt_mark ≡ false → slice_index reads 0 ≤ 255
+      → Stands rom region row a s entry base x → IsRuled region row s base → x.processor.halt_mark ≡ false → slice_index reads 0 ≤ 255
       → Executes rom region ranges row s ss entry base x reads
   pub stays :
       (region : Region) (ranges : List Range) (entry : MState) (base : ℕ) (x : MState)
       → Stands rom region row a s entry base x → IsHalt row → x.processor.ime ≡ ime.Pending → has_enabled (within rom x) ≡ true
-      → LeadsBy region ranges ss.stays entry base x (outside (halt_stay (within rom x)))
+      → LeadsBy region ranges (length s.items) ss.stays entry base x (outside (halt_stay (within rom x)))
   pub repeats :
       (region : Region) (ranges : List Range) (entry : MState) (base : ℕ) (x : MState)
       → Stands rom region row a s entry base x → IsHalt row → x.processor.ime ≡ ime.Off → x.processor.halt_mark ≡ false
-      → LeadsBy region ranges ss.taken entry base x (outside (halt_bug (within rom x)))
+      → LeadsBy region ranges (length s.items) ss.taken entry base x (outside (halt_bug (within rom x)))

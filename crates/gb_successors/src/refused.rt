@@ -59,21 +59,30 @@ fn writes_closed_ram(rom: &Rom<'_>, core: &Core, write: AbsWrite) -> bool
     }
 }
 
+/// Whether an OAM transfer may run that closes the stack region.
+#[tactic(auto, unfolding(crate::specs::Refused::is_stack_limited))]
+fn is_stack_limited(region: Region, core: &Core) -> bool
+    ensures { result ≡ Refused.is_stack_limited region core.now }
+{
+    core.bound != 0 && region.first < 0xFF80
+}
+
 /// Whether a running OAM transfer may close a read.
 #[tactic(auto, unfolding(crate::specs::Refused::is_read_limited))]
-fn is_read_limited(core: &Core, read: AbsRead) -> bool
-    ensures { result ≡ Refused.is_read_limited core.now read }
+fn is_read_limited(region: Region, core: &Core, read: AbsRead) -> bool
+    ensures { result ≡ Refused.is_read_limited region core.now read }
 {
     match read {
         AbsRead::Byte(span) => is_limited(core, span),
-        AbsRead::Nothing | AbsRead::Top => false,
+        AbsRead::Top => is_stack_limited(region, core),
+        AbsRead::Nothing => false,
     }
 }
 
 /// Whether a running OAM transfer may close a write, or the write may start one unseen.
 #[tactic(auto, unfolding(crate::specs::Refused::is_write_limited))]
-fn is_write_limited(core: &Core, write: AbsWrite) -> bool
-    ensures { result ≡ Refused.is_write_limited core.now write }
+fn is_write_limited(region: Region, core: &Core, write: AbsWrite) -> bool
+    ensures { result ≡ Refused.is_write_limited region core.now write }
 {
     match write {
         AbsWrite::Byte(span, _) => is_store_limited(core, span),
@@ -81,7 +90,8 @@ fn is_write_limited(core: &Core, write: AbsWrite) -> bool
             is_store_limited(core, Span::one(address))
                 || is_store_limited(core, Span::one(address.wrapping_add(1)))
         }
-        AbsWrite::Nothing | AbsWrite::Push { .. } => false,
+        AbsWrite::Push { .. } => is_stack_limited(region, core),
+        AbsWrite::Nothing => false,
     }
 }
 
@@ -95,10 +105,11 @@ fn meets_closed(rom: &Rom<'_>, core: &Core, successor: &Successor) -> bool
 
 /// Whether an OAM transfer may close an access of the way on, at this bound, or start unseen.
 #[tactic(auto, unfolding(crate::specs::Refused::meets_oam_transfer))]
-fn meets_oam_transfer(core: &Core, successor: &Successor) -> bool
-    ensures { result ≡ Refused.meets_oam_transfer core.now successor.now }
+fn meets_oam_transfer(region: Region, core: &Core, successor: &Successor) -> bool
+    ensures { result ≡ Refused.meets_oam_transfer region core.now successor.now }
 {
-    is_read_limited(core, successor.read) || is_write_limited(core, successor.write)
+    is_read_limited(region, core, successor.read)
+        || is_write_limited(region, core, successor.write)
 }
 
 /// Whether the way on may lead anywhere.
@@ -126,12 +137,12 @@ fn has_closed(rom: &Rom<'_>, core: &Core, way: &Option<Successor>) -> bool
     }
 }
 
-fn has_limited(core: &Core, way: &Option<Successor>) -> bool
-    ensures { result ≡ has (Refused.meets_oam_transfer core.now) way.now }
+fn has_limited(region: Region, core: &Core, way: &Option<Successor>) -> bool
+    ensures { result ≡ has (Refused.meets_oam_transfer region core.now) way.now }
 {
     match way {
         None => false,
-        Some(successor) => meets_oam_transfer(core, successor),
+        Some(successor) => meets_oam_transfer(region, core, successor),
     }
 }
 
@@ -172,12 +183,12 @@ impl Successors {
     /// Whether an OAM transfer may close an access of one of them, at the bound of the state before,
     /// or start unseen.
     #[tactic(auto, unfolding(crate::specs::Successors::any_successor))]
-    pub fn meet_oam_transfer(&self, core: &Core) -> bool
-        ensures { result ≡ any_successor (Refused.meets_oam_transfer core.now) self.now }
+    pub fn meet_oam_transfer(&self, region: Region, core: &Core) -> bool
+        ensures { result ≡ any_successor (Refused.meets_oam_transfer region core.now) self.now }
     {
-        has_limited(core, &self.taken)
-            || has_limited(core, &self.not_taken)
-            || has_limited(core, &self.stays)
+        has_limited(region, core, &self.taken)
+            || has_limited(region, core, &self.not_taken)
+            || has_limited(region, core, &self.stays)
     }
 
     /// Whether there is one.

@@ -1,41 +1,71 @@
 //! One successor of an instruction.
 
 ghost use Rattle.std.specs.Prelude.{◌≡◌, [], true};
+ghost use Rattle.gb_cert.specs.Types.{any_item};
+ghost use Rattle.gb_abs.specs.Stack.{youngest, popped};
 ghost use Rattle.gb_successors.specs.Successors as Succession;
+ghost use Rattle.gb_successors.specs.Words.{item_or_any};
 
 use arrayvec::ArrayVec;
 use gb_abs::operations::end;
 use gb_abs::span::Span;
+use gb_abs::stack::{pop, push};
 use gb_abs_effects::reads::{AbsRead, read_of};
 use gb_abs_effects::targets::{Target, target_of};
 use gb_abs_effects::transfer::transfer;
 use gb_abs_effects::writes::AbsWrite;
 use gb_abs_memory::load::loaded_val;
 use gb_abs_memory::store::{starts_oam_transfer, stored_state};
-use gb_cert::types::{Abs, Core, ImeSet, Val};
+use gb_cert::types::{Abs, Core, ImeSet, Item};
 use gb_header::Rom;
 use gb_ops::machine::Kind;
 use gb_ops::op::{Op, Pair, Row};
 use gb_vals::vals::any;
 
 /// One way on from an instruction: what it reads and writes besides its own bytes, where it goes on,
-/// and the states behind it.
+/// the address behind it, where a call returns to, and the states behind it.
 #[derive(Drop)]
 pub struct Successor {
     pub read: AbsRead,
     pub write: AbsWrite,
     pub target: Target,
+    pub next: u16,
     pub state: Abs,
 }
 
-/// What is known of the byte that is read.
-#[tactic(auto, unfolding(crate::specs::Successors::read_val))]
-fn read_val(rom: &Rom<'_>, state: &Abs, read: AbsRead) -> Val
-    ensures { result ≡ Succession.read_val rom.now state.now read }
+/// Any word.
+fn any_item() -> Item
+    ensures { result ≡ any_item }
+{
+    Item {
+        high: any(),
+        low: any(),
+    }
+}
+
+/// The word that was pushed last, as far as it is known.
+#[tactic(auto, unfolding(gb_abs::specs::Stack::popped))]
+fn top_item(state: &Abs) -> Item
+    ensures { result ≡ item_or_any (youngest state.now) }
+{
+    match state.items().last() {
+        None => any_item(),
+        Some(item) => *item,
+    }
+}
+
+/// What is known of what is read: of a byte, or of the word that was pushed last.
+#[tactic(auto, unfolding(crate::specs::Successors::read_item))]
+fn read_item(rom: &Rom<'_>, state: &Abs, read: AbsRead) -> Item
+    ensures { result ≡ Succession.read_item rom.now state.now read }
 {
     match read {
-        AbsRead::Byte(span) => loaded_val(rom, state, span),
-        AbsRead::Nothing | AbsRead::Top => any(),
+        AbsRead::Byte(span) => Item {
+            high: any(),
+            low: loaded_val(rom, state, span),
+        },
+        AbsRead::Top => top_item(state),
+        AbsRead::Nothing => any_item(),
     }
 }
 
@@ -46,7 +76,8 @@ fn copied(state: &Abs) -> Abs
     state.with_core(*state.core())
 }
 
-/// The states after a write. A word is two stores, the low byte first.
+/// The states after a write. A word is two stores, the low byte first. A word that is pushed changes no
+/// cell.
 #[tactic(auto, unfolding(crate::specs::Successors::written))]
 fn written(kind: Kind, write: AbsWrite, state: &Abs) -> Abs
     ensures { result ≡ Succession.written kind write state.now }
@@ -91,13 +122,41 @@ fn with_stack(state: &Abs) -> Abs
     Abs::of_parts(core, ArrayVec::new(), cells)
 }
 
-/// What LD SP,n16 does to the stack, and no other instruction.
-#[tactic(auto, unfolding(crate::specs::Successors::with_stack_of))]
-fn with_stack_of(op: Op, state: &Abs) -> Abs
-    ensures { result ≡ Succession.with_stack_of op state.now }
+/// The state with a word pushed, where fewer than 16 are held. PUSH is refused where there are 16.
+#[tactic(auto, unfolding(crate::specs::Successors::pushed_if_room))]
+fn pushed_if_room(item: Item, state: &Abs) -> Abs
+    ensures { result ≡ Succession.pushed_if_room item state.now }
 {
-    match op {
-        Op::LoadPair(Pair::Sp, _) => with_stack(state),
+    match push(state, item) {
+        Some(pushed) => pushed,
+        None => copied(state),
+    }
+}
+
+/// The state without the word that was pushed last, if there is one.
+#[tactic(auto, using(crate::proofs::WordLaws::popped_empty))]
+fn popped_state(state: &Abs) -> Abs
+    ensures { result ≡ popped state.now }
+{
+    if state.items().is_empty() {
+        return copied(state);
+    }
+    match pop(state) {
+        Some(popped) => popped.state,
+        None => copied(state),
+    }
+}
+
+/// What an instruction does to the stack: LD SP,n16 sets it, PUSH pushes what it writes, and POP pops.
+/// A return address belongs to the callee: it is no word of its caller's.
+#[tactic(auto, unfolding(crate::specs::Successors::with_stack_of))]
+fn with_stack_of(op: Op, write: AbsWrite, state: &Abs) -> Abs
+    ensures { result ≡ Succession.with_stack_of op write state.now }
+{
+    match (op, write) {
+        (Op::LoadPair(Pair::Sp, _), _) => with_stack(state),
+        (Op::Push(_), AbsWrite::Push { high, low }) => pushed_if_room(Item { high, low }, state),
+        (Op::Pop(_), _) => popped_state(state),
         _ => copied(state),
     }
 }
@@ -123,14 +182,15 @@ pub(crate) fn taken_successor(
 {
     let read = read_of(row.op, &core);
     let before = state.with_core(core);
-    let val = read_val(rom, &before, read);
-    let effect = transfer(row.op, next, &core, val, any());
-    let moved = with_stack_of(row.op, &state.with_core(effect.core));
+    let item = read_item(rom, &before, read);
+    let effect = transfer(row.op, next, &core, item.low, item.high);
+    let moved = with_stack_of(row.op, effect.write, &state.with_core(effect.core));
     let after = written(rom.kind(), effect.write, &moved);
     Successor {
         read,
         write: effect.write,
         target: target_of(row.op, next, &core),
+        next,
         state: ended(starts(effect.write), row.cycles, &after),
     }
 }
@@ -144,6 +204,7 @@ pub(crate) fn untaken_successor(row: Row, next: u16, state: &Abs, core: Core) ->
         read: AbsRead::Nothing,
         write: AbsWrite::Nothing,
         target: Target::At(next),
+        next,
         state: ended(false, row.cycles_not_taken, &state.with_core(core)),
     }
 }
@@ -165,6 +226,7 @@ pub(crate) fn staying_successor(address: u16, state: &Abs) -> Successor
         read: AbsRead::Nothing,
         write: AbsWrite::Nothing,
         target: Target::At(address),
+        next: address,
         state: ended(false, 1, &state.with_core(woken)),
     }
 }

@@ -2,15 +2,13 @@
 use Rattle.std.proofs.Common.{◌≡◌, ℕ, ◌/◌, ◌%◌, ◌^◌, ◌≤◌, ◌<◌, Bool, true, false, not, ◌&&◌, ◌==◌, ◌⊎◌, inl, inr, nat_lt, List, [], ◌∷◌, Option, Some, None, refl, subst, arith}
 use Rattle.std.proofs.lemmas.Bool.{or_parts}
 use Rattle.std.proofs.lemmas.Bool.Decides.{nat_tests}
-use Rattle.std.specs.List.{All}
-use Rattle.std.proofs.lemmas.List.Elements.{All-contains, All-append, All-nil}
+use Rattle.std.proofs.lemmas.List.Elements.{All-contains}
 use Rattle.gb_ops.specs.declared.registers.Ime.{Ime}
 use Rattle.gb_ops.specs.declared.registers.Ime.TheVariants as ime
 use Rattle.gb_ops.specs.declared.machine.Event.{Event}
 use Rattle.gb_ops.specs.declared.machine.Event.TheVariants as event
 use Rattle.gb_ops.specs.Machine.{is_possible, is_ime, is_running, has_enabled_bit}
-use Rattle.gb_ops.specs.Faults.{no_faults, either_faults}
-use Rattle.gb_ops.specs.Play.{MState, IsStart, within, next, play}
+use Rattle.gb_ops.specs.Play.{MState, IsStart, within}
 use Rattle.gb_cert.specs.declared.types.Val.{Val}
 use Rattle.gb_cert.specs.declared.types.ImeSet.{ImeSet}
 use Rattle.gb_cert.specs.declared.types.Core.{Core}
@@ -22,14 +20,13 @@ use Rattle.gb_abs_memory.specs.Sound.{IsRom}
 use Rattle.gb_abs.specs.Meaning.{Holds, Means, ime_may_be}
 use Rattle.gb_abs.specs.declared.reason.Reason.{Reason}
 use Rattle.gb_blocks.specs.Rules.{reason_of}
-use Rattle.gb_code.specs.Places.{IsCertified}
 use Rattle.gb_blocks.specs.Safety.{IsMeant, IsSafeEvent, IsNoDispatch}
 use Rattle.gb_blocks.proofs.EventLaws.{IsSafeNode-right, IsSafeEvent-where}
 use Rattle.gb_verify.specs.Verdict.{IsRight, IsVerdict, may_be_interrupted, or_interrupt, reason_against}
 use Rattle.gb_verify.specs.Headline.{IsSafe, IfAccepted}
 use Rattle.gb_verify.specs.declared.verdict.Verdict.{Verdict}
 use Rattle.gb_verify.specs.declared.verdict.Verdict.TheVariants.{Accepted, Refused}
-use Rattle.gb_verify.proofs.StartLaws.{IsMeant-start, main_base}
+use Rattle.gb_verify.proofs.SafetyLaws.{IsSafe-events}
 
 -- ---- one event
 
@@ -140,37 +137,9 @@ IsSafeEvent-right rom cert procedure entry base s e cartridge certificate right 
 
 -- ---- runs
 
--- a run has no fault, fetches certified places, and leads to a state that a node of the procedure means
-pub record IsSafeRun (rom : List ℕ) (cert : Certificate) (procedure : ℕ) (entry : MState) (base : ℕ) (s : MState) (events : List Event) : Type 0 where
-  pub faults : (play rom cert.region s events).faults ≡ no_faults
-  pub places : All (IsCertified rom cert) (play rom cert.region s events).places
-  pub meant : IsMeant rom cert procedure entry base (play rom cert.region s events).state
-
--- every list of events, from a state that a node of a right certificate means
-pub run_safe : (rom : List ℕ) (cert : Certificate) (procedure : ℕ) (entry : MState) (base : ℕ) (s : MState) (events : List Event) → IsRom rom → IsCertificate cert → IsRight rom cert
-    → IsMeant rom cert procedure entry base s → IsSafeRun rom cert procedure entry base s events
-unfolding play either_faults
-run_safe rom cert procedure entry base s [] cartridge certificate right m = record { faults = refl; places = All-nil _; meant = m }
-run_safe rom cert procedure entry base s (e ∷ events) cartridge certificate right m =
-    let first = IsSafeEvent-right rom cert procedure entry base s e cartridge certificate right m in
-    let rest = run_safe rom cert procedure entry base (next rom s e) events cartridge certificate right first.meant in
-    record {
-      faults = rw (first.faults, rest.faults) refl;
-      places = All-append (IsCertified rom cert) _ _ first.places rest.places;
-      meant = rest.meant;
-    }
-
 pub IsSafe-right : (rom : List ℕ) (cert : Certificate) → IsRom rom → IsCertificate cert → IsRight rom cert → IsSafe rom cert
 IsSafe-right rom cert cartridge certificate right =
-    let run : (s : MState) (events : List Event) → IsStart rom s → IsSafeRun rom cert 0 s (main_base cert) s events =
-    λ s events start. run_safe rom cert 0 s (main_base cert) s events cartridge certificate right (IsMeant-start rom cert s certificate right.entry start) in
-    record {
-      faults = λ s events start. (run s events start).faults;
-      places = λ s events start. (run s events start).places;
-      running = λ s reached.
-          let m = subst (IsMeant rom cert 0 reached.start (main_base cert)) reached.leads (run reached.start reached.events reached.is_start).meant in
-          (m.at.means.core.locked, m.at.means.core.stopped);
-    }
+    IsSafe-events rom cert certificate right.entry (record { gives = λ procedure entry base s e m. IsSafeEvent-right rom cert procedure entry base s e cartridge certificate right m })
 
 -- what the verdict says is what is promised
 pub check_safe : (rom : List ℕ) (cert : Certificate) (v : Verdict) → IsRom rom → IsCertificate cert → IsVerdict rom cert v → IfAccepted v (IsSafe rom cert)

@@ -1,7 +1,6 @@
 -- Power-up is one of the machine states that its abstract state means.
-use Rattle.std.proofs.Common.{◌≡◌, ℕ, ◌+◌, ◌*◌, ◌≤◌, ◌<◌, Bool, true, false, not, ◌==◌, nat_le, ◌⊎◌, inl, inr, List, [], ◌∷◌, Option, Some, None, length, get_or, slice_get, slice_index, refl, sym, ◌∙◌, ap, arith}
+use Rattle.std.proofs.Common.{◌≡◌, ℕ, ◌+◌, ◌*◌, ◌≤◌, ◌<◌, Bool, true, false, not, ◌==◌, ◌⊎◌, inl, inr, List, [], ◌∷◌, Option, Some, None, length, get_or, slice_get, slice_index, refl, sym, ◌∙◌, ap, subst, arith}
 use Rattle.std.proofs.lemmas.Bool.{eqb-true, not-false, or_parts, and_parts}
-use Rattle.std.proofs.lemmas.Bool.Decides.{nat_tests}
 use Rattle.gb_ops.specs.declared.machine.Region.{Region}
 use Rattle.std.specs.List.{All, Contains}
 use Rattle.std.proofs.lemmas.List.{get_or_past}
@@ -26,9 +25,11 @@ use Rattle.gb_vals.proofs.MeaningLaws.{known-may_be}
 use Rattle.gb_abs.specs.Covering.{covers}
 use Rattle.gb_abs.specs.Stack.{AreInRegion}
 use Rattle.gb_abs.proofs.CoveringLaws.{Means-covered}
+use Rattle.gb_blocks.specs.Procedures.{need_of}
 use Rattle.gb_blocks.specs.Safety.{IsMeant}
 use Rattle.gb_blocks.proofs.SearchLaws.{Contains-slice_get}
-use Rattle.gb_blocks.proofs.StandLaws.{covered_items}
+use Rattle.gb_blocks.proofs.CoveringLaws.{covered_items}
+use Rattle.gb_blocks.proofs.ProcedureLaws.{main_room}
 use Rattle.gb_verify.specs.PowerUp.{core_at_power_up, state_at_power_up}
 use Rattle.gb_verify.specs.Verdict.{is_bad_entry, is_bad_node, main_entry, entry_of}
 
@@ -139,15 +140,9 @@ mark_start rom s h = ap (λ p. p.halt_mark) h.processor
 items_covered : (rom : List ℕ) (region : Region) (t : AbsState) → covers (state_at_power_up rom region) t ≡ true → length t.items ≡ 0
 items_covered rom region t h = covered_items (state_at_power_up rom region) t h
 
--- main's stack has room for no words
-room_start : (cert : Certificate) (n : Node) → IsCertificate cert → length n.state.items ≡ 0 → AreInRegion cert.region (main_base cert) (length n.state.items)
-room_start cert n c none =
-    let area = and_parts _ _ c.region.area in
-    let order : cert.region.first ≤ cert.region.last = ordered cert.region.first cert.region.last area.0 in
-    record { first = omega arith; last = omega arith }
-  where
-    ordered : (a b : ℕ) → nat_le a b ≡ true → a ≤ b
-    ordered a b h = grind (arith, nat_tests)
+-- main's stack has room for the words that it may need
+room_start : (cert : Certificate) (n : Node) → IsCertificate cert → n.procedure ≡ 0 → AreInRegion cert.region (main_base cert) (need_of cert n.procedure)
+room_start cert n c e = subst (λ p. AreInRegion cert.region (main_base cert) (need_of cert p)) (sym e) (main_room cert c)
 
 -- main's entry is a node of main's
 is_of_main : (o : Option Node) (n : Node) → o ≡ Some n → is_of 0 o ≡ true → n.procedure ≡ 0
@@ -178,7 +173,9 @@ IsMeant-entry rom cert (Some n) s c f g h i =
         means = Means-covered _ _ _ _ _ covered (Means-start rom cert s i);
         mark = inl (mark_start rom s i);
         main = λ is. refl;
-        room = room_start cert n c (items_covered rom cert.region n.state covered);
+        return_word = λ some. let main : n.procedure ≡ 0 = g n refl in absurd (omega arith);
+        room = room_start cert n c (g n refl);
+        depth = let none : length n.state.items ≡ 0 = items_covered rom cert.region n.state covered in omega arith;
       };
     }
 

@@ -1,14 +1,24 @@
 -- The verdict: step by step over the nodes, and what it says.
-use Rattle.std.proofs.Common.{◌≡◌, ℕ, zero, suc, ◌+◌, ◌≤◌, ◌<◌, Bool, true, false, cond, ◌⊎◌, inl, inr, List, [], ◌∷◌, Option, Some, None, length, drop, slice_get, refl, sym, ◌∙◌, ap, subst, arith}
+use Rattle.std.proofs.Common.{◌≡◌, ℕ, zero, suc, ◌+◌, ◌≤◌, ◌<◌, Bool, true, false, cond, ◌||◌, ◌⊎◌, inl, inr, List, [], ◌∷◌, Option, Some, None, length, drop, slice_get, refl, sym, ◌∙◌, ap, subst, arith}
 use Rattle.std.specs.Prelude.{option_and_then}
 use Rattle.std.proofs.lemmas.Option.{slice_get-get_or}
-use Rattle.gb_cert.specs.Types.{Node}
+use Rattle.gb_cert.specs.Types.{AbsState, ProcedureParts, Node}
 use Rattle.gb_cert.specs.Certificate.{Certificate}
 use Rattle.gb_abs.specs.declared.reason.Reason.{Reason}
 use Rattle.gb_abs.specs.declared.reason.Reason.TheVariants as reason
-use Rattle.gb_blocks.specs.Rules.{applies, reason_of, stores_outside, leads_uncovered, ranges_of}
+use Rattle.std.specs.List.{find}
+use Rattle.gb_ops.specs.declared.op.Row.{Row}
+use Rattle.gb_ops.specs.Table.{decoded}
+use Rattle.gb_cert.specs.declared.types.Range.{Range}
+use Rattle.gb_abs_effects.specs.declared.targets.Target.{Target}
+use Rattle.gb_abs_effects.specs.declared.targets.Target.TheVariants as target
+use Rattle.gb_calls.specs.Calls.{entered, is_entry, or_later, entry_from, entry_behind_main, callee_of}
+use Rattle.gb_successors.specs.declared.successor.Successor.{Successor}
+use Rattle.gb_successors.specs.Successors.{has, any_successor, successors_of}
+use Rattle.gb_blocks.specs.Procedures.{ranges_of, need_of, exit_of}
+use Rattle.gb_blocks.specs.Rules.{pushes_too_deep, callee_by, callee_at, is_over, calls_too_deep, is_resumed_uncovered, is_back_uncovered, is_uncovered_at, is_uncovered, is_outside_of, is_uncallable_at, is_uncallable, is_unreturnable_at, is_unreturnable, test_row, test_instruction, node_bytes, any_of, grows_too_deep, stores_outside, leads_uncovered, calls_wrongly, returns_wrongly, applies_to_row, applies, reasons, reason_of}
 use Rattle.gb_verify.specs.declared.verdict.Verdict.TheVariants.{Refused}
-use Rattle.gb_verify.specs.Verdict.{reason_against, reason_against_at, refusal_or, verdict_from, verdict_of, is_bad_entry, main_entry, IsVerdict, IgnoresVersion}
+use Rattle.gb_verify.specs.Verdict.{may_be_interrupted, or_interrupt, reason_against, reason_against_at, refusal_or, verdict_from, verdict_of, is_bad_entry, main_entry, IsVerdict, IgnoresVersion}
 
 next : {X : Type 0} (xs : List X) (i : ℕ) (x : X) → slice_get xs i ≡ Some x → drop i xs ≡ x ∷ drop (i + 1) xs
 next [] i x h = cc
@@ -80,9 +90,127 @@ IsVerdict-verdict_of rom cert = by (is_bad_entry rom cert) refl
 
 -- ---- the version
 
+-- the same certificate with another version
+abbrev other : Certificate → ℕ → Certificate
+other cert version = record cert { version = version }
+
+same_callee_from : (cert : Certificate) (version a : ℕ) (t : AbsState) (i : ℕ) (ps : List ProcedureParts) → entry_from (other cert version) a t i ps ≡ entry_from cert a t i ps
+unfolding is_entry
+same_callee_from cert version a t i [] = refl
+same_callee_from cert version a t i (p ∷ ps) = ap (or_later (is_entry cert a t p) i) (same_callee_from cert version a t (i + 1) ps)
+
+same_callee : (cert : Certificate) (version a : ℕ) (t : AbsState) → callee_of (other cert version) a t ≡ callee_of cert a t
+unfolding callee_of
+same_callee cert version a t = by cert.procedures
+  where
+    by : (ps : List ProcedureParts) → entry_behind_main (other cert version) a (entered t) ps ≡ entry_behind_main cert a (entered t) ps
+    by [] = refl
+    by (main ∷ ps) = same_callee_from cert version a (entered t) 1 ps
+
+same_callee_by : (cert : Certificate) (version : ℕ) (w : Target) (t : AbsState) → callee_by (other cert version) w t ≡ callee_by cert w t
+same_callee_by cert version (target.At a) t = refl
+same_callee_by cert version (target.Call a) t = same_callee cert version a t
+same_callee_by cert version target.Return t = refl
+same_callee_by cert version target.Unknown t = refl
+
+same_over : (cert : Certificate) (version need held : ℕ) (o : Option ℕ) → is_over (other cert version) need held o ≡ is_over cert need held o
+unfolding need_of
+same_over cert version need held None = refl
+same_over cert version need held (Some q) = refl
+
+same_depth : (cert : Certificate) (version need : ℕ) (t : Successor) → calls_too_deep (other cert version) need t ≡ calls_too_deep cert need t
+unfolding calls_too_deep callee_at
+same_depth cert version need t =
+    ap (is_over (other cert version) need (length t.state.items)) (same_callee_by cert version t.target t.state) ∙ same_over cert version need (length t.state.items) (callee_by cert t.target t.state)
+
+same_exit : (cert : Certificate) (version procedure back : ℕ) (t : AbsState) (ranges : List Range) (exit : Option AbsState)
+    → is_resumed_uncovered (other cert version) procedure back t ranges exit ≡ is_resumed_uncovered cert procedure back t ranges exit
+same_exit cert version procedure back t ranges None = refl
+same_exit cert version procedure back t ranges (Some exit) = refl
+
+same_back : (cert : Certificate) (version procedure back : ℕ) (t : AbsState) (o : Option ℕ) → is_back_uncovered (other cert version) procedure back t o ≡ is_back_uncovered cert procedure back t o
+unfolding ranges_of exit_of
+same_back cert version procedure back t None = refl
+same_back cert version procedure back t (Some q) = same_exit cert version procedure back t (ranges_of cert q) (exit_of cert q)
+
+same_covering : (cert : Certificate) (version procedure : ℕ) (t : Successor) → is_uncovered (other cert version) procedure t ≡ is_uncovered cert procedure t
+unfolding is_uncovered
+same_covering cert version procedure t = by t.target
+  where
+    by : (w : Target) → is_uncovered_at (other cert version) procedure w t.next t.state ≡ is_uncovered_at cert procedure w t.next t.state
+    by (target.At a) = refl
+    by (target.Call a) = ap (is_back_uncovered (other cert version) procedure t.next t.state) (same_callee cert version a t.state) ∙ same_back cert version procedure t.next t.state (callee_of cert a t.state)
+    by target.Return = refl
+    by target.Unknown = refl
+
+same_outside : (cert : Certificate) (version procedure : ℕ) (o : Option ℕ) → is_outside_of (other cert version) procedure o ≡ is_outside_of cert procedure o
+unfolding ranges_of
+same_outside cert version procedure None = refl
+same_outside cert version procedure (Some q) = refl
+
+same_call : (cert : Certificate) (version procedure : ℕ) (t : Successor) → is_uncallable (other cert version) procedure t ≡ is_uncallable cert procedure t
+unfolding is_uncallable
+same_call cert version procedure t = by t.target
+  where
+    by : (w : Target) → is_uncallable_at (other cert version) procedure w t.state ≡ is_uncallable_at cert procedure w t.state
+    by (target.At a) = refl
+    by (target.Call a) = ap (is_outside_of (other cert version) procedure) (same_callee cert version a t.state) ∙ same_outside cert version procedure (callee_of cert a t.state)
+    by target.Return = refl
+    by target.Unknown = refl
+
+same_return : (cert : Certificate) (version procedure : ℕ) (t : Successor) → is_unreturnable (other cert version) procedure t ≡ is_unreturnable cert procedure t
+unfolding is_unreturnable exit_of
+same_return cert version procedure t = by t.target
+  where
+    by : (w : Target) → is_unreturnable_at (other cert version) procedure w t.state ≡ is_unreturnable_at cert procedure w t.state
+    by (target.At a) = refl
+    by (target.Call a) = refl
+    by target.Return = refl
+    by target.Unknown = refl
+
+-- tests that agree on each successor
+same_any : (test also : Successor → Bool) (rom : List ℕ) (n : Node) (row : Row) → ((t : Successor) → test t ≡ also t) → any_of test rom n row ≡ any_of also rom n row
+unfolding any_of any_successor
+same_any test also rom n row same =
+    let ss = successors_of rom row n.address n.state in
+    rw (has_same ss.taken, has_same ss.not_taken, has_same ss.stays) refl
+  where
+    has_same : (o : Option Successor) → has test o ≡ has also o
+    has_same None = refl
+    has_same (Some t) = same t
+
+same_row : (rom : List ℕ) (cert : Certificate) (version : ℕ) (n : Node) (row : Row) (r : Reason) → applies_to_row rom (other cert version) n row r ≡ applies_to_row rom cert n row r
+unfolding applies_to_row grows_too_deep stores_outside leads_uncovered calls_wrongly returns_wrongly ranges_of need_of
+same_row rom cert version n row reason.Depth =
+    ap (λ b. pushes_too_deep (need_of cert n.procedure) n row.op || b) (same_any _ _ rom n row (same_depth cert version (need_of cert n.procedure)))
+same_row rom cert version n row reason.Uncovered = same_any _ _ rom n row (same_covering cert version n.procedure)
+same_row rom cert version n row reason.Callee = same_any _ _ rom n row (same_call cert version n.procedure)
+same_row rom cert version n row reason.Return = same_any _ _ rom n row (same_return cert version n.procedure)
+same_row rom cert version n row r = refl
+
+same_instruction : (test also : Row → Bool) (bytes : Option (List ℕ)) → ((row : Row) → test row ≡ also row) → test_instruction test bytes ≡ test_instruction also bytes
+same_instruction test also None same = refl
+same_instruction test also (Some bytes) same = by (decoded bytes)
+  where
+    by : (o : Option Row) → test_row test o ≡ test_row also o
+    by None = refl
+    by (Some row) = same row
+
+same_applies : (rom : List ℕ) (cert : Certificate) (version : ℕ) (n : Node) (r : Reason) → applies rom (other cert version) n r ≡ applies rom cert n r
+unfolding applies
+same_applies rom cert version n reason.Area = refl
+same_applies rom cert version n reason.Bank = refl
+same_applies rom cert version n reason.Unreadable = refl
+same_applies rom cert version n reason.UndefinedOpcode = refl
+same_applies rom cert version n r = same_instruction _ _ (node_bytes rom n) (λ row. same_row rom cert version n row r)
+
+same_find : {X : Type 0} (test also : X → Bool) (xs : List X) → ((x : X) → test x ≡ also x) → find test xs ≡ find also xs
+same_find test also [] same = refl
+same_find test also (x ∷ xs) same = rw (same x, same_find test also xs same) refl
+
 same_reason : (rom : List ℕ) (cert : Certificate) (version : ℕ) (n : Node) → reason_against rom (record cert { version = version }) n ≡ reason_against rom cert n
-unfolding reason_against reason_of applies stores_outside leads_uncovered ranges_of
-same_reason rom cert version n = refl
+unfolding reason_against reason_of
+same_reason rom cert version n = ap (λ o. or_interrupt o (may_be_interrupted n.state.core)) (same_find (applies rom (other cert version) n) (applies rom cert n) reasons (same_applies rom cert version n))
 
 same_from : (rom : List ℕ) (cert : Certificate) (version i : ℕ) (xs : List Node) → verdict_from rom (record cert { version = version }) i xs ≡ verdict_from rom cert i xs
 same_from rom cert version i [] = refl

@@ -1,0 +1,15 @@
+-- What a procedure leaves as it is (own rules).
+use Rattle.std.specs.Prelude.{◌≡◌, ℕ, ◌≤◌, true, false, List}
+use Rattle.std.specs.List.{list_any}
+use Rattle.gb_ops.specs.declared.machine.Region.{Region}
+use Rattle.gb_cert.specs.declared.types.Range.{Range}
+use Rattle.gb_cert.specs.Rules.{meets}
+use Rattle.gb_abs.specs.Span.{one}
+use Rattle.gb_abs.specs.Storage.{is_ram}
+use Rattle.gb_abs_memory.specs.Access.{is_range}
+
+-- a byte of RAM that a procedure with these ranges leaves as it is: outside them, and in the stack region not below the base
+pub record IsKept (region : Region) (ranges : List Range) (base b : ℕ) : Type 0 where
+  pub ram : is_ram b ≡ true
+  pub outside : list_any (is_range (one b)) ranges ≡ false
+  pub above : meets region b b ≡ true → base ≤ b

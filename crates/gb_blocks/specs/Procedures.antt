@@ -1,0 +1,29 @@
+-- What a certificate claims of its procedures (own format).
+use Rattle.std.specs.Prelude.{ℕ, List, [], slice_get, Option, Some, None}
+use Rattle.gb_cert.specs.declared.types.Range.{Range}
+use Rattle.gb_cert.specs.Types.{AbsState, ProcedureParts}
+use Rattle.gb_cert.specs.Certificate.{Certificate}
+
+abbrev pub ranges_in : Option ProcedureParts → List Range
+ranges_in None = []
+ranges_in (Some p) = p.ranges
+
+abbrev pub need_in : Option ProcedureParts → ℕ
+need_in None = 0
+need_in (Some p) = p.need
+
+abbrev pub exit_in : Option ProcedureParts → Option AbsState
+exit_in None = None
+exit_in (Some p) = p.exit
+
+-- what a procedure may write
+unfoldable pub ranges_of : Certificate → ℕ → List Range
+ranges_of cert procedure = ranges_in (slice_get cert.procedures procedure)
+
+-- how many words it may have on the stack, those of its callees among them
+unfoldable pub need_of : Certificate → ℕ → ℕ
+need_of cert procedure = need_in (slice_get cert.procedures procedure)
+
+-- what it returns with, if it returns
+unfoldable pub exit_of : Certificate → ℕ → Option AbsState
+exit_of cert procedure = exit_in (slice_get cert.procedures procedure)

@@ -1,0 +1,124 @@
+-- Cells that get their places by address: what holds of each of them, and that of many the first come out alike.
+use Rattle.std.proofs.Common.{◌≡◌, ℕ, zero, suc, ◌+◌, ◌≤◌, ◌<◌, Bool, true, false, nat_lt, cond, List, [], ◌∷◌, ◌++◌, length, map, take, drop, insert, get_or, refl, sym, ◌∙◌, ap, arith}
+use Rattle.std.proofs.lemmas.List.{take-take, take_all, at_drop_more}
+use Rattle.std.specs.List.{AllByRecursion, filter}
+use Rattle.gb_cert.specs.declared.types.Cell.{Cell}
+use Rattle.gb_calls.specs.Calls.{cell_without_origin, inserted, merged}
+
+-- ---- what holds of each
+
+AllByRecursion-inserted : (P : Cell → Type 0) (c : Cell) (cells : List Cell) → P c → AllByRecursion P cells → AllByRecursion P (inserted c cells)
+AllByRecursion-inserted P c [] p h = (p, tt)
+AllByRecursion-inserted P c (d ∷ ds) p h = choose (nat_lt c.address d.address) (AllByRecursion-inserted P c ds p h.1)
+  where
+    choose : (b : Bool) → AllByRecursion P (inserted c ds) → AllByRecursion P (cond b (c ∷ d ∷ ds) (d ∷ inserted c ds))
+    choose true rest = (p, h)
+    choose false rest = (h.0, rest)
+
+pub AllByRecursion-merged :
+    (P : Cell → Type 0) (cs others : List Cell) → AllByRecursion P cs → AllByRecursion P others → AllByRecursion P (merged cs others)
+AllByRecursion-merged P [] others p h = h
+AllByRecursion-merged P (c ∷ cs) others p h = AllByRecursion-merged P cs (inserted c others) p.1 (AllByRecursion-inserted P c others p.0 h)
+
+pub AllByRecursion-take : {X : Type 0} (P : X → Type 0) (n : ℕ) (xs : List X) → AllByRecursion P xs → AllByRecursion P (take n xs)
+AllByRecursion-take P zero xs h = tt
+AllByRecursion-take P (suc n) [] h = tt
+AllByRecursion-take P (suc n) (x ∷ xs) h = (h.0, AllByRecursion-take P n xs h.1)
+
+-- ---- the first of many
+
+take-front : (n : ℕ) (d : Cell) (ds : List Cell) → take n (d ∷ take n ds) ≡ take n (d ∷ ds)
+take-front zero d ds = refl
+take-front (suc n) d ds = ap (λ xs. d ∷ xs) (take-take n (suc n) ds (omega arith))
+
+-- where the last fall, it doesn't matter whether they fell before
+take-inserted : (n : ℕ) (c : Cell) (ds : List Cell) → take n (inserted c (take n ds)) ≡ take n (inserted c ds)
+take-inserted zero c ds = refl
+take-inserted (suc n) c [] = refl
+take-inserted (suc n) c (d ∷ ds) = choose (nat_lt c.address d.address) (take-inserted n c ds)
+  where
+    choose :
+        (b : Bool) → take n (inserted c (take n ds)) ≡ take n (inserted c ds)
+        → take (suc n) (cond b (c ∷ d ∷ take n ds) (d ∷ inserted c (take n ds))) ≡ take (suc n) (cond b (c ∷ d ∷ ds) (d ∷ inserted c ds))
+    choose true rest = ap (λ xs. c ∷ xs) (take-front n d ds)
+    choose false rest = ap (λ xs. d ∷ xs) rest
+
+take-merged : (n : ℕ) (cs ds : List Cell) → take n (merged cs (take n ds)) ≡ take n (merged cs ds)
+take-merged n [] ds = take-take n n ds (omega arith)
+take-merged n (c ∷ cs) ds =
+    sym (take-merged n cs (inserted c (take n ds)))
+    ∙ ap (λ xs. take n (merged cs xs)) (take-inserted n c ds)
+    ∙ take-merged n cs (inserted c ds)
+
+-- ---- a place among others
+
+-- one that isn't above the cell is passed
+pub inserted-passed :
+    (c : Cell) (xs : List Cell) (i : ℕ) (d : Cell) → i < length xs → nat_lt c.address (get_or xs i d).address ≡ false
+    → take (i + 1) xs ++ inserted c (drop (i + 1) xs) ≡ take i xs ++ inserted c (drop i xs)
+inserted-passed c [] i d lt h = absurd (omega arith)
+inserted-passed c (x ∷ xs) zero d lt h = ap (λ b. cond b (c ∷ x ∷ xs) (x ∷ inserted c xs)) (sym h)
+inserted-passed c (x ∷ xs) (suc i) d lt h =
+    let e : suc i + 1 ≡ suc (i + 1) = omega arith in
+    rw e (ap (λ ys. x ∷ ys) (inserted-passed c xs i d (omega arith) h))
+
+-- before one that is above it, the cell stands
+pub inserted-here :
+    (c : Cell) (xs : List Cell) (i : ℕ) (d : Cell) → i < length xs → nat_lt c.address (get_or xs i d).address ≡ true
+    → inserted c (drop i xs) ≡ c ∷ drop i xs
+inserted-here c [] i d lt h = absurd (omega arith)
+inserted-here c (x ∷ xs) zero d lt h = ap (λ b. cond b (c ∷ x ∷ xs) (x ∷ inserted c xs)) h
+inserted-here c (x ∷ xs) (suc i) d lt h = inserted-here c xs i d (omega arith) h
+
+-- the last fall before or after
+insert-taken : (n i : ℕ) (c : Cell) (xs : List Cell) → i ≤ n → i ≤ length xs → insert (take n xs) i c ≡ take (suc n) (insert xs i c)
+insert-taken n zero c xs most within = refl
+insert-taken zero (suc i) c xs most within = absurd (omega arith)
+insert-taken (suc n) (suc i) c [] most within = absurd (omega arith)
+insert-taken (suc n) (suc i) c (x ∷ xs) most within = ap (λ ys. x ∷ ys) (insert-taken n i c xs (omega arith) (omega arith))
+
+insert-fallen : (n : ℕ) (c : Cell) (xs : List Cell) → n ≤ length xs → take n (insert xs n c) ≡ take n xs
+insert-fallen zero c xs within = refl
+insert-fallen (suc n) c [] within = absurd (omega arith)
+insert-fallen (suc n) c (x ∷ xs) within = ap (λ ys. x ∷ ys) (insert-fallen n c xs (omega arith))
+
+-- with 31 places before it, a cell is put in its own
+pub put-inside :
+    (c : Cell) (xs : List Cell) (place : ℕ) → inserted c xs ≡ insert xs place c → place < 32 → place ≤ length xs
+    → insert (take 31 xs) place c ≡ take 32 (inserted c xs)
+put-inside c xs place is few within = insert-taken 31 place c xs (omega arith) within ∙ ap (λ ys. take 32 ys) (sym is)
+
+-- with 32 before it, it falls itself
+pub put-behind :
+    (c : Cell) (xs : List Cell) (place : ℕ) → inserted c xs ≡ insert xs place c → 32 ≤ place → place ≤ length xs → length xs ≤ 32
+    → xs ≡ take 32 (inserted c xs)
+put-behind c xs place is many within few =
+    let at : place ≡ 32 = omega arith in
+    sym (ap (λ ys. take 32 ys) (is ∙ ap (λ n. insert xs n c) at) ∙ insert-fallen 32 c xs (omega arith) ∙ take_all 32 xs few)
+
+-- ---- one after the other
+
+-- those of a certificate's cells that pass a test, as no copies
+abbrev pub written : (Cell → Bool) → List Cell → List Cell
+written test xs = map cell_without_origin (filter test xs)
+
+written-cons : (test : Cell → Bool) (x : Cell) (xs : List Cell) (b : Bool) → test x ≡ b
+    → written test (x ∷ xs) ≡ cond b (cell_without_origin x ∷ written test xs) (written test xs)
+written-cons test x xs true e = ap (λ b. map cell_without_origin (cond b (x ∷ filter test xs) (filter test xs))) e
+written-cons test x xs false e = ap (λ b. map cell_without_origin (cond b (x ∷ filter test xs) (filter test xs))) e
+
+-- a cell that passes is put in its place
+pub merged-put :
+    (test : Cell → Bool) (from held : List Cell) (i : ℕ) (d : Cell) → i < length from → test (get_or from i d) ≡ true
+    → take 32 (merged (written test (drop (i + 1) from)) (take 32 (inserted (cell_without_origin (get_or from i d)) held)))
+    ≡ take 32 (merged (written test (drop i from)) held)
+merged-put test from held i d lt e =
+    take-merged 32 (written test (drop (i + 1) from)) (inserted (cell_without_origin (get_or from i d)) held)
+    ∙ ap (λ cs. take 32 (merged cs held)) (sym (at_drop_more (written test) from i d lt ∙ written-cons test (get_or from i d) (drop (i + 1) from) true e))
+
+-- another one is passed
+pub merged-passed :
+    (test : Cell → Bool) (from held : List Cell) (i : ℕ) (d : Cell) → i < length from → test (get_or from i d) ≡ false
+    → take 32 (merged (written test (drop (i + 1) from)) held) ≡ take 32 (merged (written test (drop i from)) held)
+merged-passed test from held i d lt e =
+    ap (λ cs. take 32 (merged cs held)) (sym (at_drop_more (written test) from i d lt ∙ written-cons test (get_or from i d) (drop (i + 1) from) false e))

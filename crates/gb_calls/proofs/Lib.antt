@@ -1,0 +1,5 @@
+pub mod EnteringLaws
+pub mod CalleeLaws
+pub mod RangeLaws
+pub mod CellLaws
+pub mod ResumingLaws

@@ -1,0 +1,14 @@
+//! Calls, over abstract states: what a procedure begins with that is called (`enter`), which one is called
+//! (`callee`), whether what it may write is its caller's to write (`are_ranges_inside`), and what its caller goes
+//! on with (`resume`). Each is `exact`; entering and resuming follow what the machine does (`sound`).
+//!
+//! A caller's state is the one in which it left, the return word on the stack but no item of the caller's.
+//!
+//! Read `entering` and `callees`, then `ranges`, `cells` and `resuming`. Of the definitions, `Calls` and `Sound`.
+#![tactic(auto)]
+
+pub mod callees;
+mod cells;
+pub mod entering;
+pub mod ranges;
+pub mod resuming;

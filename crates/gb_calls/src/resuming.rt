@@ -1,0 +1,108 @@
+//! What a caller goes on with.
+
+ghost use Rattle.std.specs.Prelude.{◌≡◌};
+ghost use Rattle.gb_calls.specs.Calls as Calls;
+ghost use Rattle.gb_calls.specs.Sound.{IsSoundResuming};
+
+use crate::cells::cells_back;
+use crate::entering::{own, without_origin};
+use arrayvec::ArrayVec;
+use gb_abs::covering::covers_val;
+use gb_cert::types::{Abs, Core, Origin, Range, Val};
+use gb_ops::op::Register;
+use gb_ops::registers::Registers;
+use gb_vals::vals::any;
+
+/// Whether a value is what this held at entry.
+#[tactic(auto, using(crate::proofs::ResumingLaws::covers_own), unfolding(gb_abs::specs::Covering::covers_val))]
+fn is_own(origin: Origin, val: Val) -> bool
+    ensures { result ≡ Calls.is_own origin val }
+{
+    covers_val(&val, &own(origin, any()))
+}
+
+/// What the callee gives back as it was is the caller's; else its exit says what it is, and that is no copy.
+fn given_back(origin: Origin, caller: Val, exit: Val) -> Val
+    ensures { result ≡ Calls.given_back origin caller exit }
+{
+    if is_own(origin, exit) {
+        caller
+    } else {
+        without_origin(exit)
+    }
+}
+
+fn registers_back(caller: &Registers<Val>, exit: &Registers<Val>) -> Registers<Val>
+    ensures { result ≡ Calls.registers_back caller.now exit.now }
+{
+    Registers {
+        a: given_back(Origin::Register(Register::A), caller.a, exit.a),
+        b: given_back(Origin::Register(Register::B), caller.b, exit.b),
+        c: given_back(Origin::Register(Register::C), caller.c, exit.c),
+        d: given_back(Origin::Register(Register::D), caller.d, exit.d),
+        e: given_back(Origin::Register(Register::E), caller.e, exit.e),
+        h: given_back(Origin::Register(Register::H), caller.h, exit.h),
+        l: given_back(Origin::Register(Register::L), caller.l, exit.l),
+    }
+}
+
+/// The caller's test, where A and the flags are the caller's.
+fn test_back(caller: &Core, exit: &Core) -> Option<u8>
+    ensures { result ≡ Calls.test_back caller.now exit.now }
+{
+    if is_own(Origin::Register(Register::A), exit.registers.a) && exit.flags.is_own {
+        caller.test
+    } else {
+        None
+    }
+}
+
+/// IME and the bound are the exit's, the stack is the caller's; the rest is the caller's where it is given back.
+fn core_back(caller: &Core, exit: &Core) -> Core
+    ensures { result ≡ Calls.core_back caller.now exit.now }
+{
+    Core {
+        ime: exit.ime,
+        bound: exit.bound,
+        stack_set: caller.stack_set,
+        test: test_back(caller, exit),
+        ctl: if exit.ctl.is_kept {
+            caller.ctl
+        } else {
+            exit.ctl
+        },
+        flags: if exit.flags.is_own {
+            caller.flags
+        } else {
+            exit.flags
+        },
+        ie: given_back(Origin::Ie, caller.ie, exit.ie),
+        registers: registers_back(&caller.registers, &exit.registers),
+    }
+}
+
+/// The state with which a caller goes on.
+#[tactic(auto, unfolding(crate::specs::Calls::resumed))]
+fn resumed(ranges: &[Range], state: &Abs, exit: &Abs) -> Abs
+    ensures { result ≡ Calls.resumed ranges.now state.now exit.now }
+{
+    let mut items = ArrayVec::new();
+    if items.try_extend_from_slice(state.items()).is_err() {
+        unreachable!();
+    }
+    Abs::of_parts(
+        core_back(state.core(), exit.core()),
+        items,
+        cells_back(ranges, state.cells(), exit.cells()),
+    )
+}
+
+/// What a caller goes on with that was in these states, where its callee has these ranges and left by this exit
+/// (abstract interpretation: calls; own).
+#[tactic(auto, using(crate::proofs::ResumingLaws::resume_sound))]
+pub fn resume(ranges: &[Range], state: &Abs, exit: &Abs) -> Abs
+    ensures exact { result ≡ Calls.resumed ranges.now state.now exit.now }
+    ensures sound { IsSoundResuming ranges.now state.now exit.now result }
+{
+    resumed(ranges, state, exit)
+}

@@ -1,0 +1,89 @@
+-- The stack's instructions: what they read and write, where they go on, and what they make of the words that are held.
+use Rattle.std.proofs.Common.{◌≡◌, ℕ, ◌/◌, ◌%◌, Bool, true, false, cond, ◌⊎◌, inl, inr, ◌==◌, ◌-◌, List, [], ◌∷◌, length, take, refl, sym, ap}
+use Rattle.gb_ops.specs.declared.op.Pair.{Pair}
+use Rattle.gb_ops.specs.declared.op.Pair.TheVariants as pair
+use Rattle.gb_ops.specs.declared.op.Op.{Op}
+use Rattle.gb_ops.specs.declared.op.Op.TheVariants as op
+use Rattle.gb_cert.specs.declared.types.Val.{Val}
+use Rattle.gb_cert.specs.declared.types.Core.{Core}
+use Rattle.gb_cert.specs.declared.types.Item.{Item}
+use Rattle.gb_cert.specs.Types.{AbsState}
+use Rattle.gb_vals.specs.Vals.{single}
+use Rattle.gb_abs.specs.Stack.{pushed, popped}
+use Rattle.gb_abs_effects.specs.declared.reads.AbsRead.TheVariants as read
+use Rattle.gb_abs_effects.specs.declared.writes.AbsWrite.{AbsWrite}
+use Rattle.gb_abs_effects.specs.declared.writes.AbsWrite.TheVariants as write
+use Rattle.gb_abs_effects.specs.declared.targets.Target.TheVariants as target
+use Rattle.gb_abs_effects.specs.Accesses.{read_of}
+use Rattle.gb_abs_effects.specs.Targets.{target_of, is_push, is_pop, is_call, is_return}
+use Rattle.gb_abs_effects.specs.Transfer.{transfer}
+use Rattle.gb_successors.specs.Successors.{with_stack_of, pushed_if_room}
+
+-- PUSH
+pub record IsPush (o : Op) (next : ℕ) (c : Core) (low high : Val) : Type 0 where
+  pub first : Val
+  pub second : Val
+  pub write_is : (transfer o next c low high).write ≡ write.Push first second
+  pub read_is : read_of o c ≡ read.Nothing
+  pub target_is : target_of o next c ≡ target.At next
+  pub leaves : (s : AbsState) → with_stack_of o (write.Push first second) s ≡ pushed_if_room (record { high = first; low = second }) s
+
+pub IsPush-is_push : (o : Op) (next : ℕ) (c : Core) (low high : Val) → is_push o ≡ true → IsPush o next c low high
+unfolding transfer read_of target_of with_stack_of
+IsPush-is_push (op.Push from) next c low high h = record { first = _; second = _; write_is = refl; read_is = refl; target_is = refl; leaves = λ s. refl }
+IsPush-is_push o next c low high h = cc
+
+-- a call
+pub record IsCall (o : Op) (next : ℕ) (c : Core) (low high : Val) : Type 0 where
+  pub address : ℕ
+  pub write_is : (transfer o next c low high).write ≡ write.Push (single (next / 256)) (single (next % 256))
+  pub read_is : read_of o c ≡ read.Nothing
+  pub target_is : target_of o next c ≡ target.Call address
+  pub leaves : (w : AbsWrite) (s : AbsState) → with_stack_of o w s ≡ s
+
+pub IsCall-is_call : (o : Op) (next : ℕ) (c : Core) (low high : Val) → is_call o ≡ true → IsCall o next c low high
+unfolding transfer read_of target_of with_stack_of
+IsCall-is_call (op.CallIf k a) next c low high h = record { address = a; write_is = refl; read_is = refl; target_is = refl; leaves = λ w s. refl }
+IsCall-is_call (op.Call a) next c low high h = record { address = a; write_is = refl; read_is = refl; target_is = refl; leaves = λ w s. refl }
+IsCall-is_call (op.Restart a) next c low high h = record { address = a; write_is = refl; read_is = refl; target_is = refl; leaves = λ w s. refl }
+IsCall-is_call o next c low high h = cc
+
+-- POP
+pub record IsPop (o : Op) (next : ℕ) (c : Core) (low high : Val) : Type 0 where
+  pub write_is : (transfer o next c low high).write ≡ write.Nothing
+  pub read_is : read_of o c ≡ read.Top
+  pub target_is : target_of o next c ≡ target.At next
+  pub leaves : (w : AbsWrite) (s : AbsState) → with_stack_of o w s ≡ popped s
+
+pub IsPop-is_pop : (o : Op) (next : ℕ) (c : Core) (low high : Val) → is_pop o ≡ true → IsPop o next c low high
+unfolding transfer read_of target_of with_stack_of
+IsPop-is_pop (op.Pop to) next c low high h = record { write_is = refl; read_is = refl; target_is = refl; leaves = λ w s. refl }
+IsPop-is_pop o next c low high h = cc
+
+-- a return
+pub record IsReturn (o : Op) (next : ℕ) (c : Core) (low high : Val) : Type 0 where
+  pub write_is : (transfer o next c low high).write ≡ write.Nothing
+  pub read_is : read_of o c ≡ read.Top
+  pub target_is : target_of o next c ≡ target.Return
+  pub leaves : (w : AbsWrite) (s : AbsState) → with_stack_of o w s ≡ s
+
+pub IsReturn-is_return : (o : Op) (next : ℕ) (c : Core) (low high : Val) → is_return o ≡ true → IsReturn o next c low high
+unfolding transfer read_of target_of with_stack_of
+IsReturn-is_return (op.ReturnIf k) next c low high h = record { write_is = refl; read_is = refl; target_is = refl; leaves = λ w s. refl }
+IsReturn-is_return op.Return next c low high h = record { write_is = refl; read_is = refl; target_is = refl; leaves = λ w s. refl }
+IsReturn-is_return op.ReturnFromInterrupt next c low high h = record { write_is = refl; read_is = refl; target_is = refl; leaves = λ w s. refl }
+IsReturn-is_return o next c low high h = cc
+
+-- where there is room, the word is pushed
+pub pushed-if_room : (i : Item) (s : AbsState) → (length s.items == 16) ≡ false → pushed_if_room i s ≡ pushed i s
+unfolding pushed_if_room
+pushed-if_room i s h = ap (λ b. cond b s (pushed i s)) h
+
+-- where no word is held, none is popped
+pub popped_empty : (s : AbsState) → length s.items ≡ 0 → s ≡ popped s
+unfolding popped
+popped_empty s h = sym (ap (λ items. record { core = s.core; items = items; cells = s.cells }) (nothing s.items h))
+  where
+    nothing : (xs : List Item) → length xs ≡ 0 → take (length xs - 1) xs ≡ xs
+    nothing [] h = refl
+    nothing (x ∷ xs) h = cc

@@ -1,0 +1,105 @@
+//! Reads cartridges and certificates from standard input, as text, and prints the verdict's line of each, so that the gate
+//! compares them with worked examples. Their lines come from the rules by hand, and from an independent implementation.
+//!
+//! An example is some lines: `about` with a sentence; `sizes` with the bytes 0147 to 0149; `rom` with an offset and bytes
+//! that lie there, beside the start at 0100 and the header; `cert` with bytes that follow one another, as often as it takes;
+//! and `verdict`. Numbers are hexadecimal, and other lines mean nothing.
+#![tactic(auto)]
+
+use gb_samples::cartridges::{SMALLEST, file, put};
+use gb_text::kept_bytes::KeptBytes;
+use gb_verify::verify::verify_bytes;
+use std::alloc::Global;
+use std::io::{self, BufRead, BufReader, BufWriter, Write};
+
+/// The bytes of a cartridge and a certificate.
+#[derive(Drop)]
+struct Example {
+    rom: Vec<u8>,
+    cert: Vec<u8>,
+}
+
+impl Example {
+    fn new(alloc: Global) -> Example {
+        Example {
+            rom: Vec::new(alloc),
+            cert: Vec::new(alloc),
+        }
+    }
+}
+
+/// The bytes of hexadecimal digits; none where they spell none.
+fn bytes_of(alloc: Global, digits: &str) -> Vec<u8> {
+    hex::decode(alloc, digits).unwrap_or(Vec::new(alloc))
+}
+
+/// A cartridge with these bytes at 0147 to 0149, as long as they say.
+fn cartridge(alloc: Global, digits: &str) -> io::Result<Vec<u8>> {
+    let bytes = bytes_of(alloc, digits);
+    let [kind, size, ram] = bytes.as_slice() else {
+        return Ok(Vec::new(alloc));
+    };
+    Ok(file(alloc, SMALLEST << (*size % 9), [*kind, *size, *ram], &[])?)
+}
+
+/// The number of hexadecimal digits; 0 where they spell none.
+fn offset_of(digits: &str) -> usize {
+    usize::from_str_radix(digits, 16).unwrap_or(0)
+}
+
+/// Prints the verdict's line.
+fn judge<W: Write>(alloc: Global, out: &mut W, example: &Example) -> io::Result<()> {
+    let mut line = KeptBytes::new(96, 96);
+    let _ = verify_bytes(
+        alloc,
+        example.rom.as_slice(),
+        example.cert.as_slice(),
+        &mut line,
+    );
+    out.write_all(line.kept())
+}
+
+/// Takes a line of an example.
+fn take<W: Write>(
+    alloc: Global,
+    out: &mut W,
+    example: &mut Example,
+    line: &str,
+) -> io::Result<()> {
+    let (word, rest) = line.split_once(' ').unwrap_or((line, ""));
+    match word {
+        "about" => {
+            *example = Example::new(alloc);
+            writeln!(out, "{rest}")
+        }
+        "sizes" => {
+            example.rom = cartridge(alloc, rest)?;
+            Ok(())
+        }
+        "rom" => {
+            let (place, digits) = rest.split_once(' ').unwrap_or((rest, ""));
+            let piece = bytes_of(alloc, digits);
+            put(example.rom.as_mut_slice(), offset_of(place), piece.as_slice());
+            Ok(())
+        }
+        "cert" => {
+            example
+                .cert
+                .extend_from_slice(bytes_of(alloc, rest).as_slice())?;
+            Ok(())
+        }
+        "verdict" => judge(alloc, out, example),
+        _ => Ok(()),
+    }
+}
+
+fn main(rt: HostRuntime) -> io::Result<()> {
+    let mut example = Example::new(rt.alloc());
+    let mut out = BufWriter::new(rt.alloc(), io::writer(&rt))?;
+    let lines = BufReader::new(rt.alloc(), rt.reader())?.lines(rt.alloc());
+    for line in lines {
+        let line = line?;
+        take(rt.alloc(), &mut out, &mut example, line.as_str())?;
+    }
+    out.flush()
+}
