@@ -1,5 +1,6 @@
 pub mod CellLaws
 pub mod CoveringLaws
+pub mod ListLaws
 pub mod StorageLaws
 pub mod StackLaws
 pub mod OperationLaws

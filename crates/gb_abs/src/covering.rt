@@ -1,9 +1,10 @@
 //! Whether one abstract state stands for all that another one does.
 
-ghost use Rattle.std.specs.Prelude.{◌≡◌, true};
+ghost use Rattle.std.specs.Prelude.{◌≡◌, ◌&&◌, true};
 ghost use Rattle.gb_abs.specs.Sound.{IsPartOf};
 ghost use Rattle.gb_abs.specs.Covering.{origin_number, register_number, implied, covers_origin, covers_val, covers_may, covers_flags, covers_ime, covers_controller, covers_registers, covers_test, covers_core, covers_item, covers_items, cell_at, covers_cells, covers};
 
+use gb_cert::NodeRef;
 use gb_cert::types::{Abs, Cell, Core, Ctl, Flg, ImeSet, Item, May, Origin, Val};
 use gb_ops::op::Register;
 use gb_ops::registers::Registers;
@@ -41,7 +42,8 @@ fn implied(a: bool, b: bool) -> bool
     !a || b
 }
 
-fn covers_origin(from: Option<Origin>, to: Option<Origin>) -> bool
+/// Whether a value of the first origin is one of the second. Where the second is none, any is.
+pub fn covers_origin(from: Option<Origin>, to: Option<Origin>) -> bool
     ensures { result ≡ covers_origin from to }
 {
     match (from, to) {
@@ -59,7 +61,8 @@ pub fn covers_val(s: &Val, t: &Val) -> bool
     t.lo <= s.lo && s.hi <= t.hi && covers_origin(s.origin, t.origin)
 }
 
-fn covers_may(s: May, t: May) -> bool
+/// Whether each value that s may have is one that t may have.
+pub fn covers_may(s: May, t: May) -> bool
     ensures { result ≡ covers_may s t }
 {
     implied(s.set, t.set) && implied(s.clear, t.clear)
@@ -76,8 +79,9 @@ fn covers_flags(s: &Flg, t: &Flg) -> bool
         && implied(t.is_own, s.is_own)
 }
 
+/// Whether each value that the interrupt master enable may have in s is one that it may have in t.
 #[tactic(auto, unfolding(crate::specs::Covering::covers_ime))]
-fn covers_ime(s: &ImeSet, t: &ImeSet) -> bool
+pub fn covers_ime(s: &ImeSet, t: &ImeSet) -> bool
     ensures { result ≡ covers_ime s.now t.now }
 {
     implied(s.off, t.off) && implied(s.pending, t.pending) && implied(s.on, t.on)
@@ -109,7 +113,8 @@ fn covers_registers(s: &Registers<Val>, t: &Registers<Val>) -> bool
         && covers_val(&s.l, &t.l)
 }
 
-fn covers_test(from: Option<u8>, to: Option<u8>) -> bool
+/// Whether the test of one state gives that of another.
+pub fn covers_test(from: Option<u8>, to: Option<u8>) -> bool
     ensures { result ≡ covers_test from to }
 {
     match (from, to) {
@@ -119,8 +124,9 @@ fn covers_test(from: Option<u8>, to: Option<u8>) -> bool
     }
 }
 
+/// Whether each part of t stands for what the part of s does, but for items and cells.
 #[tactic(auto, unfolding(crate::specs::Covering::covers_core))]
-fn covers_core(s: &Core, t: &Core) -> bool
+pub fn covers_core(s: &Core, t: &Core) -> bool
     ensures { result ≡ covers_core s.now t.now }
 {
     covers_registers(&s.registers, &t.registers)
@@ -193,4 +199,24 @@ pub fn covers(s: &Abs, t: &Abs) -> bool
     ensures sound { result ≡ true → IsPartOf s.now t.now }
 {
     covers_each(s, t)
+}
+
+/// Whether the items and the cells of a node's state stand for what these do.
+pub fn covers_lists(s: &Abs, node: &NodeRef<'_>) -> bool
+    ensures { result ≡ (covers_items s.now.items node.now.state.items && covers_cells s.now.cells node.now.state.cells) }
+{
+    if node.items().is_empty() && node.cells().is_empty() {
+        return s.items().is_empty();
+    }
+    let t = node.state();
+    covers_items(s.items(), t.items()) && covers_cells(s.cells(), t.cells())
+}
+
+/// Whether the state of a node stands for each machine state that s stands for. Only its core is read
+/// where that doesn't, and where it holds no items and no cells.
+#[tactic(auto, unfolding(crate::specs::Covering::covers))]
+pub fn covers_node(s: &Abs, node: &NodeRef<'_>) -> bool
+    ensures { result ≡ covers s.now node.now.state }
+{
+    covers_core(s.core(), &node.core()) && covers_lists(s, node)
 }

@@ -121,22 +121,36 @@ fn ram_stored(span: Span, val: &Val, state: &Abs) -> Abs
     }
 }
 
-/// The state after a store in the area that all of these addresses lie in. What is against the store is
-/// asked apart: `is_storable`, and what refuses it.
+/// A store in the area that all of these addresses lie in changes the state. What is against the store
+/// is asked apart: `is_storable`, and what refuses it.
 #[tactic(auto, unfolding(crate::specs::Access::stored_state))]
+pub fn store_in(kind: Kind, span: Span, val: &Val, state: &mut Abs)
+    ensures { state.new ≡ Access.stored_state kind span val.now state.old }
+{
+    match area_of(kind, span) {
+        Some(Area::Controller(Some(register))) => {
+            let core = *state.core();
+            let ctl = ctl_after(kind, register, val, &core.ctl);
+            state.set_core(Core { ctl, ..core });
+        }
+        Some(Area::Ram) => *state = ram_stored(span, val, state),
+        Some(Area::InterruptEnable) => {
+            state.set_core(Core {
+                ie: *val,
+                ..*state.core()
+            });
+        }
+        Some(Area::Controller(None) | Area::Hardware) | None => {}
+    }
+}
+
+/// The state after such a store.
 pub fn stored_state(kind: Kind, span: Span, val: &Val, state: &Abs) -> Abs
     ensures { result ≡ Access.stored_state kind span val.now state.now }
 {
-    let core = *state.core();
-    match area_of(kind, span) {
-        Some(Area::Controller(Some(register))) => {
-            let ctl = ctl_after(kind, register, val, &core.ctl);
-            state.with_core(Core { ctl, ..core })
-        }
-        Some(Area::Ram) => ram_stored(span, val, state),
-        Some(Area::InterruptEnable) => state.with_core(Core { ie: *val, ..core }),
-        Some(Area::Controller(None) | Area::Hardware) | None => state.with_core(core),
-    }
+    let mut after = state.copied();
+    store_in(kind, span, val, &mut after);
+    after
 }
 
 /// Whether a store starts an OAM transfer: one to FF46 alone does (OAM DMA transfer).

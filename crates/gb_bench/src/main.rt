@@ -1,11 +1,11 @@
-//! How long a parse and a check of a large certificate take, beside reading its bytes once; the
+//! How long a parse and a check of large certificates take, beside reading their bytes once; the
 //! processor's steps; and frames of a full scene. The times go to standard error; what is printed on standard
 //! output is the same each time.
 //!
-//! Nothing is promised here. `processor.rt`, `picture.rt` and `largest.rt` have a measurement each.
+//! Nothing is promised here. `processor.rt`, `picture.rt` and `certificates.rt` have what is measured.
 #![tactic(auto)]
 
-mod largest;
+mod certificates;
 mod picture;
 mod processor;
 
@@ -37,23 +37,54 @@ fn main(rt: HostRuntime) -> io::Result<()> {
     println!(rt; "the processor's steps took {cycles} M-cycles")?;
     let drawn = picture::draw(&rt)?;
     println!(rt; "a full scene was drawn: {drawn}")?;
-    largest_certificate(&rt)
+    let straight_line = certificates::straight_line();
+    let bytes = certificates::of_straight_line(rt.alloc())?;
+    check_certificate(
+        &rt,
+        "65,535 nodes of straight-line code",
+        &straight_line,
+        &bytes,
+    )?;
+    let bytes = certificates::of_procedures(rt.alloc())?;
+    check_certificate(
+        &rt,
+        "1,048,576 nodes of 32 procedures",
+        &straight_line,
+        &bytes,
+    )?;
+    let bytes = certificates::of_one_address(rt.alloc())?;
+    check_certificate(
+        &rt,
+        "65,535 nodes at one address",
+        &certificates::loop_alone(),
+        &bytes,
+    )?;
+    let bytes = certificates::of_single_values(rt.alloc())?;
+    check_certificate(
+        &rt,
+        "65,533 single values at one address",
+        &certificates::two_jumps(),
+        &bytes,
+    )
 }
 
-/// Parses and checks the largest certificate.
-fn largest_certificate<R: Print + Eprint + Clock + AllocGlobal>(rt: &R) -> io::Result<()> {
-    let cartridge = largest::cartridge();
-    let bytes = largest::certificate(rt.alloc())?;
-
+/// Reads, parses and checks a certificate.
+fn check_certificate<R: Print + Eprint + Clock + AllocGlobal>(
+    rt: &R,
+    what: &str,
+    cartridge: &[u8],
+    bytes: &[u8],
+) -> io::Result<()> {
+    eprintln!(rt; "{what}")?;
     let start = Instant::now(rt)?;
-    let sum = sum_of(&bytes);
+    let sum = sum_of(bytes);
     report(rt, "reading the bytes once", &start)?;
 
-    let Ok(rom) = Rom::parse(&cartridge) else {
+    let Ok(rom) = Rom::parse(cartridge) else {
         return println!(rt; "no cartridge");
     };
     let start = Instant::now(rt)?;
-    let parsed = Cert::parse(rt.alloc(), &bytes);
+    let parsed = Cert::parse(rt.alloc(), bytes);
     report(rt, "parse", &start)?;
     let cert = match parsed {
         Ok(cert) => cert,

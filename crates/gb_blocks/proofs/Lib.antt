@@ -1,5 +1,6 @@
 pub mod SearchLaws
 pub mod CoveredLaws
+pub mod ValueLaws
 pub mod CoveringLaws
 pub mod ProcedureLaws
 pub mod CallLaws
@@ -7,6 +8,8 @@ pub mod NodeLaws
 pub mod StandLaws
 pub mod WayLaws
 pub mod EventLaws
+pub mod DispatchLaws
+pub mod InterruptLaws
 pub mod AnswerLaws
 pub mod FrameLaws
 pub mod FrameRunLaws

@@ -1,10 +1,10 @@
 -- What is known of a node of a certificate that no reason applies to.
-use Rattle.std.proofs.Common.{◌≡◌, ℕ, zero, suc, ◌+◌, ◌≤◌, ◌<◌, Bool, true, false, cond, not, ◌||◌, ◌==◌, nat_lt, ◌⊎◌, inl, inr, List, [], ◌∷◌, length, slice_index, get_or, Option, Some, None, is_none, refl, sym, ◌∙◌, ap, subst, arith}
+use Rattle.std.proofs.Common.{◌≡◌, ℕ, zero, suc, ◌+◌, ◌≤◌, ◌<◌, Bool, true, false, cond, not, ◌&&◌, ◌||◌, ◌==◌, nat_lt, ◌⊎◌, inl, inr, List, [], ◌∷◌, length, slice_index, slice_get, get_or, Option, Some, None, is_none, refl, sym, ◌∙◌, ap, subst, arith}
 use Rattle.std.proofs.lemmas.Bool.{or_parts, not-false, eqb-true}
 use Rattle.gb_cert.specs.declared.role.Role.TheVariants as role
 use Rattle.std.proofs.lemmas.Bool.Decides.{nat_tests}
 use Rattle.std.proofs.lemmas.Option.{same_Some}
-use Rattle.std.specs.List.{AllByRecursion, Contains, find}
+use Rattle.std.specs.List.{AllByRecursion, Contains, find, list_any}
 use Rattle.gb_ops.specs.declared.machine.Region.{Region}
 use Rattle.gb_ops.specs.declared.op.Pair.{Pair}
 use Rattle.gb_ops.specs.declared.op.Pair.TheVariants as pair
@@ -34,11 +34,13 @@ use Rattle.gb_code.proofs.CodeLaws.{KnownBytes, KnownBytes-known_bytes, IsKnown,
 use Rattle.gb_successors.specs.declared.successor.Successor.{Successor}
 use Rattle.gb_successors.specs.declared.successors.Successors.{Successors}
 use Rattle.gb_successors.specs.Successors.{has, any_successor, successors_of}
-use Rattle.gb_successors.specs.Refused.{is_unknown}
+use Rattle.gb_successors.specs.Refused.{is_stack_limited, is_unknown}
 use Rattle.gb_successors.specs.Sound.{IsOneOf, IsAllowed, IsStackKnown, IsStackFit, IsPushable, IsPoppable, IsReturnable, IsRuled}
-use Rattle.gb_calls.specs.Calls.{callee_of}
+use Rattle.gb_calls.specs.Calls.{callee_of, are_ranges_inside, resumed}
+use Rattle.gb_calls.specs.Interrupts.{dispatched, may_come, handler_of}
+use Rattle.gb_blocks.specs.Covered.{covered_at}
 use Rattle.gb_blocks.specs.Procedures.{ranges_of, need_of, exit_of}
-use Rattle.gb_blocks.specs.Rules.{is_stop, may_read_twice, breaks_stack, pushes_too_deep, is_code_limited, callee_by, callee_at, is_over, calls_too_deep, is_uncovered, is_outside_of, is_uncallable_at, is_uncallable, is_exit_missed, is_unreturnable_at, is_unreturnable, test_row, test_instruction, is_undefined, node_bytes, any_of, grows_too_deep, stores_outside, meets_ram, meets_transfer, leads_anywhere, leads_uncovered, calls_wrongly, returns_wrongly, applies_to_row, applies, reasons, reason_of}
+use Rattle.gb_blocks.specs.Rules.{is_stop, may_read_twice, breaks_stack, pushes_too_deep, is_code_limited, callee_by, callee_at, is_over, calls_too_deep, is_resumed_uncovered, is_uncovered, is_outside_of, is_uncallable_at, is_uncallable, is_exit_missed, is_unreturnable_at, is_unreturnable, interrupts, any_interrupt, handles_too_deep, is_dispatch_limited, is_unhandled, lacks_handler, test_row, test_instruction, is_undefined, node_bytes, any_of, grows_too_deep, stores_outside, meets_ram, meets_transfer, leads_anywhere, leads_uncovered, calls_wrongly, returns_wrongly, applies_to_row, applies, reasons, reason_of}
 
 -- ---- a node of a certificate is one of its grammar
 
@@ -260,7 +262,7 @@ ruled rom cert n base p r s main room =
     record {
       operands = HasBytes-decoded p.bytes p.row (subst (λ k. k < 256) (sym at_second) second) (subst (λ k. k < 256) (sym at_third) third) p.is_row;
       runs = not_stop p.row.op p.stop;
-      stack = stack_known cert.region (need_of cert n.procedure) base n p.row.op main room p.stack (or_parts _ _ p.depth).0;
+      stack = stack_known cert.region (need_of cert n.procedure) base n p.row.op main room p.stack (or_parts _ _ (or_parts _ _ p.depth).0).0;
     }
 
 -- ---- nothing is against a successor
@@ -320,10 +322,10 @@ allowed rom cert n p base t is state word room =
     record {
       stores = none_of _ (ways_of rom n p.row) t p.stores is;
       ram = none_of _ (ways_of rom n p.row) t p.ram is;
-      oam_transfer = (or_parts _ _ (none_of _ (ways_of rom n p.row) t p.oam_transfer is)).1;
+      oam_transfer = (or_parts _ _ (none_of _ (ways_of rom n p.row) t (or_parts _ _ p.oam_transfer).0 is)).1;
       stack = by t.target
           (none_of (is_uncallable cert n.procedure) (ways_of rom n p.row) t p.calls is)
-          (none_of (calls_too_deep cert (need_of cert n.procedure)) (ways_of rom n p.row) t (or_parts _ _ p.depth).1 is)
+          (none_of (calls_too_deep cert (need_of cert n.procedure)) (ways_of rom n p.row) t (or_parts _ _ (or_parts _ _ p.depth).0).1 is)
           (none_of (is_unreturnable cert n.procedure) (ways_of rom n p.row) t p.returns is);
     }
   where
@@ -340,7 +342,7 @@ not_uncallable rom cert n p t is = none_of _ (ways_of rom n p.row) t p.calls is
 
 pub not_too_deep : (rom : List ℕ) (cert : Certificate) (n : Node) (p : Passes rom cert n) (t : Successor) → IsOneOf (ways_of rom n p.row) t → calls_too_deep cert (need_of cert n.procedure) t ≡ false
 unfolding grows_too_deep any_of
-not_too_deep rom cert n p t is = none_of _ (ways_of rom n p.row) t (or_parts _ _ p.depth).1 is
+not_too_deep rom cert n p t is = none_of _ (ways_of rom n p.row) t (or_parts _ _ (or_parts _ _ p.depth).0).1 is
 
 pub not_unreturnable : (rom : List ℕ) (cert : Certificate) (n : Node) (p : Passes rom cert n) (t : Successor) → IsOneOf (ways_of rom n p.row) t → is_unreturnable cert n.procedure t ≡ false
 unfolding returns_wrongly any_of
@@ -362,7 +364,7 @@ pub known_by : (rom : List ℕ) (cert : Certificate) (n : Node) (p : Passes rom 
 unfolding meets_transfer any_of is_code_limited
 known_by rom cert n p t is =
     let length : p.row.length ≡ length_of p.known.opcode = length-decoded p.bytes p.row p.is_row ∙ ap length_of (first_is p.bytes _ _ _ p.known.bytes_are) in
-    let open_ = clear_of n.state.core.bound n.address p.row.length (or_parts _ _ (none_of _ (ways_of rom n p.row) t p.oam_transfer is)).0 in
+    let open_ = clear_of n.state.core.bound n.address p.row.length (or_parts _ _ (none_of _ (ways_of rom n p.row) t (or_parts _ _ p.oam_transfer).0 is)).0 in
     record {
       known = p.known;
       end = p.end;
@@ -371,3 +373,69 @@ known_by rom cert n p t is =
       bank = p.bank;
       clear = subst (λ k. (n.state.core.bound ≡ 0) ⊎ ((0xFF80 ≤ n.address) × (n.address + k ≤ 0xFFFF))) length open_;
     }
+
+-- ---- interrupts
+
+none_in : (test : ℕ → Bool) (xs : List ℕ) (k x : ℕ) → list_any test xs ≡ false → slice_get xs k ≡ Some x → test x ≡ false
+none_in test [] k x h at = cc
+none_in test (y ∷ ys) zero x h at = subst (λ z. test z ≡ false) (same_Some _ _ at) (or_parts _ _ h).0
+none_in test (y ∷ ys) (suc k) x h at = none_in test ys k x (or_parts _ _ h).1 at
+
+interrupt_at : (i : ℕ) → i < 5 → slice_get interrupts i ≡ Some i
+interrupt_at zero lt = refl
+interrupt_at (suc zero) lt = refl
+interrupt_at (suc (suc zero)) lt = refl
+interrupt_at (suc (suc (suc zero))) lt = refl
+interrupt_at (suc (suc (suc (suc zero)))) lt = refl
+interrupt_at (suc (suc (suc (suc (suc i))))) lt = absurd (omega arith)
+
+both_false : (a b : Bool) → a ≡ true → (a && b) ≡ false → b ≡ false
+both_false true b e h = h
+both_false false b e h = cc
+
+-- an interrupt that may come passes no test that none passes
+pub one_interrupt : (test : ℕ → Bool) (n : Node) (i : ℕ) → any_interrupt test n ≡ false → i < 5 → may_come i n.state.core ≡ true → test i ≡ false
+one_interrupt test n i h lt may = both_false _ _ may (none_in (λ i. may_come i n.state.core && test i) interrupts i i h (interrupt_at i lt))
+
+-- what is known of an interrupt that may come
+pub record IsProvided (cert : Certificate) (n : Node) (i : ℕ) : Type 0 where
+  pub stack_set : n.state.core.stack_set ≡ true
+  pub clear : is_stack_limited cert.region n.state.core ≡ false
+  pub handler : ℕ
+  pub is_handler : handler_of cert i n.state ≡ Some handler
+  pub inside : are_ranges_inside (ranges_of cert handler) (ranges_of cert n.procedure) ≡ true
+  pub depth : length n.state.items + 1 + need_of cert handler ≤ need_of cert n.procedure
+  pub resumes :
+      (exit : AbsState) → exit_of cert handler ≡ Some exit
+      → covered_at cert.nodes n.procedure n.address (resumed (ranges_of cert handler) (dispatched n.state) exit) ≡ true
+
+provided : (cert : Certificate) (n : Node) (i : ℕ) (o : Option ℕ) → handler_of cert i n.state ≡ o → is_stack_limited cert.region n.state.core ≡ false
+    → is_unhandled cert n o ≡ false → is_over cert (need_of cert n.procedure) (length n.state.items) o ≡ false → IsProvided cert n i
+provided cert n i None e clear handled over = absurd (none_out (not n.state.core.stack_set) handled)
+  where
+    none_out : (a : Bool) → (a || true || false) ≡ false → ⊥
+    none_out true h = cc
+    none_out false h = cc
+provided cert n i (Some q) e clear handled over =
+    let p = or_parts _ _ handled in
+    let r = or_parts _ _ p.0 in
+    record {
+      stack_set = not-false _ r.0;
+      clear = clear;
+      handler = q;
+      is_handler = e;
+      inside = not-false _ r.1;
+      depth = held (length n.state.items + 1 + need_of cert q) (need_of cert n.procedure) over;
+      resumes = λ exit is. not-false _ (subst (λ o. is_resumed_uncovered cert n.procedure n.address (dispatched n.state) (ranges_of cert q) o ≡ false) is p.1);
+    }
+  where
+    held : (m need : ℕ) → nat_lt need m ≡ false → m ≤ need
+    held m need h = grind (arith, nat_tests)
+
+pub IsProvided-passed : (rom : List ℕ) (cert : Certificate) (n : Node) (p : Passes rom cert n) (i : ℕ) → lacks_handler cert n ≡ false → i < 5 → may_come i n.state.core ≡ true → IsProvided cert n i
+unfolding grows_too_deep meets_transfer handles_too_deep is_dispatch_limited lacks_handler
+IsProvided-passed rom cert n p i handled lt may =
+    provided cert n i (handler_of cert i n.state) refl
+    (one_interrupt (λ i. is_stack_limited cert.region n.state.core) n i (or_parts _ _ p.oam_transfer).1 lt may)
+    (one_interrupt (λ i. is_unhandled cert n (handler_of cert i n.state)) n i handled lt may)
+    (one_interrupt (λ i. is_over cert (need_of cert n.procedure) (length n.state.items) (handler_of cert i n.state)) n i (or_parts _ _ p.depth).1 lt may)

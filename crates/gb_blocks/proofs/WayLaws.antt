@@ -48,12 +48,12 @@ words_fit o need held n e least h = by (is_push o) h
 pub words_within : (rom : List ℕ) (cert : Certificate) (n : Node) (entry : MState) (base : ℕ) (x : MState) (k : OnNode rom cert n entry base x) → words_behind k.passes.row.op (length n.state.items) ≤ need_of cert n.procedure
 unfolding grows_too_deep
 words_within rom cert n entry base x k =
-    words_fit k.passes.row.op (need_of cert n.procedure) (length n.state.items) n refl k.depth (or_parts _ _ k.passes.depth).0
+    words_fit k.passes.row.op (need_of cert n.procedure) (length n.state.items) n refl k.depth (or_parts _ _ (or_parts _ _ k.passes.depth).0).0
 
 -- ---- the callee's entry
 
 -- the node at which a procedure begins is its own
-is_own : (number : ℕ) (ps : List ProcedureParts) (nodes : List Node) (i : ℕ) (p : ProcedureParts) (n : Node) → have_entries number ps nodes ≡ true → slice_get ps i ≡ Some p → slice_get nodes p.entry ≡ Some n
+pub is_own : (number : ℕ) (ps : List ProcedureParts) (nodes : List Node) (i : ℕ) (p : ProcedureParts) (n : Node) → have_entries number ps nodes ≡ true → slice_get ps i ≡ Some p → slice_get nodes p.entry ≡ Some n
     → n.procedure ≡ number + i
 unfolding have_entries
 is_own number [] nodes i p n h at is = cc
@@ -66,7 +66,7 @@ is_own number (q ∷ ps) nodes (suc i) p n h at is =
     let later : n.procedure ≡ number + 1 + i = is_own (number + 1) ps nodes i p n (and_parts _ _ h).1 at is in
     omega arith
 
-same_number : (m q : ℕ) → m ≡ 0 + q → m ≡ q
+pub same_number : (m q : ℕ) → m ≡ 0 + q → m ≡ q
 same_number m q h = omega arith
 
 -- ---- calls

@@ -22,8 +22,10 @@ use Rattle.gb_code.specs.Code.{area_end, leaves_area, is_other_bank, lies_in_hig
 use Rattle.gb_successors.specs.declared.successor.Successor.{Successor}
 use Rattle.gb_successors.specs.declared.successors.Successors.{Successors}
 use Rattle.gb_successors.specs.Successors.{successors_of, any_successor}
-use Rattle.gb_successors.specs.Refused.{is_unstorable, meets_closed, meets_oam_transfer, is_unknown}
+use Rattle.gb_successors.specs.Refused.{is_unstorable, meets_closed, is_stack_limited, meets_oam_transfer, is_unknown}
+use Rattle.std.specs.List.{list_any}
 use Rattle.gb_calls.specs.Calls.{callee_of, are_ranges_inside, resumed}
+use Rattle.gb_calls.specs.Interrupts.{dispatched, may_come, handler_of}
 use Rattle.gb_blocks.specs.declared.procedures.Callees.{Callees}
 use Rattle.gb_blocks.specs.Covered.{covered_at}
 use Rattle.gb_blocks.specs.Procedures.{ranges_of, need_of, exit_of}
@@ -144,6 +146,36 @@ is_unreturnable_at cert procedure _ s = false
 unfoldable pub is_unreturnable : Certificate → ℕ → Successor → Bool
 is_unreturnable cert procedure t = is_unreturnable_at cert procedure t.target t.state
 
+-- ---- interrupts
+
+-- the interrupts, by their bits in IE
+abbrev pub interrupts : List ℕ
+interrupts = 0 ∷ 1 ∷ 2 ∷ 3 ∷ 4 ∷ []
+
+-- an interrupt that may come at a node passes a test
+abbrev pub any_interrupt : (ℕ → Bool) → Node → Bool
+any_interrupt test n = list_any (λ i. may_come i n.state.core && test i) interrupts
+
+-- the words that are held, the word of the dispatch and a handler's need are more than the procedure's need
+unfoldable pub handles_too_deep : Certificate → Node → Bool
+handles_too_deep cert n =
+    any_interrupt (λ i. is_over cert (need_of cert n.procedure) (length n.state.items) (handler_of cert i n.state)) n
+
+-- a dispatch may come while an OAM transfer may close the stack region
+unfoldable pub is_dispatch_limited : Region → Node → Bool
+is_dispatch_limited region n = any_interrupt (λ i. is_stack_limited region n.state.core) n
+
+-- no handler is there, or one that may write where the procedure may not; or what the procedure goes on with behind it
+-- isn't covered where it was left
+abbrev pub is_unhandled : Certificate → Node → Option ℕ → Bool
+is_unhandled cert n handler =
+    not n.state.core.stack_set || is_outside_of cert n.procedure handler
+    || is_back_uncovered cert n.procedure n.address (dispatched n.state) handler
+
+-- an interrupt may come that isn't provided for
+unfoldable pub lacks_handler : Certificate → Node → Bool
+lacks_handler cert n = any_interrupt (λ i. is_unhandled cert n (handler_of cert i n.state)) n
+
 -- ---- the reasons
 
 abbrev pub test_row : (Row → Bool) → Option Row → Bool
@@ -170,6 +202,7 @@ any_of test rom n row = any_successor test (successors_of rom row n.address n.st
 unfoldable pub grows_too_deep : List ℕ → Certificate → Node → Row → Bool
 grows_too_deep rom cert n row =
     pushes_too_deep (need_of cert n.procedure) n row.op || any_of (calls_too_deep cert (need_of cert n.procedure)) rom n row
+    || handles_too_deep cert n
 
 -- a successor may store where no store is allowed
 unfoldable pub stores_outside : List ℕ → Certificate → Node → Row → Bool
@@ -181,7 +214,9 @@ meets_ram rom n row = any_of (meets_closed rom n.state.core) rom n row
 
 -- an OAM transfer may close a byte of the instruction or an access of one, or start unseen; asked for at the node's bound
 unfoldable pub meets_transfer : List ℕ → Region → Node → Row → Bool
-meets_transfer rom region n row = any_of (λ t. is_code_limited n.state.core n.address row.length || meets_oam_transfer region n.state.core t) rom n row
+meets_transfer rom region n row =
+    any_of (λ t. is_code_limited n.state.core n.address row.length || meets_oam_transfer region n.state.core t) rom n row
+    || is_dispatch_limited region n
 
 -- one may lead anywhere
 unfoldable pub leads_anywhere : List ℕ → Node → Row → Bool
@@ -239,3 +274,11 @@ reason_of rom cert n = find (applies rom cert n) reasons
 -- the lowest reason against the node with a number
 abbrev pub reason_at : List ℕ → Certificate → ℕ → Option Reason
 reason_at rom cert i = option_and_then (reason_of rom cert) (slice_get cert.nodes i)
+
+-- whether an interrupt may come at the node with a number that isn't provided for
+abbrev pub lacks_in : Certificate → Option Node → Bool
+lacks_in cert None = false
+lacks_in cert (Some n) = lacks_handler cert n
+
+abbrev pub lacks_handler_at : Certificate → ℕ → Bool
+lacks_handler_at cert i = lacks_in cert (slice_get cert.nodes i)

@@ -101,3 +101,12 @@ IsSafeNode rom cert n =
 -- the promise of the node with a number
 abbrev pub IsSafeAt : List ℕ → Certificate → ℕ → Type 0
 IsSafeAt rom cert i = (n : Node) → slice_get cert.nodes i ≡ Some n → IsSafeNode rom cert n
+
+-- each event, a dispatch among them
+abbrev pub IsWhollySafeNode : List ℕ → Certificate → Node → Type 0
+IsWhollySafeNode rom cert n =
+    (entry : MState) (base : ℕ) (s : MState) (e : Event) → IsAt rom cert n entry base s → IsSafeEvent rom cert n.procedure entry base s e
+
+-- that promise of the node with a number
+abbrev pub IsWhollySafeAt : List ℕ → Certificate → ℕ → Type 0
+IsWhollySafeAt rom cert i = (n : Node) → slice_get cert.nodes i ≡ Some n → IsWhollySafeNode rom cert n

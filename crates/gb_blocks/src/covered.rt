@@ -1,13 +1,15 @@
 //! Covering at an address.
 
-ghost use Rattle.std.specs.Prelude.{◌≡◌, map};
+ghost use Rattle.std.specs.Prelude.{◌≡◌, ◌<◌, ◌&&◌, ◌||◌, ℕ, false, nat_le, slice_index_or, IfSome, IfNone, map};
 ghost use Rattle.gb_rows.specs.Rows.{IsFound};
 ghost use Rattle.gb_cert.specs.Rules.{key};
+ghost use Rattle.gb_abs.specs.Covering.{covers};
 ghost use Rattle.gb_blocks.specs.Covered as Covered;
 
-use gb_abs::covering::covers;
+use gb_abs::covering::{covers_core, covers_lists, covers_node};
 use gb_abs::operations::with_value;
-use gb_cert::types::{Abs, Cert};
+use gb_cert::NodeRef;
+use gb_cert::types::{Abs, Cert, Core, Val};
 use gb_ops::op::Register;
 use gb_rows::Found;
 
@@ -23,30 +25,70 @@ fn is_covered_by_one(
     ensures { result ≡ Covered.is_covered_by_one cert.now.nodes procedure address state.now }
 {
     for i in found.first..found.after {
-        let claimed = cert.node(i).state();
-        if covers(state, &claimed) {
+        let node = cert.node(i);
+        if covers_node(state, &node) {
             return true;
         }
     }
     false
 }
 
-/// Whether of these states those with this value in a register are stood for by one node.
-#[tactic(auto, unfolding(crate::specs::Covered::with_value))]
-fn is_value_covered(
+/// Whether the state of a node, the core of which is given, stands for those of these states that have
+/// a value in a register.
+#[tactic(auto, unfolding(crate::specs::Covered::with_value, gb_abs::specs::Covering::covers))]
+fn covers_value(register: Register, value: u8, state: &Abs, node: &NodeRef<'_>, core: &Core) -> bool
+    requires { core.now ≡ node.now.state.core }
+    ensures { result ≡ covers (Covered.with_value register state.now value) node.now.state }
+{
+    covers_core(&with_value(register, value, state.core()), core) && covers_lists(state, node)
+}
+
+/// The values of a register with which the state of a node stands for these states: those of its
+/// interval there, or none.
+fn covered_interval(register: Register, state: &Abs, node: &NodeRef<'_>) -> Option<Val>
+    ensures some { IfSome result (λ val. (v : ℕ) → covers (Covered.with_value register state.now v) node.now.state ≡ (nat_le val.lo v && nat_le v val.hi)) }
+    ensures none { IfNone result ((v : ℕ) → covers (Covered.with_value register state.now v) node.now.state ≡ false) }
+{
+    let core = node.core();
+    let val = core.registers.get(register);
+    if covers_value(register, val.lo, state, node, &core) {
+        Some(val)
+    } else {
+        None
+    }
+}
+
+/// Marks the values of an interval.
+fn mark(marks: &mut [bool; 256], val: &Val)
+    ensures { (v : ℕ) → slice_index_or marks.new v false ≡ (slice_index_or marks.old v false || (nat_le val.now.lo v && nat_le v val.now.hi)) }
+{
+    let after = u16::from(val.hi) + 1;
+    for value in u16::from(val.lo)..after {
+        marks[usize::from(value)] = true;
+    }
+}
+
+/// For each value of a register, whether one of the nodes that were found stands for those of these
+/// states that have it. Each node is read once.
+fn covered_values(
     cert: &Cert<'_>,
     found: &Found,
     procedure: u8,
     address: u16,
     state: &Abs,
     register: Register,
-    value: u8,
-) -> bool
+) -> [bool; 256]
     requires { IsFound (map key cert.now.nodes) (procedure, address) found.now.first found.now.after }
-    ensures { result ≡ Covered.is_covered_by_one cert.now.nodes procedure address (Covered.with_value register state.now value) }
+    ensures { (v : ℕ) → v < 256 → slice_index_or result v false ≡ Covered.is_covered_by_one cert.now.nodes procedure address (Covered.with_value register state.now v) }
 {
-    let narrowed = state.with_core(with_value(register, value, state.core()));
-    is_covered_by_one(cert, found, procedure, address, &narrowed)
+    let mut marks = [false; 256];
+    for number in found.first..found.after {
+        let node = cert.node(number);
+        if let Some(val) = covered_interval(register, state, &node) {
+            mark(&mut marks, &val);
+        }
+    }
+    marks
 }
 
 /// Whether for each value of a register one node stands for the states with it.
@@ -63,17 +105,10 @@ fn is_covered_by_values(
     ensures { result ≡ Covered.is_covered_by_values cert.now.nodes procedure address state.now register }
 {
     let val = state.core().registers.get(register);
-    let last = u16::from(val.hi) + 1;
-    for value in u16::from(val.lo)..last {
-        if !is_value_covered(
-            cert,
-            found,
-            procedure,
-            address,
-            state,
-            register,
-            value as u8,
-        ) {
+    let marks = covered_values(cert, found, procedure, address, state, register);
+    let after = u16::from(val.hi) + 1;
+    for value in u16::from(val.lo)..after {
+        if !marks[usize::from(value)] {
             return false;
         }
     }

@@ -99,7 +99,7 @@ pub(crate) fn callees_of(cert: &Cert<'_>, ways: &Successors) -> Callees
 // ---- depth
 
 /// Whether the words that are held, the return address and the callee's need are more than the need.
-fn is_over(cert: &Cert<'_>, need: u16, state: &Abs, callee: Option<u8>) -> bool
+pub(crate) fn is_over(cert: &Cert<'_>, need: u16, state: &Abs, callee: Option<u8>) -> bool
     ensures { result ≡ Rules.is_over cert.now need (length state.now.items) callee }
 {
     let held = state.items().len();
@@ -128,7 +128,7 @@ pub(crate) fn has_deep(
 // ---- covering
 
 /// Whether no node stands for what the caller goes on with when the callee returns.
-fn is_back_uncovered(
+pub(crate) fn is_back_uncovered(
     cert: &Cert<'_>,
     procedure: u8,
     back: u16,
@@ -178,7 +178,7 @@ pub(crate) fn has_uncovered(
 // ---- calls and returns
 
 /// Whether there is no callee, or one that may write where its caller may not.
-fn is_outside_of(cert: &Cert<'_>, procedure: u8, callee: Option<u8>) -> bool
+pub(crate) fn is_outside_of(cert: &Cert<'_>, procedure: u8, callee: Option<u8>) -> bool
     ensures { result ≡ Rules.is_outside_of cert.now procedure callee }
 {
     let Some(callee) = callee else { return true };

@@ -7,6 +7,7 @@ ghost use Rattle.gb_blocks.specs.Rules as Rules;
 ghost use Rattle.gb_blocks.specs.Rules.{callees_of, row_reasons, reason_at};
 ghost use Rattle.gb_blocks.specs.Safety.{IsSafeAt};
 
+use crate::interrupts::{handles_too_deep, is_dispatch_limited};
 use crate::procedures::{
     Callees, callees_of, has_deep, has_uncallable, has_uncovered, has_unreturnable, need_of, ranges_of,
 };
@@ -153,11 +154,12 @@ fn meets_transfer(
     requires ways { ways.now ≡ successors_of rom.now row node.now.address node.now.state }
     ensures { result ≡ Rules.meets_transfer rom.now region node.now row }
 {
-    if is_code_limited(state.core(), node.address(), row.length) {
+    let limited = if is_code_limited(state.core(), node.address(), row.length) {
         ways.are_some()
     } else {
         ways.meet_oam_transfer(region, state.core())
-    }
+    };
+    limited || is_dispatch_limited(region, node, state.core())
 }
 
 /// Whether one of them may lead anywhere.
@@ -190,6 +192,7 @@ fn grows_too_deep(
         || has_deep(cert, need, &ways.taken, callees.taken)
         || has_deep(cert, need, &ways.not_taken, callees.not_taken)
         || has_deep(cert, need, &ways.stays, callees.stays)
+        || handles_too_deep(cert, node, state)
 }
 
 /// Whether the states behind one of them are not covered.

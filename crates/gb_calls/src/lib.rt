@@ -2,13 +2,18 @@
 //! (`callee`), whether what it may write is its caller's to write (`are_ranges_inside`), and what its caller goes
 //! on with (`resume`). Each is `exact`; entering and resuming follow what the machine does (`sound`).
 //!
+//! An interrupt's handler is a callee too: whether the interrupt may come (`may_come`), what its dispatch leaves
+//! (`dispatched`), and which procedure handles it (`handler`).
+//!
 //! A caller's state is the one in which it left, the return word on the stack but no item of the caller's.
 //!
-//! Read `entering` and `callees`, then `ranges`, `cells` and `resuming`. Of the definitions, `Calls` and `Sound`.
+//! Read `entering` and `callees`, then `ranges`, `cells`, `resuming` and `interrupts`. Of the definitions, `Calls`,
+//! `Interrupts` and `Sound`.
 #![tactic(auto)]
 
 pub mod callees;
 mod cells;
 pub mod entering;
+pub mod interrupts;
 pub mod ranges;
 pub mod resuming;

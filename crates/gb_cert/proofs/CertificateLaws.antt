@@ -3,15 +3,16 @@ use Rattle.std.proofs.Common.{◌≡◌, ℕ, ◌-◌, ◌%◌, ◌<◌, ◌≤�
 use Rattle.std.specs.List.{flat_map}
 use Rattle.std.proofs.lemmas.Bool.Decides.{nat_tests}
 use Rattle.gb_ops.specs.declared.machine.Region.{Region}
-use Rattle.gb_cert.specs.declared.fault.CertFault.{CertFault}
-use Rattle.gb_cert.specs.declared.fault.CertFault.TheVariants as fault
-use Rattle.gb_cert.specs.declared.head.Head.{Head}
-use Rattle.gb_cert.specs.Limits.{procedure_limit, node_limit}
+use Rattle.gb_fields.specs.declared.fault.CertFault.{CertFault}
+use Rattle.gb_fields.specs.declared.fault.CertFault.TheVariants as fault
+use Rattle.gb_fields.specs.declared.head.Head.{Head}
+use Rattle.gb_fields.specs.Limits.{procedure_limit, node_limit}
 use Rattle.gb_cert.specs.Types.{ProcedureParts, Node}
 use Rattle.gb_cert.specs.Certificate.{Certificate}
-use Rattle.gb_cert.specs.Format.{Read, go_on, both, checked, followed, ended, byte}
+use Rattle.gb_fields.specs.Format.{Read, go_on, both, checked, followed, ended, byte}
 use Rattle.gb_cert.specs.Rules.{IsRegion, IsProcedure, IsNode, IsCertificate, is_area, is_after, is_version, key}
-use Rattle.gb_cert.specs.Reading.{word, is_between, node_number, count_within, procedure_at, node_at, is_magic, magic_at, is_region, to_region, region_at, is_any, to_head, version_at, node_count_at, head_at, procedures_at, nodes_at, have_entries_in, to_certificate, certificate_at, read_certificate}
+use Rattle.gb_fields.specs.Reading.{word, is_between, node_number, count_within, is_magic, magic_at, is_region, to_region, region_at, is_any, to_head, version_at, node_count_at, head_at}
+use Rattle.gb_cert.specs.Reading.{procedure_at, node_at, procedures_at, nodes_at, have_entries_in, to_certificate, certificate_at, read_certificate}
 use Rattle.gb_cert.specs.Spelling as spelled
 use Rattle.gb_cert.specs.Spelling.{Spells}
 use Rattle.gb_cert.proofs.Formats.{IsBytes, IsFormat, AreSoMany, ok_is, IsFormat-byte, IsFormat-both, IsFormat-followed, IsFormat-checked, IsFormat-mapped, IsFormat-as, IsFormat-several}

@@ -6,7 +6,7 @@ use Rattle.std.proofs.lemmas.Bool.Decides.{nat_tests}
 use Rattle.std.proofs.lemmas.List.Concat.{flat_map-cons}
 use Rattle.std.proofs.Math.Seq.{drop-append_seam}
 use Rattle.gb_ops.specs.declared.machine.Region.{Region}
-use Rattle.gb_cert.specs.declared.fault.CertFault.{CertFault}
+use Rattle.gb_fields.specs.declared.fault.CertFault.{CertFault}
 use Rattle.gb_cert.specs.declared.types.Core.{Core}
 use Rattle.gb_cert.specs.declared.types.Item.{Item}
 use Rattle.gb_cert.specs.declared.types.Cell.{Cell}
@@ -14,16 +14,17 @@ use Rattle.gb_cert.specs.declared.role.Role.{Role}
 use Rattle.gb_cert.specs.declared.role.Role.TheVariants as role
 use Rattle.gb_cert.specs.Types.{AbsState, ProcedureParts, Node, state_of}
 use Rattle.gb_cert.specs.Certificate.{Certificate}
-use Rattle.gb_cert.specs.Format.{Read, go_on, both, byte}
-use Rattle.gb_cert.specs.Limits.{node_limit}
+use Rattle.gb_fields.specs.Format.{Read, go_on, both, byte}
+use Rattle.gb_fields.specs.Limits.{node_limit}
 use Rattle.gb_cert.specs.Rules.{IsChain, IsState, IsProcedure, IsNode, IsCertificate, is_after, is_from, key, role_of}
 use Rattle.gb_rows.specs.Rows.{is_before, AreInOrder}
-use Rattle.gb_cert.specs.Reading.{word, node_number, ranges_at, exit_at}
+use Rattle.gb_fields.specs.Reading.{word, node_number}
+use Rattle.gb_cert.specs.Reading.{core_at, ranges_at, exit_at}
 use Rattle.gb_cert.specs.Spelling as spelled
 use Rattle.gb_cert.specs.Places.{AreAt, IsLaid}
 use Rattle.gb_cert.specs.Borrowed.{read_or, any_core, state_in, StateStands, Body, body_at, procedure_of, procedure_in, BodyStands}
 use Rattle.gb_cert.proofs.Formats.{IsFormat-byte, IsFormat-both, went_on, same_pair}
-use Rattle.gb_cert.proofs.FieldLaws.{IsFormat-word, IsFormat-node_number}
+use Rattle.gb_cert.proofs.FieldLaws.{IsFormat-word, IsFormat-node_number, IsFormat-core}
 use Rattle.gb_cert.proofs.StateLaws.{IsFormat-state, AreRanges, IsFormat-ranges, IsFormat-exit, number_small, limit_bound}
 use Rattle.gb_cert.proofs.Placing.{at-each}
 
@@ -119,6 +120,13 @@ lists-behind role region bytes s h =
     ∙ ap (λ (n : ℕ). drop n (spelled.core s.core ++ (lists ++ h.tail))) (sym (core-long s.core))
     ∙ drop-append_seam (spelled.core s.core) (lists ++ h.tail)
     ∙ append_assoc (spelled.counted spelled.item s.items) (spelled.counted spelled.cell s.cells) h.tail
+
+-- a state's core is what a reader of cores gives
+pub core-lent : (role : Role) (region : Region) (bytes : List ℕ) (s : AbsState) → StateStands role region bytes s → (rest : List ℕ) × (core_at role bytes ≡ Ok (s.core, rest))
+unfolding spelled.state
+core-lent role region bytes s h =
+    let lists : List ℕ = spelled.counted spelled.item s.items ++ spelled.counted spelled.cell s.cells in
+    (lists ++ h.tail, ap (core_at role) (h.parts ∙ append_assoc (spelled.core s.core) lists h.tail) ∙ (IsFormat-core role).again s.core (lists ++ h.tail) (h.is_state.core, h.is_state.stack))
 
 pub items-lent : (role : Role) (region : Region) (bytes first second : List ℕ) (s : AbsState) → StateStands role region bytes s → ((n : ℕ) (xs rest : List ℕ) → drop 40 bytes ≡ n ∷ (xs ++ rest) → length xs ≡ 6 * n → (first ≡ xs) × (second ≡ rest))
     → (first ≡ flat_map spelled.item s.items) × ((rest : List ℕ) × (second ≡ length s.cells ∷ (flat_map spelled.cell s.cells ++ rest)))

@@ -1,8 +1,8 @@
 -- Reading fields one after the other, as a loop does.
 use Rattle.std.proofs.Common.{◌≡◌, ℕ, suc, ◌-◌, ◌+◌, ◌≤◌, ◌<◌, List, [], ◌∷◌, ◌++◌, Result, Ok, Err, refl, sym, ap, ◌∙◌, append_assoc, arith}
 use Rattle.std.proofs.lemmas.List.{append-nil}
-use Rattle.gb_cert.specs.declared.fault.CertFault.{CertFault}
-use Rattle.gb_cert.specs.Format.{Read, go_on, several}
+use Rattle.gb_fields.specs.declared.fault.CertFault.{CertFault}
+use Rattle.gb_fields.specs.Format.{Read, go_on, several}
 
 -- what was read before, and what is still read
 abbrev pub with_front : {X : Type 0} → List X → Result (List X × List ℕ) CertFault → Result (List X × List ℕ) CertFault

@@ -1,14 +1,15 @@
 -- What contracts see of bytes that a certificate lends.
 use Rattle.std.specs.Prelude.{◌≡◌, ℕ, true, false, List, [], ◌++◌, Option, None, Result, Ok, Err}
 use Rattle.gb_ops.specs.declared.machine.Region.{Region}
-use Rattle.gb_cert.specs.declared.fault.CertFault.{CertFault}
+use Rattle.gb_fields.specs.declared.fault.CertFault.{CertFault}
 use Rattle.gb_cert.specs.declared.types.Core.{Core}
 use Rattle.gb_cert.specs.declared.types.Range.{Range}
 use Rattle.gb_cert.specs.declared.role.Role.{Role}
 use Rattle.gb_cert.specs.Types.{AbsState, ProcedureParts, any_val, state_of}
-use Rattle.gb_cert.specs.Format.{Read, both}
+use Rattle.gb_fields.specs.Format.{Read, both}
 use Rattle.gb_cert.specs.Rules.{IsState}
-use Rattle.gb_cert.specs.Reading.{word, state_at, ranges_at, exit_at}
+use Rattle.gb_fields.specs.Reading.{word}
+use Rattle.gb_cert.specs.Reading.{state_at, ranges_at, exit_at}
 use Rattle.gb_cert.specs.Spelling as spelled
 
 -- what a reader reads, where it reads something

@@ -1,8 +1,5 @@
 pub mod Borrowed
 pub mod Certificate
-pub mod Fault
-pub mod Format
-pub mod Limits
 pub mod Places
 pub mod Reading
 pub mod Rules

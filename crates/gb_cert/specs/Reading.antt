@@ -1,10 +1,10 @@
 -- Reading a certificate, field by field (own format). A test of two fields is made behind the later one.
-use Rattle.std.specs.Prelude.{ℕ, ◌+◌, ◌*◌, ◌-◌, ◌/◌, ◌%◌, Bool, true, false, ◌&&◌, ◌||◌, not, ◌==◌, nat_le, nat_lt, List, Option, Some, None, Result, if◌then◌else◌}
+use Rattle.std.specs.Prelude.{ℕ, ◌/◌, ◌%◌, Bool, true, ◌&&◌, ◌||◌, not, ◌==◌, nat_le, List, Option, Some, None, Result, if◌then◌else◌}
 use Rattle.gb_ops.specs.declared.machine.Region.{Region}
 use Rattle.gb_ops.specs.declared.op.Register.TheVariants.{A, B, C, D, E, H, L}
 use Rattle.gb_ops.specs.declared.registers.Registers.{Registers}
-use Rattle.gb_cert.specs.declared.fault.CertFault.{CertFault}
-use Rattle.gb_cert.specs.declared.fault.CertFault.TheVariants as fault
+use Rattle.gb_fields.specs.declared.fault.CertFault.{CertFault}
+use Rattle.gb_fields.specs.declared.fault.CertFault.TheVariants as fault
 use Rattle.gb_cert.specs.declared.types.Origin.{Origin}
 use Rattle.gb_cert.specs.declared.types.Origin.TheVariants.{Register as Of, F, Ie}
 use Rattle.gb_cert.specs.declared.types.Val.{Val}
@@ -18,60 +18,13 @@ use Rattle.gb_cert.specs.declared.types.Cell.{Cell}
 use Rattle.gb_cert.specs.declared.types.Range.{Range}
 use Rattle.gb_cert.specs.declared.role.Role.{Role}
 use Rattle.gb_cert.specs.declared.role.Role.TheVariants as role
-use Rattle.gb_cert.specs.declared.head.Head.{Head}
-use Rattle.gb_cert.specs.Limits.{procedure_limit, node_limit, range_limit, cell_limit, item_limit}
+use Rattle.gb_fields.specs.declared.head.Head.{Head}
+use Rattle.gb_fields.specs.Limits.{range_limit, cell_limit, item_limit}
 use Rattle.gb_cert.specs.Types.{AbsState, ProcedureParts, Node}
 use Rattle.gb_cert.specs.Certificate.{Certificate}
-use Rattle.gb_cert.specs.Format.{Read, followed, both, mapped, checked, optional, several, counted, whole, byte}
-use Rattle.gb_cert.specs.Rules.{has_value, is_area, meets, after_cell, after_range, role_of, needs_stack, may_be_pushed, fits, is_after, key, is_from, is_version, have_entries}
-
--- ---- numbers
-
-abbrev pub is_between : ℕ → ℕ → ℕ → Bool
-is_between low high n = nat_le low n && nat_le n high
-
-abbrev pub is_ordered : ℕ × ℕ → Bool
-is_ordered p = nat_le p.0 p.1
-
-abbrev pub word_of : ℕ × ℕ → ℕ
-word_of p = p.0 + 256 * p.1
-
--- two bytes, the low one first
-unfoldable pub word : Read ℕ
-word = mapped word_of (both byte byte)
-
-abbrev pub quad_of : ℕ × ℕ → ℕ
-quad_of p = p.0 + 65536 * p.1
-
--- two words, the low one first
-unfoldable pub quad : Read ℕ
-quad = mapped quad_of (both word word)
-
-abbrev pub node_number_by : Bool → Read ℕ
-node_number_by true = word
-node_number_by false = quad
-
--- the number of a node, or of all nodes: two bytes in version 1, else four
-unfoldable pub node_number : ℕ → Read ℕ
-node_number version = node_number_by (version == 1)
-
--- a number from low to high
-abbrev pub byte_between : ℕ → ℕ → Read ℕ
-byte_between low high = checked fault.Field (is_between low high) byte
-
-abbrev pub word_between : ℕ → ℕ → Read ℕ
-word_between low high = checked fault.Field (is_between low high) word
-
--- how many there are
-abbrev pub count_within : ℕ → Read ℕ
-count_within limit = checked fault.Count (is_between 0 limit) byte
-
-abbrev pub is_one : ℕ → Bool
-is_one n = n == 1
-
--- 0 for no, 1 for yes
-unfoldable pub yes_no : Read Bool
-yes_no = mapped is_one (byte_between 0 1)
+use Rattle.gb_fields.specs.Format.{Read, followed, both, mapped, checked, optional, several, counted, whole, byte}
+use Rattle.gb_fields.specs.Reading.{is_ordered, word, byte_between, word_between, count_within, yes_no, returns_at, entry_at, need_at, key_at, head_at}
+use Rattle.gb_cert.specs.Rules.{has_value, is_area, meets, after_cell, after_range, role_of, needs_stack, may_be_pushed, is_after, key, have_entries}
 
 -- ---- values
 
@@ -215,39 +168,17 @@ range_at region least = mapped to_range (checked fault.Field (is_free region) (b
 unfoldable pub ranges_at : Region → Read (List Range)
 ranges_at region = counted (count_within range_limit) (range_at region) after_range 0
 
-abbrev pub may_return : Bool → Bool → Bool
-may_return is_main returns = not (is_main && returns)
-
--- whether it returns, which main doesn't
-unfoldable pub returns_at : Bool → Read Bool
-returns_at is_main = checked fault.Field (may_return is_main) yes_no
-
 -- in what state it returns, if it does
 unfoldable pub exit_at : Region → Bool → Read (Option AbsState)
 exit_at region is_main = mapped (λ p. p.1) (followed (returns_at is_main) (λ returns. optional returns (state_at role.Exit region)))
 
-abbrev pub is_below : ℕ → ℕ → Bool
-is_below limit n = nat_lt n limit
-
 abbrev pub to_procedure : ℕ × (ℕ × (List Range × Option AbsState)) → ProcedureParts
 to_procedure p = record { entry = p.0; need = p.1.0; ranges = p.1.1.0; exit = p.1.1.1 }
-
--- the number of its first node, one of so many
-unfoldable pub entry_at : ℕ → ℕ → Read ℕ
-entry_at version nodes = checked fault.Field (is_below nodes) (node_number version)
-
--- the words of stack that it needs below its return word
-unfoldable pub need_at : Bool → Region → Read ℕ
-need_at is_main region = checked fault.Region (fits is_main region) (word_between 0 4096)
 
 unfoldable pub procedure_at : ℕ → Region → ℕ → Bool → Read ProcedureParts
 procedure_at version region nodes is_main = mapped to_procedure (both (entry_at version nodes) (both (need_at is_main region) (both (ranges_at region) (exit_at region is_main))))
 
 -- ---- nodes
-
--- a procedure's number that exists and isn't smaller than the one before; then an address that isn't smaller in the same procedure
-unfoldable pub key_at : ℕ → ℕ × ℕ → Read (ℕ × ℕ)
-key_at procedures before = checked fault.Order (is_from before) (both (checked fault.Order (nat_le before.0) (checked fault.Field (is_below procedures) byte)) word)
 
 abbrev pub to_node : (ℕ × ℕ) × (ℕ × AbsState) → Node
 to_node p = record { procedure = p.0.0; address = p.0.1; bank = p.1.0; state = p.1.1 }
@@ -256,38 +187,6 @@ unfoldable pub node_at : Region → ℕ → ℕ × ℕ → Read Node
 node_at region procedures before = mapped to_node (followed (key_at procedures before) (λ k. both (word_between 0 511) (state_at (role_of k.0) region)))
 
 -- ---- certificates
-
--- the letters GBBC
-abbrev pub is_magic : ℕ × (ℕ × (ℕ × ℕ)) → Bool
-is_magic p = p.0 == 0x47 && (p.1.0 == 0x42 && (p.1.1.0 == 0x42 && p.1.1.1 == 0x43))
-
-abbrev pub magic_at : Read (ℕ × (ℕ × (ℕ × ℕ)))
-magic_at = checked fault.Magic is_magic (both byte (both byte (both byte byte)))
-
-abbrev pub version_at : Read ℕ
-version_at = checked fault.Version is_version byte
-
-abbrev pub is_region : ℕ × ℕ → Bool
-is_region p = is_area p.0 p.1 && (p.1 - p.0) % 2 == 1
-
-abbrev pub to_region : ℕ × ℕ → Region
-to_region p = record { first = p.0; last = p.1 }
-
-unfoldable pub region_at : Read Region
-region_at = mapped to_region (checked fault.Region is_region (both word word))
-
-abbrev pub is_any : ℕ → Bool
-is_any n = nat_lt 0 n
-
-abbrev pub to_head : (ℕ × (ℕ × (ℕ × ℕ))) × (ℕ × (Region × (ℕ × ℕ))) → Head
-to_head p = record { version = p.1.0; region = p.1.1.0; procedures = p.1.1.1.0; nodes = p.1.1.1.1 }
-
--- how many nodes there are
-unfoldable pub node_count_at : ℕ → Read ℕ
-node_count_at version = checked fault.Field is_any (checked fault.Count (is_between 0 (node_limit version)) (node_number version))
-
-unfoldable pub head_at : Read Head
-head_at = mapped to_head (both magic_at (followed version_at (λ v. both region_at (both (checked fault.Field is_any (count_within procedure_limit)) (node_count_at v)))))
 
 unfoldable pub procedures_at : ℕ → Region → ℕ → ℕ → Read (List ProcedureParts)
 procedures_at version region nodes count = several (procedure_at version region nodes) is_after true count

@@ -1,5 +1,5 @@
 -- Which certificates there are (own format).
-use Rattle.std.specs.Prelude.{◌≡◌, ℕ, ◌+◌, ◌-◌, ◌/◌, ◌%◌, ◌≤◌, ◌<◌, Bool, true, false, ◌&&◌, ◌||◌, not, ◌==◌, nat_le, nat_lt, List, [], ◌∷◌, length, slice_get, Option, Some, None, IfSome, is_some, if◌then◌else◌}
+use Rattle.std.specs.Prelude.{◌≡◌, ℕ, ◌+◌, ◌-◌, ◌%◌, ◌≤◌, ◌<◌, Bool, true, false, ◌&&◌, ◌||◌, not, ◌==◌, nat_le, List, [], ◌∷◌, length, slice_get, Option, Some, None, IfSome, is_some, if◌then◌else◌}
 use Rattle.std.specs.List.{AllByRecursion}
 use Rattle.gb_ops.specs.declared.machine.Region.{Region}
 use Rattle.gb_ops.specs.declared.op.Register.{Register}
@@ -15,7 +15,8 @@ use Rattle.gb_cert.specs.declared.types.Cell.{Cell}
 use Rattle.gb_cert.specs.declared.types.Range.{Range}
 use Rattle.gb_cert.specs.declared.role.Role.{Role}
 use Rattle.gb_cert.specs.declared.role.Role.TheVariants as role
-use Rattle.gb_cert.specs.Limits.{procedure_limit, node_limit, range_limit, cell_limit, item_limit}
+pub use Rattle.gb_fields.specs.Rules.{are_in_ram, is_area, words, fits, is_from, is_version}
+use Rattle.gb_fields.specs.Limits.{procedure_limit, node_limit, range_limit, cell_limit, item_limit}
 use Rattle.gb_cert.specs.Types.{AbsState, ProcedureParts, Node}
 use Rattle.gb_cert.specs.Certificate.{Certificate}
 
@@ -70,14 +71,6 @@ pub record IsItem (i : Item) : Type 0 where
 
 -- ---- addresses
 
--- Both lie in work RAM, C000 to DFFF, or both in high RAM, FF80 to FFFE.
-abbrev pub are_in_ram : ℕ → ℕ → Bool
-are_in_ram first last = nat_le 0xC000 first && nat_le last 0xDFFF || nat_le 0xFF80 first && nat_le last 0xFFFE
-
--- From first to last there are addresses, all of them in RAM.
-abbrev pub is_area : ℕ → ℕ → Bool
-is_area first last = nat_le first last && are_in_ram first last
-
 -- The areas have an address in common.
 abbrev pub meets : Region → ℕ → ℕ → Bool
 meets region first last = nat_le first region.last && nat_le region.first last
@@ -86,10 +79,6 @@ meets region first last = nat_le first region.last && nat_le region.first last
 pub record IsRegion (r : Region) : Type 0 where
   pub area : is_area r.first r.last ≡ true
   pub even : (r.last - r.first) % 2 ≡ 1
-
--- how many words it has room for
-abbrev pub words : Region → ℕ
-words r = (r.last - r.first + 1) / 2
 
 -- A cell is a byte of RAM outside the region, from the least address on.
 pub record IsCell (region : Region) (least : ℕ) (c : Cell) : Type 0 where
@@ -146,10 +135,6 @@ pub record IsState (role : Role) (region : Region) (s : AbsState) : Type 0 where
 
 -- ---- procedures and nodes
 
--- Main's stack has room in the region.
-abbrev pub fits : Bool → Region → ℕ → Bool
-fits is_main region need = not is_main || nat_le need (words region)
-
 -- A procedure begins at one of so many nodes. Main doesn't return.
 pub record IsProcedure (region : Region) (nodes : ℕ) (is_main : Bool) (p : ProcedureParts) : Type 0 where
   pub entry : p.entry < nodes
@@ -167,10 +152,6 @@ is_after p = false
 -- where a node belongs: its procedure and its address
 abbrev pub key : Node → ℕ × ℕ
 key n = (n.procedure, n.address)
-
--- The second comes after the first, or is the same.
-abbrev pub is_from : ℕ × ℕ → ℕ × ℕ → Bool
-is_from a b = nat_lt a.0 b.0 || a.0 == b.0 && nat_le a.1 b.1
 
 -- A node belongs to one of so many procedures, and comes after the key before it or has the same.
 pub record IsNode (region : Region) (procedures : ℕ) (before : ℕ × ℕ) (n : Node) : Type 0 where
@@ -190,9 +171,6 @@ have_entries number [] nodes = true
 have_entries number (p ∷ ps) nodes = is_of number (slice_get nodes p.entry) && have_entries (number + 1) ps nodes
 
 -- ---- certificates
-
-abbrev pub is_version : ℕ → Bool
-is_version n = n == 1 || n == 2
 
 pub record IsCertificate (c : Certificate) : Type 0 where
   pub version : is_version c.version ≡ true

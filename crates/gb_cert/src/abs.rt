@@ -65,6 +65,34 @@ impl Abs {
         self.cells.as_slice()
     }
 
+    /// The same state, once more.
+    pub fn copied(&self) -> Abs
+        ensures { result ≡ self.now }
+    {
+        self.with_core(self.core)
+    }
+
+    /// It gets another core. Its items and cells stay.
+    pub fn set_core(&mut self, core: Core)
+        ensures { self.new ≡ record self.old { core = core } }
+    {
+        self.core = core;
+    }
+
+    /// It gets other items. Its core and cells stay.
+    pub fn set_items(&mut self, items: ArrayVec<Item, 16>)
+        ensures { self.new ≡ record self.old { items = items.items } }
+    {
+        self.items = items;
+    }
+
+    /// It gets other cells. Its core and items stay.
+    pub fn set_cells(&mut self, cells: ArrayVec<Cell, 32>)
+        ensures { self.new ≡ record self.old { cells = cells.items } }
+    {
+        self.cells = cells;
+    }
+
     /// The same items and cells with another core.
     pub fn with_core(&self, core: Core) -> Abs
         ensures { result ≡ record self.now { core = core } }

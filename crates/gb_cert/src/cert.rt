@@ -5,9 +5,10 @@ ghost use Rattle.std.specs.List.{flat_map};
 ghost use Rattle.gb_cert.specs.Spelling as spelled;
 ghost use Rattle.gb_cert.specs.Spelling.{Spells};
 
-use crate::fields::{from_place, node_number};
-use crate::node::{NodeRef, front_at};
+use crate::node::NodeRef;
 use crate::procedure::ProcedureRef;
+use gb_fields::numbers::{from_place, node_number};
+use gb_fields::parts::front_at;
 use gb_ops::machine::Region;
 use std::alloc::{AllocError, Global};
 use std::marker::Model;
@@ -89,6 +90,7 @@ impl<'a> Cert<'a> {
     }
 
     /// A node, by its number.
+    #[inline(always)]
     pub fn node(&self, i: u32) -> NodeRef<'a>
         requires { i < length self.now.nodes }
         ensures { slice_get self.now.nodes i ≡ Some result }

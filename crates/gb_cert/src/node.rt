@@ -1,16 +1,14 @@
 //! A node of a certificate, in the bytes of its file.
 
-ghost use Rattle.std.specs.Prelude.{◌≡◌, ◌≤◌, ◌*◌, ◌++◌, ◌∷◌, ℕ, List, length};
+ghost use Rattle.std.specs.Prelude.{◌≡◌};
 ghost use Rattle.std.specs.List.{flat_map};
-ghost use Rattle.gb_cert.specs.Format.{Gives, both, byte};
-ghost use Rattle.gb_cert.specs.Reading.{word};
 ghost use Rattle.gb_cert.specs.Spelling as spelled;
 
-use crate::fault::CertFault;
-use crate::fields::{byte, from_place, word};
+use crate::fields::core_at;
 use crate::role::Role;
 use crate::states::state_at;
-use crate::types::Abs;
+use crate::types::{Abs, Core};
+use gb_fields::numbers::{counted, from_place};
 use gb_ops::machine::Region;
 use std::marker::Model;
 
@@ -45,27 +43,6 @@ impl<'a> Model for NodeRef<'a> {
     ghost view = { λ n. record { procedure = n.procedure; address = n.address; bank = n.bank; state = state_in (role_of n.procedure) n.region n.state.now } };
 
     ghost invariant = { λ n. StateStands (role_of n.procedure) n.region n.state.now (state_in (role_of n.procedure) n.region n.state.now) };
-}
-
-/// The procedure, the address and the bank of a node.
-pub fn front_at(bytes: &[u8]) -> Result<((u8, (u16, u16)), &[u8]), CertFault>
-    ensures { Gives (λ x. (x.0, x.1.now)) result (both byte (both word word) bytes.now) }
-{
-    let (procedure, rest) = byte(bytes)?;
-    let (address, rest) = word(rest)?;
-    let (bank, rest) = word(rest)?;
-    Ok(((procedure, (address, bank)), rest))
-}
-
-/// A list of so many bytes each behind its count, and what is behind it.
-fn counted(bytes: &[u8], size: usize) -> (&[u8], &[u8])
-    requires { size ≤ 6 }
-    ensures { (n : ℕ) (xs rest : List ℕ) → bytes.now ≡ n ∷ (xs ++ rest) → length xs ≡ size * n → (result.0.now ≡ xs) × (result.1.now ≡ rest) }
-{
-    match bytes {
-        [count, rest @ ..] => rest.split_at((size * *count as usize).min(rest.len())),
-        [] => (bytes, bytes),
-    }
 }
 
 impl<'a> NodeRef<'a> {
@@ -110,6 +87,16 @@ impl<'a> NodeRef<'a> {
         ensures { result ≡ self.now.bank }
     {
         self.bank
+    }
+
+    /// The core of its state.
+    pub fn core(&self) -> Core
+        ensures { result ≡ self.now.state.core }
+    {
+        match core_at(Role::of(self.procedure), self.state) {
+            Ok((core, _)) => core,
+            Err(_) => unreachable!(),
+        }
     }
 
     /// Its state. It takes no memory.

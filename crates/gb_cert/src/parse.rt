@@ -2,18 +2,18 @@
 
 ghost use Rattle.std.specs.Prelude.{◌≡◌, ◌≤◌, ℕ, List, IfOk, Ok};
 ghost use Rattle.gb_cert.specs.Certificate.{Certificate};
-ghost use Rattle.gb_cert.specs.Format.{GivesUnlessMemory};
-ghost use Rattle.gb_cert.specs.Limits.{node_limit};
+ghost use Rattle.gb_fields.specs.Format.{GivesUnlessMemory};
+ghost use Rattle.gb_fields.specs.Limits.{node_limit};
 ghost use Rattle.gb_cert.specs.Places.{IsLeft, ArePlaced, FindsUnlessMemory, has_entry_at, have_entries_at};
 ghost use Rattle.gb_cert.specs.Reading.{procedures_at, nodes_at, read_certificate};
 ghost use Rattle.gb_cert.specs.Spelling as spelled;
 ghost use Rattle.gb_cert.specs.Spelling.{Spells};
 
 use crate::cert::Cert;
-use crate::fault::CertFault;
-use crate::fields::{byte, from_place, node_number};
-use crate::head::{Head, head_at};
 use crate::walk::{skip_node, skip_procedure};
+use gb_fields::CertFault;
+use gb_fields::head::{Head, head_at};
+use gb_fields::numbers::{byte, from_place, node_number};
 use std::alloc::Global;
 
 /// The least bytes of a node.

@@ -1,17 +1,18 @@
 //! A procedure of a certificate, in the bytes of its file.
 
 ghost use Rattle.std.specs.Prelude.{◌≡◌, false};
-ghost use Rattle.gb_cert.specs.Format.{Gives};
+ghost use Rattle.gb_fields.specs.Format.{Gives};
 ghost use Rattle.gb_cert.specs.Reading.{exit_at};
 ghost use Rattle.gb_cert.specs.Spelling as spelled;
 
-use crate::fault::CertFault;
-use crate::fields::word;
 use crate::role::Role;
 use crate::states::{ranges_at, state_at};
 use crate::types::{Abs, Range};
-use crate::walk::{returns_at, skip_exit, skip_ranges};
+use crate::walk::{skip_exit, skip_ranges};
 use arrayvec::ArrayVec;
+use gb_fields::CertFault;
+use gb_fields::numbers::word;
+use gb_fields::parts::returns_at;
 use gb_ops::machine::Region;
 use std::marker::Model;
 

@@ -1,17 +1,18 @@
 //! Reading states, and ranges.
 
 ghost use Rattle.std.specs.Prelude.{◌≡◌, ◌≤◌, ◌&&◌, ◌||◌, true, nat_le};
-ghost use Rattle.gb_cert.specs.Format.{Gives, several};
-ghost use Rattle.gb_cert.specs.Limits.{item_limit, cell_limit, range_limit};
+ghost use Rattle.gb_fields.specs.Format.{Gives, several};
+ghost use Rattle.gb_fields.specs.Limits.{item_limit, cell_limit, range_limit};
 ghost use Rattle.gb_cert.specs.Rules.{is_area, meets, after_cell, after_range};
 ghost use Rattle.gb_cert.specs.Reading.{item_at, items_at, is_free, cell_at, cells_at, state_at, range_at, ranges_at};
 
-use crate::fault::CertFault;
-use crate::fields::{core_at, count_within, val_at, word};
-use crate::limits::{CELL_LIMIT, ITEM_LIMIT, RANGE_LIMIT};
+use crate::fields::{core_at, val_at};
 use crate::role::Role;
 use crate::types::{Abs, Cell, Item, Range};
 use arrayvec::ArrayVec;
+use gb_fields::CertFault;
+use gb_fields::limits::{CELL_LIMIT, ITEM_LIMIT, RANGE_LIMIT};
+use gb_fields::numbers::{count_within, word};
 use gb_ops::machine::Region;
 
 #[inline(always)]

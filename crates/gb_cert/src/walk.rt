@@ -1,17 +1,19 @@
 //! Walking over the parts of a certificate, each checked, and none kept.
 
-ghost use Rattle.std.specs.Prelude.{◌≡◌, ◌≤◌, nat_le};
-ghost use Rattle.gb_cert.specs.Format.{Gives, mapped, several};
-ghost use Rattle.gb_cert.specs.Limits.{item_limit, cell_limit, range_limit};
+ghost use Rattle.std.specs.Prelude.{◌≡◌, ◌≤◌};
+ghost use Rattle.gb_fields.specs.Format.{Gives, mapped, several};
+ghost use Rattle.gb_fields.specs.Limits.{item_limit, cell_limit, range_limit};
 ghost use Rattle.gb_cert.specs.Skipping.{skipped};
-ghost use Rattle.gb_cert.specs.Rules.{words, fits, after_cell, after_range, role_of, key};
-ghost use Rattle.gb_cert.specs.Reading.{item_at, items_at, cell_at, cells_at, state_at, range_at, ranges_at, returns_at, exit_at, entry_at, need_at, procedure_at, key_at, node_at};
+ghost use Rattle.gb_cert.specs.Rules.{after_cell, after_range, role_of, key};
+ghost use Rattle.gb_cert.specs.Reading.{item_at, items_at, cell_at, cells_at, state_at, range_at, ranges_at, exit_at, procedure_at, node_at};
 
-use crate::fault::CertFault;
-use crate::fields::{byte, core_at, count_within, node_number, word, word_between, yes_no};
-use crate::limits::{CELL_LIMIT, ITEM_LIMIT, RANGE_LIMIT};
+use crate::fields::core_at;
 use crate::role::Role;
 use crate::states::{cell_at, item_at, range_at};
+use gb_fields::CertFault;
+use gb_fields::limits::{CELL_LIMIT, ITEM_LIMIT, RANGE_LIMIT};
+use gb_fields::numbers::{count_within, word_between};
+use gb_fields::parts::{entry_at, key_at, need_at, returns_at};
 use gb_ops::machine::Region;
 
 /// Passes over as many items as the count says.
@@ -94,18 +96,6 @@ pub fn skip_ranges(region: Region, bytes: &[u8]) -> Result<&[u8], CertFault>
     skip_some_ranges(region, count, rest)
 }
 
-/// Whether a procedure returns.
-#[tactic(auto, unfolding(crate::specs::Reading::returns_at))]
-pub fn returns_at(is_main: bool, bytes: &[u8]) -> Result<(bool, &[u8]), CertFault>
-    ensures { Gives (λ x. (x.0, x.1.now)) result (returns_at is_main bytes.now) }
-{
-    let (returns, rest) = yes_no(bytes)?;
-    if returns && is_main {
-        return Err(CertFault::Field);
-    }
-    Ok((returns, rest))
-}
-
 #[tactic(auto, using(crate::proofs::Skipping::skip_exit))]
 pub fn skip_exit(region: Region, is_main: bool, bytes: &[u8]) -> Result<&[u8], CertFault>
     ensures { Gives (λ x. x.now) result (skipped (exit_at region is_main) bytes.now) }
@@ -116,37 +106,6 @@ pub fn skip_exit(region: Region, is_main: bool, bytes: &[u8]) -> Result<&[u8], C
     } else {
         Ok(rest)
     }
-}
-
-/// Whether a need fits the region, where it is main's.
-fn fits(is_main: bool, region: Region, need: u16) -> bool
-    ensures { result ≡ fits is_main region need }
-{
-    !is_main || need as u32 <= (region.last.saturating_sub(region.first) as u32 + 1) / 2
-}
-
-/// The number of a procedure's first node, one of so many.
-#[tactic(auto, unfolding(crate::specs::Reading::entry_at))]
-pub fn entry_at(version: u8, nodes: u32, bytes: &[u8]) -> Result<(u32, &[u8]), CertFault>
-    ensures { Gives (λ x. (x.0, x.1.now)) result (entry_at version nodes bytes.now) }
-{
-    let (entry, rest) = node_number(version, bytes)?;
-    if entry >= nodes {
-        return Err(CertFault::Field);
-    }
-    Ok((entry, rest))
-}
-
-/// The words of stack that a procedure needs.
-#[tactic(auto, unfolding(crate::specs::Reading::need_at))]
-pub fn need_at(is_main: bool, region: Region, bytes: &[u8]) -> Result<(u16, &[u8]), CertFault>
-    ensures { Gives (λ x. (x.0, x.1.now)) result (need_at is_main region bytes.now) }
-{
-    let (need, rest) = word_between(0, 4096, bytes)?;
-    if !fits(is_main, region, need) {
-        return Err(CertFault::Region);
-    }
-    Ok((need, rest))
 }
 
 /// A procedure that begins at one of so many nodes.
@@ -164,30 +123,6 @@ pub fn skip_procedure(
     let (_, rest) = need_at(is_main, region, rest)?;
     let rest = skip_ranges(region, rest)?;
     skip_exit(region, is_main, rest)
-}
-
-/// The procedure's number, of so many, and the address of a node, behind those of the node before.
-#[inline(always)]
-#[tactic(auto, unfolding(crate::specs::Reading::key_at))]
-pub fn key_at(
-    procedures: u8,
-    before: (u8, u16),
-    bytes: &[u8],
-) -> Result<((u8, u16), &[u8]), CertFault>
-    ensures { Gives (λ x. (x.0, x.1.now)) result (key_at procedures before bytes.now) }
-{
-    let (procedure, rest) = byte(bytes)?;
-    if procedure >= procedures {
-        return Err(CertFault::Field);
-    }
-    if procedure < before.0 {
-        return Err(CertFault::Order);
-    }
-    let (address, rest) = word(rest)?;
-    if procedure == before.0 && address < before.1 {
-        return Err(CertFault::Order);
-    }
-    Ok(((procedure, address), rest))
 }
 
 /// The key of a node of one of so many procedures, behind a node with another key.

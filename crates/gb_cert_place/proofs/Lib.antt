@@ -1,8 +1,11 @@
 pub mod BlockLaws
+pub mod Containing
 pub mod FieldsAreLocal
 pub mod Locality
 pub mod LookupLaws
 pub mod PartLaws
 pub mod PlaceLaws
+pub mod StandingLaws
 pub mod Stopping
 pub mod WalkLaws
+pub mod Widths

@@ -1,8 +1,8 @@
 -- Readers go from left to right: bytes behind those that decided change nothing of what a reader answers.
 use Rattle.std.proofs.Common.{◌≡◌, ℕ, zero, suc, Bool, true, false, List, [], ◌∷◌, ◌++◌, Some, None, Result, Ok, Err, refl, sym, ◌∙◌, ap, subst, append_assoc}
-use Rattle.gb_cert.specs.declared.fault.CertFault.{CertFault}
-use Rattle.gb_cert.specs.declared.fault.CertFault.TheVariants as fault
-use Rattle.gb_cert.specs.Format.{Read, go_on, followed, both, mapped, if_passes, checked, optional, several, counted, byte}
+use Rattle.gb_fields.specs.declared.fault.CertFault.{CertFault}
+use Rattle.gb_fields.specs.declared.fault.CertFault.TheVariants as fault
+use Rattle.gb_fields.specs.Format.{Read, go_on, followed, both, mapped, if_passes, checked, optional, several, counted, byte}
 use Rattle.gb_cert.proofs.Formats.{went_on, same_pair}
 
 -- what a reader takes: a front of the bytes, which it reads alike before any others

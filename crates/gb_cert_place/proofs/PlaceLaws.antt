@@ -2,20 +2,21 @@
 use Rattle.std.proofs.Common.{◌≡◌, ℕ, ◌+◌, ◌-◌, ◌<◌, Bool, true, false, List, [], ◌∷◌, ◌++◌, length, take, Result, Ok, Err, refl, sym, ◌∙◌, ap, subst, arith}
 use Rattle.std.proofs.lemmas.List.{length-append, append-nil}
 use Rattle.std.proofs.Math.Seq.{take-append_seam}
-use Rattle.gb_cert.specs.declared.fault.CertFault.{CertFault}
-use Rattle.gb_cert.specs.declared.fault.CertFault.TheVariants as fault
-use Rattle.gb_cert.specs.declared.head.Head.{Head}
+use Rattle.gb_fields.specs.declared.fault.CertFault.{CertFault}
+use Rattle.gb_fields.specs.declared.fault.CertFault.TheVariants as fault
+use Rattle.gb_fields.specs.declared.head.Head.{Head}
 use Rattle.gb_cert.specs.Types.{ProcedureParts, Node}
 use Rattle.gb_cert.specs.Certificate.{Certificate}
-use Rattle.gb_cert.specs.Format.{Read, go_on, both, if_passes, ended}
+use Rattle.gb_fields.specs.Format.{Read, go_on, both, if_passes, ended}
 use Rattle.gb_cert.specs.Skipping.{skipped, past}
-use Rattle.gb_cert.specs.Reading.{head_at, procedures_at, nodes_at, have_entries_in, to_certificate, certificate_at, read_certificate}
+use Rattle.gb_fields.specs.Reading.{head_at}
+use Rattle.gb_cert.specs.Reading.{procedures_at, nodes_at, have_entries_in, to_certificate, certificate_at, read_certificate}
 use Rattle.gb_cert.proofs.Skipping.{skipped-mapped, skipped-both}
 use Rattle.gb_cert_place.specs.declared.block.Stop.{Stop}
 use Rattle.gb_cert_place.specs.declared.block.Block.TheVariants as block
 use Rattle.gb_cert_place.specs.Blocks.{read_block}
 use Rattle.gb_cert_place.specs.Stops.{Stopped, IsFaultAt, Decided, Behind, parts_at}
-use Rattle.gb_cert_place.specs.Places.{is_memory, place_of, behind, IsFound, InBlock, AtEnd}
+use Rattle.gb_cert_place.specs.Places.{is_memory, behind, IsFound, AtEnd}
 use Rattle.gb_cert_place.proofs.Locality.{IsLocal, IsLocal-followed, IsLocal-both, failed, same_fault}
 use Rattle.gb_cert_place.proofs.FieldsAreLocal.{IsLocal-head, IsLocal-procedures, IsLocal-nodes}
 use Rattle.gb_cert_place.proofs.Stopping.{StopsAt-mapped, StopsAt-checked, tight}
@@ -55,11 +56,11 @@ pub ruleset walk_parts = (stop_in_procedures, stop_in_nodes, parts_passed)
 -- ---- certificates
 
 -- a fault of the parts is the certificate's
-pub of_parts : (bytes : List ℕ) (s : Stop) → Stopped parts_at bytes s → IsFaultAt bytes s.fault (length bytes - s.left) × IsFound bytes (place_of (length bytes) s)
+pub of_parts : (bytes : List ℕ) (s : Stop) → Stopped parts_at bytes s → IsFaultAt bytes s.fault (length bytes - s.left)
 unfolding read_certificate certificate_at parts_at
 of_parts bytes s p =
     let q = StopsAt-mapped to_certificate _ bytes s.fault (length bytes - s.left) (StopsAt-checked fault.Field have_entries_in parts_at bytes s.fault (length bytes - s.left) p.stops) in
-    (Decided (record { meets = rw q.meets refl; within = q.within; before = λ j lt. rw (q.before j lt) refl; decided = λ more m. rw (q.decided more m) refl; cut = q.cut }), InBlock s p.block)
+    Decided (record { meets = rw q.meets refl; within = q.within; before = λ j lt. rw (q.before j lt) refl; decided = λ more m. rw (q.decided more m) refl; cut = q.cut })
 
 abbrev Parts : Type 0
 Parts = Head × (List ProcedureParts × List Node)

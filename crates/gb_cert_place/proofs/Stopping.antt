@@ -3,9 +3,9 @@ use Rattle.std.proofs.Common.{◌≡◌, ℕ, ◌+◌, ◌-◌, ◌≤◌, ◌<�
 use Rattle.std.proofs.lemmas.List.{take-append-drop, take_all, length-append, length-drop}
 use Rattle.std.proofs.Math.Seq.{take-append-add}
 use Rattle.std.proofs.lemmas.Bool.{cases_lt}
-use Rattle.gb_cert.specs.declared.fault.CertFault.{CertFault}
-use Rattle.gb_cert.specs.declared.fault.CertFault.TheVariants as fault
-use Rattle.gb_cert.specs.Format.{Read, go_on, followed, mapped, checked}
+use Rattle.gb_fields.specs.declared.fault.CertFault.{CertFault}
+use Rattle.gb_fields.specs.declared.fault.CertFault.TheVariants as fault
+use Rattle.gb_fields.specs.Format.{Read, go_on, followed, mapped, checked}
 use Rattle.gb_cert_place.specs.Stops.{StopsAt, is_missing}
 use Rattle.gb_cert.proofs.Formats.{same_pair}
 use Rattle.gb_cert_place.proofs.Locality.{IsLocal, grown, failed, same_fault}
@@ -101,6 +101,17 @@ StopsAt-then r t a bytes x rest h e left few s =
     let k = behind_front r t w.front rest x w.again a e (length rest - left) s in
     subst (λ m. StopsAt (followed r t) bytes e m) (sym n) (subst (λ b. StopsAt (followed r t) b e (length w.front + (length rest - left))) (sym w.parts) k)
 
+pub is_cut_short : (c : CertFault) → is_missing c ≡ true → c ≡ fault.CutShort
+is_cut_short fault.CutShort h = refl
+is_cut_short fault.Magic h = absurd cc
+is_cut_short fault.Version h = absurd cc
+is_cut_short fault.Count h = absurd cc
+is_cut_short fault.Field h = absurd cc
+is_cut_short fault.Order h = absurd cc
+is_cut_short fault.Region h = absurd cc
+is_cut_short fault.LeftOver h = absurd cc
+is_cut_short fault.Memory h = absurd cc
+
 -- Fewer than i bytes are missing bytes.
 abbrev pub IsShort : {X : Type 0} → Read X → List ℕ → ℕ → Type 0
 IsShort r bytes i = (j : ℕ) → j < i → r (take j bytes) ≡ Err fault.CutShort
@@ -108,20 +119,9 @@ IsShort r bytes i = (j : ℕ) → j < i → r (take j bytes) ≡ Err fault.CutSh
 pub short_on : {X : Type 0} (r : Read X) (bytes : List ℕ) (i : ℕ) (d : CertFault) → IsShort r bytes i → r (take i bytes) ≡ Err d → is_missing d ≡ true → IsShort r bytes (i + 1)
 short_on r bytes i d short g m j lt = by (cases_lt j i)
   where
-    missing : (c : CertFault) → is_missing c ≡ true → c ≡ fault.CutShort
-    missing fault.CutShort h = refl
-    missing fault.Magic h = absurd cc
-    missing fault.Version h = absurd cc
-    missing fault.Count h = absurd cc
-    missing fault.Field h = absurd cc
-    missing fault.Order h = absurd cc
-    missing fault.Region h = absurd cc
-    missing fault.LeftOver h = absurd cc
-    missing fault.Memory h = absurd cc
-
     by : (j < i) ⊎ (i ≤ j) → r (take j bytes) ≡ Err fault.CutShort
     by (inl low) = short j low
-    by (inr high) = let k : j ≡ i = omega arith in ap (λ n. r (take n bytes)) k ∙ g ∙ ap (λ c. Err c) (missing d m)
+    by (inr high) = let k : j ≡ i = omega arith in ap (λ n. r (take n bytes)) k ∙ g ∙ ap (λ c. Err c) (is_cut_short d m)
 
 -- Where a beginning can be read, so can all.
 pub reads_on : {X : Type 0} (r : Read X) → IsLocal r → (bytes : List ℕ) (i : ℕ) (x : X) (rest : List ℕ) → r (take i bytes) ≡ Ok (x, rest) → r bytes ≡ Ok (x, rest ++ drop i bytes)

@@ -1,16 +1,16 @@
 -- A walk that stops in a part of a format stops in the format at the same place.
-use Rattle.std.proofs.Common.{◌≡◌, ℕ, suc, ◌+◌, ◌-◌, ◌≤◌, ◌<◌, Bool, List, ◌∷◌, ◌++◌, length, Result, Ok, sym, ◌∙◌, ap, subst, append_assoc, arith}
+use Rattle.std.proofs.Common.{◌≡◌, ℕ, suc, ◌+◌, ◌-◌, ◌≤◌, ◌<◌, List, ◌∷◌, length, Result, Ok, refl, sym, ◌∙◌, ap, subst, arith}
 use Rattle.std.proofs.lemmas.List.{length-append}
-use Rattle.gb_cert.specs.declared.fault.CertFault.{CertFault}
-use Rattle.gb_cert.specs.Format.{Read, followed, both, mapped, checked, several}
+use Rattle.gb_fields.specs.declared.fault.CertFault.{CertFault}
+use Rattle.gb_fields.specs.Format.{Read, followed, both, mapped, several}
 use Rattle.gb_cert.specs.Skipping.{skipped}
 use Rattle.gb_cert.proofs.Formats.{went_on, same_pair}
 use Rattle.gb_cert.proofs.Skipping.{skipped-mapped}
 use Rattle.gb_cert_place.specs.declared.block.Stop.{Stop}
 use Rattle.gb_cert_place.specs.Blocks.{forget}
-use Rattle.gb_cert_place.specs.Stops.{BlockStands, Stopped}
+use Rattle.gb_cert_place.specs.Stops.{Stopped}
 use Rattle.gb_cert_place.proofs.Locality.{IsLocal, front_of, one_more}
-use Rattle.gb_cert_place.proofs.Stopping.{StopsAt-first, StopsAt-mapped, StopsAt-checked, StopsAt-then, StopsAt-unmapped}
+use Rattle.gb_cert_place.proofs.Stopping.{StopsAt-first, StopsAt-mapped, StopsAt-then, StopsAt-unmapped}
 
 -- What is left is no more than there was.
 pub shorter : {X : Type 0} (r : Read X) → IsLocal r → (bytes : List ℕ) (x : X) (rest : List ℕ) → r bytes ≡ Ok (x, rest) → length rest ≤ length bytes
@@ -32,25 +32,16 @@ was_read {X} r bytes rest h =
     ok_rest a b e = cc
 
 pub Stopped-first : {X Y : Type 0} (r : Read X) (t : X → Read Y) (bytes : List ℕ) (s : Stop) → Stopped r bytes s → Stopped (followed r t) bytes s
-Stopped-first r t bytes s p = record { order = p.order; few = p.few; block = p.block; stops = StopsAt-first r t bytes s.fault (length bytes - s.left) p.stops }
+Stopped-first r t bytes s p = record { order = p.order; few = p.few; stops = StopsAt-first r t bytes s.fault (length bytes - s.left) p.stops }
 
 pub Stopped-mapped : {X Y : Type 0} (f : X → Y) (r : Read X) (bytes : List ℕ) (s : Stop) → Stopped r bytes s → Stopped (mapped f r) bytes s
-Stopped-mapped f r bytes s p = record { order = p.order; few = p.few; block = p.block; stops = StopsAt-mapped f r bytes s.fault (length bytes - s.left) p.stops }
-
-pub Stopped-checked : {X : Type 0} (d : CertFault) (q : X → Bool) (r : Read X) (bytes : List ℕ) (s : Stop) → Stopped r bytes s → Stopped (checked d q r) bytes s
-Stopped-checked d q r bytes s p = record { order = p.order; few = p.few; block = p.block; stops = StopsAt-checked d q r bytes s.fault (length bytes - s.left) p.stops }
+Stopped-mapped f r bytes s p = record { order = p.order; few = p.few; stops = StopsAt-mapped f r bytes s.fault (length bytes - s.left) p.stops }
 
 pub Stopped-unmapped : {X Y : Type 0} (f : X → Y) (r : Read X) (bytes : List ℕ) (s : Stop) → Stopped (mapped f r) bytes s → Stopped r bytes s
-Stopped-unmapped f r bytes s p = record { order = p.order; few = p.few; block = p.block; stops = StopsAt-unmapped f r bytes s.fault (length bytes - s.left) p.stops }
+Stopped-unmapped f r bytes s p = record { order = p.order; few = p.few; stops = StopsAt-unmapped f r bytes s.fault (length bytes - s.left) p.stops }
 
 pub Stopped-block : {X : Type 0} (r : Read X) (bytes : List ℕ) (s : Stop) → Stopped (mapped forget r) bytes s → Stopped r bytes s
 Stopped-block r bytes s p = Stopped-unmapped forget r bytes s p
-
-behind_taken : {X : Type 0} (r : Read X) → IsLocal r → (bytes : List ℕ) (x : X) (rest : List ℕ) (s : Stop) → r bytes ≡ Ok (x, rest) → BlockStands rest s → BlockStands bytes s
-behind_taken r a bytes x rest s h b =
-    let w = a.taken bytes x rest h in
-    let parts : bytes ≡ (w.front ++ b.front) ++ b.rest = w.parts ∙ ap (λ (y : List ℕ). w.front ++ y) b.parts ∙ sym (append_assoc w.front b.front b.rest) in
-    record { front = w.front ++ b.front; rest = b.rest; parts = parts; size = b.size; stops = b.stops }
 
 pub Stopped-then : {X Y : Type 0} (r : Read X) (t : X → Read Y) → IsLocal r → (bytes : List ℕ) (x : X) (rest : List ℕ) (s : Stop) → r bytes ≡ Ok (x, rest) → Stopped (t x) rest s → Stopped (followed r t) bytes s
 Stopped-then r t a bytes x rest s h p =
@@ -58,7 +49,7 @@ Stopped-then r t a bytes x rest s h p =
     let f : s.before ≤ length rest = p.few in
     let o : s.left ≤ s.before = p.order in
     let m : s.left ≤ length rest = omega arith in
-    record { order = p.order; few = omega arith; block = behind_taken r a bytes x rest s h p.block; stops = StopsAt-then r t a bytes x rest h s.fault s.left m p.stops }
+    record { order = p.order; few = omega arith; stops = StopsAt-then r t a bytes x rest h s.fault s.left m p.stops }
 
 pub Stopped-after : {X Y : Type 0} (r : Read X) (t : Read Y) → IsLocal r → (bytes rest : List ℕ) (s : Stop) → skipped r bytes ≡ Ok rest → Stopped t rest s → Stopped (both r t) bytes s
 Stopped-after r t a bytes rest s h p = let w = was_read r bytes rest h in Stopped-then r (λ x. t) a bytes w.0 rest s w.1 p
@@ -68,7 +59,6 @@ pub Stopped-as : {X : Type 0} (r t : Read X) (bytes : List ℕ) (s : Stop) → (
 Stopped-as r t bytes s same p = record {
   order = p.order;
   few = p.few;
-  block = p.block;
   stops = record {
     meets = sym (same bytes) ∙ p.stops.meets;
     within = p.stops.within;
@@ -88,6 +78,11 @@ pub record Leads {X : Type 0} (r : Read X) (bytes : List ℕ) (t : Read X) (rest
 one_passed : {S X : Type 0} (step : S → Read X) (next : X → S) (n : ℕ) (s : S) (bytes : List ℕ) (x : X) (after : List ℕ) → step s bytes ≡ Ok (x, after) → skipped (several step next s (suc n)) bytes ≡ skipped (several step next (next x) n) after
 unfolding several
 one_passed step next n s bytes x after h = rw h (skipped-mapped (λ xs. x ∷ xs) (several step next (next x) n) after)
+
+pub leads_start : {S X : Type 0} (step : S → Read X) (next : X → S) (s : S) (n : ℕ) (bytes : List ℕ) → Leads (several step next s n) bytes (several step next s (n - 0)) bytes
+leads_start step next s n bytes =
+    let k : n ≡ n - 0 = omega arith in
+    subst (λ c. Leads (several step next s n) bytes (several step next s c) bytes) k (record { passes = refl; stops = λ stop p. p })
 
 pub leads_on : {S X : Type 0} (step : S → Read X) (next : X → S) → ((s : S) → IsLocal (step s)) → (r : Read (List X)) (bytes : List ℕ) (s : S) (n i : ℕ) (rest : List ℕ) (x : X) (after : List ℕ) → i < n → step s rest ≡ Ok (x, after)
     → Leads r bytes (several step next s (n - i)) rest → Leads r bytes (several step next (next x) (n - (i + 1))) after

@@ -1,5 +1,5 @@
 -- The fields of a block, each with its bytes, in their order (own format).
-use Rattle.std.specs.Prelude.{ℕ, ◌+◌, ◌==◌, nat_lt, Bool, true, false, List, [], ◌∷◌}
+use Rattle.std.specs.Prelude.{◌≡◌, ℕ, ◌+◌, ◌==◌, ◌≤◌, ◌<◌, nat_lt, Bool, true, false, List, [], ◌∷◌, ◌++◌}
 use Rattle.gb_ops.specs.declared.op.Register.TheVariants.{A, B, C, D, E, H, L}
 use Rattle.gb_cert_place.specs.declared.block.Block.{Block}
 use Rattle.gb_cert_place.specs.declared.block.Block.TheVariants as block
@@ -65,6 +65,20 @@ layout block.CellCount = (field.CellCount, 1) ∷ []
 layout (block.Cell index region least) = cell_layout index
 layout (block.Key procedures before) = (field.Procedure, 1) ∷ (field.Address, 2) ∷ []
 layout block.Bank = (field.Bank, 2) ∷ []
+
+-- the bytes of all fields
+abbrev pub width_of : Layout → ℕ
+width_of [] = 0
+width_of (f ∷ fs) = f.1 + width_of fs
+
+-- The byte is one of the field's, which begins there and has so many.
+pub record Contains (fields : Layout) (byte : ℕ) (field : Field) (first width : ℕ) : Type 0 where
+  pub front : Layout
+  pub behind : Layout
+  pub parts : fields ≡ front ++ (field, width) ∷ behind
+  pub begins : first ≡ width_of front
+  pub from : first ≤ byte
+  pub to : byte < first + width
 
 abbrev pub choose : {X : Type 0} → Bool → X → X → X
 choose true x y = x

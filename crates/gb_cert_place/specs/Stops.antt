@@ -1,13 +1,16 @@
 -- Where reading stops: the least number of bytes that decide.
 use Rattle.std.specs.Prelude.{◌≡◌, ℕ, Bool, true, false, ◌-◌, ◌≤◌, ◌<◌, List, ◌++◌, length, take, Result, Ok, Err}
-use Rattle.gb_cert.specs.declared.fault.CertFault.{CertFault}
-use Rattle.gb_cert.specs.declared.fault.CertFault.TheVariants as fault
-use Rattle.gb_cert.specs.declared.head.Head.{Head}
+use Rattle.gb_fields.specs.declared.fault.CertFault.{CertFault}
+use Rattle.gb_fields.specs.declared.fault.CertFault.TheVariants as fault
+use Rattle.gb_fields.specs.declared.head.Head.{Head}
 use Rattle.gb_cert.specs.Types.{ProcedureParts, Node}
 use Rattle.gb_cert.specs.Certificate.{Certificate}
-use Rattle.gb_cert.specs.Format.{Read, followed, both}
-use Rattle.gb_cert.specs.Reading.{head_at, procedures_at, nodes_at, read_certificate}
+use Rattle.gb_fields.specs.Format.{Read, followed, both}
+use Rattle.gb_fields.specs.Reading.{head_at}
+use Rattle.gb_cert.specs.Reading.{procedures_at, nodes_at, read_certificate}
 use Rattle.gb_cert.specs.Skipping.{skipped}
+use Rattle.gb_cert_place.specs.declared.block.Block.{Block}
+use Rattle.gb_cert_place.specs.declared.block.Part.{Part}
 use Rattle.gb_cert_place.specs.declared.block.Stop.{Stop}
 use Rattle.gb_cert_place.specs.Blocks.{read_block}
 
@@ -32,20 +35,18 @@ pub record StopsAt {Y : Type 0} (read : List ℕ → Result Y CertFault) (bytes 
   pub decided : (more : List ℕ) → (e ≡ fault.CutShort → ⊥) → read (take stop bytes ++ more) ≡ Err e
   pub cut : e ≡ fault.CutShort → stop ≡ length bytes
 
--- A walk found a block in the bytes, which by its own rule has the fault, and stops at the same place.
-pub record BlockStands (bytes : List ℕ) (s : Stop) : Type 0 where
-  pub front : List ℕ
-  pub rest : List ℕ
-  pub parts : bytes ≡ front ++ rest
-  pub size : length rest ≡ s.before
-  pub stops : StopsAt (read_block s.block) rest s.fault (s.before - s.left)
-
 -- The same of what a walk found, which counts the bytes that are left, also before its block.
 pub record Stopped {X : Type 0} (read : Read X) (bytes : List ℕ) (s : Stop) : Type 0 where
   pub order : s.left ≤ s.before
   pub few : s.before ≤ length bytes
-  pub block : BlockStands bytes s
   pub stops : StopsAt read bytes s.fault (length bytes - s.left)
+
+-- The walk stopped in a block that stands where the relation says: the block's bytes, read by its rule, have the fault and stop there.
+pub record StopsIn (stands_at : Part → Block → List ℕ → Type 0) (s : Stop) : Type 0 where
+  pub rest : List ℕ
+  pub stands : stands_at s.part s.block rest
+  pub size : length rest ≡ s.before
+  pub stops : StopsAt (read_block s.block) rest s.fault (s.before - s.left)
 
 -- A walk over a part passes it, or stops where reading does.
 abbrev pub Walks : {A X : Type 0} → (A → List ℕ) → Result A Stop → Read X → List ℕ → Type 0

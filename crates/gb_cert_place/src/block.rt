@@ -1,17 +1,18 @@
 //! The blocks of a certificate, and where in one of them reading stops.
 
 ghost use Rattle.std.specs.Prelude.{◌≡◌, length, Err};
-ghost use Rattle.gb_cert.specs.Format.{Gives};
+ghost use Rattle.gb_fields.specs.Format.{Gives};
 ghost use Rattle.gb_cert_place.specs.Blocks.{item_count_at, read_block};
 ghost use Rattle.gb_cert_place.specs.Stops.{is_missing, StopsAt, Stopped};
 
 use gb_cert::CertFault;
-use gb_cert::fields::{core_at, count_within, word_between};
-use gb_cert::head::head_at;
-use gb_cert::limits::{CELL_LIMIT, ITEM_LIMIT, RANGE_LIMIT};
+use gb_cert::fields::core_at;
 use gb_cert::role::Role;
 use gb_cert::states::{cell_at, item_at, range_at};
-use gb_cert::walk::{entry_at, key_at, need_at, returns_at};
+use gb_fields::head::head_at;
+use gb_fields::limits::{CELL_LIMIT, ITEM_LIMIT, RANGE_LIMIT};
+use gb_fields::numbers::{count_within, word_between};
+use gb_fields::parts::{entry_at, key_at, need_at, returns_at};
 use gb_ops::machine::Region;
 
 /// A run of fields that is read by one rule, with what the rule asks of the fields before it.

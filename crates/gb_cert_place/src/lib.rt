@@ -2,9 +2,9 @@
 //! and says behind how many of them reading stops. Fewer say only that bytes are missing; these have
 //! the fault, whatever follows.
 //!
-//! Read specs/Stops.antt and specs/Places.antt first, then place; block (runs of fields, and where in
-//! one of them reading stops), field (which fields stand in a block), walk (up to the block with the
-//! fault) and text (a place as a person reads it).
+//! Read specs/Stops.antt, specs/Standing.antt and specs/Places.antt first, then place; block (runs of
+//! fields, and where in one of them reading stops), field (which fields stand in a block), walk (up to
+//! the block with the fault) and text (a place as a person reads it).
 #![tactic(auto)]
 
 pub mod block;

@@ -1,23 +1,27 @@
 //! Walking over the parts of a certificate, up to where reading stops.
 
-ghost use Rattle.std.specs.Prelude.{◌≡◌, slice_index_or};
-ghost use Rattle.gb_cert.specs.Format.{mapped, several};
+ghost use Rattle.std.specs.Prelude.{◌≡◌, slice_index_or, IfErr};
+ghost use Rattle.gb_fields.specs.Format.{mapped, several};
 ghost use Rattle.gb_cert.specs.Rules.{after_cell, after_range, key};
 ghost use Rattle.gb_cert.specs.Reading.{item_at, items_at, cell_at, cells_at, state_at, range_at, ranges_at, exit_at, procedure_at, node_at, procedures_at, nodes_at};
-ghost use Rattle.gb_cert_place.specs.Stops.{Walks, Finds, parts_at};
+ghost use Rattle.gb_cert_place.specs.declared.block.Part.TheVariants as the_part;
+ghost use Rattle.gb_cert_place.specs.Standing.{Of, AmongItems, InItems, AmongCells, InCells, InState, AmongRanges, InRanges, InExit, InProcedure, InProcedures, InNode, InNodes, InCertificate};
+ghost use Rattle.gb_cert_place.specs.Stops.{Walks, Finds, StopsIn, parts_at};
 
 use crate::block::{Block, Part, Stop, item_count_at, stopped};
-use gb_cert::fields::{core_at, count_within, word_between};
-use gb_cert::head::{Head, head_at};
-use gb_cert::limits::{CELL_LIMIT, RANGE_LIMIT};
+use gb_cert::fields::core_at;
 use gb_cert::role::Role;
 use gb_cert::states::{cell_at, item_at, range_at};
-use gb_cert::walk::{entry_at, key_at, need_at, returns_at};
+use gb_fields::head::{Head, head_at};
+use gb_fields::limits::{CELL_LIMIT, RANGE_LIMIT};
+use gb_fields::numbers::{count_within, word_between};
+use gb_fields::parts::{entry_at, key_at, need_at, returns_at};
 use gb_ops::machine::Region;
 
 /// Passes over as many items as the count says.
 fn walk_some_items(part: Part, count: u8, bytes: &[u8]) -> Result<&[u8], Stop>
-    ensures { Walks (λ x. x.now) result (several {S = Unit {0}} (λ s. item_at) (λ i. tt) tt count) bytes.now }
+    ensures reads { Walks (λ x. x.now) result (several {S = Unit {0}} (λ s. item_at) (λ i. tt) tt count) bytes.now }
+    ensures block { IfErr result (StopsIn (Of part (AmongItems count bytes.now))) }
 {
     let mut rest = bytes;
     for index in 0..count {
@@ -31,7 +35,8 @@ fn walk_some_items(part: Part, count: u8, bytes: &[u8]) -> Result<&[u8], Stop>
 
 #[tactic(auto, using(crate::proofs::PartLaws::walk_items))]
 fn walk_items(part: Part, role: Role, stack_set: bool, bytes: &[u8]) -> Result<&[u8], Stop>
-    ensures { Walks (λ x. x.now) result (items_at role stack_set) bytes.now }
+    ensures reads { Walks (λ x. x.now) result (items_at role stack_set) bytes.now }
+    ensures block { IfErr result (StopsIn (Of part (InItems role stack_set bytes.now))) }
 {
     match item_count_at(role, stack_set, bytes) {
         Ok((count, rest)) => {
@@ -47,7 +52,8 @@ fn walk_items(part: Part, role: Role, stack_set: bool, bytes: &[u8]) -> Result<&
 
 /// Passes over as many cells as the count says.
 fn walk_some_cells(part: Part, region: Region, count: u8, bytes: &[u8]) -> Result<&[u8], Stop>
-    ensures { Walks (λ x. x.now) result (several (cell_at region) after_cell 0 count) bytes.now }
+    ensures reads { Walks (λ x. x.now) result (several (cell_at region) after_cell 0 count) bytes.now }
+    ensures block { IfErr result (StopsIn (Of part (AmongCells region count bytes.now))) }
 {
     let mut least = 0;
     let mut rest = bytes;
@@ -72,7 +78,8 @@ fn walk_some_cells(part: Part, region: Region, count: u8, bytes: &[u8]) -> Resul
 
 #[tactic(auto, using(crate::proofs::PartLaws::walk_cells))]
 fn walk_cells(part: Part, region: Region, bytes: &[u8]) -> Result<&[u8], Stop>
-    ensures { Walks (λ x. x.now) result (cells_at region) bytes.now }
+    ensures reads { Walks (λ x. x.now) result (cells_at region) bytes.now }
+    ensures block { IfErr result (StopsIn (Of part (InCells region bytes.now))) }
 {
     match count_within(CELL_LIMIT, bytes) {
         Ok((count, rest)) => {
@@ -85,7 +92,8 @@ fn walk_cells(part: Part, region: Region, bytes: &[u8]) -> Result<&[u8], Stop>
 
 #[tactic(auto, using(crate::proofs::PartLaws::walk_state))]
 fn walk_state(part: Part, role: Role, region: Region, bytes: &[u8]) -> Result<&[u8], Stop>
-    ensures { Walks (λ x. x.now) result (state_at role region) bytes.now }
+    ensures reads { Walks (λ x. x.now) result (state_at role region) bytes.now }
+    ensures block { IfErr result (StopsIn (Of part (InState role region bytes.now))) }
 {
     match core_at(role, bytes) {
         Ok((core, rest)) => {
@@ -99,7 +107,8 @@ fn walk_state(part: Part, role: Role, region: Region, bytes: &[u8]) -> Result<&[
 
 /// Passes over as many ranges as the count says.
 fn walk_some_ranges(part: Part, region: Region, count: u8, bytes: &[u8]) -> Result<&[u8], Stop>
-    ensures { Walks (λ x. x.now) result (several (range_at region) after_range 0 count) bytes.now }
+    ensures reads { Walks (λ x. x.now) result (several (range_at region) after_range 0 count) bytes.now }
+    ensures block { IfErr result (StopsIn (Of part (AmongRanges region count bytes.now))) }
 {
     let mut least = 0;
     let mut rest = bytes;
@@ -124,7 +133,8 @@ fn walk_some_ranges(part: Part, region: Region, count: u8, bytes: &[u8]) -> Resu
 
 #[tactic(auto, using(crate::proofs::PartLaws::walk_ranges))]
 fn walk_ranges(part: Part, region: Region, bytes: &[u8]) -> Result<&[u8], Stop>
-    ensures { Walks (λ x. x.now) result (ranges_at region) bytes.now }
+    ensures reads { Walks (λ x. x.now) result (ranges_at region) bytes.now }
+    ensures block { IfErr result (StopsIn (Of part (InRanges region bytes.now))) }
 {
     match count_within(RANGE_LIMIT, bytes) {
         Ok((count, rest)) => {
@@ -138,7 +148,8 @@ fn walk_ranges(part: Part, region: Region, bytes: &[u8]) -> Result<&[u8], Stop>
 /// Passes over whether the procedure with this number returns, and over its exit.
 #[tactic(auto, using(crate::proofs::PartLaws::walk_exit))]
 fn walk_exit(number: u8, region: Region, is_main: bool, bytes: &[u8]) -> Result<&[u8], Stop>
-    ensures { Walks (λ x. x.now) result (exit_at region is_main) bytes.now }
+    ensures reads { Walks (λ x. x.now) result (exit_at region is_main) bytes.now }
+    ensures block { IfErr result (StopsIn (InExit number region is_main bytes.now)) }
 {
     match returns_at(is_main, bytes) {
         Ok((true, rest)) => {
@@ -163,7 +174,8 @@ fn walk_procedure(
     is_main: bool,
     bytes: &[u8],
 ) -> Result<&[u8], Stop>
-    ensures { Walks (λ x. x.now) result (procedure_at version region nodes is_main) bytes.now }
+    ensures reads { Walks (λ x. x.now) result (procedure_at version region nodes is_main) bytes.now }
+    ensures block { IfErr result (StopsIn (InProcedure number version region nodes is_main bytes.now)) }
 {
     let part = Part::Procedure(number);
     let rest = match entry_at(version, nodes, bytes) {
@@ -188,7 +200,8 @@ fn walk_node(
     before: (u8, u16),
     bytes: &[u8],
 ) -> Result<((u8, u16), &[u8]), Stop>
-    ensures { Finds (λ x. (x.0, x.1.now)) result (mapped key (node_at region procedures before)) bytes.now }
+    ensures reads { Finds (λ x. (x.0, x.1.now)) result (mapped key (node_at region procedures before)) bytes.now }
+    ensures block { IfErr result (StopsIn (Of (the_part.Node number) (InNode region procedures before bytes.now))) }
 {
     let part = Part::Node(number);
     let (key, rest) = match key_at(procedures, before, bytes) {
@@ -206,7 +219,8 @@ fn walk_node(
 /// Passes over the procedures behind the head.
 #[tactic(auto, unfolding(gb_cert::specs::Reading::procedures_at))]
 fn walk_procedures(head: Head, bytes: &[u8]) -> Result<&[u8], Stop>
-    ensures { Walks (λ x. x.now) result (procedures_at head.version head.region head.nodes head.procedures) bytes.now }
+    ensures reads { Walks (λ x. x.now) result (procedures_at head.version head.region head.nodes head.procedures) bytes.now }
+    ensures block { IfErr result (StopsIn (InProcedures head bytes.now)) }
 {
     let mut is_main = true;
     let mut rest = bytes;
@@ -220,7 +234,8 @@ fn walk_procedures(head: Head, bytes: &[u8]) -> Result<&[u8], Stop>
 /// Passes over the nodes behind the procedures.
 #[tactic(auto, unfolding(gb_cert::specs::Reading::nodes_at))]
 fn walk_nodes(head: Head, bytes: &[u8]) -> Result<&[u8], Stop>
-    ensures { Walks (λ x. x.now) result (nodes_at head.region head.procedures head.nodes) bytes.now }
+    ensures reads { Walks (λ x. x.now) result (nodes_at head.region head.procedures head.nodes) bytes.now }
+    ensures block { IfErr result (StopsIn (InNodes head bytes.now)) }
 {
     let mut before = (0, 0);
     let mut rest = bytes;
@@ -245,7 +260,8 @@ fn version_in(bytes: &[u8]) -> u8
 /// Passes over the head, the procedures and the nodes.
 #[tactic(auto, using(crate::proofs::PlaceLaws::walk_parts))]
 pub fn walk_parts(bytes: &[u8]) -> Result<&[u8], Stop>
-    ensures { Walks (λ x. x.now) result parts_at bytes.now }
+    ensures reads { Walks (λ x. x.now) result parts_at bytes.now }
+    ensures block { IfErr result (StopsIn (InCertificate bytes.now)) }
 {
     match head_at(bytes) {
         Ok((head, rest)) => {

@@ -5,3 +5,4 @@ pub mod Cycles
 pub mod Idle
 pub mod Frames
 pub mod Running
+pub mod Whole

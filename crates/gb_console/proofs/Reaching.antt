@@ -10,6 +10,7 @@ use Rattle.gb_ppu.specs.Picture.{frame_cycles}
 use Rattle.gb_bus.specs.Contents.{Contents}
 use Rattle.gb_bus.specs.PowerUp as PowerUp
 use Rattle.gb_bus.specs.PowerUp.{zeros}
+use Rattle.gb_abs_memory.specs.Sound.{IsRom}
 use Rattle.gb_console.specs.Console.{IsReachable, at_power_up, machine_of}
 
 play_more : (rom : List ℕ) (region : Region) (events : List Event) (s : MState) (e : Event) → (play rom region s (events ++ e ∷ [])).state ≡ next rom (play rom region s events).state e
@@ -47,7 +48,7 @@ unfolding IsReachable play
 start_reachable rom s h = λ (region : Region). record { start = s; events = []; is_start = h; leads = refl }
 
 -- what a new console keeps
-pub fresh : (rom : List ℕ) (m : Contents) (p : Processor) → m ≡ PowerUp.at_power_up rom → p ≡ processor_at_power_up rom
-    → (0 < frame_cycles) × (m.view.starting ≡ false) × IsReachable m.view.rom (record { processor = p; storage = m.view.storage })
+pub fresh : (rom : List ℕ) (m : Contents) (p : Processor) → m ≡ PowerUp.at_power_up rom → p ≡ processor_at_power_up rom → IsRom rom
+    → (0 < frame_cycles) × (m.view.starting ≡ false) × IsReachable m.view.rom (record { processor = p; storage = m.view.storage }) × IsRom m.view.rom
 unfolding PowerUp.at_power_up at_power_up
-fresh rom m p e q = rw (e, q) (omega arith, refl, start_reachable rom _ (starts rom))
+fresh rom m p e q cartridge = rw (e, q) (omega arith, refl, start_reachable rom _ (starts rom), cartridge)

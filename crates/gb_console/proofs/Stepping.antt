@@ -13,6 +13,7 @@ use Rattle.gb_bus.specs.Access.{IsAccessed}
 use Rattle.gb_cpu.specs.Step.{state}
 use Rattle.gb_cpu.specs.Access.{HasFreeBytes}
 use Rattle.gb_cpu.specs.Choice.{is_idle, waits_after}
+use Rattle.gb_abs_memory.specs.Sound.{IsRom}
 use Rattle.gb_console.specs.Console.{ConsoleState, IsConsoleStep, IsChosen, IsReachable, interrupt, taken, told, shown}
 use Rattle.gb_console.proofs.Reaching.{next_reachable}
 
@@ -50,10 +51,11 @@ step_of old keys seconds m e new is settled h =
       cycles = f.cycles;
     }
 
--- a view that is settled, and shows a reachable state with a processor
+-- a view that is settled, and shows a cartridge and a reachable state with a processor
 pub record IsKept (s : BusState) : Type 0 where
   pub settled : s.memory.starting ≡ false
   pub reachable : IsReachable s.memory.rom (outside s)
+  pub cartridge : IsRom s.memory.rom
 
 same_reachable : (new_rom rom : List ℕ) (t s : MState) → new_rom ≡ rom → t ≡ s → IsReachable rom s → IsReachable new_rom t
 same_reachable new_rom rom t s h is r = rw (h, is) r
@@ -64,6 +66,7 @@ step_keeps old e new h k =
       settled = h.starting k.settled;
       reachable =
           same_reachable _ _ (outside new) _ h.rom (h.next k.settled) (next_reachable old.memory.rom (outside old) e k.reachable);
+      cartridge = subst IsRom (sym h.rom) k.cartridge;
     }
 
 pub keeps : (p : Processor) (old m : Contents) (b : Bool) (keys : Keys) (seconds : ℕ) (e : Event) (new : BusState)

@@ -1,3 +1,4 @@
 pub mod Console
 pub mod Frame
 pub mod Run
+pub mod Verified

@@ -7,8 +7,10 @@ ghost use Rattle.gb_ops.specs.declared.machine.Event.TheVariants as event;
 ghost use Rattle.gb_cpu.specs.Choice.{is_idle};
 ghost use Rattle.gb_console.specs.Console.{IsConsoleStep, IsReachable, at_power_up, machine_of, rom_of, shown};
 ghost use Rattle.gb_ppu.specs.Picture.{frame_cycles};
+ghost use Rattle.gb_abs_memory.specs.Sound.{IsRom};
 
 use crate::choice::{act, take};
+use gb_abs_memory::load::holds_bytes;
 use gb_bus::Memory;
 use gb_cpu::step::{Cpu, Stepped};
 use gb_header::Rom;
@@ -33,12 +35,13 @@ impl<'a> Model for Console<'a> {
     ghost use Rattle.std.specs.Prelude.{◌≡◌, ◌<◌, false};
     ghost use Rattle.gb_ppu.specs.Picture.{frame_cycles};
     ghost use Rattle.gb_console.specs.Console.{ConsoleState, IsReachable};
+    ghost use Rattle.gb_abs_memory.specs.Sound.{IsRom};
 
     ghost Value = { ConsoleState };
 
     ghost view = { λ c. record { cpu = c.cpu; contents = c.memory; cycles = c.cycles } };
 
-    ghost invariant = { λ c. (c.cycles < frame_cycles) × (c.memory.view.starting ≡ false) × IsReachable c.memory.view.rom (record { processor = c.cpu.processor; storage = c.memory.view.storage }) };
+    ghost invariant = { λ c. (c.cycles < frame_cycles) × (c.memory.view.starting ≡ false) × IsReachable c.memory.view.rom (record { processor = c.cpu.processor; storage = c.memory.view.storage }) × IsRom c.memory.view.rom };
 }
 
 impl<'a> Console<'a> {
@@ -49,6 +52,8 @@ impl<'a> Console<'a> {
         ensures exact { IfOk result (λ console. console ≡ at_power_up rom.now) }
         ensures start { IfOk result (λ console. IsStart rom.now (machine_of console)) }
     {
+        // The console's type keeps that its cartridge is one.
+        holds_bytes(rom);
         let memory = Memory::new(alloc, rom)?;
         let cpu = Cpu::at_power_up(rom.bytes());
         Ok(Console {
@@ -118,6 +123,13 @@ impl<'a> Console<'a> {
         ensures address { result ≡ self.now.cpu.processor.pc }
     {
         self.cpu.processor.pc
+    }
+
+    /// States of a console that its cartridge holds bytes, of a number of banks that a cartridge may have.
+    pub(crate) fn holds_cartridge(&self)
+        ensures { IsRom (rom_of self.now) }
+    {
+        let _ = &self.memory;
     }
 
     /// The law of every console, whatever was called before: some start and some list of events lead to

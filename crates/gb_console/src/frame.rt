@@ -2,7 +2,10 @@
 
 ghost use Rattle.std.specs.Prelude.{◌≡◌, true};
 ghost use Rattle.gb_cpu.specs.Choice.{is_idle};
+ghost use Rattle.gb_console.specs.Console.{rom_of};
 ghost use Rattle.gb_console.specs.Frame.{IsFrame, IsFrameStep, idle_ending};
+ghost use Rattle.gb_console.specs.Verified.{IsVerified};
+ghost use Rattle.gb_console.specs.declared.frame.Ending.TheVariants as ending;
 
 use crate::console::Console;
 use gb_ppu::picture::FRAME_CYCLES;
@@ -57,12 +60,18 @@ impl Console<'_> {
 
     /// Steps, the first with the seconds that passed and later ones with none, until the M-cycles
     /// since power-up reach or pass the next multiple of 17,556, or the console is locked or
-    /// stopped, which win. A console that is locked or stopped already stays as it is.
+    /// stopped, which win. A console that is locked or stopped already stays as it is. Where some
+    /// certificate is right for the cartridge, every frame is whole, with any keys and seconds.
     pub fn frame(&mut self, keys: Keys, seconds: u32) -> Ending
         ensures frame { IsFrame self.old keys seconds result self.new }
         ensures idle { is_idle self.old.cpu ≡ true → result ≡ idle_ending self.old.cpu.processor.locked }
         ensures unchanged { is_idle self.old.cpu ≡ true → self.new ≡ self.old }
+        ensures verified { IsVerified (rom_of self.old) → result ≡ ending.Whole }
     {
-        self.run_frame(keys, seconds)
+        let ending = self.run_frame(keys, seconds);
+        // Behind the last promise stand that the cartridge is one, and that each state is reached.
+        self.holds_cartridge();
+        self.reached();
+        ending
     }
 }

@@ -3,7 +3,8 @@
 //! `Console::step` answers the event that `specs/Console.antt` chooses and leads to the machine's next state,
 //! so that each state is one that some start and some events lead to (`Console::reached`), and any steps are
 //! the machine's run over the events that they answered (`run::steps_are_played`). `Console::frame` is steps
-//! (`specs/Frame.antt`). Read `console` first, then `choice`, `run` and `frame`.
+//! (`specs/Frame.antt`); where some certificate is right for the cartridge, each frame is whole
+//! (`specs/Verified.antt`). Read `console` first, then `choice`, `run` and `frame`.
 #![tactic(auto)]
 
 mod choice;

@@ -71,44 +71,59 @@ fn state_with(gate: May, bound: u8) -> Abs {
     state
 }
 
+/// The addresses that are read, the bounds of what is known of the byte, and whether a transfer that may run leaves it
+/// so; where it doesn't, the load is refused.
+const LOADS: [((u16, u16), (u8, u8), bool); 16] = [
+    ((0x0000, 0x0000), (0, 0), false),
+    ((0x4000, 0x4000), (77, 77), false),
+    ((0x4000, 0x4001), (0, 255), false),
+    ((0x8000, 0x8000), (0, 255), false),
+    ((0xA000, 0xA000), (0, 255), false),
+    ((0xC000, 0xC000), (11, 11), false),
+    ((0xC000, 0xC001), (0, 255), false),
+    ((0xE001, 0xE001), (12, 12), false),
+    ((0xFDFF, 0xFDFF), (13, 13), false),
+    ((0xC002, 0xC002), (0, 255), false),
+    ((0xFF46, 0xFF46), (0, 255), false),
+    ((0xFF80, 0xFF80), (14, 14), true),
+    ((0xFF80, 0xFFFE), (0, 255), true),
+    ((0xFF7F, 0xFF80), (0, 255), false),
+    ((0xFFFE, 0xFFFF), (0, 255), false),
+    ((0xFFFF, 0xFFFF), (1, 1), false),
+];
+
+/// Whether a load gives this value without a transfer, and stays so or is refused with one that may run.
+fn gives(rom: &Rom<'_>, at: Span, val: Val, stays: bool) -> bool {
+    let limited = if stays {
+        Ok(val)
+    } else {
+        Err(Reason::OamTransfer)
+    };
+    load(rom, &state_with(SET, 0), at) == Ok(val) && load(rom, &state_with(SET, 1), at) == limited
+}
+
 #[test]
 fn loads(rt: HostRuntime) -> Result<(), Fail> {
     let bytes = cartridge(WITH_RAM);
     let rom = Rom::parse(&bytes)?;
-    // Without a transfer, and with one that may run; None where it is refused.
-    for (first, last, still, running) in [
-        (0x0000, 0x0000, from_to(0, 0), None),
-        (0x4000, 0x4000, from_to(77, 77), None),
-        (0x4000, 0x4001, ANY, None),
-        (0x8000, 0x8000, ANY, None),
-        (0xA000, 0xA000, ANY, None),
-        (0xC000, 0xC000, from_to(11, 11), None),
-        (0xC000, 0xC001, ANY, None),
-        (0xE001, 0xE001, from_to(12, 12), None),
-        (0xFDFF, 0xFDFF, from_to(13, 13), None),
-        (0xC002, 0xC002, ANY, None),
-        (0xFF46, 0xFF46, ANY, None),
-        (0xFF80, 0xFF80, from_to(14, 14), Some(from_to(14, 14))),
-        (0xFF80, 0xFFFE, ANY, Some(ANY)),
-        (0xFF7F, 0xFF80, ANY, None),
-        (0xFFFE, 0xFFFF, ANY, None),
-        (0xFFFF, 0xFFFF, from_to(1, 1), None),
-    ] {
-        let at = span(first, last);
-        let loaded = load(&rom, &state_with(SET, 0), at);
-        assert_eq!(rt; loaded, Ok(still), "at {first} to {last}");
-        let limited = load(&rom, &state_with(SET, 1), at);
-        assert_eq!(rt;
-            limited,
-            running.ok_or(Reason::OamTransfer),
-            "at {first} to {last}"
-        );
+    for ((first, last), (lo, hi), stays) in LOADS {
+        let is_right = gives(&rom, span(first, last), from_to(lo, hi), stays);
+        assert!(rt; is_right, "{first:x} to {last:x}");
     }
-    assert_eq!(rt;
-        val_at(&rom, &state_with(EITHER, 1), 0x4000),
-        from_to(77, 77)
-    );
+    assert!(rt; val_at(&rom, &state_with(EITHER, 1), 0x4000) == from_to(77, 77));
     Ok(())
+}
+
+/// Addresses of which one at least is cartridge RAM's.
+const CLOSED: [(u16, u16); 3] = [(0xA000, 0xA000), (0xBFFF, 0xC000), (0x9FFF, 0xA000)];
+
+/// Whether a load is refused where the gate may be closed, and where there is no RAM.
+fn meets_closed(rom: &Rom<'_>, flat: &Rom<'_>, at: Span) -> bool {
+    let closed = Err(Reason::CartridgeRam);
+    load(rom, &state_with(EITHER, 1), at) == closed
+        && load(flat, &state_with(SET, 0), at) == closed
+        && meets_closed_ram(rom, &core_with(EITHER, 0), at)
+        && !meets_closed_ram(rom, &core_with(SET, 0), at)
 }
 
 /// What may be closed comes before a transfer.
@@ -118,100 +133,96 @@ fn loads_of_cartridge_ram(rt: HostRuntime) -> Result<(), Fail> {
     let rom = Rom::parse(&bytes)?;
     let bytes = cartridge(PLAIN);
     let flat = Rom::parse(&bytes)?;
-    let closed = Err(Reason::CartridgeRam);
-    for (first, last) in [(0xA000, 0xA000), (0xBFFF, 0xC000), (0x9FFF, 0xA000)] {
-        let at = span(first, last);
-        assert_eq!(rt;
-            load(&rom, &state_with(EITHER, 1), at),
-            closed,
-            "at {first}"
-        );
-        assert_eq!(rt; load(&flat, &state_with(SET, 0), at), closed, "at {first}");
-        assert!(rt; meets_closed_ram(&rom, &core_with(EITHER, 0), at));
-        assert!(rt; !meets_closed_ram(&rom, &core_with(SET, 0), at));
+    for (first, last) in CLOSED {
+        assert!(rt; meets_closed(&rom, &flat, span(first, last)), "{first:x}");
     }
     assert!(rt; !meets_closed_ram(&rom, &core_with(EITHER, 0), Span::one(0x9FFF)));
     assert!(rt; is_limited(&core_with(SET, 1), span(0xFF80, 0xFFFF)));
     Ok(())
 }
 
+/// Addresses, their area, and whether a store may lie there.
+const AREAS: [(u16, u16, Option<Area>, bool); 16] = [
+    (0x8000, 0x9FFF, Some(Area::Hardware), true),
+    (0x9FFF, 0xA000, None, false),
+    (0xA000, 0xBFFF, Some(Area::Hardware), true),
+    (0xBFFF, 0xC000, None, false),
+    (0xC000, 0xCFFF, Some(Area::Ram), true),
+    // Over two ranges that touch, though both ends lie in one.
+    (0xCFFF, 0xD000, Some(Area::Ram), false),
+    (0xD000, 0xDEFF, Some(Area::Ram), true),
+    (0xDEFF, 0xDF00, Some(Area::Ram), false),
+    (0xDF80, 0xDF80, Some(Area::Ram), false),
+    (0xE000, 0xE000, None, false),
+    (0xFDFF, 0xFDFF, None, false),
+    (0xFE00, 0xFF7F, Some(Area::Hardware), true),
+    (0xFF7F, 0xFF80, None, false),
+    (0xFF80, 0xFFFE, Some(Area::Ram), true),
+    (0xFFFE, 0xFFFF, None, false),
+    (0xFFFF, 0xFFFF, Some(Area::InterruptEnable), true),
+];
+
 #[test]
 fn areas_of_stores(rt: HostRuntime) {
     let low = Some(Area::Controller(Some(ControllerRegister::LowBank)));
-    assert_eq!(rt; area_of(Kind::Mbc5, span(0x2000, 0x2FFF)), low);
-    assert_eq!(rt;
-        area_of(Kind::Mbc3, span(0x6000, 0x7FFF)),
-        Some(Area::Controller(None))
-    );
-    for (first, last, area, storable) in [
-        (0x8000, 0x9FFF, Some(Area::Hardware), true),
-        (0x9FFF, 0xA000, None, false),
-        (0xA000, 0xBFFF, Some(Area::Hardware), true),
-        (0xBFFF, 0xC000, None, false),
-        (0xC000, 0xCFFF, Some(Area::Ram), true),
-        // Over two ranges that touch, though both ends lie in one.
-        (0xCFFF, 0xD000, Some(Area::Ram), false),
-        (0xD000, 0xDEFF, Some(Area::Ram), true),
-        (0xDEFF, 0xDF00, Some(Area::Ram), false),
-        (0xDF80, 0xDF80, Some(Area::Ram), false),
-        (0xE000, 0xE000, None, false),
-        (0xFDFF, 0xFDFF, None, false),
-        (0xFE00, 0xFF7F, Some(Area::Hardware), true),
-        (0xFF7F, 0xFF80, None, false),
-        (0xFF80, 0xFFFE, Some(Area::Ram), true),
-        (0xFFFE, 0xFFFF, None, false),
-        (0xFFFF, 0xFFFF, Some(Area::InterruptEnable), true),
-    ] {
+    assert!(rt; area_of(Kind::Mbc5, span(0x2000, 0x2FFF)) == low);
+    let none = Some(Area::Controller(None));
+    assert!(rt; area_of(Kind::Mbc3, span(0x6000, 0x7FFF)) == none);
+    for (first, last, area, storable) in AREAS {
         let at = span(first, last);
-        assert_eq!(rt; area_of(Kind::Mbc1, at), area, "at {first} to {last}");
-        let is_allowed = is_storable(Kind::Mbc1, REGION, &RANGES, at);
-        assert_eq!(rt; is_allowed, storable, "at {first} to {last}");
+        assert!(rt; area_of(Kind::Mbc1, at) == area, "{first:x} to {last:x}");
+        assert!(rt;
+            is_storable(Kind::Mbc1, REGION, &RANGES, at) == storable,
+            "{first:x} to {last:x}"
+        );
     }
+}
+
+const AREA: Option<Reason> = Some(Reason::Store);
+
+const RAM: Option<Reason> = Some(Reason::CartridgeRam);
+
+const TRANSFER: Option<Reason> = Some(Reason::OamTransfer);
+
+/// Addresses, the bounds of the byte, the gate and the transfer's bound, and why the store is refused, if it is.
+type Refusal = ((u16, u16), (u8, u8), May, u8, Option<Reason>);
+
+const REFUSALS: [Refusal; 19] = [
+    ((0xC000, 0xC001), (0, 255), SET, 0, None),
+    ((0xC000, 0xC001), (0, 255), SET, 1, TRANSFER),
+    ((0xFF80, 0xFF81), (0, 255), SET, 1, None),
+    ((0x2000, 0x3FFF), (0, 255), SET, 1, TRANSFER),
+    ((0x1FFF, 0x2000), (0, 255), EITHER, 1, AREA),
+    ((0x9FFF, 0xA000), (0, 255), EITHER, 1, AREA),
+    ((0xA000, 0xBFFF), (0, 255), EITHER, 1, RAM),
+    ((0xA000, 0xBFFF), (0, 255), SET, 0, None),
+    ((0xFF46, 0xFF46), (0x00, 0x9F), EITHER, 0, None),
+    ((0xFF46, 0xFF46), (0x00, 0xA0), EITHER, 0, RAM),
+    ((0xFF46, 0xFF46), (0xBF, 0xFF), EITHER, 0, RAM),
+    ((0xFF46, 0xFF46), (0xC0, 0xFF), EITHER, 0, None),
+    ((0xFF46, 0xFF46), (0xA0, 0xBF), SET, 0, None),
+    ((0xFF46, 0xFF46), (0xC0, 0xC0), SET, 1, TRANSFER),
+    ((0xFF45, 0xFF46), (0xC0, 0xC0), SET, 0, TRANSFER),
+    ((0xFF45, 0xFF46), (0xB0, 0xC0), EITHER, 0, RAM),
+    ((0xFF47, 0xFF7F), (0xB0, 0xC0), EITHER, 0, None),
+    ((0xFFFF, 0xFFFF), (0, 31), SET, 1, TRANSFER),
+    ((0xFFFE, 0xFFFF), (0, 31), SET, 1, AREA),
+];
+
+/// Whether a store is refused for this reason, or not at all.
+fn is_refused_so(rom: &Rom<'_>, row: &Refusal) -> bool {
+    let ((first, last), (lo, hi), gate, bound, reason) = *row;
+    let state = state_with(gate, bound);
+    let at = span(first, last);
+    store(rom, REGION, &RANGES, &state, at, &from_to(lo, hi)).err() == reason
 }
 
 #[test]
 fn refuses_stores(rt: HostRuntime) -> Result<(), Fail> {
     let bytes = cartridge(WITH_RAM);
     let rom = Rom::parse(&bytes)?;
-    let area = Some(Reason::Store);
-    let ram = Some(Reason::CartridgeRam);
-    let transfer = Some(Reason::OamTransfer);
-    // Addresses, bytes, gate and bound.
-    for (first, last, (lo, hi), gate, bound, reason) in [
-        (0xC000, 0xC001, (0, 255), SET, 0, None),
-        (0xC000, 0xC001, (0, 255), SET, 1, transfer),
-        (0xFF80, 0xFF81, (0, 255), SET, 1, None),
-        (0x2000, 0x3FFF, (0, 255), SET, 1, transfer),
-        (0x1FFF, 0x2000, (0, 255), EITHER, 1, area),
-        (0x9FFF, 0xA000, (0, 255), EITHER, 1, area),
-        (0xA000, 0xBFFF, (0, 255), EITHER, 1, ram),
-        (0xA000, 0xBFFF, (0, 255), SET, 0, None),
-        (0xFF46, 0xFF46, (0x00, 0x9F), EITHER, 0, None),
-        (0xFF46, 0xFF46, (0x00, 0xA0), EITHER, 0, ram),
-        (0xFF46, 0xFF46, (0xBF, 0xFF), EITHER, 0, ram),
-        (0xFF46, 0xFF46, (0xC0, 0xFF), EITHER, 0, None),
-        (0xFF46, 0xFF46, (0xA0, 0xBF), SET, 0, None),
-        (0xFF46, 0xFF46, (0xC0, 0xC0), SET, 1, transfer),
-        (0xFF45, 0xFF46, (0xC0, 0xC0), SET, 0, transfer),
-        (0xFF45, 0xFF46, (0xB0, 0xC0), EITHER, 0, ram),
-        (0xFF47, 0xFF7F, (0xB0, 0xC0), EITHER, 0, None),
-        (0xFFFF, 0xFFFF, (0, 31), SET, 1, transfer),
-        (0xFFFE, 0xFFFF, (0, 31), SET, 1, area),
-    ] {
-        let state = state_with(gate, bound);
-        let found = store(
-            &rom,
-            REGION,
-            &RANGES,
-            &state,
-            span(first, last),
-            &from_to(lo, hi),
-        );
-        assert_eq!(rt;
-            found.err(),
-            reason,
-            "at {first} to {last}, bytes {lo} to {hi}"
-        );
+    for (i, row) in REFUSALS.iter().enumerate() {
+        assert!(rt; is_refused_so(&rom, row), "store {i}");
     }
     let page = from_to(0xA0, 0xA0);
     assert!(rt; store_meets_closed_ram(&rom, &core_with(EITHER, 0), Span::one(0xFF46), &page));
@@ -226,46 +237,71 @@ const OWN: Val = Val {
     origin: Some(Origin::Ie),
 };
 
+/// What IE holds before the stores.
+const IE: Val = Val {
+    lo: 1,
+    hi: 1,
+    origin: None,
+};
+
+/// What C000 holds before them.
+const FIRST: Val = Val {
+    lo: 11,
+    hi: 11,
+    origin: None,
+};
+
+/// What C001 holds before them.
+const SECOND: Val = Val {
+    lo: 12,
+    hi: 12,
+    origin: None,
+};
+
 /// What a store leaves: IE, C000, C001, how many cells, whether the controller is kept, and whether a transfer starts.
 type Left = (Val, Val, Val, usize, bool, bool);
 
-/// What a store leaves of the state with an open gate, where it isn't refused.
-fn after_store(rom: &Rom<'_>, at: Span, val: &Val) -> Option<Left> {
-    let stored = store(rom, REGION, &RANGES, &state_with(SET, 0), at, val).ok()?;
+/// What a store leaves that changes nothing.
+const SAME: Left = (IE, FIRST, SECOND, 4, true, false);
+
+/// The addresses of a store, its value, and what it leaves.
+const STORES: [(u16, u16, Val, Left); 11] = [
+    // One address gets the value with its origin. Of several nothing is known any more.
+    (0xC001, 0xC001, OWN, (IE, FIRST, OWN, 4, true, false)),
+    (0xC001, 0xC0FF, OWN, (IE, FIRST, ANY, 3, true, false)),
+    (0xC000, 0xC001, OWN, (IE, ANY, ANY, 2, true, false)),
+    (0xC100, 0xC100, OWN, (IE, FIRST, SECOND, 5, true, false)),
+    // The bank may be what it was, but it isn't kept. 6000-7FFF of MBC3 has no register.
+    (0x2000, 0x3FFF, IE, (IE, FIRST, SECOND, 4, false, false)),
+    (0x6000, 0x7FFF, IE, SAME),
+    (0x8000, 0x8000, OWN, SAME),
+    (0xA000, 0xBFFF, OWN, SAME),
+    (0xFF45, 0xFF45, OWN, SAME),
+    (0xFF46, 0xFF46, OWN, (IE, FIRST, SECOND, 4, true, true)),
+    (0xFFFF, 0xFFFF, OWN, (OWN, FIRST, SECOND, 4, true, false)),
+];
+
+/// Whether a store isn't refused, and leaves this of the state with an open gate.
+fn leaves(rom: &Rom<'_>, at: Span, val: &Val, left: &Left) -> bool {
+    let Ok(stored) = store(rom, REGION, &RANGES, &state_with(SET, 0), at, val) else {
+        return false;
+    };
+    let (ie, first, second, count, is_kept, starts) = *left;
     let (core, cells) = (stored.state.core(), stored.state.cells());
-    Some((
-        core.ie,
-        cell_at(0xC000, cells),
-        cell_at(0xC001, cells),
-        cells.len(),
-        core.ctl.is_kept,
-        stored.starts,
-    ))
+    core.ie == ie
+        && cell_at(0xC000, cells) == first
+        && cell_at(0xC001, cells) == second
+        && cells.len() == count
+        && core.ctl.is_kept == is_kept
+        && stored.starts == starts
 }
 
 #[test]
 fn stores(rt: HostRuntime) -> Result<(), Fail> {
     let bytes = cartridge(WITH_RAM);
     let rom = Rom::parse(&bytes)?;
-    let (ie, first, second) = (from_to(1, 1), from_to(11, 11), from_to(12, 12));
-    let same = (ie, first, second, 4, true, false);
-    for (from, to, val, left) in [
-        // One address gets the value with its origin. Of several nothing is known any more.
-        (0xC001, 0xC001, OWN, (ie, first, OWN, 4, true, false)),
-        (0xC001, 0xC0FF, OWN, (ie, first, ANY, 3, true, false)),
-        (0xC000, 0xC001, OWN, (ie, ANY, ANY, 2, true, false)),
-        (0xC100, 0xC100, OWN, (ie, first, second, 5, true, false)),
-        // The bank may be what it was, but it isn't kept. 6000-7FFF of MBC3 has no register.
-        (0x2000, 0x3FFF, ie, (ie, first, second, 4, false, false)),
-        (0x6000, 0x7FFF, ie, same),
-        (0x8000, 0x8000, OWN, same),
-        (0xA000, 0xBFFF, OWN, same),
-        (0xFF45, 0xFF45, OWN, same),
-        (0xFF46, 0xFF46, OWN, (ie, first, second, 4, true, true)),
-        (0xFFFF, 0xFFFF, OWN, (OWN, first, second, 4, true, false)),
-    ] {
-        let found = after_store(&rom, span(from, to), &val);
-        assert_eq!(rt; found, Some(left), "at {from} to {to}");
+    for (i, (first, last, val, left)) in STORES.iter().enumerate() {
+        assert!(rt; leaves(&rom, span(*first, *last), val, left), "store {i}");
     }
     Ok(())
 }

@@ -91,7 +91,7 @@ const RETURN: Advice = Advice {
 
 const INTERRUPT: Advice = Advice {
     problem: "An interrupt may come here for which nothing is provided.",
-    remedy: "Keep interrupts off by DI, or bits 0 to 4 of IE clear, and say so in the node's state. Nodes where interrupts may come are not accepted yet.",
+    remedy: "Set the stack before EI, add a procedure that begins at the interrupt's vector and covers this state with interrupts off, with its ranges inside this procedure's, and see that a node at this address covers what the handler's exit leaves; or keep interrupts off by DI, or bits 0 to 4 of IE clear, and say so in the node's state.",
 };
 
 /// The texts of a reason.

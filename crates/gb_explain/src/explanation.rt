@@ -5,13 +5,16 @@ ghost use Rattle.gb_cert.specs.Types.{Node};
 
 use crate::advice::advice_on;
 use crate::code::Code;
+use crate::finding::finding_of;
+use crate::obstacle::Finding;
 use gb_abs::reason::Reason;
 use gb_cert::types::Cert;
 use gb_header::Rom;
 use std::fmt;
 
 /// A refused node with its place, its instruction and the reason. It prints three lines, the last without its end: the
-/// place and the instruction, what is wrong, and what usually mends it.
+/// place and the instruction, what is wrong, and what usually mends it. Where the reason has to do with other nodes or
+/// with procedures, some lines follow on what is in the way.
 #[derive(Clone, Copy, Debug, PartialEq, Eq)]
 pub struct Explanation {
     pub node: u32,
@@ -21,6 +24,8 @@ pub struct Explanation {
     pub bank: u16,
     pub code: Code,
     pub reason: Reason,
+    /// What is in the way, where the reason has to do with other nodes or with procedures.
+    pub finding: Option<Finding>,
 }
 
 impl Explanation {
@@ -42,6 +47,7 @@ impl Explanation {
             bank: node.bank(),
             code: Code::at(rom, &state, address),
             reason,
+            finding: finding_of(rom, cert, &node, reason),
         }
     }
 }
@@ -55,12 +61,17 @@ impl fmt::Display for Explanation {
             bank,
             code,
             reason,
+            finding,
         } = *self;
         let advice = advice_on(reason);
         write!(
             f,
             "node {node}: procedure {procedure}, address {address:04X}, bank {bank:03X}: {code}\n"
         )?;
-        write!(f, "{}\n{}", advice.problem, advice.remedy)
+        write!(f, "{}\n{}", advice.problem, advice.remedy)?;
+        match finding {
+            None => Ok(()),
+            Some(finding) => write!(f, "\n{finding}"),
+        }
     }
 }

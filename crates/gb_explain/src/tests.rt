@@ -17,6 +17,7 @@ fn lines_of_a_node(rt: HostRuntime) -> Result<(), Fail> {
         bank: 0x01F,
         code: Code::Instruction(Spelling::new(row, 0x0152)),
         reason: Reason::Unreadable,
+        finding: None,
     };
     let text = format!(in rt.alloc(); "{told}")?;
     assert_eq!(rt;

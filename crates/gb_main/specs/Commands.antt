@@ -7,8 +7,8 @@ use Rattle.gb_console.specs.declared.frame.Ending.{Ending}
 use Rattle.gb_console.specs.Console.{ConsoleState, at_power_up}
 use Rattle.gb_text.specs.Cartridge.{cartridge_text}
 use Rattle.gb_text.specs.Text.{GainsBeginning}
-use Rattle.gb_cert.specs.declared.fault.CertFault.{CertFault}
-use Rattle.gb_cert.specs.declared.fault.CertFault.TheVariants.{Memory}
+use Rattle.gb_fields.specs.declared.fault.CertFault.{CertFault}
+use Rattle.gb_fields.specs.declared.fault.CertFault.TheVariants.{Memory}
 use Rattle.gb_cert.specs.Certificate.{Certificate}
 use Rattle.gb_cert.specs.Reading.{read_certificate}
 use Rattle.gb_verify.specs.Text.{memory_line}

@@ -3,8 +3,8 @@ use Rattle.std.specs.Prelude.{Option, Some, None, Result, Ok, Err}
 use Rattle.gb_header.specs.declared.fault.HeaderFault.{HeaderFault}
 use Rattle.gb_console.specs.declared.frame.Ending.{Ending}
 use Rattle.gb_console.specs.declared.frame.Ending.TheVariants as ending
-use Rattle.gb_cert.specs.declared.fault.CertFault.{CertFault}
-use Rattle.gb_cert.specs.declared.fault.CertFault.TheVariants.{Memory}
+use Rattle.gb_fields.specs.declared.fault.CertFault.{CertFault}
+use Rattle.gb_fields.specs.declared.fault.CertFault.TheVariants.{Memory}
 use Rattle.gb_verify.specs.declared.upgrade.Upgraded.{Upgraded}
 use Rattle.gb_verify.specs.declared.upgrade.Upgraded.TheVariants as upgrade
 use Rattle.gb_verify.specs.declared.verify.Outcome.{Outcome}

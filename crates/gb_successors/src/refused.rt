@@ -61,7 +61,7 @@ fn writes_closed_ram(rom: &Rom<'_>, core: &Core, write: AbsWrite) -> bool
 
 /// Whether an OAM transfer may run that closes the stack region.
 #[tactic(auto, unfolding(crate::specs::Refused::is_stack_limited))]
-fn is_stack_limited(region: Region, core: &Core) -> bool
+pub fn is_stack_limited(region: Region, core: &Core) -> bool
     ensures { result ≡ Refused.is_stack_limited region core.now }
 {
     core.bound != 0 && region.first < 0xFF80

@@ -15,7 +15,7 @@ use gb_abs_effects::targets::{Target, target_of};
 use gb_abs_effects::transfer::transfer;
 use gb_abs_effects::writes::AbsWrite;
 use gb_abs_memory::load::loaded_val;
-use gb_abs_memory::store::{starts_oam_transfer, stored_state};
+use gb_abs_memory::store::{starts_oam_transfer, store_in};
 use gb_cert::types::{Abs, Core, ImeSet, Item};
 use gb_header::Rom;
 use gb_ops::machine::Kind;
@@ -69,26 +69,19 @@ fn read_item(rom: &Rom<'_>, state: &Abs, read: AbsRead) -> Item
     }
 }
 
-/// The same state, once more.
-fn copied(state: &Abs) -> Abs
-    ensures { result ≡ state.now }
-{
-    state.with_core(*state.core())
-}
-
-/// The states after a write. A word is two stores, the low byte first. A word that is pushed changes no
-/// cell.
+/// A write changes the states. A word is two stores, the low byte first. A word that is
+/// pushed changes no cell.
 #[tactic(auto, unfolding(crate::specs::Successors::written))]
-fn written(kind: Kind, write: AbsWrite, state: &Abs) -> Abs
-    ensures { result ≡ Succession.written kind write state.now }
+fn write(kind: Kind, write: AbsWrite, state: &mut Abs)
+    ensures { state.new ≡ Succession.written kind write state.old }
 {
     match write {
-        AbsWrite::Byte(span, val) => stored_state(kind, span, &val, state),
+        AbsWrite::Byte(span, val) => store_in(kind, span, &val, state),
         AbsWrite::Word(address, low, high) => {
-            let first = stored_state(kind, Span::one(address), &low, state);
-            stored_state(kind, Span::one(address.wrapping_add(1)), &high, &first)
+            store_in(kind, Span::one(address), &low, state);
+            store_in(kind, Span::one(address.wrapping_add(1)), &high, state);
         }
-        AbsWrite::Nothing | AbsWrite::Push { .. } => copied(state),
+        AbsWrite::Nothing | AbsWrite::Push { .. } => {}
     }
 }
 
@@ -107,19 +100,15 @@ fn starts(write: AbsWrite) -> bool
     }
 }
 
-/// The state with its stack set, and no words on it.
-fn with_stack(state: &Abs) -> Abs
-    ensures { result ≡ record { core = record state.now.core { stack_set = true }; items = []; cells = state.now.cells } }
+/// Its stack gets set, with no words on it.
+fn set_stack(state: &mut Abs)
+    ensures { state.new ≡ record { core = record state.old.core { stack_set = true }; items = []; cells = state.old.cells } }
 {
-    let core = Core {
+    state.set_core(Core {
         stack_set: true,
         ..*state.core()
-    };
-    let mut cells = ArrayVec::new();
-    if cells.try_extend_from_slice(state.cells()).is_err() {
-        unreachable!();
-    }
-    Abs::of_parts(core, ArrayVec::new(), cells)
+    });
+    state.set_items(ArrayVec::new());
 }
 
 /// The state with a word pushed, where fewer than 16 are held. PUSH is refused where there are 16.
@@ -129,7 +118,7 @@ fn pushed_if_room(item: Item, state: &Abs) -> Abs
 {
     match push(state, item) {
         Some(pushed) => pushed,
-        None => copied(state),
+        None => state.copied(),
     }
 }
 
@@ -139,34 +128,36 @@ fn popped_state(state: &Abs) -> Abs
     ensures { result ≡ popped state.now }
 {
     if state.items().is_empty() {
-        return copied(state);
+        return state.copied();
     }
     match pop(state) {
         Some(popped) => popped.state,
-        None => copied(state),
+        None => state.copied(),
     }
 }
 
 /// What an instruction does to the stack: LD SP,n16 sets it, PUSH pushes what it writes, and POP pops.
 /// A return address belongs to the callee: it is no word of its caller's.
 #[tactic(auto, unfolding(crate::specs::Successors::with_stack_of))]
-fn with_stack_of(op: Op, write: AbsWrite, state: &Abs) -> Abs
-    ensures { result ≡ Succession.with_stack_of op write state.now }
+fn move_stack(op: Op, write: AbsWrite, state: &mut Abs)
+    ensures { state.new ≡ Succession.with_stack_of op write state.old }
 {
     match (op, write) {
-        (Op::LoadPair(Pair::Sp, _), _) => with_stack(state),
-        (Op::Push(_), AbsWrite::Push { high, low }) => pushed_if_room(Item { high, low }, state),
-        (Op::Pop(_), _) => popped_state(state),
-        _ => copied(state),
+        (Op::LoadPair(Pair::Sp, _), _) => set_stack(state),
+        (Op::Push(_), AbsWrite::Push { high, low }) => {
+            *state = pushed_if_room(Item { high, low }, state);
+        }
+        (Op::Pop(_), _) => *state = popped_state(state),
+        _ => {}
     }
 }
 
 /// An instruction has ended, which started an OAM transfer or didn't.
 #[tactic(auto, unfolding(crate::specs::Successors::ended))]
-fn ended(is_started: bool, cycles: u8, state: &Abs) -> Abs
-    ensures { result ≡ Succession.ended is_started cycles state.now }
+fn end_instruction(is_started: bool, cycles: u8, state: &mut Abs)
+    ensures { state.new ≡ Succession.ended is_started cycles state.old }
 {
-    state.with_core(end(is_started, cycles, state.core()))
+    state.set_core(end(is_started, cycles, state.core()));
 }
 
 /// The successor where the instruction is taken, from a settled core. The address behind it is given.
@@ -181,17 +172,19 @@ pub(crate) fn taken_successor(
     ensures { result ≡ Succession.taken_successor rom.now row next state.now core }
 {
     let read = read_of(row.op, &core);
-    let before = state.with_core(core);
-    let item = read_item(rom, &before, read);
+    let mut after = state.with_core(core);
+    let item = read_item(rom, &after, read);
     let effect = transfer(row.op, next, &core, item.low, item.high);
-    let moved = with_stack_of(row.op, effect.write, &state.with_core(effect.core));
-    let after = written(rom.kind(), effect.write, &moved);
+    after.set_core(effect.core);
+    move_stack(row.op, effect.write, &mut after);
+    write(rom.kind(), effect.write, &mut after);
+    end_instruction(starts(effect.write), row.cycles, &mut after);
     Successor {
         read,
         write: effect.write,
         target: target_of(row.op, next, &core),
         next,
-        state: ended(starts(effect.write), row.cycles, &after),
+        state: after,
     }
 }
 
@@ -200,12 +193,14 @@ pub(crate) fn taken_successor(
 pub(crate) fn untaken_successor(row: Row, next: u16, state: &Abs, core: Core) -> Successor
     ensures { result ≡ Succession.untaken_successor row next state.now core }
 {
+    let mut after = state.with_core(core);
+    end_instruction(false, row.cycles_not_taken, &mut after);
     Successor {
         read: AbsRead::Nothing,
         write: AbsWrite::Nothing,
         target: Target::At(next),
         next,
-        state: ended(false, row.cycles_not_taken, &state.with_core(core)),
+        state: after,
     }
 }
 
@@ -222,11 +217,13 @@ pub(crate) fn staying_successor(address: u16, state: &Abs) -> Successor
         },
         ..*state.core()
     };
+    let mut after = state.with_core(woken);
+    end_instruction(false, 1, &mut after);
     Successor {
         read: AbsRead::Nothing,
         write: AbsWrite::Nothing,
         target: Target::At(address),
         next: address,
-        state: ended(false, 1, &state.with_core(woken)),
+        state: after,
     }
 }

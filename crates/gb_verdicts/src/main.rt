@@ -1,13 +1,19 @@
-//! Reads cartridges and certificates from standard input, as text, and prints the verdict's line of each, so that the gate
-//! compares them with worked examples. Their lines come from the rules by hand, and from an independent implementation.
+//! Reads cartridges and certificates from standard input, as text, and prints the verdict's line of each and how some of them
+//! run, so that the gate compares them with worked examples. Their lines come from the rules by hand, and from an independent
+//! implementation.
 //!
 //! An example is some lines: `about` with a sentence; `sizes` with the bytes 0147 to 0149; `rom` with an offset and bytes
 //! that lie there, beside the start at 0100 and the header; `cert` with bytes that follow one another, as often as it takes;
-//! and `verdict`. Numbers are hexadecimal, and other lines mean nothing.
+//! `verdict`; and `frames` with a number. Numbers are hexadecimal, and other lines mean nothing.
 #![tactic(auto)]
 
+use bitflags::Flags;
+use gb_console::console::Console;
+use gb_console::frame::Ending;
+use gb_header::Rom;
 use gb_samples::cartridges::{SMALLEST, file, put};
 use gb_text::kept_bytes::KeptBytes;
+use gb_timer::irqs::Keys;
 use gb_verify::verify::verify_bytes;
 use std::alloc::Global;
 use std::io::{self, BufRead, BufReader, BufWriter, Write};
@@ -43,7 +49,7 @@ fn cartridge(alloc: Global, digits: &str) -> io::Result<Vec<u8>> {
 }
 
 /// The number of hexadecimal digits; 0 where they spell none.
-fn offset_of(digits: &str) -> usize {
+fn number_of(digits: &str) -> usize {
     usize::from_str_radix(digits, 16).unwrap_or(0)
 }
 
@@ -57,6 +63,23 @@ fn judge<W: Write>(alloc: Global, out: &mut W, example: &Example) -> io::Result<
         &mut line,
     );
     out.write_all(line.kept())
+}
+
+/// Runs the cartridge from power-up for so many frames, frame k with the keys of the byte k modulo 256, as long as they are
+/// whole, and says how it ends.
+fn run<W: Write>(alloc: Global, out: &mut W, example: &Example, frames: usize) -> io::Result<()> {
+    let Ok(rom) = Rom::parse(example.rom.as_slice()) else {
+        return writeln!(out, "no cartridge");
+    };
+    let mut console = Console::new(alloc, &rom)?;
+    for k in 0..frames {
+        match console.frame(Keys::from_bits_retain((k % 256) as u8), 0) {
+            Ending::Whole => {}
+            Ending::Locked => return writeln!(out, "locked in frame {k} at {:04X}", console.pc()),
+            Ending::Stopped => return writeln!(out, "stopped in frame {k} at {:04X}", console.pc()),
+        }
+    }
+    writeln!(out, "{frames} frames are whole")
 }
 
 /// Takes a line of an example.
@@ -79,7 +102,7 @@ fn take<W: Write>(
         "rom" => {
             let (place, digits) = rest.split_once(' ').unwrap_or((rest, ""));
             let piece = bytes_of(alloc, digits);
-            put(example.rom.as_mut_slice(), offset_of(place), piece.as_slice());
+            put(example.rom.as_mut_slice(), number_of(place), piece.as_slice());
             Ok(())
         }
         "cert" => {
@@ -89,6 +112,7 @@ fn take<W: Write>(
             Ok(())
         }
         "verdict" => judge(alloc, out, example),
+        "frames" => run(alloc, out, example, number_of(rest)),
         _ => Ok(()),
     }
 }

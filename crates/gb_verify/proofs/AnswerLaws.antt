@@ -3,8 +3,8 @@ use Rattle.std.proofs.Common.{◌≡◌, ℕ, List, Option, Some, None, Result, 
 use Rattle.std.specs.Result.{IsOk}
 use Rattle.gb_header.specs.declared.fault.HeaderFault.{HeaderFault}
 use Rattle.gb_header.specs.Header as Header
-use Rattle.gb_cert.specs.declared.fault.CertFault.{CertFault}
-use Rattle.gb_cert.specs.declared.fault.CertFault.TheVariants as fault
+use Rattle.gb_fields.specs.declared.fault.CertFault.{CertFault}
+use Rattle.gb_fields.specs.declared.fault.CertFault.TheVariants as fault
 use Rattle.gb_cert.specs.Certificate.{Certificate}
 use Rattle.gb_cert.specs.Reading.{read_certificate}
 use Rattle.gb_cert.specs.Spelling.{Spells}

@@ -1,12 +1,14 @@
 -- The verdict: step by step over the nodes, and what it says.
-use Rattle.std.proofs.Common.{◌≡◌, ℕ, zero, suc, ◌+◌, ◌≤◌, ◌<◌, Bool, true, false, cond, ◌||◌, ◌⊎◌, inl, inr, List, [], ◌∷◌, Option, Some, None, length, drop, slice_get, refl, sym, ◌∙◌, ap, subst, arith}
+use Rattle.std.proofs.Common.{◌≡◌, ℕ, zero, suc, ◌+◌, ◌≤◌, ◌<◌, Bool, true, false, cond, ◌&&◌, ◌||◌, ◌⊎◌, inl, inr, List, [], ◌∷◌, Option, Some, None, length, drop, slice_get, refl, sym, ◌∙◌, ap, subst, arith}
 use Rattle.std.specs.Prelude.{option_and_then}
 use Rattle.std.proofs.lemmas.Option.{slice_get-get_or}
 use Rattle.gb_cert.specs.Types.{AbsState, ProcedureParts, Node}
 use Rattle.gb_cert.specs.Certificate.{Certificate}
 use Rattle.gb_abs.specs.declared.reason.Reason.{Reason}
 use Rattle.gb_abs.specs.declared.reason.Reason.TheVariants as reason
-use Rattle.std.specs.List.{find}
+use Rattle.std.specs.List.{find, list_any}
+use Rattle.gb_ops.specs.Machine.{vector}
+use Rattle.gb_calls.specs.Interrupts.{dispatched, may_come, handler_of}
 use Rattle.gb_ops.specs.declared.op.Row.{Row}
 use Rattle.gb_ops.specs.Table.{decoded}
 use Rattle.gb_cert.specs.declared.types.Range.{Range}
@@ -16,9 +18,9 @@ use Rattle.gb_calls.specs.Calls.{entered, is_entry, or_later, entry_from, entry_
 use Rattle.gb_successors.specs.declared.successor.Successor.{Successor}
 use Rattle.gb_successors.specs.Successors.{has, any_successor, successors_of}
 use Rattle.gb_blocks.specs.Procedures.{ranges_of, need_of, exit_of}
-use Rattle.gb_blocks.specs.Rules.{pushes_too_deep, callee_by, callee_at, is_over, calls_too_deep, is_resumed_uncovered, is_back_uncovered, is_uncovered_at, is_uncovered, is_outside_of, is_uncallable_at, is_uncallable, is_unreturnable_at, is_unreturnable, test_row, test_instruction, node_bytes, any_of, grows_too_deep, stores_outside, leads_uncovered, calls_wrongly, returns_wrongly, applies_to_row, applies, reasons, reason_of}
+use Rattle.gb_blocks.specs.Rules.{pushes_too_deep, callee_by, callee_at, is_over, calls_too_deep, is_resumed_uncovered, is_back_uncovered, is_uncovered_at, is_uncovered, is_outside_of, is_uncallable_at, is_uncallable, is_unreturnable_at, is_unreturnable, interrupts, handles_too_deep, is_unhandled, lacks_handler, test_row, test_instruction, node_bytes, any_of, grows_too_deep, stores_outside, leads_uncovered, calls_wrongly, returns_wrongly, applies_to_row, applies, reasons, reason_of}
 use Rattle.gb_verify.specs.declared.verdict.Verdict.TheVariants.{Refused}
-use Rattle.gb_verify.specs.Verdict.{may_be_interrupted, or_interrupt, reason_against, reason_against_at, refusal_or, verdict_from, verdict_of, is_bad_entry, main_entry, IsVerdict, IgnoresVersion}
+use Rattle.gb_verify.specs.Verdict.{or_interrupt, reason_against, reason_against_at, refusal_or, verdict_from, verdict_of, is_bad_entry, main_entry, IsVerdict, IgnoresVersion}
 
 next : {X : Type 0} (xs : List X) (i : ℕ) (x : X) → slice_get xs i ≡ Some x → drop i xs ≡ x ∷ drop (i + 1) xs
 next [] i x h = cc
@@ -179,10 +181,34 @@ same_any test also rom n row same =
     has_same None = refl
     has_same (Some t) = same t
 
+-- tests of interrupts that agree on each
+same_interrupts : (test also : ℕ → Bool) (n : Node) (is : List ℕ) → ((i : ℕ) → test i ≡ also i) → list_any (λ i. may_come i n.state.core && test i) is ≡ list_any (λ i. may_come i n.state.core && also i) is
+same_interrupts test also n [] same = refl
+same_interrupts test also n (i ∷ is) same = rw (same i, same_interrupts test also n is same) refl
+
+same_handler : (cert : Certificate) (version i : ℕ) (t : AbsState) → handler_of (other cert version) i t ≡ handler_of cert i t
+unfolding handler_of
+same_handler cert version i t = same_callee cert version (vector i) (dispatched t)
+
+same_handled_depth : (cert : Certificate) (version : ℕ) (n : Node) → handles_too_deep (other cert version) n ≡ handles_too_deep cert n
+unfolding handles_too_deep need_of
+same_handled_depth cert version n = same_interrupts _ _ n interrupts (λ i.
+    ap (is_over (other cert version) (need_of cert n.procedure) (length n.state.items)) (same_handler cert version i n.state)
+    ∙ same_over cert version (need_of cert n.procedure) (length n.state.items) (handler_of cert i n.state))
+
+same_unhandled : (cert : Certificate) (version : ℕ) (n : Node) (o : Option ℕ) → is_unhandled (other cert version) n o ≡ is_unhandled cert n o
+same_unhandled cert version n o =
+    rw (same_outside cert version n.procedure o, same_back cert version n.procedure n.address (dispatched n.state) o) refl
+
+same_lacking : (cert : Certificate) (version : ℕ) (n : Node) → lacks_handler (other cert version) n ≡ lacks_handler cert n
+unfolding lacks_handler
+same_lacking cert version n = same_interrupts _ _ n interrupts (λ i.
+    ap (is_unhandled (other cert version) n) (same_handler cert version i n.state) ∙ same_unhandled cert version n (handler_of cert i n.state))
+
 same_row : (rom : List ℕ) (cert : Certificate) (version : ℕ) (n : Node) (row : Row) (r : Reason) → applies_to_row rom (other cert version) n row r ≡ applies_to_row rom cert n row r
 unfolding applies_to_row grows_too_deep stores_outside leads_uncovered calls_wrongly returns_wrongly ranges_of need_of
 same_row rom cert version n row reason.Depth =
-    ap (λ b. pushes_too_deep (need_of cert n.procedure) n row.op || b) (same_any _ _ rom n row (same_depth cert version (need_of cert n.procedure)))
+    rw (same_any (calls_too_deep (other cert version) (need_of cert n.procedure)) (calls_too_deep cert (need_of cert n.procedure)) rom n row (same_depth cert version (need_of cert n.procedure)), same_handled_depth cert version n) refl
 same_row rom cert version n row reason.Uncovered = same_any _ _ rom n row (same_covering cert version n.procedure)
 same_row rom cert version n row reason.Callee = same_any _ _ rom n row (same_call cert version n.procedure)
 same_row rom cert version n row reason.Return = same_any _ _ rom n row (same_return cert version n.procedure)
@@ -210,7 +236,7 @@ same_find test also (x ∷ xs) same = rw (same x, same_find test also xs same) r
 
 same_reason : (rom : List ℕ) (cert : Certificate) (version : ℕ) (n : Node) → reason_against rom (record cert { version = version }) n ≡ reason_against rom cert n
 unfolding reason_against reason_of
-same_reason rom cert version n = ap (λ o. or_interrupt o (may_be_interrupted n.state.core)) (same_find (applies rom (other cert version) n) (applies rom cert n) reasons (same_applies rom cert version n))
+same_reason rom cert version n = rw (same_find (applies rom (other cert version) n) (applies rom cert n) reasons (same_applies rom cert version n), same_lacking cert version n) refl
 
 same_from : (rom : List ℕ) (cert : Certificate) (version i : ℕ) (xs : List Node) → verdict_from rom (record cert { version = version }) i xs ≡ verdict_from rom cert i xs
 same_from rom cert version i [] = refl

@@ -2,9 +2,9 @@
 use Rattle.std.specs.Prelude.{◌≡◌, ℕ, List, ◌++◌, codes, decimal, Result, Ok, Err, IsOk, Option, ◌⊎◌}
 use Rattle.gb_header.specs.declared.fault.HeaderFault.{HeaderFault}
 use Rattle.gb_header.specs.Header as Header
-use Rattle.gb_cert.specs.declared.fault.CertFault.{CertFault}
-use Rattle.gb_cert.specs.declared.fault.CertFault.TheVariants.{Memory}
-use Rattle.gb_cert.specs.Fault as CertFaults
+use Rattle.gb_fields.specs.declared.fault.CertFault.{CertFault}
+use Rattle.gb_fields.specs.declared.fault.CertFault.TheVariants.{Memory}
+use Rattle.gb_fields.specs.Fault as CertFaults
 use Rattle.gb_cert.specs.Certificate.{Certificate}
 use Rattle.gb_cert.specs.Reading.{read_certificate}
 use Rattle.gb_cert.specs.Spelling.{Spells}

@@ -1,14 +1,12 @@
 -- When a certificate is right for a cartridge, and the verdict (own rules).
 use Rattle.std.specs.Prelude.{◌≡◌, ℕ, ◌+◌, ◌<◌, Bool, true, false, not, ◌&&◌, ◌||◌, ◌==◌, if◌then◌else◌, List, [], ◌∷◌, length, ◌⊎◌, slice_get, Option, Some, None, option_and_then}
 use Rattle.std.specs.List.{All}
-use Rattle.gb_cert.specs.declared.types.Core.{Core}
 use Rattle.gb_cert.specs.Types.{ProcedureParts, Node}
 use Rattle.gb_cert.specs.Certificate.{Certificate}
-use Rattle.gb_vals.specs.Bits.{may_enable}
 use Rattle.gb_abs.specs.declared.reason.Reason.{Reason}
 use Rattle.gb_abs.specs.declared.reason.Reason.TheVariants as reason
 use Rattle.gb_abs.specs.Covering.{covers}
-use Rattle.gb_blocks.specs.Rules.{reason_of}
+use Rattle.gb_blocks.specs.Rules.{reason_of, lacks_handler}
 use Rattle.gb_verify.specs.PowerUp.{state_at_power_up}
 use Rattle.gb_verify.specs.declared.verdict.Verdict.{Verdict}
 use Rattle.gb_verify.specs.declared.verdict.Verdict.TheVariants.{Accepted, Refused}
@@ -32,22 +30,16 @@ is_bad_node rom cert (Some n) =
 unfoldable pub is_bad_entry : List ℕ → Certificate → Bool
 is_bad_entry rom cert = is_bad_node rom cert (slice_get cert.nodes (main_entry cert))
 
--- ---- interrupts
-
--- Interrupts have no rules yet: where one may come, the node is refused.
-unfoldable pub may_be_interrupted : Core → Bool
-may_be_interrupted s = s.ime.on && may_enable s.ie
-
 -- ---- the verdict
 
 abbrev pub or_interrupt : Option Reason → Bool → Option Reason
-or_interrupt (Some r) interrupted = Some r
+or_interrupt (Some r) unhandled = Some r
 or_interrupt None true = Some reason.Interrupt
 or_interrupt None false = None
 
 -- the lowest reason against a node
 unfoldable pub reason_against : List ℕ → Certificate → Node → Option Reason
-reason_against rom cert n = or_interrupt (reason_of rom cert n) (may_be_interrupted n.state.core)
+reason_against rom cert n = or_interrupt (reason_of rom cert n) (lacks_handler cert n)
 
 -- a right certificate
 pub record IsRight (rom : List ℕ) (cert : Certificate) : Type 0 where

@@ -3,20 +3,20 @@
 ghost use Rattle.std.specs.Prelude.{◌≡◌, ◌<◌, length, Option};
 ghost use Rattle.gb_ops.specs.declared.machine.Region.{Region};
 ghost use Rattle.gb_verify.specs.PowerUp.{own, core_at_power_up, state_at_power_up};
-ghost use Rattle.gb_verify.specs.Verdict.{IsVerdict, verdict_of, IgnoresVersion, is_bad_entry, main_entry, may_be_interrupted, reason_against_at, entry_of, is_bad_node};
+ghost use Rattle.gb_verify.specs.Verdict.{IsVerdict, verdict_of, IgnoresVersion, is_bad_entry, main_entry, reason_against_at, entry_of, is_bad_node};
 ghost use Rattle.gb_verify.specs.Headline.{IfAccepted, IsSafe};
 
 use crate::verdict::Verdict;
 use gb_abs::covering::covers;
 use gb_abs::reason::Reason;
 use gb_abs_memory::load::holds_bytes;
+use gb_blocks::interrupts::lacks_handler;
 use gb_blocks::rules::reason_of;
 use gb_cert::types::{Abs, Cert, Core, Ctl, Flg, ImeSet, Origin, Val};
 use gb_header::Rom;
 use gb_ops::machine::Region;
 use gb_ops::op::Register;
 use gb_ops::registers::Registers;
-use gb_vals::bits::may_enable;
 use gb_vals::flags::known;
 
 /// A register's value at power-up, which is its own origin.
@@ -104,15 +104,6 @@ fn is_bad_entry(rom: &Rom<'_>, cert: &Cert<'_>, entry: u32) -> bool
     node.address() != 0x100 || node.bank() != 0 || !covers(&start, &state)
 }
 
-/// Whether an interrupt may come, which has no rules yet: IME may be on, and IE may have one of bits 0
-/// to 4.
-#[tactic(auto, unfolding(crate::specs::Verdict::may_be_interrupted))]
-fn may_be_interrupted(core: &Core) -> bool
-    ensures { result ≡ may_be_interrupted core.now }
-{
-    core.ime.on && may_enable(&core.ie)
-}
-
 /// The lowest reason against the node with a number.
 #[tactic(auto, unfolding(crate::specs::Verdict::reason_against))]
 fn reason_against(rom: &Rom<'_>, cert: &Cert<'_>, i: u32) -> Option<Reason>
@@ -123,7 +114,7 @@ fn reason_against(rom: &Rom<'_>, cert: &Cert<'_>, i: u32) -> Option<Reason>
     let state = node.state();
     match reason_of(rom, cert, &node, &state) {
         Some(reason) => Some(reason),
-        None if may_be_interrupted(state.core()) => Some(Reason::Interrupt),
+        None if lacks_handler(cert, &node, &state) => Some(Reason::Interrupt),
         None => None,
     }
 }

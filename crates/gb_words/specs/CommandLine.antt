@@ -1,6 +1,8 @@
 -- The program's command line, as clap is told it.
-use Rattle.std.specs.Prelude.{true, codes, List, [], ◌∷◌, pos, Some}
-use Rattle.clap.specs.Words.{App, Rule, Text, new_app, new_rule, with_subcommand}
+use Rattle.std.specs.Prelude.{◌≡◌, true, false, codes, List, [], ◌∷◌, pos, Some, Result, IfOk}
+use Rattle.clap.specs.Words.{App, Rule, Text, app_of, new_app, new_rule, with_subcommand}
+use Rattle.clap.specs.declared.builder.command.Command.{Command}
+use Rattle.clap.specs.declared.builder.command.Command.TheViews.{out-Command as fields_of}
 use Rattle.clap.specs.declared.builder.value_parser.ValueParser.TheVariants as parser
 
 -- a name of a file, which has to be there
@@ -56,3 +58,7 @@ plain_app = let a = new_app (codes "gulmyrek") in record a {
 
 abbrev pub program_app : App
 program_app = with_subcommand (with_subcommand (with_subcommand (with_subcommand (with_subcommand plain_app verify_app.top) header_app.top) show_app.top) upgrade_app.top) run_app.top
+
+-- where the command could be built it is this one, and none of its arguments is its subcommands' too
+abbrev pub Makes : {E : Type 0} → Result Command E → App → Type 0
+Makes result app = IfOk result (λ command. (app_of command ≡ app) × ((fields_of command).has_globals ≡ false))

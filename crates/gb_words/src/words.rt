@@ -1,8 +1,7 @@
 //! The program's words, read by `clap`.
 
 ghost use Rattle.std.specs.Prelude.{◌≡◌, ◌∷◌, ◌≤◌, [], IfErr, IfOk, IsOk, List, Some, codes, decimal, false, is_some, map, true, ℕ};
-ghost use Rattle.clap.specs.Words.{app_of, first_value, found_of, kind_of, new_app, rule_of};
-ghost use Rattle.clap.specs.declared.builder.command.Command.TheViews.{out-Command as fields_of};
+ghost use Rattle.clap.specs.Words.{App, FailsBy, HasMatchesOf, fault_of, first_value, found_of, has_subcommand, is_simple_and_free, kind_of, rule_of, with_rule, with_subcommand};
 ghost use Rattle.gb_words.specs.CommandLine;
 ghost use Rattle.gb_words.specs.Words;
 
@@ -83,108 +82,150 @@ fn frames_arg<'a>(alloc: Global) -> Arg<'a>
         .value_parser(clap::value_parser!(u32).range(0..=MOST_FRAMES))
 }
 
-/// A command with its texts, and with no argument yet.
-fn texts_of<'a>(alloc: Global, name: &'a str, about: &'a str, below: &'a str) -> Command<'a>
-    ensures app { app_of result ≡ new_app name.now }
-    ensures local { (fields_of result).has_globals ≡ false }
+/// A command with its texts, and a file as its first argument.
+fn file_command<'a>(
+    alloc: Global,
+    name: &'a str,
+    about: &'a str,
+    below: &'a str,
+    file: Arg<'a>,
+) -> Result<Command<'a>, AllocError>
+    requires local { file.global ≡ false }
+    ensures { CommandLine.Makes result (CommandLine.command_app name.now (rule_of file.entry ∷ [])) }
 {
-    Command::new(alloc, name).about(about).after_help(below)
+    Command::new(alloc, name)
+        .about(about)
+        .after_help(below)
+        .arg(file)
+}
+
+/// A command with one more argument, where it could be built so far.
+fn with_arg<'a>(
+    command: Result<Command<'a>, AllocError>,
+    arg: Arg<'a>,
+) -> Result<Command<'a>, AllocError>
+    requires local { arg.global ≡ false }
+    ensures { (app : App) → CommandLine.Makes command.entry app → CommandLine.Makes result (with_rule app (rule_of arg.entry)) }
+{
+    command?.arg(arg)
 }
 
 /// The command `verify`.
 fn verify_command<'a>(alloc: Global) -> Result<Command<'a>, AllocError>
-    ensures { IfOk result (λ command. (app_of command ≡ CommandLine.verify_app) × ((fields_of command).has_globals ≡ false)) }
+    ensures { CommandLine.Makes result CommandLine.verify_app }
 {
-    texts_of(
+    let command = file_command(
         alloc,
         "verify",
         "Checks a cartridge against its certificate",
         help::VERIFY,
-    )
-    .arg(rom_arg(alloc))?
-    .arg(cert_arg(alloc))
+        rom_arg(alloc),
+    );
+    with_arg(command, cert_arg(alloc))
 }
 
 /// The command `header`.
 fn header_command<'a>(alloc: Global) -> Result<Command<'a>, AllocError>
-    ensures { IfOk result (λ command. (app_of command ≡ CommandLine.header_app) × ((fields_of command).has_globals ≡ false)) }
+    ensures { CommandLine.Makes result CommandLine.header_app }
 {
-    texts_of(
+    file_command(
         alloc,
         "header",
         "Prints what a cartridge's header says",
         help::HEADER,
+        rom_arg(alloc),
     )
-    .arg(rom_arg(alloc))
 }
 
 /// The command `show`.
 fn show_command<'a>(alloc: Global) -> Result<Command<'a>, AllocError>
-    ensures { IfOk result (λ command. (app_of command ≡ CommandLine.show_app) × ((fields_of command).has_globals ≡ false)) }
+    ensures { CommandLine.Makes result CommandLine.show_app }
 {
-    texts_of(
+    file_command(
         alloc,
         "show",
         "Prints what a certificate claims, line by line",
         help::SHOW,
+        cert_arg(alloc),
     )
-    .arg(cert_arg(alloc))
 }
 
 /// The command `upgrade`.
 fn upgrade_command<'a>(alloc: Global) -> Result<Command<'a>, AllocError>
-    ensures { IfOk result (λ command. (app_of command ≡ CommandLine.upgrade_app) × ((fields_of command).has_globals ≡ false)) }
+    ensures { CommandLine.Makes result CommandLine.upgrade_app }
 {
-    texts_of(
+    file_command(
         alloc,
         "upgrade",
         "Writes a certificate in version 2 of its format",
         help::UPGRADE,
+        cert_arg(alloc),
     )
-    .arg(cert_arg(alloc))
 }
 
 /// The command `run`.
 fn run_command<'a>(alloc: Global) -> Result<Command<'a>, AllocError>
-    ensures { IfOk result (λ command. (app_of command ≡ CommandLine.run_app) × ((fields_of command).has_globals ≡ false)) }
+    ensures { CommandLine.Makes result CommandLine.run_app }
 {
-    texts_of(
+    let command = file_command(
         alloc,
         "run",
         "Runs a cartridge and prints its last picture",
         help::RUN,
-    )
-    .arg(rom_arg(alloc))?
-    .arg(file_arg(
+        rom_arg(alloc),
+    );
+    let script = file_arg(
         alloc,
         "script",
         "SCRIPT",
         "The file of the keys, a byte for each frame",
-    ))?
-    .arg(frames_arg(alloc))
+    );
+    with_arg(with_arg(command, script), frames_arg(alloc))
 }
 
-/// The program's command line.
-fn program_command<'a>(alloc: Global) -> Result<Command<'a>, AllocError>
-    ensures { IfOk result (λ command. app_of command ≡ CommandLine.program_app) }
+/// The program's own words, with no command yet.
+fn plain_command<'a>(alloc: Global) -> Result<Command<'a>, AllocError>
+    ensures { CommandLine.Makes result CommandLine.plain_app }
 {
-    let verify = verify_command(alloc)?;
-    let header = header_command(alloc)?;
-    let show = show_command(alloc)?;
-    let upgrade = upgrade_command(alloc)?;
-    let run = run_command(alloc)?;
     Command::new(alloc, "gulmyrek")
-        .bin_name("gulmyrek")?
         .about("Gulmyrek checks Game Boy cartridges against certificates, and runs cartridges")
         .after_help(help::PROGRAM)
         .version("0.5.0")
         .no_binary_name(true)
         .subcommand_required(true)
-        .subcommand(verify)?
-        .subcommand(header)?
-        .subcommand(show)?
-        .subcommand(upgrade)?
-        .subcommand(run)
+        .bin_name("gulmyrek")
+}
+
+/// The program with one more command, where both could be built.
+///
+/// A function of its own, since a command that stays alive across a `?` is costly to prove.
+fn with_command<'a>(
+    program: Result<Command<'a>, AllocError>,
+    command: Result<Command<'a>, AllocError>,
+) -> Result<Command<'a>, AllocError>
+    ensures { (whole part : App) → CommandLine.Makes program.entry whole → CommandLine.Makes command.entry part → CommandLine.Makes result (with_subcommand whole part.top) }
+{
+    program?.subcommand(command?)
+}
+
+/// The program's command line.
+fn program_command<'a>(alloc: Global) -> Result<Command<'a>, AllocError>
+    ensures { CommandLine.Makes result CommandLine.program_app }
+{
+    let program = with_command(plain_command(alloc), verify_command(alloc));
+    let program = with_command(program, header_command(alloc));
+    let program = with_command(program, show_command(alloc));
+    let program = with_command(program, upgrade_command(alloc));
+    with_command(program, run_command(alloc))
+}
+
+/// What the program's command line makes of the words.
+fn matches_of<'a>(alloc: Global, words: &'a [&'a str]) -> Result<ArgMatches<'a>, Error>
+    ensures some { IfOk result (λ matches. has_subcommand matches ≡ true) }
+    ensures matches { IfOk result (HasMatchesOf CommandLine.program_app (map (λ word. word.now) words.now)) }
+    ensures kinds { is_simple_and_free CommandLine.program_app ≡ true → FailsBy (fault_of CommandLine.program_app (map (λ word. word.now) words.now)) result }
+{
+    program_command(alloc)?.try_get_matches_from(words)
 }
 
 /// The value of an argument that has to be there.
@@ -225,7 +266,7 @@ pub fn read_words<'a>(alloc: Global, words: &'a [&'a str]) -> Result<Task<'a>, E
     if words.is_empty() {
         return Ok(Task::Stored);
     }
-    let matches = program_command(alloc)?.try_get_matches_from(words)?;
+    let matches = matches_of(alloc, words)?;
     let Some((name, arguments)) = matches.subcommand() else {
         unreachable!()
     };

@@ -1,4 +1,4 @@
-use Rattle.std.proofs.Common.{◌≡◌, ℕ, Bool, false, sym, ◌∙◌, ap, arith}
+use Rattle.std.proofs.Common.{◌≡◌, slice_index_or, ℕ, Bool, false, sym, ◌∙◌, ap, arith}
 use Rattle.gb_cert.specs.declared.types.Val.{Val}
 use Rattle.gb_cert.specs.declared.types.Core.{Core}
 use Rattle.gb_ops.specs.Registers.{get}
@@ -6,12 +6,12 @@ use Rattle.gb_blocks.specs.Covered.{is_covered_by_one, is_covered_by_values, wit
 use Rattle.gb_blocks.proofs.CoveredLaws.{all_from-stopped}
 use Rattle.gb_blocks.proofs.covered.is_covered_by_values.Goals as goal
 
-pub returns-then-not-is_value_covered : goal.returns-then-not-is_value_covered
+pub returns-then-not-marks-from : goal.returns-then-not-marks-from
 unfolding is_covered_by_values
-returns-then-not-is_value_covered c =
+returns-then-not-marks-from c =
     let val = get c.args.register c.args.state.now.core.registers in
     let test : ℕ → Bool = λ v. is_covered_by_one c.args.cert.now.nodes c.args.procedure c.args.address (with_value c.args.register c.args.state.now v) in
-    let failed : test c.loop-value.value ≡ false = sym c.is_value_covered.ensures ∙ c.if-not-is_value_covered.true in
+    let failed : test c.loop-value.value ≡ false = sym (c.covered_values-marks.ensures c.loop-value.value (omega arith)) ∙ (ap (λ (k : ℕ). slice_index_or c.covered_values-marks.result k false) (sym c.from.ensures) ∙ c.if-not-marks-from.true) in
     let is : val ≡ c.get-val.result = ap (λ (k : Core). get c.args.register k.registers) (sym c.core.ensures) ∙ sym c.get-val.ensures in
     let low : val.lo ≡ c.get-val.result.lo = ap (λ (v : Val). v.lo) is in
     let high : val.hi ≡ c.get-val.result.hi = ap (λ (v : Val). v.hi) is in

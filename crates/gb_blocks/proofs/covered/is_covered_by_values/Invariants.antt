@@ -5,4 +5,4 @@ use Rattle.gb_blocks.proofs.covered.is_covered_by_values.Given as goal
 
 abbrev pub invariant-loop-value : goal.invariant-loop-value
 invariant-loop-value l =
-    all_from (λ v. is_covered_by_one l.cert.nodes l.procedure l.address (with_value l.register l.state v)) (get l.register l.state.core.registers).lo (l.value - (get l.register l.state.core.registers).lo) ≡ true
+    all_from (λ v. is_covered_by_one l.cert.nodes l.procedure l.address (with_value l.fn.register l.state v)) (get l.fn.register l.state.core.registers).lo (l.value - (get l.fn.register l.state.core.registers).lo) ≡ true

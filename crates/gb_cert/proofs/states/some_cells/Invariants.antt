@@ -1,6 +1,6 @@
 use Rattle.std.proofs.Common.{◌≡◌, ◌-◌}
 use Rattle.arrayvec.specs.ArrayVec.{array_vec_len}
-use Rattle.gb_cert.specs.Format.{several}
+use Rattle.gb_fields.specs.Format.{several}
 use Rattle.gb_cert.specs.Rules.{after_cell}
 use Rattle.gb_cert.specs.Reading.{cell_at}
 use Rattle.gb_cert.proofs.Several.{with_front}

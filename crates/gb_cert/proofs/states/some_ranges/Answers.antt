@@ -1,6 +1,6 @@
 use Rattle.std.proofs.Common.{arith}
 use Rattle.std.proofs.lemmas.Result.{err_from_is_err_and}
-use Rattle.gb_cert.specs.Format.{several}
+use Rattle.gb_fields.specs.Format.{several}
 use Rattle.gb_cert.specs.Rules.{after_range}
 use Rattle.gb_cert.specs.Reading.{range_at}
 use Rattle.gb_cert.proofs.Several.{goes_on, ends, is_done}

@@ -1,5 +1,5 @@
 use Rattle.std.proofs.Common.{◌≡◌, ◌-◌}
-use Rattle.gb_cert.specs.Format.{several}
+use Rattle.gb_fields.specs.Format.{several}
 use Rattle.gb_cert.specs.Skipping.{skipped}
 use Rattle.gb_cert.specs.Rules.{after_cell}
 use Rattle.gb_cert.specs.Reading.{cell_at}

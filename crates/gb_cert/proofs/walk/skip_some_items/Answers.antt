@@ -1,5 +1,5 @@
 use Rattle.std.proofs.lemmas.Result.{err_from_is_err_and}
-use Rattle.gb_cert.specs.Format.{several}
+use Rattle.gb_fields.specs.Format.{several}
 use Rattle.gb_cert.specs.Skipping.{skipped}
 use Rattle.gb_cert.specs.Reading.{item_at}
 use Rattle.gb_cert.proofs.Skipping.{skips_on, skip_ends, skip_done}

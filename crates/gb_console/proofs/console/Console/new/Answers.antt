@@ -5,4 +5,4 @@ use Rattle.gb_console.proofs.console.Console.new.Goals as goal
 
 pub invariant_of-result : goal.invariant_of-result
 invariant_of-result c =
-    fresh c.args.rom.now _ _ c.in_ok-memory.ensures (c.at_power_up-cpu.ensures.processor ∙ ap processor_at_power_up c.bytes.ensures.bytes)
+    fresh c.args.rom.now _ _ c.in_ok-memory.ensures (c.at_power_up-cpu.ensures.processor ∙ ap processor_at_power_up c.bytes.ensures.bytes) c.holds_bytes.ensures

@@ -1,14 +1,14 @@
 //! The head of a certificate.
 
 ghost use Rattle.std.specs.Prelude.{◌≡◌, ◌&&◌, ◌-◌, ◌%◌, nat_le};
-ghost use Rattle.gb_cert.specs.Format.{Gives};
-ghost use Rattle.gb_cert.specs.Limits.{node_limit};
-ghost use Rattle.gb_cert.specs.Rules.{is_area};
-ghost use Rattle.gb_cert.specs.Reading.{is_region, region_at, node_count_at, head_at};
+ghost use Rattle.gb_fields.specs.Format.{Gives};
+ghost use Rattle.gb_fields.specs.Limits.{node_limit};
+ghost use Rattle.gb_fields.specs.Rules.{is_area};
+ghost use Rattle.gb_fields.specs.Reading.{is_region, region_at, node_count_at, head_at};
 
 use crate::fault::CertFault;
-use crate::fields::{byte, count_within, node_number, word};
 use crate::limits::PROCEDURE_LIMIT;
+use crate::numbers::{byte, count_within, node_number, word};
 use gb_ops::machine::Region;
 
 /// What stands before the procedures and the nodes: the version, the stack region, and how many

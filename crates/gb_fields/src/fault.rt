@@ -1,8 +1,8 @@
 //! Why bytes are no certificate.
 
 ghost use Rattle.std.specs.Prelude.{◌≡◌};
-ghost use Rattle.gb_cert.specs.declared.fault.CertFault.TheVariants.{Memory};
-ghost use Rattle.gb_cert.specs.Fault.{number_of};
+ghost use Rattle.gb_fields.specs.declared.fault.CertFault.TheVariants.{Memory};
+ghost use Rattle.gb_fields.specs.Fault.{number_of};
 
 use std::alloc::{AllocError, AllocFailed};
 use thiserror::Error;

@@ -1,7 +1,7 @@
 -- Reading from left to right, with the first fault that is met. Formats are made of smaller ones.
 use Rattle.std.specs.Prelude.{◌≡◌, ℕ, zero, suc, Bool, true, false, List, [], ◌∷◌, Option, Some, None, Result, Ok, Err}
-use Rattle.gb_cert.specs.declared.fault.CertFault.{CertFault}
-use Rattle.gb_cert.specs.declared.fault.CertFault.TheVariants as fault
+use Rattle.gb_fields.specs.declared.fault.CertFault.{CertFault}
+use Rattle.gb_fields.specs.declared.fault.CertFault.TheVariants as fault
 
 -- a value and the bytes behind it, or what is wrong
 abbrev pub Read : Type 0 → Type 0

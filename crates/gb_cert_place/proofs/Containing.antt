@@ -1,0 +1,200 @@
+-- The field on which a block's fault falls contains the byte.
+use Rattle.std.proofs.Common.{◌≡◌, ℕ, ◌+◌, ◌-◌, ◌==◌, ◌⊎◌, inl, inr, ◌≤◌, ◌<◌, Bool, true, false, nat_lt, List, [], ◌∷◌, ◌++◌, length, take, slice_index_or, Err, refl, sym, ◌∙◌, ap, subst, append_assoc, arith}
+use Rattle.std.proofs.lemmas.List.{take_all, length-take-le, get_or-take}
+use Rattle.std.proofs.lemmas.Bool.{cases_lt}
+use Rattle.std.proofs.lemmas.Bool.Decides.{nat_tests}
+use Rattle.gb_ops.specs.declared.machine.Region.{Region}
+use Rattle.gb_fields.specs.declared.fault.CertFault.{CertFault}
+use Rattle.gb_fields.specs.declared.fault.CertFault.TheVariants as fault
+use Rattle.gb_cert.specs.declared.role.Role.{Role}
+use Rattle.gb_fields.specs.declared.head.Head.{Head}
+use Rattle.gb_fields.specs.Limits.{range_limit, cell_limit}
+use Rattle.gb_fields.specs.Format.{Read, mapped}
+use Rattle.gb_fields.specs.Reading.{head_at}
+use Rattle.gb_cert_place.specs.declared.block.Block.{Block}
+use Rattle.gb_cert_place.specs.declared.block.Block.TheVariants as block
+use Rattle.gb_cert_place.specs.declared.block.Part.{Part}
+use Rattle.gb_cert_place.specs.declared.block.Stop.{Stop}
+use Rattle.gb_cert_place.specs.declared.field.Field.{Field}
+use Rattle.gb_cert_place.specs.declared.field.Field.TheVariants as field
+use Rattle.gb_cert_place.specs.Blocks.{read_block, forget}
+use Rattle.gb_cert_place.specs.Layout.{Layout, number_width, number_width_by, layout, width_of, Contains, choose, lookup, field_at}
+use Rattle.gb_cert_place.specs.Standing.{AmongItems, AtItem, InItems, AtItemCount, BehindItemCount, AmongCells, AtCell, InCells, AtCellCount, BehindCellCount, InState, AtCore, BehindCore, BehindItems, AmongRanges, AtRange, InRanges, AtRangeCount, BehindRangeCount, InExit, AtReturns, BehindReturns, InProcedure, AtEntry, AtNeed, BehindNeed, BehindRanges, InProcedures, AtProcedure, InNode, AtKey, AtBank, BehindBank, InNodes, AtNode, InCertificate, AtHead, BehindHead, BehindProcedures}
+use Rattle.gb_cert_place.specs.Stops.{StopsAt, StopsIn, is_missing}
+use Rattle.gb_cert_place.specs.Places.{byte_by, fault_byte, FallsIn}
+use Rattle.gb_cert_place.proofs.Locality.{failed}
+use Rattle.gb_cert_place.proofs.Stopping.{is_cut_short}
+use Rattle.gb_cert_place.proofs.Widths.{IsWithin, cut_mapped, IsWithin-mapped, IsWithin-word_between, IsWithin-count_within, IsWithin-core, IsWithin-item_count, IsWithin-item, IsWithin-cell, IsWithin-range, IsWithin-returns, IsWithin-entry, IsWithin-need, IsWithin-key, head_within}
+
+-- ---- looking up
+
+width-append : (front : Layout) (f : Field × ℕ) → width_of (front ++ f ∷ []) ≡ width_of front + f.1
+width-append [] f = omega arith
+width-append (g ∷ front) f = let h = width-append front f in omega arith
+
+lookup_contains : (fields front : Layout) (found : Field × ℕ) (start : ℕ) (behind : Layout) (byte : ℕ) → fields ≡ front ++ behind → start ≡ width_of front → start ≤ byte → byte < start + width_of behind
+    → (width : ℕ) × Contains fields byte (lookup found start behind byte).0 (lookup found start behind byte).1 width
+unfolding lookup
+lookup_contains fields front found start [] byte parts begins le lt = absurd (omega arith)
+lookup_contains fields front found start (f ∷ fs) byte parts begins le lt = by (nat_lt byte (start + f.1)) refl (lookup_contains fields (front ++ f ∷ []) (f.0, start) (start + f.1) fs byte (parts ∙ sym (append_assoc front (f ∷ []) fs)))
+  where
+    by : (b : Bool) → nat_lt byte (start + f.1) ≡ b
+        → (start + f.1 ≡ width_of (front ++ f ∷ []) → start + f.1 ≤ byte → byte < (start + f.1) + width_of fs → (width : ℕ) × Contains fields byte (lookup (f.0, start) (start + f.1) fs byte).0 (lookup (f.0, start) (start + f.1) fs byte).1 width)
+        → (width : ℕ) × Contains fields byte (choose b (f.0, start) (lookup (f.0, start) (start + f.1) fs byte)).0 (choose b (f.0, start) (lookup (f.0, start) (start + f.1) fs byte)).1 width
+    by true h on = (f.1, record { front = front; behind = fs; parts = parts; begins = begins; from = le; to = grind (arith, nat_tests) })
+    by false h on =
+        let w : width_of (front ++ f ∷ []) ≡ width_of front + f.1 = width-append front f in
+        let at : start + f.1 ≡ width_of (front ++ f ∷ []) = omega arith in
+        let high : start + f.1 ≤ byte = grind (arith, nat_tests) in
+        let low : byte < (start + f.1) + width_of fs = omega arith in
+        on at high low
+
+-- ---- where a block's fault falls
+
+-- Of so many of the bytes, or more, reading doesn't say that some are missing.
+abbrev Decides : {X : Type 0} → Read X → List ℕ → ℕ → Type 0
+Decides r bytes n = (j : ℕ) → n ≤ j → j ≤ length bytes → r (take j bytes) ≡ Err fault.CutShort → ⊥
+
+within_decides : {X : Type 0} (r : Read X) (n : ℕ) → IsWithin r n → (bytes : List ℕ) → Decides r bytes n
+within_decides r n a bytes j le few h = a.decides (take j bytes) (let l : length (take j bytes) ≡ j = length-take-le j bytes few in omega arith) h
+
+falls_within : {X : Type 0} (r : Read X) (bytes : List ℕ) (e : CertFault) (stop n : ℕ) → 0 < n → Decides r bytes n → StopsAt r bytes e stop → fault_byte e stop < n
+falls_within {X} r bytes e stop n some decides s = by (is_missing e) refl
+  where
+    cut : is_missing e ≡ true → (stop < n) ⊎ (n ≤ stop) → stop < n
+    cut m (inl lt) = lt
+    cut m (inr le) =
+        let c : e ≡ fault.CutShort = is_cut_short e m in
+        let w : stop ≡ length bytes = s.cut c in
+        absurd (decides stop le (omega arith) (ap r (take_all stop bytes (omega arith)) ∙ s.meets ∙ ap (λ d. failed {A = X × List ℕ} d) c))
+
+    other : (stop - 1 < n) ⊎ (n ≤ stop - 1) → stop - 1 < n
+    other (inl lt) = lt
+    other (inr le) =
+        let w : stop ≤ length bytes = s.within in
+        absurd (decides (stop - 1) le (omega arith) (s.before (stop - 1) (omega arith)))
+
+    by : (b : Bool) → is_missing e ≡ b → byte_by b stop < n
+    by true m = cut m (cases_lt stop n)
+    by false m = other (cases_lt (stop - 1) n)
+
+-- ---- blocks
+
+-- the version of a head is the one in it
+abbrev IsRight : Block → List ℕ → Type 0
+IsRight (block.Head version) bytes = version ≡ slice_index_or bytes 4 1
+IsRight b bytes = Unit {0}
+
+head_decides : (version : ℕ) (bytes : List ℕ) → version ≡ slice_index_or bytes 4 1 → Decides (mapped forget head_at) bytes (width_of (layout (block.Head version)))
+unfolding layout
+head_decides version bytes right j le few h =
+    let l : length (take j bytes) ≡ j = length-take-le j bytes few in
+    let n : number_width version ≡ number_width (slice_index_or (take j bytes) 4 1) = ap number_width (right ∙ sym (get_or-take j bytes 4 1 (omega arith))) in
+    head_within (take j bytes) (omega arith) (cut_mapped forget head_at (take j bytes) h)
+
+block_decides : (b : Block) (bytes : List ℕ) → IsRight b bytes → Decides (read_block b) bytes (width_of (layout b))
+unfolding read_block layout
+block_decides (block.Head version) bytes right = λ j le few h. head_decides version bytes right j le few h
+block_decides (block.Entry version nodes) bytes right = within_decides _ (number_width version + 0) (subst (λ n. IsWithin (read_block (block.Entry version nodes)) n) (omega arith) (IsWithin-mapped forget _ _ (IsWithin-entry version nodes))) bytes
+block_decides (block.Need is_main region) bytes right = within_decides _ 2 (IsWithin-mapped forget _ 2 (IsWithin-need is_main region)) bytes
+block_decides block.RangeCount bytes right = within_decides _ 1 (IsWithin-mapped forget _ 1 (IsWithin-count_within range_limit)) bytes
+block_decides (block.Range index region least) bytes right = within_decides _ 4 (IsWithin-mapped forget _ 4 (IsWithin-range region least)) bytes
+block_decides (block.Returns is_main) bytes right = within_decides _ 1 (IsWithin-mapped forget _ 1 (IsWithin-returns is_main)) bytes
+block_decides (block.Core role) bytes right = within_decides _ 40 (IsWithin-mapped forget _ 40 (IsWithin-core role)) bytes
+block_decides (block.ItemCount role stack_set) bytes right = within_decides _ 1 (IsWithin-mapped forget _ 1 (IsWithin-item_count role stack_set)) bytes
+block_decides (block.Item index) bytes right = within_decides _ 6 (IsWithin-mapped forget _ 6 IsWithin-item) bytes
+block_decides block.CellCount bytes right = within_decides _ 1 (IsWithin-mapped forget _ 1 (IsWithin-count_within cell_limit)) bytes
+block_decides (block.Cell index region least) bytes right = within_decides _ 5 (IsWithin-mapped forget _ 5 (IsWithin-cell region least)) bytes
+block_decides (block.Key procedures before) bytes right = within_decides _ 3 (IsWithin-mapped forget _ 3 (IsWithin-key procedures before)) bytes
+block_decides block.Bank bytes right = within_decides _ 2 (IsWithin-mapped forget _ 2 (IsWithin-word_between 0 511)) bytes
+
+some_width : (b : Block) → 0 < width_of (layout b)
+unfolding layout
+some_width (block.Head version) = omega arith
+some_width (block.Entry version nodes) = by (version == 1)
+  where
+    by : (b : Bool) → 0 < number_width_by b + 0
+    by true = omega arith
+    by false = omega arith
+some_width (block.Need is_main region) = omega arith
+some_width block.RangeCount = omega arith
+some_width (block.Range index region least) = omega arith
+some_width (block.Returns is_main) = omega arith
+some_width (block.Core role) = omega arith
+some_width (block.ItemCount role stack_set) = omega arith
+some_width (block.Item index) = omega arith
+some_width block.CellCount = omega arith
+some_width (block.Cell index region least) = omega arith
+some_width (block.Key procedures before) = omega arith
+some_width block.Bank = omega arith
+
+-- ---- a head stands at the front alone
+
+among_items_right : {count : ℕ} {bytes rest : List ℕ} {b : Block} → AmongItems count bytes b rest → IsRight b rest
+among_items_right (AtItem lt p) = tt
+
+in_items_right : {role : Role} {stack_set : Bool} {bytes rest : List ℕ} {b : Block} → InItems role stack_set bytes b rest → IsRight b rest
+in_items_right AtItemCount = tt
+in_items_right (BehindItemCount e a) = among_items_right a
+
+among_cells_right : {region : Region} {count : ℕ} {bytes rest : List ℕ} {b : Block} → AmongCells region count bytes b rest → IsRight b rest
+among_cells_right (AtCell lt p) = tt
+
+in_cells_right : {region : Region} {bytes rest : List ℕ} {b : Block} → InCells region bytes b rest → IsRight b rest
+in_cells_right AtCellCount = tt
+in_cells_right (BehindCellCount e a) = among_cells_right a
+
+in_state_right : {role : Role} {region : Region} {bytes rest : List ℕ} {b : Block} → InState role region bytes b rest → IsRight b rest
+in_state_right AtCore = tt
+in_state_right (BehindCore e a) = in_items_right a
+in_state_right (BehindItems e f a) = in_cells_right a
+
+among_ranges_right : {region : Region} {count : ℕ} {bytes rest : List ℕ} {b : Block} → AmongRanges region count bytes b rest → IsRight b rest
+among_ranges_right (AtRange lt p) = tt
+
+in_ranges_right : {region : Region} {bytes rest : List ℕ} {b : Block} → InRanges region bytes b rest → IsRight b rest
+in_ranges_right AtRangeCount = tt
+in_ranges_right (BehindRangeCount e a) = among_ranges_right a
+
+in_exit_right : {number : ℕ} {region : Region} {is_main : Bool} {bytes rest : List ℕ} {p : Part} {b : Block} → InExit number region is_main bytes p b rest → IsRight b rest
+in_exit_right AtReturns = tt
+in_exit_right (BehindReturns e a) = in_state_right a
+
+in_procedure_right : {number version nodes : ℕ} {region : Region} {is_main : Bool} {bytes rest : List ℕ} {p : Part} {b : Block} → InProcedure number version region nodes is_main bytes p b rest → IsRight b rest
+in_procedure_right AtEntry = tt
+in_procedure_right (AtNeed e) = tt
+in_procedure_right (BehindNeed e f a) = in_ranges_right a
+in_procedure_right (BehindRanges e f g a) = in_exit_right a
+
+in_procedures_right : {h : Head} {bytes rest : List ℕ} {p : Part} {b : Block} → InProcedures h bytes p b rest → IsRight b rest
+in_procedures_right (AtProcedure lt p a) = in_procedure_right a
+
+in_node_right : {region : Region} {procedures : ℕ} {before : ℕ × ℕ} {bytes rest : List ℕ} {b : Block} → InNode region procedures before bytes b rest → IsRight b rest
+in_node_right AtKey = tt
+in_node_right (AtBank e) = tt
+in_node_right (BehindBank e f a) = in_state_right a
+
+in_nodes_right : {h : Head} {bytes rest : List ℕ} {p : Part} {b : Block} → InNodes h bytes p b rest → IsRight b rest
+in_nodes_right (AtNode lt p a) = in_node_right a
+
+in_certificate_right : {bytes rest : List ℕ} {p : Part} {b : Block} → InCertificate bytes p b rest → IsRight b rest
+in_certificate_right AtHead = refl
+in_certificate_right (BehindHead e a) = in_procedures_right a
+in_certificate_right (BehindProcedures e f a) = in_nodes_right a
+
+-- ---- places
+
+behind_by_one : (b : Bool) (taken : ℕ) → taken ≤ byte_by b taken + 1
+behind_by_one true taken = omega arith
+behind_by_one false taken = omega arith
+
+pub falls_in : (bytes : List ℕ) (s : Stop) → s.left ≤ s.before → s.before ≤ length bytes → StopsIn (InCertificate bytes) s → (width : ℕ) × FallsIn (length bytes) s width
+falls_in bytes s order few p =
+    let taken : ℕ = s.before - s.left in
+    let byte : ℕ = fault_byte s.fault taken in
+    let within : byte < width_of (layout s.block) =
+    falls_within (read_block s.block) p.rest s.fault taken (width_of (layout s.block)) (some_width s.block) (block_decides s.block p.rest (in_certificate_right p.stands)) p.stops in
+    let found = lookup_contains (layout s.block) [] (field.Magic, 0) 0 (layout s.block) byte refl refl (omega arith) (omega arith) in
+    let to : byte < (field_at s.block byte).1 + found.0 = found.1.to in
+    let one : taken ≤ byte + 1 = behind_by_one (is_missing s.fault) taken in
+    (found.0, record { contains = found.1; ends = omega arith })

@@ -1,0 +1,94 @@
+//! Certificates of some procedures and nodes, spelled.
+
+use gb_samples::cartridges::put;
+use gb_samples::certificates::least;
+
+/// Offsets in a state, each with the byte that stands there in place of power-up's.
+pub type Changes = &'static [(usize, u8)];
+
+/// No words and no cells.
+pub const EMPTY: &[u8] = &[0, 0];
+
+/// A procedure: its entry, its need, its ranges with their count, and where it returns, the changes of its exit.
+#[derive(Clone, Copy)]
+pub struct Procedure {
+    pub entry: u8,
+    pub need: u8,
+    pub ranges: &'static [u8],
+    pub exit: Option<Changes>,
+}
+
+/// A node in bank 0: its state is power-up's with its stack set, with changes, and with these words and cells.
+#[derive(Clone, Copy)]
+pub struct Node {
+    pub procedure: u8,
+    pub address: u16,
+    pub changes: Changes,
+    pub held: &'static [u8],
+}
+
+/// The bytes of a file from its beginning on, and how many there are.
+#[derive(Drop)]
+pub struct Spelled {
+    bytes: [u8; 640],
+    length: usize,
+}
+
+impl Spelled {
+    /// The bytes that are spelled.
+    pub fn as_slice(&self) -> &[u8] {
+        self.bytes.get(..self.length).unwrap_or(&[])
+    }
+
+    fn add(&mut self, piece: &[u8]) {
+        put(&mut self.bytes, self.length, piece);
+        self.length = self.length.wrapping_add(piece.len());
+    }
+
+    /// A state before its words: power-up's with its stack set, and with changes.
+    fn add_core(&mut self, changes: Changes) {
+        let first = self.length;
+        self.add(&least()[23..63]);
+        put(&mut self.bytes, first.wrapping_add(2), &[1]);
+        for (offset, value) in changes {
+            put(&mut self.bytes, first.wrapping_add(*offset), &[*value]);
+        }
+    }
+
+    fn add_procedure(&mut self, procedure: &Procedure) {
+        self.add(&[procedure.entry, 0, procedure.need, 0]);
+        self.add(procedure.ranges);
+        match procedure.exit {
+            None => self.add(&[0]),
+            Some(changes) => {
+                self.add(&[1]);
+                self.add_core(changes);
+                self.add(EMPTY);
+            }
+        }
+    }
+
+    fn add_node(&mut self, node: &Node) {
+        let [low, high] = node.address.to_le_bytes();
+        self.add(&[node.procedure, low, high, 0, 0]);
+        self.add_core(node.changes);
+        self.add(node.held);
+    }
+}
+
+/// A certificate of version 1, whose stack region is FF80 to FFFD, so that the stack is set from the start.
+pub fn certificate(procedures: &[Procedure], nodes: &[Node]) -> Spelled {
+    let mut cert = Spelled {
+        bytes: [0; 640],
+        length: 0,
+    };
+    cert.add(&[0x47, 0x42, 0x42, 0x43, 0x01, 0x80, 0xFF, 0xFD, 0xFF]);
+    cert.add(&[(procedures.len() % 256) as u8, (nodes.len() % 256) as u8, 0]);
+    for procedure in procedures {
+        cert.add_procedure(procedure);
+    }
+    for node in nodes {
+        cert.add_node(node);
+    }
+    cert
+}

@@ -1,0 +1,5 @@
+pub mod Fault
+pub mod Format
+pub mod Limits
+pub mod Reading
+pub mod Rules
