@@ -155,7 +155,13 @@ fn is_uncovered(cert: &Cert<'_>, procedure: u8, successor: &Successor, callee: O
 {
     match successor.target {
         Target::At(address) => !covered_at(cert, procedure, address, &successor.state),
-        Target::Call(_) => is_back_uncovered(cert, procedure, successor.next, &successor.state, callee),
+        Target::Call(_) => is_back_uncovered(
+            cert,
+            procedure,
+            successor.next,
+            &successor.state,
+            callee,
+        ),
         Target::Return | Target::Unknown => false,
     }
 }

@@ -9,7 +9,8 @@ ghost use Rattle.gb_blocks.specs.Safety.{IsSafeAt};
 
 use crate::interrupts::{handles_too_deep, is_dispatch_limited};
 use crate::procedures::{
-    Callees, callees_of, has_deep, has_uncallable, has_uncovered, has_unreturnable, need_of, ranges_of,
+    Callees, callees_of, has_deep, has_uncallable, has_uncovered, has_unreturnable, need_of,
+    ranges_of,
 };
 use gb_abs::reason::Reason;
 use gb_abs_memory::load::holds_bytes;
@@ -103,7 +104,6 @@ fn pushes_too_deep(need: u16, node: &NodeRef<'_>, state: &Abs, op: Op) -> bool
     let words = state.items().len() + 1;
     is_push(op) && (usize::from(need) < words || ITEMS < words)
 }
-
 
 /// Whether an OAM transfer may close a byte of an instruction of so many bytes.
 #[tactic(auto, unfolding(crate::specs::Rules::is_code_limited))]

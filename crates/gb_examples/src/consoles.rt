@@ -22,6 +22,8 @@ enum Step {
     Run(u8),
     /// A step with no key, and its event.
     Event(Event),
+    /// A step with no key that executes an instruction.
+    Executes,
     /// A step with no key, after a second.
     SecondEvent(Event),
     /// So many steps with a key or none, in which the joypad's interrupt is dispatched so often.
@@ -81,6 +83,7 @@ fn agrees(console: &mut Console<'_>, step: Step) -> bool {
             true
         }
         Step::Event(event) => console.step(Keys::empty(), 0) == event,
+        Step::Executes => matches!(console.step(Keys::empty(), 0), Event::Run { .. }),
         Step::SecondEvent(event) => console.step(Keys::empty(), 1) == event,
         Step::Dispatches(key, steps, count) => dispatches(console, held(key), steps) == count,
         Step::Pc(pc) => console.pc() == pc,
@@ -131,6 +134,31 @@ const STAYS: &[Step] = &[
 #[test]
 fn halt_behind_ei_stays_and_is_left_by_the_interrupt(rt: HostRuntime) -> Result<(), Fail> {
     play_program(&rt, rt.alloc(), WAITS, VBLANK, STAYS)
+}
+
+/// LD A,01; LDH (FF),A; HALT; NOP; JR to itself.
+const HALTS_WITH_INTERRUPTS_OFF: &[u8] = &[0x3E, 0x01, 0xE0, 0xFF, 0x76, 0x00, 0x18, 0xFE];
+
+const READS_TWICE: &[Step] = &[
+    Step::Run(4),
+    Step::Event(Event::HaltBug),
+    Step::Pc(0x0155),
+    Step::Executes,
+    Step::Pc(0x0155),
+    Step::Executes,
+    Step::Pc(0x0156),
+];
+
+/// An interrupt is requested while IME is off: the NOP behind HALT is read twice.
+#[test]
+fn a_nop_behind_halt_is_read_twice(rt: HostRuntime) -> Result<(), Fail> {
+    play_program(
+        &rt,
+        rt.alloc(),
+        HALTS_WITH_INTERRUPTS_OFF,
+        VBLANK,
+        READS_TWICE,
+    )
 }
 
 const LOCKS: &[Step] = &[

@@ -108,8 +108,7 @@ fn meets_closed(rom: &Rom<'_>, core: &Core, successor: &Successor) -> bool
 fn meets_oam_transfer(region: Region, core: &Core, successor: &Successor) -> bool
     ensures { result ≡ Refused.meets_oam_transfer region core.now successor.now }
 {
-    is_read_limited(region, core, successor.read)
-        || is_write_limited(region, core, successor.write)
+    is_read_limited(region, core, successor.read) || is_write_limited(region, core, successor.write)
 }
 
 /// Whether the way on may lead anywhere.

@@ -3,8 +3,9 @@
 //! implementation.
 //!
 //! An example is some lines: `about` with a sentence; `sizes` with the bytes 0147 to 0149; `rom` with an offset and bytes
-//! that lie there, beside the start at 0100 and the header; `cert` with bytes that follow one another, as often as it takes;
-//! `verdict`; and `frames` with a number. Numbers are hexadecimal, and other lines mean nothing.
+//! that lie there, beside the start at 0100 and the header; `fill` with the byte that the whole file has, or `length` with the
+//! file's own; `cert` with bytes that follow one another, as often as it takes; `verdict`; and `frames` with a number. Numbers
+//! are hexadecimal, and other lines mean nothing.
 #![tactic(auto)]
 
 use bitflags::Flags;
@@ -48,6 +49,13 @@ fn cartridge(alloc: Global, digits: &str) -> io::Result<Vec<u8>> {
     Ok(file(alloc, SMALLEST << (*size % 9), [*kind, *size, *ram], &[])?)
 }
 
+/// The bytes, cut off or followed by zeros, so that they are so many.
+fn resized(alloc: Global, bytes: &[u8], length: usize) -> io::Result<Vec<u8>> {
+    let mut resized = vec![in alloc; 0; length]?;
+    put(resized.as_mut_slice(), 0, bytes);
+    Ok(resized)
+}
+
 /// The number of hexadecimal digits; 0 where they spell none.
 fn number_of(digits: &str) -> usize {
     usize::from_str_radix(digits, 16).unwrap_or(0)
@@ -82,39 +90,39 @@ fn run<W: Write>(alloc: Global, out: &mut W, example: &Example, frames: usize) -
     writeln!(out, "{frames} frames are whole")
 }
 
+/// Puts bytes at an offset of the cartridge.
+fn place(alloc: Global, rom: &mut [u8], rest: &str) {
+    let (offset, digits) = rest.split_once(' ').unwrap_or((rest, ""));
+    let piece = bytes_of(alloc, digits);
+    put(rom, number_of(offset), piece.as_slice());
+}
+
+fn fill(rom: &mut [u8], value: u8) {
+    for byte in rom {
+        *byte = value;
+    }
+}
+
 /// Takes a line of an example.
-fn take<W: Write>(
-    alloc: Global,
-    out: &mut W,
-    example: &mut Example,
-    line: &str,
-) -> io::Result<()> {
+fn take<W: Write>(alloc: Global, out: &mut W, example: &mut Example, line: &str) -> io::Result<()> {
     let (word, rest) = line.split_once(' ').unwrap_or((line, ""));
     match word {
         "about" => {
             *example = Example::new(alloc);
-            writeln!(out, "{rest}")
+            writeln!(out, "{rest}")?;
         }
-        "sizes" => {
-            example.rom = cartridge(alloc, rest)?;
-            Ok(())
-        }
-        "rom" => {
-            let (place, digits) = rest.split_once(' ').unwrap_or((rest, ""));
-            let piece = bytes_of(alloc, digits);
-            put(example.rom.as_mut_slice(), number_of(place), piece.as_slice());
-            Ok(())
-        }
-        "cert" => {
-            example
-                .cert
-                .extend_from_slice(bytes_of(alloc, rest).as_slice())?;
-            Ok(())
-        }
-        "verdict" => judge(alloc, out, example),
-        "frames" => run(alloc, out, example, number_of(rest)),
-        _ => Ok(()),
+        "sizes" => example.rom = cartridge(alloc, rest)?,
+        "fill" => fill(example.rom.as_mut_slice(), (number_of(rest) % 256) as u8),
+        "length" => example.rom = resized(alloc, example.rom.as_slice(), number_of(rest))?,
+        "rom" => place(alloc, example.rom.as_mut_slice(), rest),
+        "cert" => example
+            .cert
+            .extend_from_slice(bytes_of(alloc, rest).as_slice())?,
+        "verdict" => judge(alloc, out, example)?,
+        "frames" => run(alloc, out, example, number_of(rest))?,
+        _ => {}
     }
+    Ok(())
 }
 
 fn main(rt: HostRuntime) -> io::Result<()> {
