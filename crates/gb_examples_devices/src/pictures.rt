@@ -1,9 +1,9 @@
 //! The picture by itself: lines, modes and requests.
 
 use bitflags::Flags;
+use gb_ppu::lanes::{shades, tile_row};
 use gb_ppu::line::{WIDTH, render_line};
 use gb_ppu::mode::Mode;
-use gb_ppu::pixel::pixel;
 use gb_ppu::ppu::Ppu;
 use gb_ppu::registers::LcdRegister;
 use gb_ppu::scene::{OAM, Scene, VIDEO_RAM};
@@ -11,6 +11,7 @@ use gb_samples::cartridges::put;
 use gb_samples::programs::{FIRST_LINE, OBJECTS, tiles};
 use gb_timer::irqs::Irqs;
 use std::process::Abort;
+use std::simd::prelude::*;
 
 /// Video RAM with three tiles behind tile 0.
 fn with_tiles() -> [u8; VIDEO_RAM] {
@@ -64,20 +65,9 @@ fn assert_runs(rt: &impl Abort, line: &[u8; WIDTH], runs: &[(u8, usize)]) {
     assert!(rt; line == &expected);
 }
 
-/// Compares whole lines with their pixels, which are drawn one by one.
-fn assert_same(rt: &impl Abort, scene: &Scene<'_>) {
-    for y in 0..144 {
-        let mut line = [9; WIDTH];
-        render_line(scene, y, &mut line);
-        for x in 0..160 {
-            assert!(rt; line[usize::from(x)] == pixel(scene, x, y));
-        }
-    }
-}
-
-/// Ten objects before the background's colours, and the same at each scroll and each WX.
+/// The worked example's line: ten objects before the background's colours.
 #[test]
-fn lines_of_objects_are_their_pixels(rt: HostRuntime) {
+fn draws_ten_objects_of_a_line(rt: HostRuntime) {
     let mut video_ram = with_tiles();
     put(&mut video_ram, 0x1802, &[3]);
     let oam = with_objects();
@@ -85,37 +75,18 @@ fn lines_of_objects_are_their_pixels(rt: HostRuntime) {
     let mut line = [9; WIDTH];
     render_line(&scene, 0, &mut line);
     assert_runs(&rt, &line, &FIRST_LINE);
-    for value in 0..=255 {
-        assert_same(
-            &rt,
-            &Scene {
-                scx: value,
-                ..scene
-            },
-        );
-        assert_same(&rt, &Scene { wx: value, ..scene });
-    }
 }
 
-/// The window's own line 3, at each scroll of the background and each place of the window.
+/// The first row of the tile that the hardware's documents spell out, and two palettes.
 #[test]
-fn lines_of_windows_are_their_pixels(rt: HostRuntime) {
-    let video_ram = with_second_map();
-    let oam = [0; OAM];
-    let scene = Scene {
-        window_line: Some(3),
-        ..plain(&video_ram, &oam, 0xF1)
-    };
-    for value in 0..=255 {
-        assert_same(
-            &rt,
-            &Scene {
-                scx: value,
-                ..scene
-            },
-        );
-        assert_same(&rt, &Scene { wx: value, ..scene });
-    }
+fn rows_and_palettes_in_lanes(rt: HostRuntime) {
+    let row = tile_row(0x3C, 0x7E);
+    assert!(rt; row.to_array() == [0, 2, 3, 3, 3, 3, 2, 0]);
+    let colours = u8x16::from_array([0, 1, 2, 3, 0, 1, 2, 3, 0, 0, 0, 0, 3, 3, 3, 3]);
+    let upwards = shades(0xE4, colours);
+    assert!(rt; upwards.to_array() == [0, 1, 2, 3, 0, 1, 2, 3, 0, 0, 0, 0, 3, 3, 3, 3]);
+    let downwards = shades(0x1B, colours);
+    assert!(rt; downwards.to_array() == [3, 2, 1, 0, 3, 2, 1, 0, 3, 3, 3, 3, 0, 0, 0, 0]);
 }
 
 /// Turned off and on again, with WY as given and the window on its own map.

@@ -8,12 +8,11 @@ use Rattle.std.proofs.lemmas.List.Folds.{fold-map}
 use Rattle.std.specs.Prelude.{◌&&◌, if◌then◌else◌, map, filter, count_by}
 use Rattle.std.specs.List.{range_with_len}
 use Rattle.gb_ppu.specs.declared.objects.Object.{Object}
-use Rattle.gb_ppu.specs.declared.pixel.ObjectPixel.{ObjectPixel}
 use Rattle.gb_ppu.specs.Seen.{Seen}
 use Rattle.gb_ppu.specs.Control.{has_bit, has_objects}
 use Rattle.gb_ppu.specs.Tiles.{shade_of}
 use Rattle.gb_ppu.specs.Objects.{object_at, meets_line, object_colour}
-use Rattle.gb_ppu.specs.Pixel.{is_opaque, object_pixel, nearer, joined, front_pixel, mixed, background_colour, shade}
+use Rattle.gb_ppu.specs.Pixel.{ObjectPixel, is_opaque, object_pixel, nearer, joined, front_pixel, mixed, background_colour, shade}
 use Rattle.gb_ppu.specs.FrontObject.{is_used, may_show, x_of, IsFrontOrNone, pixel_of, ShowsFront}
 use Rattle.gb_ppu.proofs.LineObjects.{chosen_before, chosen_before-met, chosen_before-apart, chosen_before-full, chosen_before-none}
 use Rattle.gb_ppu.proofs.FrontPixels.{front_of, front_of-none, front_of-push, front_of-all}

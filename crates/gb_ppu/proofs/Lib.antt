@@ -1,6 +1,14 @@
 pub mod LineObjects
 pub mod MapRows
 pub mod PaletteBits
+pub mod Passing
+pub mod LaneLaws
+pub mod NearerLanes
+pub mod FrontLines
+pub mod EmptyMasks
+pub mod MixedLanes
+pub mod FrontWalk
+pub mod MeetingLanes
 pub mod FrontPixels
 pub mod WellFormed
 pub mod Courses

@@ -46,5 +46,3 @@ chosen_before-none lcdc oam y = refl
 pub chosen_before-all : (lcdc : ℕ) (oam : List ℕ) (y i : ℕ) → i ≡ 40 → chosen_before lcdc oam y i ≡ line_objects lcdc oam y
 unfolding chosen_before line_objects objects
 chosen_before-all lcdc oam y i e = rw e refl
-
-pub ruleset choosing = (chosen_before-met, chosen_before-apart, chosen_before-full, chosen_before-none, chosen_before-all)

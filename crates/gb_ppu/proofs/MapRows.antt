@@ -1,7 +1,6 @@
 -- Colours of a map's row, column by column.
-use Rattle.std.proofs.Common.{◌≡◌, ◌≢◌, ℕ, ◌+◌, ◌-◌, ◌*◌, ◌/◌, ◌%◌, ◌<◌, ◌≤◌, Bool, true, false, ◌&&◌, nat_le, if◌then◌else◌, List, length, get_or, slice_set, slice_index, Option, Some, None, refl, arith}
+use Rattle.std.proofs.Common.{◌≡◌, ℕ, ◌+◌, ◌-◌, ◌*◌, ◌/◌, ◌%◌, ◌<◌, ◌≤◌, Bool, true, false, ◌&&◌, nat_le, if◌then◌else◌, List, slice_index, Option, Some, None, refl, arith}
 use Rattle.std.proofs.lemmas.Bool.Decides.{nat_tests}
-use Rattle.std.proofs.lemmas.Grind.{elements}
 use Rattle.gb_ppu.specs.Control.{bit, has_bit, has_window, has_background}
 use Rattle.gb_ppu.specs.Pixel.{window_row, layer_colour, background_colour}
 use Rattle.gb_ppu.specs.Seen.{Seen}
@@ -10,24 +9,24 @@ use Rattle.gb_ppu.specs.Tiles.{colour_in, tile_colour}
 use Rattle.gb_ppu.specs.Maps.{tile_offset, tile_index, map_colour, tile_row}
 
 -- a column's colour is one of its tile's row
-pub colour_of_row : (m : List ℕ) (lcdc : ℕ) (s : Bool) (u v : ℕ) → colour_in (tile_row m lcdc s u v).low (tile_row m lcdc s u v).high (u % 8) ≡ map_colour m lcdc s u v
+colour_of_row : (m : List ℕ) (lcdc : ℕ) (s : Bool) (u v : ℕ) → colour_in (tile_row m lcdc s u v).low (tile_row m lcdc s u v).high (u % 8) ≡ map_colour m lcdc s u v
 unfolding map_colour tile_colour tile_row
 colour_of_row m lcdc s u v = refl
 
 -- within a tile the row stays
-pub row_stays : (m : List ℕ) (lcdc : ℕ) (s : Bool) (u v : ℕ) → u < 256 → (u + 1) % 256 % 8 ≢ 0 → tile_row m lcdc s ((u + 1) % 256) v ≡ tile_row m lcdc s u v
+row_stays : (m : List ℕ) (lcdc : ℕ) (s : Bool) (u v k : ℕ) → u % 8 ≡ 0 → k < 8 → tile_row m lcdc s (u + k) v ≡ tile_row m lcdc s u v
 unfolding tile_row tile_index
-row_stays m lcdc s u v small within =
-    let e : (u + 1) % 256 / 8 ≡ u / 8 = omega (arith, within) in rw e refl
+row_stays m lcdc s u v k first within =
+    let e : (u + k) / 8 ≡ u / 8 = omega arith in rw e refl
 
--- a column more
-pub one_more :
-    (f : ℕ → ℕ) (bytes : List ℕ) (first i x : ℕ) → i < length bytes → x ≡ f i → ((k : ℕ) → first ≤ k → k < i → get_or bytes k 0 ≡ f k)
-    → (k : ℕ) → first ≤ k → k < i + 1 → get_or (slice_set bytes i x) k 0 ≡ f k
-one_more f bytes first i x within is each k least most = grind (arith, elements)
-
-pub others_stay : (bytes : List ℕ) (i x k : ℕ) → i < length bytes → k < i → get_or (slice_set bytes i x) k 0 ≡ get_or bytes k 0
-others_stay bytes i x k within less = grind (arith, elements)
+-- the columns of a tile's row are those of the map from its first one on
+pub row_columns : (m : List ℕ) (lcdc : ℕ) (s : Bool) (u v k w : ℕ) → u % 8 ≡ 0 → k < 8 → w ≡ u + k
+    → colour_in (tile_row m lcdc s u v).low (tile_row m lcdc s u v).high k ≡ map_colour m lcdc s w v
+row_columns m lcdc s u v k w first within is =
+    let e : (u + k) % 8 ≡ k = omega arith in
+    let there : colour_in (tile_row m lcdc s (u + k) v).low (tile_row m lcdc s (u + k) v).high ((u + k) % 8) ≡ map_colour m lcdc s (u + k) v =
+    colour_of_row m lcdc s (u + k) v in
+    rw is (rw (row_stays m lcdc s u v k first within, e) at there)
 
 -- ---- the window over the background
 
@@ -121,5 +120,3 @@ small_by false n h = omega arith
 pub background_colour_small : (s : Seen) (x y : ℕ) → background_colour s x y < 4
 unfolding background_colour
 background_colour_small s x y = small_by (has_background s.lcdc) _ (layer_small s x y (window_row s x))
-
-pub ruleset strips = (colour_of_row, row_stays)

@@ -1,11 +1,10 @@
 -- The object in front (Pan Docs: OAM, "Drawing priority").
 use Rattle.std.specs.Prelude.{ℕ, Bool, true, false, ◌≡◌, ◌≤◌, ◌&&◌, nat_lt, List, Option, Some, None, count_by}
 use Rattle.std.specs.List.{range_with_len}
-use Rattle.gb_ppu.specs.declared.pixel.ObjectPixel.{ObjectPixel}
 use Rattle.gb_ppu.specs.Seen.{Seen}
 use Rattle.gb_ppu.specs.Control.{has_objects}
 use Rattle.gb_ppu.specs.Objects.{object_at, meets_line}
-use Rattle.gb_ppu.specs.Pixel.{is_opaque, object_pixel, background_colour, mixed}
+use Rattle.gb_ppu.specs.Pixel.{ObjectPixel, is_opaque, object_pixel, background_colour, mixed}
 
 -- object i is one of the line's first ten: it meets the line, and fewer than ten objects before it in OAM do
 unfoldable pub is_used : ℕ → List ℕ → ℕ → ℕ → Bool

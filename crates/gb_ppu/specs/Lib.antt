@@ -1,5 +1,6 @@
 pub mod Control
 pub mod Tiles
+pub mod Lanes
 pub mod Maps
 pub mod Objects
 pub mod Pixel
@@ -15,3 +16,4 @@ pub mod Seen
 pub mod SameRegisters
 pub mod Frames
 pub mod FrontObject
+pub mod FrontLine

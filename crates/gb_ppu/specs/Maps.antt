@@ -2,7 +2,7 @@
 use Rattle.std.specs.Prelude.{ℕ, Bool, ◌+◌, ◌-◌, ◌*◌, ◌/◌, ◌%◌, if◌then◌else◌, nat_le, List, slice_index}
 use Rattle.gb_ppu.specs.Control.{has_bit}
 use Rattle.gb_ppu.specs.Tiles.{tile_colour}
-use Rattle.gb_ppu.specs.declared.tiles.TileRow.{TileRow}
+use Rattle.gb_ppu.specs.declared.maps.TileRow.{TileRow}
 
 -- where a tile's data begins: at 8000 by an unsigned index, or at 9000 by a signed one
 unfoldable pub tile_offset : ℕ → ℕ → ℕ

@@ -3,11 +3,16 @@ use Rattle.std.specs.Prelude.{ℕ, Bool, not, ◌&&◌, ◌==◌, ◌+◌, ◌-�
 use Rattle.std.specs.List.{filter_map}
 use Rattle.gb_ppu.specs.declared.objects.Object.{Object}
 use Rattle.gb_ppu.specs.Seen.{Seen}
-use Rattle.gb_ppu.specs.declared.pixel.ObjectPixel.{ObjectPixel}
 use Rattle.gb_ppu.specs.Control.{has_bit, has_background, has_window, has_objects}
 use Rattle.gb_ppu.specs.Tiles.{shade_of}
 use Rattle.gb_ppu.specs.Maps.{map_colour}
 use Rattle.gb_ppu.specs.Objects.{line_objects, contains, object_colour}
+
+-- a pixel of an object, where it is opaque: the object's X, its shade, and whether it shows over background colour 0 alone
+pub record ObjectPixel : Type 0 where
+  pub x : ℕ
+  pub shade : ℕ
+  pub is_behind : Bool
 
 -- the window's row at column x of the line, where the window shows there
 unfoldable pub window_row : Seen → ℕ → Option ℕ

@@ -11,7 +11,7 @@ use crate::picture::{LINE_CYCLES, Passed, Picture, Requests};
 
 /// M-cycles from a position on that reach neither a line's start nor another mode.
 #[tactic(auto, unfolding(crate::specs::QuietCycles::quiet_at))]
-fn quiet_at(position: u16) -> u16
+pub(crate) fn quiet_at(position: u16) -> u16
     ensures { result ≡ quiet_at position }
 {
     match position % LINE_CYCLES {

@@ -4,21 +4,23 @@
 //! number of earlier lines of the frame that showed the window, whatever was written meanwhile. `line::render_line` gives
 //! each pixel of a line its shade (`pixels`), and says which object is in front there (`front`).
 //!
-//! Read `picture` (the state and one M-cycle), `course` (several), `registers` and `ppu`; then `tiles`, `maps`, `objects`
-//! and `pixel` (one pixel), `background` and `line` (a whole line). The definitions are in `specs/Picture.antt`,
-//! `Frames.antt` (the window's own line), `LcdRegisters.antt`, `Pixel.antt` and `FrontObject.antt` (the object in front).
+//! Read `picture` (the state and one M-cycle), `course` (several), `registers` and `ppu`; then `lanes` (rows of tiles and
+//! palettes, eight or sixteen pixels at once), `maps` and `background`, `objects` and `front` (the objects in front), `mixing`
+//! and `line` (a whole line). The definitions are in `specs/Picture.antt`, `Frames.antt` (the window's own line),
+//! `LcdRegisters.antt`, `Pixel.antt`, `FrontObject.antt` (the object in front) and `FrontLine.antt` (what lanes hold of it).
 #![tactic(auto)]
 
 mod background;
 pub mod control;
 mod course;
+mod front;
+pub mod lanes;
 pub mod line;
 mod maps;
+mod mixing;
 pub mod mode;
 pub mod objects;
 pub mod picture;
-pub mod pixel;
 pub mod ppu;
 pub mod registers;
 pub mod scene;
-mod tiles;

@@ -1,11 +1,10 @@
 //! Tiles of background and window.
 
 ghost use Rattle.std.specs.Prelude.{◌≡◌, ◌<◌, ◌≤◌, ◌+◌};
-ghost use Rattle.gb_ppu.specs.Maps.{tile_offset, map_offset, tile_index, map_colour, tile_row};
+ghost use Rattle.gb_ppu.specs.Maps.{tile_offset, map_offset, tile_index, tile_row};
 
 use crate::control::has_bit;
 use crate::scene::VIDEO_RAM;
-use crate::tiles::{TileRow, tile_colour};
 
 /// Where the data of a tile begins in video RAM.
 #[tactic(auto, unfolding(crate::specs::Maps::tile_offset))]
@@ -40,6 +39,13 @@ fn tile_index(video_ram: &[u8; VIDEO_RAM], is_second: bool, u: u8, v: u8) -> u8
     video_ram[map_offset(is_second) + 32 * usize::from(v / 8) + usize::from(u / 8)]
 }
 
+/// A row of a tile: its two bit planes.
+#[derive(Clone, Copy)]
+pub(crate) struct TileRow {
+    pub low: u8,
+    pub high: u8,
+}
+
 /// The row of a tile at a point of a map.
 #[tactic(auto, unfolding(crate::specs::Maps::tile_row))]
 pub(crate) fn tile_row(
@@ -57,14 +63,4 @@ pub(crate) fn tile_row(
         low: video_ram[place],
         high: video_ram[place + 1],
     }
-}
-
-/// The colour at a point of a map.
-#[tactic(auto, unfolding(crate::specs::Maps::map_colour))]
-pub fn map_colour(video_ram: &[u8; VIDEO_RAM], lcdc: u8, is_second: bool, u: u8, v: u8) -> u8
-    ensures value { result ≡ map_colour video_ram.now lcdc is_second u v }
-    ensures small { result < 4 }
-{
-    let offset = tile_offset(lcdc, tile_index(video_ram, is_second, u, v));
-    tile_colour(video_ram, offset, v % 8, u % 8)
 }

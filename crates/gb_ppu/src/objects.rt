@@ -3,9 +3,10 @@
 ghost use Rattle.std.specs.Prelude.{◌≡◌, ◌<◌, ◌≤◌, ◌+◌, true};
 
 use crate::control::{has_bit, object_height};
-use crate::line::{HEIGHT, WIDTH};
+use crate::lanes::{reversed, tile_row};
+use crate::line::HEIGHT;
 use crate::scene::{OAM, VIDEO_RAM};
-use crate::tiles::tile_colour;
+use std::simd::prelude::*;
 
 /// Objects that one line shows.
 pub(crate) const LINE_OBJECTS: usize = 10;
@@ -24,7 +25,9 @@ pub struct Object {
 
 impl Object {
     ghost use Rattle.std.specs.Prelude.{◌≡◌, ◌<◌, ◌≤◌, true};
-    ghost use Rattle.gb_ppu.specs.Objects.{object_at, meets_line, contains, object_row, object_column, object_tile, object_colour};
+    ghost use Rattle.gb_ppu.specs.Objects.{object_at, meets_line, object_row, object_tile};
+    ghost use Rattle.gb_ppu.specs.FrontLine.{row_colour};
+    ghost use Rattle.gb_ppu.specs.Lanes.{HasLanes};
 
     /// Object i of OAM.
     #[tactic(auto, unfolding(crate::specs::Objects::object_at))]
@@ -49,16 +52,6 @@ impl Object {
         self.y <= y + 16 && u16::from(y) + 16 < u16::from(self.y) + u16::from(object_height(lcdc))
     }
 
-    /// Whether it has a pixel at (x, y).
-    #[tactic(auto, unfolding(crate::specs::Objects::contains))]
-    pub(crate) fn contains(self, lcdc: u8, x: u8, y: u8) -> bool
-        requires x_within { x < WIDTH }
-        requires y_within { y < HEIGHT }
-        ensures { result ≡ contains lcdc x y self }
-    {
-        self.x <= x + 8 && x < self.x && self.meets_line(lcdc, y)
-    }
-
     /// The row of its tile that stands on the line.
     #[tactic(auto, unfolding(crate::specs::Objects::object_row, crate::specs::Objects::meets_line, crate::specs::Control::object_height))]
     fn row(self, lcdc: u8, y: u8) -> u8
@@ -75,22 +68,6 @@ impl Object {
         }
     }
 
-    /// The column of its tile that stands at x.
-    #[tactic(auto, unfolding(crate::specs::Objects::object_column, crate::specs::Objects::contains))]
-    fn column(self, lcdc: u8, x: u8, y: u8) -> u8
-        requires x_within { x < WIDTH }
-        requires contained { contains lcdc x y self ≡ true }
-        ensures value { result ≡ object_column x self }
-        ensures within { result < 8 }
-    {
-        let column = x + 8 - self.x;
-        if has_bit(5, self.attributes) {
-            7 - column
-        } else {
-            column
-        }
-    }
-
     /// Its tile, or the upper one of two.
     #[tactic(auto, unfolding(crate::specs::Objects::object_tile))]
     fn first_tile(self, lcdc: u8) -> u8
@@ -103,21 +80,19 @@ impl Object {
         }
     }
 
-    /// Its colour at a pixel that it has.
-    #[tactic(auto, unfolding(crate::specs::Objects::object_colour, crate::specs::Objects::contains))]
-    pub(crate) fn colour(self, video_ram: &[u8; VIDEO_RAM], lcdc: u8, x: u8, y: u8) -> u8
-        requires x_within { x < WIDTH }
+    /// The colours of its row on the line, from its first column on.
+    #[inline(always)]
+    pub(crate) fn row_colours(self, video_ram: &[u8; VIDEO_RAM], lcdc: u8, y: u8) -> u8x8
         requires y_within { y < HEIGHT }
-        requires contained { contains lcdc x y self ≡ true }
-        ensures value { result ≡ object_colour video_ram.now lcdc x y self }
-        ensures small { result < 4 }
+        requires met { meets_line lcdc y self ≡ true }
+        ensures { HasLanes 8 result (row_colour video_ram.now lcdc y self) }
     {
-        let offset = 16 * usize::from(self.first_tile(lcdc));
-        tile_colour(
-            video_ram,
-            offset,
-            self.row(lcdc, y),
-            self.column(lcdc, x, y),
-        )
+        let place = 16 * usize::from(self.first_tile(lcdc)) + 2 * usize::from(self.row(lcdc, y));
+        let row = tile_row(video_ram[place], video_ram[place + 1]);
+        if has_bit(5, self.attributes) {
+            reversed(row)
+        } else {
+            row
+        }
     }
 }

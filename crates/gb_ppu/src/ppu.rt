@@ -6,7 +6,7 @@ ghost use Rattle.gb_ppu.specs.Picture.{IsNextDrawing};
 ghost use Rattle.gb_timer.specs.Interrupts.{irq_bits};
 
 use crate::control::is_on;
-use crate::course::{advance, is_quiet};
+use crate::course::{advance, is_quiet, quiet_at};
 use crate::mode::Mode;
 use crate::picture::{DRAWN_LINES, FRAME_CYCLES, LINE_CYCLES, LINES, Picture, Requests};
 use crate::registers::LcdRegister;
@@ -19,7 +19,7 @@ use std::marker::Model;
 const LAST_DRAWING: u16 = (DRAWN_LINES - 1) * LINE_CYCLES + 20;
 
 /// The picture: its registers, and where in the frame it stands.
-#[derive(Drop)]
+#[derive(Clone, Copy)]
 pub struct Ppu {
     picture: Picture,
 }
@@ -32,6 +32,8 @@ impl Model for Ppu {
     ghost Value = { Picture };
 
     ghost view = { λ s. s.picture };
+
+    ghost inverse = { λ p. record { picture = p } };
 
     ghost invariant = { λ s. IsWellFormed s.picture × IsFramed s.picture };
 }
@@ -60,6 +62,7 @@ impl Ppu {
     ghost use Rattle.gb_ppu.specs.SameRegisters.{HasSameRegisters};
     ghost use Rattle.gb_ppu.specs.WellFormed.{IsWellFormed};
     ghost use Rattle.gb_ppu.specs.PowerUp.{power_up};
+    ghost use Rattle.gb_ppu.specs.QuietCycles.{IsQuietFor};
     ghost use Rattle.gb_ppu.specs.Seen.{seen, seen_by};
     ghost use Rattle.gb_ppu.specs.Frames.{IsFramed, IsWindowLine};
 
@@ -122,6 +125,18 @@ impl Ppu {
         let passed = advance(self.picture, n);
         self.picture = passed.picture;
         passed.requests
+    }
+
+    /// So many M-cycles pass in which nothing but the position changes; more may.
+    pub fn quiet(&self) -> u16
+        ensures quiet { IsQuietFor result self.now }
+        ensures formed { IsWellFormed self.now }
+    {
+        if is_on(self.picture.lcdc) {
+            quiet_at(self.picture.position)
+        } else {
+            u16::MAX
+        }
     }
 
     /// What a register reads as (Pan Docs: LCD Control, LCD Status).

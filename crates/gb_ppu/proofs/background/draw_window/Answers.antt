@@ -16,15 +16,13 @@ pub returns-in-Some : goal.returns-in-Some
 returns-in-Some c = λ x within.
     let scene = seen c.args.scene.now in
     let near : scene.wx ≤ 166 = c.if-scene-gt166.false in
-    let starts : c.saturating_sub-from.result ≡ scene.wx - 7 = c.saturating_sub-from.ensures in
-    elim (cases_lt x c.saturating_sub-from.result) [
-      | inl before ↦
-          c.draw_map.ensures.kept x before
-          ∙ hidden_before scene x _ (let left : x + 7 < scene.wx = omega (arith, starts, before) in left)
+    let starts : c.from-from.result ≡ scene.wx = c.from-from.ensures in
+    elim (cases_lt (x + 8) (c.from-from.result + 1)) [
+      | inl before ↦ c.draw_tiles.ensures.kept (x + 8) before ∙ hidden_before scene x _ (let left : x + 7 < scene.wx = omega (arith, starts, before) in left)
       | inr begun ↦
-          c.draw_map.ensures.drawn x begun within
+          c.draw_tiles.ensures.drawn (x + 8) begun (omega arith)
           ∙ rw c.has_bit.ensures (ap (λ u. map_colour scene.video_ram scene.lcdc (has_bit 6 scene.lcdc) u c.in-Some.row)
-          (let e : (c.saturating_sub-from.result + 7 - scene.wx + (x - c.saturating_sub-from.result)) % 256 ≡ x + 7 - scene.wx = omega (arith, starts, begun, within, near) in e))
+          (let e : (0 + (x + 8 - (c.from-from.result + 1))) % 256 ≡ x + 7 - scene.wx = omega (arith, starts, begun, within, near) in e))
           ∙ shown scene x _ c.in-Some.row (sym c.has_window.ensures ∙ c.if-not-has_window.false) near (omega (arith, starts, begun)) c.in-Some.is
     ]
 
