@@ -1,10 +1,11 @@
 -- What the bus shows of an access.
-use Rattle.std.proofs.Common.{◌≡◌, ℕ, Bool, true, false, refl, if◌then◌else◌}
+use Rattle.std.proofs.Common.{◌≡◌, ℕ, ◌<◌, ◌==◌, Bool, true, false, not, ◌&&◌, refl, ap, if◌then◌else◌}
+use Rattle.std.proofs.lemmas.Bool.{lt-ltb}
 use Rattle.gb_ops.specs.declared.machine.Mapped.{Mapped}
 use Rattle.gb_ops.specs.declared.machine.Mapped.TheVariants as mapped
 use Rattle.gb_ops.specs.declared.machine.Place.TheVariants as place
-use Rattle.gb_ops.specs.Memory.{View, mapped_at, is_closed, is_free, is_free_place, place_of, place_by, byte_at, byte_by, wrote, wrote_by, kept_or}
-use Rattle.gb_ops.specs.Cartridge.{kind_of}
+use Rattle.gb_ops.specs.Memory.{View, Storage, mapped_at, is_high, rom_byte, is_closed, is_free, is_free_place, place_of, place_by, byte_at, byte_by, wrote, wrote_by, kept_or}
+use Rattle.gb_ops.specs.Cartridge.{kind_of, shown_bank}
 use Rattle.gb_mbc.specs.Controllers.{is_latch}
 use Rattle.gb_ppu.specs.Picture.{mode_of}
 use Rattle.gb_bus.specs.Contents.{Contents}
@@ -42,6 +43,26 @@ fixed_by false m c a h = open_is m c a h
 pub fixed_is : (c : Contents) (a : ℕ) → is_free c.view a ≡ false → byte_at c.view a ≡ byte_read c a
 unfolding is_free place_of byte_at byte_read
 fixed_is c a h = fixed_by (is_closed c.view.storage a) (mapped_at a) c a h
+
+-- ---- reads of ROM
+
+mapped_rom : (a : ℕ) → a < 0x8000 → mapped_at a ≡ mapped.Rom
+unfolding mapped_at
+mapped_rom a low = rw (lt-ltb a 0x8000 low) refl
+
+open_where : (s : Storage) (a : ℕ) → s.count ≡ 0 → is_closed s a ≡ false
+unfolding is_closed
+open_where s a none = ap (λ (n : ℕ). not (n == 0) && not (is_high (mapped_at a))) none
+
+pub rom_is_read : (c : Contents) (a : ℕ) → a < 0x8000 → c.view.storage.count ≡ 0 → rom_byte c.view.rom (shown_bank c.view.rom c.view.storage.banks a) a ≡ byte_read c a
+unfolding byte_read
+rom_is_read c a low none = rw (open_where c.view.storage a none, mapped_rom a low) refl
+
+pub rom_is_fixed : (c : Contents) (a : ℕ) → a < 0x8000 → c.view.storage.count ≡ 0 → false ≡ is_free c.view a
+unfolding is_free place_of
+rom_is_fixed c a low none = rw (open_where c.view.storage a none, mapped_rom a low) refl
+
+pub ruleset rom_reads = (rom_is_read, rom_is_fixed)
 
 -- ---- what a write shows
 

@@ -10,6 +10,7 @@ use Rattle.gb_ppu.specs.Control.{is_on}
 use Rattle.gb_ppu.specs.Picture.{line_of, begins_drawing, ticked, advanced, both, requested_in, IsNextDrawing}
 use Rattle.gb_ppu.specs.Requests.{request_bits}
 use Rattle.gb_ppu.proofs.Courses.{requested_in-append, off-ticked}
+use Rattle.gb_ppu.proofs.Passing.{advanced-append}
 use Rattle.gb_ppu.proofs.SameRegisters.{ticked-registers, ticked-position}
 use Rattle.gb_ppu.specs.Pixel.{shade}
 use Rattle.gb_ppu.specs.Seen.{Seen, seen_by}
@@ -47,11 +48,6 @@ or_both : (a b : Requests) (r : ℕ) → r < 32 → bit_or (bit_or r (request_bi
 or_both a b r lt = by_flags a.vblank a.stat b.vblank b.stat r lt
 
 -- ---- a part of the M-cycles, and then the rest
-
-advanced-append : (a b : ℕ) (p : Picture) → advanced (a + b) p ≡ advanced b (advanced a p)
-unfolding advanced
-advanced-append zero b p = let e : zero + b ≡ b = omega arith in rw e refl
-advanced-append (suc a) b p = let e : suc a + b ≡ suc (a + b) = omega arith in rw e (advanced-append a b (ticked p))
 
 screened-append :
     (a b : ℕ) (p : Picture) (v o : List ℕ) (s : List (List ℕ)) → screened (a + b) p v o s ≡ screened b (advanced a p) v o (screened a p v o s)

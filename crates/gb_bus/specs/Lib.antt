@@ -1,8 +1,10 @@
 pub mod Access
 pub mod CartridgeRam
 pub mod Contents
+pub mod Devices
 pub mod Hardware
 pub mod PowerUp
 pub mod ReadsBack
 pub mod Registers
 pub mod Screen
+pub mod Waiting

@@ -7,6 +7,9 @@ ghost use Rattle.gb_mbc.specs.Controllers.{is_latch};
 ghost use Rattle.gb_bus.specs.Access as Access;
 ghost use Rattle.gb_bus.specs.Hardware as Map;
 ghost use Rattle.gb_bus.specs.ReadsBack.{ReadsBack};
+ghost use Rattle.gb_bus.specs.Screen.{pictured};
+ghost use Rattle.gb_bus.specs.Waiting.{Waits};
+ghost use Rattle.gb_timer.specs.Joypad.{key_bits};
 ghost use Rattle.gb_ops.specs.declared.machine.Mapped.TheVariants as mapped;
 
 use crate::hardware::{Hardware, hardware_at};
@@ -16,7 +19,7 @@ use bitflags::Flags;
 use gb_mbc::Mapper;
 use gb_ops::machine::{Mapped, Place};
 use gb_ops::map::mapped_at;
-use gb_timer::irqs::Irqs;
+use gb_timer::irqs::{Irqs, Keys};
 
 /// A byte of ROM or plain storage.
 fn fixed(byte: u8) -> Taken
@@ -57,7 +60,7 @@ impl Memory<'_> {
             Hardware::Oam(_) if self.uses_oam() => 0xFF,
             Hardware::Oam(i) => self.oam[usize::from(i)],
             Hardware::Io(register) => self.io_byte(register),
-            Hardware::Lcd(register) => self.ppu.read(register),
+            Hardware::Lcd(register) => self.devices.ppu().read(register),
             Hardware::Nothing => 0xFF,
         }
     }
@@ -86,10 +89,10 @@ impl Memory<'_> {
         self.open_taken(address).byte
     }
 
-    /// What is read, and whether it is free.
-    #[inline]
+    /// What is read, and whether it is free; kept out of the callers of `taken`.
+    #[inline(never)]
     #[tactic(auto, unfolding(crate::specs::Access::byte_read, gb_ops::specs::Memory::is_free, gb_ops::specs::Memory::place_of))]
-    fn taken(&self, address: u16) -> Taken
+    fn taken_anywhere(&self, address: u16) -> Taken
         ensures byte { result.byte ≡ Access.byte_read self.now address }
         ensures free { result.is_free ≡ Spec.is_free self.now.view address }
     {
@@ -97,6 +100,20 @@ impl Memory<'_> {
             free(0xFF)
         } else {
             self.open_taken(address)
+        }
+    }
+
+    /// The same; ROM, from where most instructions come, is read in place.
+    #[inline(always)]
+    #[tactic(auto, using(crate::proofs::Reading::rom_reads))]
+    fn taken(&self, address: u16) -> Taken
+        ensures byte { result.byte ≡ Access.byte_read self.now address }
+        ensures free { result.is_free ≡ Spec.is_free self.now.view address }
+    {
+        if address < 0x8000 && self.transfer.left() == 0 {
+            fixed(self.rom_byte(address))
+        } else {
+            self.taken_anywhere(address)
         }
     }
 }
@@ -208,9 +225,54 @@ impl Memory<'_> {
     fn pass_timer(&mut self, cycles: u8)
         ensures { self.new ≡ Access.timed self.old cycles }
     {
-        if self.timer.advance(cycles) != 0 {
+        let mut timer = self.devices.timer();
+        let overflows = timer.advance(cycles);
+        self.devices.set_timer(timer);
+        if overflows != 0 {
             self.request(Irqs::TIMER);
         }
+    }
+
+    /// The timer and the picture as M-cycles pass that may bring a change; kept out of the callers of `pass`.
+    #[inline(never)]
+    fn pass_changes(&mut self, cycles: u8)
+        ensures { self.new ≡ pictured cycles (Access.timed self.old cycles) }
+    {
+        self.pass_timer(cycles);
+        self.pass_picture(cycles);
+    }
+
+    /// The timer and the picture as M-cycles pass.
+    #[inline]
+    #[tactic(auto, using(crate::proofs::Stillness::passed_quietly), unfolding(crate::specs::Devices::after))]
+    fn pass_devices(&mut self, cycles: u8)
+        ensures { self.new ≡ pictured cycles (Access.timed self.old cycles) }
+    {
+        if !self.devices.owe(cycles) {
+            self.pass_changes(cycles);
+        }
+    }
+}
+
+impl Memory<'_> {
+    /// Whether these keys are held.
+    #[inline]
+    pub fn holds(&self, keys: Keys) -> bool
+        ensures { result ≡ true → self.now.pad.keys ≡ key_bits keys }
+    {
+        self.joypad.holds(keys)
+    }
+
+    /// Lets single M-cycles pass that leave the shared interrupts as they are: so many at most. Answers how many.
+    #[tactic(auto, using(crate::proofs::Waiting::waited), unfolding(crate::specs::Devices::after))]
+    pub fn wait(&mut self, most: u8) -> u8
+        requires { self.old.view.starting ≡ false }
+        ensures few { result ≤ most }
+        ensures waited { Waits result self.old self.new }
+    {
+        let n = self.devices.wait(most);
+        self.pass_transfer(n);
+        n
     }
 }
 
@@ -229,7 +291,7 @@ impl Bus for Memory<'_> {
         self.taken(address).byte
     }
 
-    #[inline]
+    #[inline(always)]
     #[tactic(auto, using(crate::proofs::Reading::fixed_is))]
     fn take(&mut self, address: u16) -> Taken {
         self.taken(address)
@@ -269,8 +331,7 @@ impl Bus for Memory<'_> {
     #[tactic(auto, unfolding(crate::specs::Access::advanced))]
     fn pass(&mut self, cycles: u8) {
         self.pass_transfer(cycles);
-        self.pass_timer(cycles);
-        self.pass_picture(cycles);
+        self.pass_devices(cycles);
     }
 }
 

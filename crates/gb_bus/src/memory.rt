@@ -3,17 +3,16 @@
 ghost use Rattle.std.specs.Prelude.{◌≡◌, ◌<◌, ◌≤◌, IfOk, vec_len};
 ghost use Rattle.gb_bus.specs.PowerUp.{at_power_up, zeros};
 
+use crate::devices::Devices;
 use crate::picture::dark;
 use gb_dma::Transfer;
 use gb_header::Rom;
 use gb_mbc::{Clock, Controller, Mapper};
 use gb_ops::map::{HIGH_RAM, WORK_RAM};
 use gb_ppu::line::{HEIGHT, WIDTH};
-use gb_ppu::ppu::Ppu;
 use gb_ppu::scene::{OAM, VIDEO_RAM};
 use gb_timer::irqs::Irqs;
 use gb_timer::joypad::Joypad;
-use gb_timer::timer::Timer;
 use std::alloc::{AllocError, Global};
 use std::marker::Model;
 
@@ -33,9 +32,9 @@ pub struct Memory<'a> {
     pub(crate) work_ram: Box<[u8; WORK_RAM]>,
     pub(crate) high_ram: Box<[u8; HIGH_RAM]>,
     pub(crate) interrupt_enable: u8,
-    pub(crate) timer: Timer,
     pub(crate) joypad: Joypad,
-    pub(crate) ppu: Ppu,
+    /// The timer and the picture.
+    pub(crate) devices: Devices,
     /// The shades of each line, as it was drawn last.
     pub(crate) screen: Box<[[u8; WIDTH]; HEIGHT]>,
     /// The interrupts that are requested: the low five bits of IF.
@@ -75,9 +74,9 @@ impl<'a> Model for Memory<'a> {
       clock = m.clock;
       video_ram = m.video_ram.value;
       oam = m.oam.value;
-      timer = m.timer;
+      timer = m.devices.timer;
       pad = m.joypad;
-      picture = m.ppu;
+      picture = m.devices.picture;
       screen = m.screen.value;
       requests = irq_bits m.requests;
       page = m.page;
@@ -131,9 +130,8 @@ impl<'a> Memory<'a> {
             work_ram,
             high_ram,
             interrupt_enable: 0,
-            timer: Timer::new(),
             joypad: Joypad::new(),
-            ppu: Ppu::new(),
+            devices: Devices::new(),
             screen,
             requests: Irqs::VBLANK,
             transfer: Transfer::new(),

@@ -27,14 +27,14 @@ impl Memory<'_> {
     pub(crate) fn uses_video_ram(&self) -> bool
         ensures { result ≡ Access.uses_video_ram (mode_of self.now.picture) }
     {
-        matches!(self.ppu.mode(), Mode::Drawing)
+        matches!(self.devices.ppu().mode(), Mode::Drawing)
     }
 
     /// Whether the picture uses OAM.
     pub(crate) fn uses_oam(&self) -> bool
         ensures { result ≡ Access.uses_oam (mode_of self.now.picture) }
     {
-        matches!(self.ppu.mode(), Mode::ObjectScan | Mode::Drawing)
+        matches!(self.devices.ppu().mode(), Mode::ObjectScan | Mode::Drawing)
     }
 
     /// What a write to the picture does to the screen.
@@ -51,7 +51,9 @@ impl Memory<'_> {
     pub(crate) fn write_lcd(&mut self, register: LcdRegister, value: u8)
         ensures { self.new ≡ Access.lcd_written register self.old value }
     {
-        let irqs = self.ppu.write(register, value);
+        let mut ppu = self.devices.ppu();
+        let irqs = ppu.write(register, value);
+        self.devices.set_ppu(ppu);
         self.request(irqs);
         self.write_screen(register, value);
     }
@@ -64,7 +66,9 @@ impl Memory<'_> {
         ensures on { (advanced n self.old.picture).lcdc ≡ self.old.picture.lcdc }
         ensures small { self.old.requests < 32 }
     {
-        let irqs = self.ppu.advance(n);
+        let mut ppu = self.devices.ppu();
+        let irqs = ppu.advance(n);
+        self.devices.set_ppu(ppu);
         self.request(irqs);
     }
 
@@ -75,8 +79,9 @@ impl Memory<'_> {
         ensures { result ≡ Screen.line_drawn self.now.picture self.now.video_ram self.now.oam }
     {
         let mut shades = [0; WIDTH];
-        let scene = self.ppu.scene(&self.video_ram, &self.oam);
-        render_line(&scene, self.ppu.line(), &mut shades);
+        let ppu = self.devices.ppu();
+        let scene = ppu.scene(&self.video_ram, &self.oam);
+        render_line(&scene, ppu.line(), &mut shades);
         shades
     }
 
@@ -86,7 +91,7 @@ impl Memory<'_> {
         requires { line_of self.old.picture < 144 }
         ensures { self.new ≡ record self.old { screen = slice_set self.old.screen (line_of self.old.picture) (Screen.line_drawn self.old.picture self.old.video_ram self.old.oam) } }
     {
-        let line = usize::from(self.ppu.line());
+        let line = usize::from(self.devices.ppu().line());
         let shades = self.drawn();
         self.screen[line] = shades;
     }
@@ -98,7 +103,8 @@ impl Memory<'_> {
         ensures few { IfSome result (λ way. way ≤ most) }
         ensures none { IsNone result → Screen.screened most self.now.picture self.now.video_ram self.now.oam self.now.screen ≡ self.now.screen }
     {
-        let way = self.ppu.until_drawing()?;
+        let ppu = self.devices.ppu();
+        let way = ppu.until_drawing()?;
         if way <= u16::from(most) {
             Some(way as u8)
         } else {

@@ -44,10 +44,10 @@ impl Memory<'_> {
     {
         match register {
             IoRegister::Joypad => self.joypad.read(),
-            IoRegister::Divider => self.timer.div(),
-            IoRegister::TimerCounter => self.timer.tima(),
-            IoRegister::TimerModulo => self.timer.tma(),
-            IoRegister::TimerControl => self.timer.tac(),
+            IoRegister::Divider => self.devices.timer().div(),
+            IoRegister::TimerCounter => self.devices.timer().tima(),
+            IoRegister::TimerModulo => self.devices.timer().tma(),
+            IoRegister::TimerControl => self.devices.timer().tac(),
             IoRegister::Requests => 0xE0 + self.requests.bits(),
         }
     }
@@ -63,10 +63,26 @@ impl Memory<'_> {
                     self.request(Irqs::JOYPAD);
                 }
             }
-            IoRegister::Divider => self.timer.clear_div(),
-            IoRegister::TimerCounter => self.timer.set_tima(value),
-            IoRegister::TimerModulo => self.timer.set_tma(value),
-            IoRegister::TimerControl => self.timer.set_tac(value),
+            IoRegister::Divider => {
+                let mut timer = self.devices.timer();
+                timer.clear_div();
+                self.devices.set_timer(timer);
+            }
+            IoRegister::TimerCounter => {
+                let mut timer = self.devices.timer();
+                timer.set_tima(value);
+                self.devices.set_timer(timer);
+            }
+            IoRegister::TimerModulo => {
+                let mut timer = self.devices.timer();
+                timer.set_tma(value);
+                self.devices.set_timer(timer);
+            }
+            IoRegister::TimerControl => {
+                let mut timer = self.devices.timer();
+                timer.set_tac(value);
+                self.devices.set_timer(timer);
+            }
             IoRegister::Requests => self.requests = Irqs::from_bits_retain(value % 32),
         }
     }

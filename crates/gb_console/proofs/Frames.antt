@@ -59,13 +59,13 @@ goes_on old keys seconds n passed before new goes is f = (suc n, (before, goes, 
 
 -- ---- frames of a locked or stopped console
 
-ends_at_once : (old : ConsoleState) (keys : Keys) (seconds : ℕ) (new : ConsoleState) → is_idle old.cpu ≡ true → IsFrameStep old keys seconds None new → ⊥
+pub ends_at_once : (old : ConsoleState) (keys : Keys) (seconds : ℕ) (new : ConsoleState) → is_idle old.cpu ≡ true → IsFrameStep old keys seconds None new → ⊥
 unfolding ending_after
 ends_at_once old keys seconds new h f =
     let goes = still _ _ _ f.ending in
     both_ways _ (or_false _ _ goes.0 goes.1) (idle_stays old keys seconds f.event new f.step h)
 
-no_steps : (old : ConsoleState) (keys : Keys) (seconds n : ℕ) (last : ConsoleState) → is_idle old.cpu ≡ true → Goes old keys seconds n last → last ≡ old
+pub no_steps : (old : ConsoleState) (keys : Keys) (seconds n : ℕ) (last : ConsoleState) → is_idle old.cpu ≡ true → Goes old keys seconds n last → last ≡ old
 no_steps old keys seconds zero last h goes = goes
 no_steps old keys seconds (suc n) last h goes =
     let before_is : goes.0 ≡ old = no_steps old keys seconds n goes.0 h goes.1 in

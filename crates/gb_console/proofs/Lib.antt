@@ -4,5 +4,6 @@ pub mod Stepping
 pub mod Cycles
 pub mod Idle
 pub mod Frames
+pub mod Going
 pub mod Running
 pub mod Whole

@@ -60,7 +60,7 @@ pub record IsKept (s : BusState) : Type 0 where
 same_reachable : (new_rom rom : List ℕ) (t s : MState) → new_rom ≡ rom → t ≡ s → IsReachable rom s → IsReachable new_rom t
 same_reachable new_rom rom t s h is r = rw (h, is) r
 
-step_keeps : (old : BusState) (e : Event) (new : BusState) → IsStep old e new → IsKept old → IsKept new
+pub step_keeps : (old : BusState) (e : Event) (new : BusState) → IsStep old e new → IsKept old → IsKept new
 step_keeps old e new h k =
     record {
       settled = h.starting k.settled;

@@ -46,6 +46,22 @@ Goes old keys seconds zero new = new ≡ old
 Goes old keys seconds (suc n) new =
     (before : ConsoleState) × Goes old keys seconds n before × IsFrameStep before keys (seconds_at n seconds) None new
 
+-- a step without seconds, of n M-cycles
+pub record IsSomeStep (old : ConsoleState) (keys : Keys) (n : ℕ) (new : ConsoleState) : Type 0 where
+  pub event : Event
+  pub step : IsConsoleStep old keys 0 event new
+  pub cycles : n ≡ event_cycles (shown old) event
+
+-- some steps without seconds, none of which ends the frame
+pub record HasGoneOn (old : ConsoleState) (keys : Keys) (new : ConsoleState) : Type 0 where
+  pub steps : ℕ
+  pub goes : Goes old keys 0 steps new
+
+-- such steps, and one that ends the frame, if it was ended
+abbrev pub HasGone : ConsoleState → Keys → Option Ending → ConsoleState → Type 0
+HasGone old keys None new = HasGoneOn old keys new
+HasGone old keys (Some end) new = (last : ConsoleState) × HasGoneOn old keys last × IsFrameStep last keys 0 (Some end) new
+
 -- a frame: steps that don't end it, and one that does
 pub record IsFrame (old : ConsoleState) (keys : Keys) (seconds : ℕ) (end : Ending) (new : ConsoleState) : Type 0 where
   pub steps : ℕ

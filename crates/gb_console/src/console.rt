@@ -1,17 +1,18 @@
 //! The console.
 
-ghost use Rattle.std.specs.Prelude.{◌≡◌, ◌<◌, true, IfOk};
+ghost use Rattle.std.specs.Prelude.{◌≡◌, ◌<◌, ◌≤◌, ◌+◌, ◌%◌, true, false, IfOk, IfSome, IsNone};
 ghost use Rattle.gb_ops.specs.Accesses.{event_cycles};
 ghost use Rattle.gb_ops.specs.Play.{IsStart};
 ghost use Rattle.gb_ops.specs.declared.machine.Event.TheVariants as event;
 ghost use Rattle.gb_cpu.specs.Choice.{is_idle};
 ghost use Rattle.gb_console.specs.Console.{IsConsoleStep, IsReachable, at_power_up, machine_of, rom_of, shown};
+ghost use Rattle.gb_console.specs.Frame.{HasGoneOn, IsSomeStep};
 ghost use Rattle.gb_ppu.specs.Picture.{frame_cycles};
 ghost use Rattle.gb_abs_memory.specs.Sound.{IsRom};
 
 use crate::choice::{act, take};
 use gb_abs_memory::load::holds_bytes;
-use gb_bus::Memory;
+use gb_bus::{Bus, Memory};
 use gb_cpu::step::{Cpu, Stepped};
 use gb_header::Rom;
 use gb_ops::machine::Event;
@@ -44,6 +45,26 @@ impl<'a> Model for Console<'a> {
     ghost invariant = { λ c. (c.cycles < frame_cycles) × (c.memory.view.starting ≡ false) × IsReachable c.memory.view.rom (record { processor = c.cpu.processor; storage = c.memory.view.storage }) × IsRom c.memory.view.rom };
 }
 
+/// The M-cycles since power-up, modulo a frame's, with some more.
+fn counted(cycles: u16, more: u8) -> u16
+    requires { cycles < frame_cycles }
+    ensures { result ≡ (cycles + more) % frame_cycles }
+{
+    let sum = cycles + u16::from(more);
+    if sum < FRAME_CYCLES {
+        sum
+    } else {
+        sum - FRAME_CYCLES
+    }
+}
+
+/// A number, or 255 where it is larger.
+fn byte_of(number: u16) -> u8
+    ensures { result ≤ number }
+{
+    if number < 255 { number as u8 } else { 255 }
+}
+
 impl<'a> Console<'a> {
     /// A cartridge's console at power-up (Pan Docs: Power Up Sequence), or `AllocError` where there
     /// is no room. All room is made here; nothing of it grows later.
@@ -71,8 +92,36 @@ impl<'a> Console<'a> {
     {
         take(self.cpu, &mut self.memory, keys, seconds);
         let stepped = act(&mut self.cpu, &mut self.memory);
-        self.cycles = (self.cycles + u16::from(stepped.cycles)) % FRAME_CYCLES;
+        self.cycles = counted(self.cycles, stepped.cycles);
         stepped
+    }
+
+    /// An instruction, where one comes next, no interrupt is shared and these keys are held. Answers its M-cycles,
+    /// or None where nothing was done.
+    #[inline(always)]
+    pub(crate) fn run(&mut self, keys: Keys) -> Option<u8>
+        requires { is_idle self.old.cpu ≡ false }
+        ensures step { IfSome result (λ n. IsSomeStep self.old keys n self.new) }
+        ensures none { IsNone result → self.new ≡ self.old }
+    {
+        if self.cpu.is_waiting || !self.memory.holds(keys) || self.memory.pending() != 0 {
+            return None;
+        }
+        let cycles = self.cpu.run(&mut self.memory);
+        self.cycles = counted(self.cycles, cycles);
+        Some(cycles)
+    }
+
+    /// Lets a waiting processor wait while nothing else changes, but not up to a frame's end.
+    pub(crate) fn wait(&mut self, keys: Keys)
+        requires { is_idle self.old.cpu ≡ false }
+        ensures { HasGoneOn self.old keys self.new }
+    {
+        if !self.cpu.is_waiting || !self.memory.holds(keys) || self.memory.pending() != 0 {
+            return;
+        }
+        let waited = self.memory.wait(byte_of(FRAME_CYCLES - 1 - self.cycles));
+        self.cycles += u16::from(waited);
     }
 
     /// One event, and its M-cycles; nothing changes where the console is locked or stopped.

@@ -1,9 +1,10 @@
 //! Frames.
 
-ghost use Rattle.std.specs.Prelude.{◌≡◌, true};
+ghost use Rattle.std.specs.Prelude.{◌≡◌, ◌+◌, ◌<◌, nat_le, true, false};
 ghost use Rattle.gb_cpu.specs.Choice.{is_idle};
 ghost use Rattle.gb_console.specs.Console.{rom_of};
-ghost use Rattle.gb_console.specs.Frame.{IsFrame, IsFrameStep, idle_ending};
+ghost use Rattle.gb_console.specs.Frame.{HasGone, IsFrame, IsFrameStep, ending_by, idle_ending};
+ghost use Rattle.gb_ppu.specs.Picture.{frame_cycles};
 ghost use Rattle.gb_console.specs.Verified.{IsVerified};
 ghost use Rattle.gb_console.specs.declared.frame.Ending.TheVariants as ending;
 
@@ -31,6 +32,15 @@ impl Console<'_> {
     {
         let before = self.cycles();
         let stepped = self.advance(keys, seconds);
+        self.ending(before, stepped.cycles)
+    }
+
+    /// How a step of so many M-cycles ended the frame, if it did.
+    #[inline(always)]
+    fn ending(&self, before: u16, cycles: u8) -> Option<Ending>
+        requires { before < frame_cycles }
+        ensures { result ≡ ending_by self.now.cpu.processor.locked self.now.cpu.processor.stopped (nat_le frame_cycles (before + cycles)) }
+    {
         let processor = self.processor();
         if processor.locked {
             return Some(Ending::Locked);
@@ -38,9 +48,31 @@ impl Console<'_> {
         if processor.stopped {
             return Some(Ending::Stopped);
         }
-        if before + u16::from(stepped.cycles) >= FRAME_CYCLES {
+        if before + u16::from(cycles) >= FRAME_CYCLES {
             return Some(Ending::Whole);
         }
+        None
+    }
+
+    /// Instructions, while one comes next, no interrupt is shared and the frame isn't ended; then a processor that waits
+    /// waits for a change. Answers how the frame ended, if it did.
+    #[tactic(auto, unfolding(crate::specs::Frame::ending_after))]
+    fn go_on(&mut self, keys: Keys) -> Option<Ending>
+        requires { is_idle self.old.cpu ≡ false }
+        ensures { HasGone self.old keys result self.new }
+    {
+        loop {
+            let before = self.cycles();
+            let cycles = match self.run(keys) {
+                Some(cycles) => cycles,
+                None => break,
+            };
+            match self.ending(before, cycles) {
+                Some(ending) => return Some(ending),
+                None => {}
+            }
+        }
+        self.wait(keys);
         None
     }
 
@@ -54,6 +86,10 @@ impl Console<'_> {
             match self.frame_step(keys, passed) {
                 Some(ending) => return ending,
                 None => passed = 0,
+            }
+            match self.go_on(keys) {
+                Some(ending) => return ending,
+                None => {}
             }
         }
     }

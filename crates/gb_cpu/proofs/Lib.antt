@@ -3,3 +3,4 @@ pub mod Halting
 pub mod Joining
 pub mod Kept
 pub mod Pending
+pub mod Running

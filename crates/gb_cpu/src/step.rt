@@ -21,9 +21,9 @@ use gb_ops::registers::{Ime, Processor};
 
 /// The free bytes that an instruction read, and its M-cycles.
 #[derive(Clone, Copy, Debug)]
-struct Executed {
-    reads: [u8; 2],
-    cycles: u8,
+pub(crate) struct Executed {
+    pub(crate) reads: [u8; 2],
+    pub(crate) cycles: u8,
 }
 
 /// Executes an instruction of the table.
@@ -84,7 +84,7 @@ fn lock<B: Bus>(processor: &mut Processor, bus: &mut B)
 /// A row's instruction, or an undefined opcode.
 #[inline(always)]
 #[tactic(auto, unfolding(gb_ops::specs::Machine::run_row))]
-fn run_row<B: Bus>(processor: &mut Processor, bus: &mut B, row: Option<Row>) -> Executed
+pub(crate) fn run_row<B: Bus>(processor: &mut Processor, bus: &mut B, row: Option<Row>) -> Executed
     ensures state { state processor.new (B.shows bus.new) ≡ Machine.run_row row (state processor.old (B.shows bus.old)) result.reads }
     ensures joined { Joined B.does bus.old (row_log row (state processor.old (B.shows bus.old)) result.reads) bus.new }
     ensures cycles { result.cycles ≡ row_cycles row (state processor.old (B.shows bus.old)) result.reads }

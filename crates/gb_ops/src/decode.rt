@@ -7,6 +7,7 @@ ghost use Rattle.gb_ops.specs.Fields.{low_block, high_block, prefixed_block, unp
 
 use crate::op::{AluOp, Condition, Indirect, Op, Operand, Pair, Register, Row, Shift, StackPair};
 
+#[inline(always)]
 #[tactic(auto, unfolding(crate::specs::Table::operand_of))]
 fn operand(field: u8) -> Operand
     requires { field < 8 }
@@ -24,6 +25,7 @@ fn operand(field: u8) -> Operand
     }
 }
 
+#[inline(always)]
 #[tactic(auto, unfolding(crate::specs::Table::pair_of))]
 fn pair(field: u8) -> Pair
     requires { field < 4 }
@@ -37,6 +39,7 @@ fn pair(field: u8) -> Pair
     }
 }
 
+#[inline(always)]
 #[tactic(auto, unfolding(crate::specs::Table::stack_pair_of))]
 fn stack_pair(field: u8) -> StackPair
     requires { field < 4 }
@@ -50,6 +53,7 @@ fn stack_pair(field: u8) -> StackPair
     }
 }
 
+#[inline(always)]
 #[tactic(auto, unfolding(crate::specs::Table::condition_of))]
 fn condition(field: u8) -> Condition
     requires { field < 4 }
@@ -63,6 +67,7 @@ fn condition(field: u8) -> Condition
     }
 }
 
+#[inline(always)]
 #[tactic(auto, unfolding(crate::specs::Table::indirect_of))]
 fn indirect(field: u8) -> Indirect
     requires { field < 4 }
@@ -76,6 +81,7 @@ fn indirect(field: u8) -> Indirect
     }
 }
 
+#[inline(always)]
 #[tactic(auto, unfolding(crate::specs::Table::alu_of))]
 fn alu(field: u8) -> AluOp
     requires { field < 8 }
@@ -93,6 +99,7 @@ fn alu(field: u8) -> AluOp
     }
 }
 
+#[inline(always)]
 #[tactic(auto, unfolding(crate::specs::Table::shift_of))]
 fn shift(field: u8) -> Shift
     requires { field < 8 }
@@ -110,6 +117,7 @@ fn shift(field: u8) -> Shift
     }
 }
 
+#[inline(always)]
 fn row(op: Op, length: u8, cycles: u8) -> Row
     ensures { result ≡ Table.row op length cycles }
 {
@@ -122,6 +130,7 @@ fn row(op: Op, length: u8, cycles: u8) -> Row
 }
 
 /// The row of a conditional instruction.
+#[inline(always)]
 fn either(op: Op, length: u8, cycles: u8, cycles_not_taken: u8) -> Row
     ensures { result ≡ Table.either op length cycles cycles_not_taken }
 {
@@ -134,6 +143,7 @@ fn either(op: Op, length: u8, cycles: u8, cycles_not_taken: u8) -> Row
 }
 
 /// The M-cycles of an instruction on a field's operand: other ones at (HL).
+#[inline(always)]
 fn at_hl(field: u8, memory: u8, cycles: u8) -> u8
     ensures { result ≡ Table.at_hl field memory cycles }
 {
@@ -141,6 +151,7 @@ fn at_hl(field: u8, memory: u8, cycles: u8) -> u8
 }
 
 /// The rows 00 to 3F, by the octal digits of the opcode.
+#[inline(always)]
 fn low_row(y: u8, z: u8, byte: u8, word: u16) -> Row
     requires y_fits { y < 8 }
     requires z_fits { z < 8 }
@@ -176,6 +187,7 @@ fn low_row(y: u8, z: u8, byte: u8, word: u16) -> Row
 }
 
 /// The rows C0 to FF but CB.
+#[inline(always)]
 fn high_row(y: u8, z: u8, byte: u8, word: u16) -> Option<Row>
     requires y_fits { y < 8 }
     requires z_fits { z < 8 }
@@ -223,6 +235,7 @@ fn high_row(y: u8, z: u8, byte: u8, word: u16) -> Option<Row>
 }
 
 /// The rows behind the prefix CB.
+#[inline(always)]
 fn prefixed_row(x: u8, y: u8, z: u8) -> Row
     requires y_fits { y < 8 }
     requires z_fits { z < 8 }
@@ -238,6 +251,7 @@ fn prefixed_row(x: u8, y: u8, z: u8) -> Row
 }
 
 /// All rows but those behind the prefix CB.
+#[inline(always)]
 fn unprefixed_row(opcode: u8, byte: u8, word: u16) -> Option<Row>
     ensures { result ≡ unprefixed opcode byte word }
 {
@@ -258,6 +272,7 @@ fn unprefixed_row(opcode: u8, byte: u8, word: u16) -> Option<Row>
 
 /// The row of the opcode table that the bytes begin with, or None where the opcode is undefined.
 /// Bytes past the row's length are ignored.
+#[inline(always)]
 #[tactic(auto, using(crate::proofs::Agree::unprefixed_is, crate::proofs::Agree::prefixed_is, crate::proofs::Agree::undefined_is, crate::proofs::Agree::prefix_is), unfolding(crate::specs::Table::row_of))]
 pub fn decode(bytes: &[u8; 3]) -> Option<Row>
     ensures row { result ≡ decoded bytes.now }

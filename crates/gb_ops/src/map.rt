@@ -13,6 +13,7 @@ pub const WORK_RAM: usize = 8_192;
 pub const HIGH_RAM: usize = 127;
 
 /// What the memory map has at an address (Pan Docs: Memory Map).
+#[inline]
 #[tactic(auto, unfolding(crate::specs::Memory::mapped_at))]
 pub fn mapped_at(address: u16) -> Mapped
     ensures value { result ≡ Memory.mapped_at address }

@@ -19,6 +19,7 @@ pub struct Registers<T> {
 
 impl<T: Copy> Registers<T> {
     /// The value of a register.
+    #[inline(always)]
     pub fn get(&self, register: Register) -> T
         ensures { result ≡ get register self.now }
     {
@@ -34,6 +35,7 @@ impl<T: Copy> Registers<T> {
     }
 
     /// Gives a register a value; the others stay.
+    #[inline(always)]
     pub fn set(&mut self, register: Register, value: T)
         ensures { self.new ≡ set register value self.old }
     {

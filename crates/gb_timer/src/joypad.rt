@@ -1,6 +1,6 @@
 //! The joypad (Pan Docs: Joypad Input).
 
-ghost use Rattle.std.specs.Prelude.{◌≡◌, ◌<◌, ◌≤◌};
+ghost use Rattle.std.specs.Prelude.{◌≡◌, ◌<◌, ◌≤◌, true};
 ghost use Rattle.std.specs.Int.RustNames.{bit_and};
 ghost use Rattle.gb_timer.specs.Joypad.{Pad, key_bits, is_low, level, is_requested, joyp};
 
@@ -70,6 +70,14 @@ impl Joypad {
             .iter()
             .copied()
             .any(|line| !before.is_low(line) && self.is_low(line))
+    }
+
+    /// Whether these keys are held.
+    #[inline]
+    pub fn holds(&self, keys: Keys) -> bool
+        ensures { result ≡ true → self.now.keys ≡ key_bits keys }
+    {
+        self.keys == keys
     }
 
     /// The keys that are held from now on. True: the joypad's interrupt is requested, since one of FF00's bits 3 to 0 fell from 1 to 0.

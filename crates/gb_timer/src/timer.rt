@@ -1,13 +1,13 @@
 //! The divider and the timer (Pan Docs: Timer and Divider Registers).
 
-ghost use Rattle.std.specs.Prelude.{◌≡◌, ◌+◌, ◌%◌, ◌<◌};
+ghost use Rattle.std.specs.Prelude.{◌≡◌, ◌+◌, ◌%◌, ◌<◌, ◌≤◌};
 ghost use Rattle.gb_timer.specs.Timer.{Counters, IsInRange, at_power_up, period, counts, first_overflow, between_overflows, tima_after, overflows, advanced, ticks, overflows_in, div_of};
 
 use crate::bits::is_set;
 use std::marker::Model;
 
 /// DIV, TIMA, TMA and TAC, with the counter of M-cycles behind DIV.
-#[derive(Debug, Drop)]
+#[derive(Clone, Copy, Debug)]
 pub struct Timer {
     /// M-cycles, modulo 16,384.
     counter: u16,
@@ -25,6 +25,8 @@ impl Model for Timer {
 
     ghost view = { λ t. record { counter = t.counter; tima = t.tima; tma = t.tma; tac = t.tac } };
 
+    ghost inverse = { λ t. record { counter = t.counter; tima = t.tima; tma = t.tma; tac = t.tac } };
+
     ghost invariant = { λ t. (t.counter < 16384) × (t.tac < 8) };
 }
 
@@ -32,6 +34,7 @@ impl Model for Timer {
 fn period(tac: u8) -> u16
     ensures period { result ≡ period tac }
     ensures positive { 0 < result }
+    ensures small { result ≤ 256 }
 {
     match tac % 4 {
         0 => 256,
@@ -128,6 +131,20 @@ impl Timer {
         ensures overflows_by_cycles { result ≡ overflows_in self.old n }
     {
         self.pass(n)
+    }
+
+    /// So many M-cycles pass without an overflow; more may.
+    #[tactic(auto, using(crate::proofs::Passing::quiet))]
+    pub fn quiet(&self) -> u16
+        ensures quiet { overflows self.now (counts self.now result) ≡ 0 }
+        ensures range { IsInRange self.now }
+    {
+        if is_set(self.tac, 2) {
+            let period = period(self.tac);
+            period * (255 - self.tima as u16) + (period - 1 - self.counter % period)
+        } else {
+            u16::MAX
+        }
     }
 
     /// DIV: the counter divided by 64, modulo 256.

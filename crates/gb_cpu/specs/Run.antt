@@ -1,0 +1,32 @@
+-- An instruction of which nothing is told but its M-cycles: its event is some event.
+use Rattle.std.specs.Prelude.{◌≡◌, ℕ, true, List, Option}
+use Rattle.gb_ops.specs.declared.machine.Event.{Event}
+use Rattle.gb_ops.specs.declared.op.Row.{Row}
+use Rattle.gb_ops.specs.declared.registers.Processor.{Processor}
+use Rattle.gb_ops.specs.Accesses.{Access, Joined, row_log, row_cycles, accesses_of, event_cycles}
+use Rattle.gb_ops.specs.Machine as Machine
+use Rattle.gb_ops.specs.Memory.{View}
+use Rattle.gb_ops.specs.Play.{IsStep}
+use Rattle.gb_cpu.specs.declared.step.Cpu.{Cpu}
+use Rattle.gb_cpu.specs.Access.{row_free_reads, HasFreeBytes}
+use Rattle.gb_cpu.specs.Choice.{IsChoice, waits_after}
+use Rattle.gb_cpu.specs.Step.{state}
+
+-- a row's instruction behind its fetch, of n M-cycles, leads from a processor and a bus to others
+pub record IsRowRun {S : Type 0} (shows : S → View) (does : S → Access → S → Type 0) (row : Option Row) (p : Processor) (old : S) (n : ℕ) (q : Processor) (new : S) : Type 0 where
+  pub reads : List ℕ
+  pub leads : state q (shows new) ≡ Machine.run_row row (state p (shows old)) reads
+  pub joined : Joined does old (row_log row (state p (shows old)) reads) new
+  pub cycles : n ≡ row_cycles row (state p (shows old)) reads
+  pub free : reads ≡ row_free_reads row (state p (shows old)) reads
+  pub in_range : Machine.is_bytes 2 reads ≡ true
+
+-- the event of a step, of n M-cycles, leads from a processor and a bus that shares these interrupts to others
+pub record IsSomeStep {S : Type 0} (shows : S → View) (does : S → Access → S → Type 0) (shared : ℕ) (cpu : Cpu) (old : S) (n : ℕ) (after : Cpu) (new : S) : Type 0 where
+  pub event : Event
+  pub machine : IsStep (state cpu.processor (shows old)) event (state after.processor (shows new))
+  pub joined : Joined does old (accesses_of (state cpu.processor (shows old)) event) new
+  pub choice : IsChoice cpu shared (state cpu.processor (shows old)) event
+  pub cycles : n ≡ event_cycles (state cpu.processor (shows old)) event
+  pub free : HasFreeBytes (state cpu.processor (shows old)) event
+  pub waiting : after.is_waiting ≡ waits_after cpu (state cpu.processor (shows old)) event
