@@ -1,6 +1,7 @@
 //! Whether one abstract state stands for all that another one does.
 
 ghost use Rattle.std.specs.Prelude.{◌≡◌, ◌&&◌, true};
+ghost use Rattle.gb_abs.specs.Operations.{with_core};
 ghost use Rattle.gb_abs.specs.Sound.{IsPartOf};
 ghost use Rattle.gb_abs.specs.Covering.{origin_number, register_number, implied, covers_origin, covers_val, covers_may, covers_flags, covers_ime, covers_controller, covers_registers, covers_test, covers_core, covers_item, covers_items, cell_at, covers_cells, covers};
 
@@ -11,6 +12,7 @@ use gb_ops::registers::Registers;
 use gb_vals::vals::any;
 
 /// A register's number, by which two registers are compared.
+#[inline(always)]
 fn register_number(register: Register) -> u8
     ensures { result ≡ register_number register }
 {
@@ -26,6 +28,7 @@ fn register_number(register: Register) -> u8
 }
 
 /// An origin's number, by which two origins are compared.
+#[inline(always)]
 fn origin_number(origin: Origin) -> u8
     ensures { result ≡ origin_number origin }
 {
@@ -36,6 +39,7 @@ fn origin_number(origin: Origin) -> u8
     }
 }
 
+#[inline(always)]
 fn implied(a: bool, b: bool) -> bool
     ensures { result ≡ implied a b }
 {
@@ -43,6 +47,7 @@ fn implied(a: bool, b: bool) -> bool
 }
 
 /// Whether a value of the first origin is one of the second. Where the second is none, any is.
+#[inline(always)]
 pub fn covers_origin(from: Option<Origin>, to: Option<Origin>) -> bool
     ensures { result ≡ covers_origin from to }
 {
@@ -54,6 +59,7 @@ pub fn covers_origin(from: Option<Origin>, to: Option<Origin>) -> bool
 }
 
 /// Whether each value that s stands for is one that t stands for.
+#[inline(always)]
 #[tactic(auto, unfolding(crate::specs::Covering::covers_val))]
 pub fn covers_val(s: &Val, t: &Val) -> bool
     ensures { result ≡ covers_val s.now t.now }
@@ -62,12 +68,14 @@ pub fn covers_val(s: &Val, t: &Val) -> bool
 }
 
 /// Whether each value that s may have is one that t may have.
+#[inline(always)]
 pub fn covers_may(s: May, t: May) -> bool
     ensures { result ≡ covers_may s t }
 {
     implied(s.set, t.set) && implied(s.clear, t.clear)
 }
 
+#[inline(always)]
 #[tactic(auto, unfolding(crate::specs::Covering::covers_flags))]
 fn covers_flags(s: &Flg, t: &Flg) -> bool
     ensures { result ≡ covers_flags s.now t.now }
@@ -80,6 +88,7 @@ fn covers_flags(s: &Flg, t: &Flg) -> bool
 }
 
 /// Whether each value that the interrupt master enable may have in s is one that it may have in t.
+#[inline(always)]
 #[tactic(auto, unfolding(crate::specs::Covering::covers_ime))]
 pub fn covers_ime(s: &ImeSet, t: &ImeSet) -> bool
     ensures { result ≡ covers_ime s.now t.now }
@@ -87,6 +96,7 @@ pub fn covers_ime(s: &ImeSet, t: &ImeSet) -> bool
     implied(s.off, t.off) && implied(s.pending, t.pending) && implied(s.on, t.on)
 }
 
+#[inline(always)]
 #[tactic(auto, unfolding(crate::specs::Covering::covers_controller))]
 fn covers_controller(s: &Ctl, t: &Ctl) -> bool
     ensures { result ≡ covers_controller s.now t.now }
@@ -100,6 +110,7 @@ fn covers_controller(s: &Ctl, t: &Ctl) -> bool
         && implied(t.is_kept, s.is_kept)
 }
 
+#[inline(always)]
 #[tactic(auto, unfolding(crate::specs::Covering::covers_registers))]
 fn covers_registers(s: &Registers<Val>, t: &Registers<Val>) -> bool
     ensures { result ≡ covers_registers s.now t.now }
@@ -114,6 +125,7 @@ fn covers_registers(s: &Registers<Val>, t: &Registers<Val>) -> bool
 }
 
 /// Whether the test of one state gives that of another.
+#[inline(always)]
 pub fn covers_test(from: Option<u8>, to: Option<u8>) -> bool
     ensures { result ≡ covers_test from to }
 {
@@ -125,6 +137,7 @@ pub fn covers_test(from: Option<u8>, to: Option<u8>) -> bool
 }
 
 /// Whether each part of t stands for what the part of s does, but for items and cells.
+#[inline(always)]
 #[tactic(auto, unfolding(crate::specs::Covering::covers_core))]
 pub fn covers_core(s: &Core, t: &Core) -> bool
     ensures { result ≡ covers_core s.now t.now }
@@ -201,22 +214,31 @@ pub fn covers(s: &Abs, t: &Abs) -> bool
     covers_each(s, t)
 }
 
-/// Whether the items and the cells of a node's state stand for what these do.
-pub fn covers_lists(s: &Abs, node: &NodeRef<'_>) -> bool
+/// Whether they do where the node may hold some: kept out of line, so that a state is decoded only then.
+#[inline(never)]
+fn covers_held(s: &Abs, node: &NodeRef<'_>) -> bool
     ensures { result ≡ (covers_items s.now.items node.now.state.items && covers_cells s.now.cells node.now.state.cells) }
 {
-    if node.items().is_empty() && node.cells().is_empty() {
-        return s.items().is_empty();
-    }
     let t = node.state();
     covers_items(s.items(), t.items()) && covers_cells(s.cells(), t.cells())
 }
 
-/// Whether the state of a node stands for each machine state that s stands for. Only its core is read
-/// where that doesn't, and where it holds no items and no cells.
-#[tactic(auto, unfolding(crate::specs::Covering::covers))]
-pub fn covers_node(s: &Abs, node: &NodeRef<'_>) -> bool
-    ensures { result ≡ covers s.now node.now.state }
+/// Whether the items and the cells of a node's state stand for what these do.
+pub fn covers_lists(s: &Abs, node: &NodeRef<'_>) -> bool
+    ensures { result ≡ (covers_items s.now.items node.now.state.items && covers_cells s.now.cells node.now.state.cells) }
 {
-    covers_core(s.core(), &node.core()) && covers_lists(s, node)
+    if node.has_lists() {
+        covers_held(s, node)
+    } else {
+        s.items().is_empty()
+    }
+}
+
+/// Whether the state of a node stands for each machine state that one with this core, and the items and cells of
+/// another, stands for. Only its core is read where that doesn't, and where it holds no items and no cells.
+#[tactic(auto, unfolding(crate::specs::Covering::covers))]
+pub fn covers_parts(core: &Core, lists: &Abs, node: &NodeRef<'_>) -> bool
+    ensures { result ≡ covers (with_core lists.now core.now) node.now.state }
+{
+    covers_core(core, &node.core()) && covers_lists(lists, node)
 }

@@ -144,6 +144,15 @@ stored_in _ k span v s = s
 unfoldable pub stored_state : Kind → Span → Val → AbsState → AbsState
 stored_state k span v s = stored_in (area_of k span) k span v s
 
+-- what a store makes of the core
+abbrev pub stored_core_in : Option Area → Kind → Span → Val → Core → Core
+stored_core_in (Some (area.Controller (Some r))) k span v c = record c { ctl = ctl_after k r v c.ctl }
+stored_core_in (Some area.InterruptEnable) k span v c = record c { ie = v }
+stored_core_in _ k span v c = c
+
+unfoldable pub stored_core : Kind → Span → Val → Core → Core
+stored_core k span v c = stored_core_in (area_of k span) k span v c
+
 -- FF46 alone starts an OAM transfer
 abbrev pub starts_oam_transfer : Span → Bool
 starts_oam_transfer span = is_one span && (span.first == 0xFF46)

@@ -2,6 +2,7 @@
 
 ghost use Rattle.std.specs.Prelude.{◌≡◌, ◌<◌, ◌≤◌, ℕ, IfSome, IfOk, slice_index};
 ghost use Rattle.gb_ops.specs.Cartridge as Cartridge;
+ghost use Rattle.gb_abs.specs.Operations.{with_core};
 ghost use Rattle.gb_abs_memory.specs.Access as Access;
 ghost use Rattle.gb_cert.specs.Rules.{IsVal};
 ghost use Rattle.gb_abs_memory.specs.Sound.{AreVals, IsRom, IsSoundLoad};
@@ -37,35 +38,49 @@ fn rom_val(rom: &Rom<'_>, address: u16, bank: Option<u16>) -> Val
     }
 }
 
-/// What is known of the byte at an address, where no OAM transfer closes it.
+/// What is known of the byte at an address, where no OAM transfer closes it, in states with another core.
 #[tactic(auto, unfolding(crate::specs::Access::val_at))]
-pub fn val_at(rom: &Rom<'_>, state: &Abs, address: u16) -> Val
-    ensures { result ≡ Access.val_at rom.now state.now address }
+fn val_by(rom: &Rom<'_>, core: &Core, state: &Abs, address: u16) -> Val
+    ensures { result ≡ Access.val_at rom.now (with_core state.now core.now) address }
 {
     if address < 0x8000 {
-        return rom_val(rom, address, known_bank(rom, &state.core().ctl, address));
+        return rom_val(rom, address, known_bank(rom, &core.ctl, address));
     }
     let home = home_of(address);
     if is_ram(home) {
         cell_at(home, state.cells())
     } else if address == 0xFFFF {
-        state.core().ie
+        core.ie
     } else {
         any()
     }
 }
 
-/// What is known of the byte that a load gives: of one of several addresses nothing. What refuses the
-/// load is asked apart.
+/// What is known of the byte at an address, where no OAM transfer closes it.
+pub fn val_at(rom: &Rom<'_>, state: &Abs, address: u16) -> Val
+    ensures { result ≡ Access.val_at rom.now state.now address }
+{
+    val_by(rom, state.core(), state, address)
+}
+
+/// What is known of the byte that a load gives, in states with another core: of one of several addresses nothing.
+/// What refuses the load is asked apart.
 #[tactic(auto, unfolding(crate::specs::Access::loaded_val))]
-pub fn loaded_val(rom: &Rom<'_>, state: &Abs, span: Span) -> Val
-    ensures { result ≡ Access.loaded_val rom.now state.now span }
+pub fn loaded_by(rom: &Rom<'_>, core: &Core, state: &Abs, span: Span) -> Val
+    ensures { result ≡ Access.loaded_val rom.now (with_core state.now core.now) span }
 {
     if span.is_one() {
-        val_at(rom, state, span.first)
+        val_by(rom, core, state, span.first)
     } else {
         any()
     }
+}
+
+/// What is known of the byte that a load gives.
+pub fn loaded_val(rom: &Rom<'_>, state: &Abs, span: Span) -> Val
+    ensures { result ≡ Access.loaded_val rom.now state.now span }
+{
+    loaded_by(rom, state.core(), state, span)
 }
 
 /// The lowest reason against a load.

@@ -121,6 +121,21 @@ fn ram_stored(span: Span, val: &Val, state: &Abs) -> Abs
     }
 }
 
+/// A store changes the core.
+#[tactic(auto, unfolding(crate::specs::Access::stored_core))]
+pub fn stored_core(kind: Kind, span: Span, val: &Val, core: &Core) -> Core
+    ensures { result ≡ Access.stored_core kind span val.now core.now }
+{
+    match area_of(kind, span) {
+        Some(Area::Controller(Some(register))) => {
+            let ctl = ctl_after(kind, register, val, &core.ctl);
+            Core { ctl, ..*core }
+        }
+        Some(Area::InterruptEnable) => Core { ie: *val, ..*core },
+        Some(Area::Controller(None) | Area::Hardware | Area::Ram) | None => *core,
+    }
+}
+
 /// A store in the area that all of these addresses lie in changes the state. What is against the store
 /// is asked apart: `is_storable`, and what refuses it.
 #[tactic(auto, unfolding(crate::specs::Access::stored_state))]

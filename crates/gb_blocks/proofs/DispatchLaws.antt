@@ -36,7 +36,7 @@ use Rattle.gb_calls.specs.Calls.{entered, callee_of, are_ranges_inside, resumed}
 use Rattle.gb_calls.specs.Interrupts.{only_off, dispatched, may_come, handler_of}
 use Rattle.gb_calls.proofs.CalleeLaws.{IsCallee-found, IsEntryNode-entry}
 use Rattle.gb_code.specs.Places.{IsCertified}
-use Rattle.gb_successors.specs.Successors.{ended}
+use Rattle.gb_successors.specs.Behind.{ended}
 use Rattle.gb_successors.specs.Words.{word_item}
 use Rattle.gb_successors.proofs.SuccessorLaws.{Means-ended, passed_peek}
 use Rattle.gb_blocks.specs.Covered.{covered_at}

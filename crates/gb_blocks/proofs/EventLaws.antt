@@ -49,7 +49,7 @@ use Rattle.gb_abs_effects.specs.declared.targets.Target.TheVariants as target
 use Rattle.gb_abs_effects.specs.Targets.{target_of}
 use Rattle.gb_abs_effects.specs.Sides.{sides_of}
 use Rattle.gb_abs_memory.specs.Kept.{IsKept}
-use Rattle.gb_successors.specs.declared.successor.Successor.{Successor}
+use Rattle.gb_successors.specs.Way.{Successor}
 use Rattle.gb_successors.specs.Successors.{successors_of, taken_successor}
 use Rattle.gb_successors.specs.Sound.{IsHalt}
 use Rattle.gb_blocks.specs.Rules.{is_halt, is_nop, is_nop_behind, may_read_twice, reason_of, reason_at}

@@ -31,7 +31,7 @@ use Rattle.gb_abs_memory.proofs.LoadLaws.{IsVal-val_at}
 use Rattle.gb_code.specs.Code.{area_end, known_byte, known_where, single_of}
 use Rattle.gb_code.proofs.ByteLaws.{chosen}
 use Rattle.gb_code.proofs.CodeLaws.{KnownBytes, KnownBytes-known_bytes, IsKnown, end_of, bank_of, clear_of}
-use Rattle.gb_successors.specs.declared.successor.Successor.{Successor}
+use Rattle.gb_successors.specs.Way.{Successor}
 use Rattle.gb_successors.specs.declared.successors.Successors.{Successors}
 use Rattle.gb_successors.specs.Successors.{has, any_successor, successors_of}
 use Rattle.gb_successors.specs.Refused.{is_stack_limited, is_unknown}

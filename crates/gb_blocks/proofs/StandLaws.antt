@@ -28,7 +28,7 @@ use Rattle.gb_abs_effects.specs.Pairs.{is_word_known, pair_halves}
 use Rattle.gb_abs_effects.specs.Sound.{HoldsTarget}
 use Rattle.gb_abs_memory.specs.Sound.{IsRom}
 use Rattle.gb_code.proofs.CodeLaws.{IsKnown, IsAt as IsAtCode}
-use Rattle.gb_successors.specs.declared.successor.Successor.{Successor}
+use Rattle.gb_successors.specs.Way.{Successor}
 use Rattle.gb_successors.specs.Successors.{successors_of, taken_successor, untaken_successor, staying_successor, stays}
 use Rattle.gb_successors.specs.Refused.{is_unknown}
 use Rattle.gb_successors.specs.Sound.{IsOneOf, Stands, AreSoundSuccessors}

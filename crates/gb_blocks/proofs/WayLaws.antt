@@ -18,7 +18,7 @@ use Rattle.gb_abs_effects.specs.declared.targets.Target.TheVariants as target
 use Rattle.gb_abs_effects.specs.Targets.{is_push}
 use Rattle.gb_calls.specs.Calls.{entered, callee_of, are_ranges_inside, resumed}
 use Rattle.gb_calls.proofs.CalleeLaws.{IsCallee-found, IsEntryNode-entry}
-use Rattle.gb_successors.specs.declared.successor.Successor.{Successor}
+use Rattle.gb_successors.specs.Way.{Successor}
 use Rattle.gb_successors.specs.Refused.{is_unknown}
 use Rattle.gb_successors.specs.Sound.{words_behind, IsOneOf, StaysAt, CallsAt, ReturnsTo, LeadsTo}
 use Rattle.gb_successors.specs.Sound as successors

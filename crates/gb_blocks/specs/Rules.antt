@@ -19,7 +19,7 @@ use Rattle.gb_abs_effects.specs.declared.targets.Target.TheVariants as target
 use Rattle.gb_abs_effects.specs.Targets.{moves_sp, is_push}
 use Rattle.gb_abs_memory.specs.Shown.{known_bank}
 use Rattle.gb_code.specs.Code.{area_end, leaves_area, is_other_bank, lies_in_high_ram, known_byte, known_bytes}
-use Rattle.gb_successors.specs.declared.successor.Successor.{Successor}
+use Rattle.gb_successors.specs.Way.{Successor}
 use Rattle.gb_successors.specs.declared.successors.Successors.{Successors}
 use Rattle.gb_successors.specs.Successors.{successors_of, any_successor}
 use Rattle.gb_successors.specs.Refused.{is_unstorable, meets_closed, is_stack_limited, meets_oam_transfer, is_unknown}

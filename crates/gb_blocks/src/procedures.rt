@@ -2,11 +2,13 @@
 //! and whether they may return.
 
 ghost use Rattle.std.specs.Prelude.{◌≡◌, length, Option};
+ghost use Rattle.gb_calls.specs.Calls.{callee_of};
 ghost use Rattle.gb_successors.specs.Successors.{has};
+ghost use Rattle.gb_blocks.specs.Covered as Covered;
 ghost use Rattle.gb_blocks.specs.Procedures as Procedures;
 ghost use Rattle.gb_blocks.specs.Rules as Rules;
 
-use crate::covered::covered_at;
+use crate::covered::{covered_at, covered_near};
 use arrayvec::ArrayVec;
 use gb_abs::covering::covers;
 use gb_abs_effects::targets::Target;
@@ -64,18 +66,28 @@ pub(crate) struct Callees {
     pub stays: Option<u8>,
 }
 
+// What few instructions ask for is kept out of line, so that states are cleared and copied only there.
+
+/// The procedure that is called at an address.
+#[inline(never)]
+fn callee_from(cert: &Cert<'_>, address: u16, successor: &Successor<'_>) -> Option<u8>
+    ensures { result ≡ callee_of cert.now address successor.now.state }
+{
+    callee(cert, address, &successor.state())
+}
+
 /// The procedure that a successor calls.
 #[tactic(auto, unfolding(crate::specs::Rules::callee_at))]
-pub fn callee_at(cert: &Cert<'_>, successor: &Successor) -> Option<u8>
+pub fn callee_at(cert: &Cert<'_>, successor: &Successor<'_>) -> Option<u8>
     ensures { result ≡ Rules.callee_at cert.now successor.now }
 {
     match successor.target {
-        Target::Call(address) => callee(cert, address, &successor.state),
+        Target::Call(address) => callee_from(cert, address, successor),
         Target::At(_) | Target::Return | Target::Unknown => None,
     }
 }
 
-fn callee_in(cert: &Cert<'_>, way: &Option<Successor>) -> Option<u8>
+fn callee_in(cert: &Cert<'_>, way: &Option<Successor<'_>>) -> Option<u8>
     ensures { result ≡ Rules.callee_in cert.now way.now }
 {
     match way {
@@ -86,7 +98,7 @@ fn callee_in(cert: &Cert<'_>, way: &Option<Successor>) -> Option<u8>
 
 /// The procedures that the successors call.
 #[tactic(auto, unfolding(crate::specs::Rules::callees_of))]
-pub(crate) fn callees_of(cert: &Cert<'_>, ways: &Successors) -> Callees
+pub(crate) fn callees_of(cert: &Cert<'_>, ways: &Successors<'_>) -> Callees
     ensures { result ≡ Rules.callees_of cert.now ways.now }
 {
     Callees {
@@ -109,11 +121,25 @@ pub(crate) fn is_over(cert: &Cert<'_>, need: u16, state: &Abs, callee: Option<u8
     }
 }
 
+/// Whether a successor and its callee hold more words than the need.
+#[inline(never)]
+fn is_deep_from(cert: &Cert<'_>, need: u16, successor: &Successor<'_>, callee: Option<u8>) -> bool
+    ensures { result ≡ Rules.is_over cert.now need (length successor.now.state.items) callee }
+{
+    is_over(cert, need, &successor.state(), callee)
+}
+
+fn is_deep(cert: &Cert<'_>, need: u16, successor: &Successor<'_>, callee: Option<u8>) -> bool
+    ensures { result ≡ Rules.is_over cert.now need (length successor.now.state.items) callee }
+{
+    callee.is_some() && is_deep_from(cert, need, successor, callee)
+}
+
 #[tactic(auto, unfolding(crate::specs::Rules::calls_too_deep))]
 pub(crate) fn has_deep(
     cert: &Cert<'_>,
     need: u16,
-    way: &Option<Successor>,
+    way: &Option<Successor<'_>>,
     callee: Option<u8>,
 ) -> bool
     requires { callee ≡ Rules.callee_in cert.now way.now }
@@ -121,7 +147,7 @@ pub(crate) fn has_deep(
 {
     match way {
         None => false,
-        Some(successor) => is_over(cert, need, &successor.state, callee),
+        Some(successor) => is_deep(cert, need, successor, callee),
     }
 }
 
@@ -146,30 +172,69 @@ pub(crate) fn is_back_uncovered(
     !covered_at(cert, procedure, back, &resumed)
 }
 
+/// Whether a node of the procedure at the address stands for the states behind an instruction that changed words or
+/// cells.
+#[inline(never)]
+fn is_covered_moved(cert: &Cert<'_>, procedure: u8, address: u16, successor: &Successor<'_>) -> bool
+    ensures { result ≡ Covered.covered_at cert.now.nodes procedure address successor.now.state }
+{
+    covered_at(cert, procedure, address, &successor.state())
+}
+
+/// Whether a node of the procedure at the address stands for the states behind an instruction.
+fn is_covered(
+    cert: &Cert<'_>,
+    near: u32,
+    procedure: u8,
+    address: u16,
+    successor: &Successor<'_>,
+) -> bool
+    ensures { result ≡ Covered.covered_at cert.now.nodes procedure address successor.now.state }
+{
+    match successor.unmoved() {
+        Some(lists) => covered_near(cert, near, procedure, address, successor.core(), lists),
+        None => is_covered_moved(cert, procedure, address, successor),
+    }
+}
+
+/// Whether no node stands for what a successor's caller goes on with when the callee returns.
+#[inline(never)]
+fn is_back_missed(
+    cert: &Cert<'_>,
+    procedure: u8,
+    successor: &Successor<'_>,
+    callee: Option<u8>,
+) -> bool
+    ensures { result ≡ Rules.is_back_uncovered cert.now procedure successor.now.next successor.now.state callee }
+{
+    is_back_uncovered(cert, procedure, successor.next, &successor.state(), callee)
+}
+
 /// Whether no node of the procedure stands for the states behind an instruction, where they go on in
 /// it: at once, or when the callee returns.
 #[tactic(auto, unfolding(crate::specs::Rules::is_uncovered, crate::specs::Rules::callee_at))]
-fn is_uncovered(cert: &Cert<'_>, procedure: u8, successor: &Successor, callee: Option<u8>) -> bool
+fn is_uncovered(
+    cert: &Cert<'_>,
+    near: u32,
+    procedure: u8,
+    successor: &Successor<'_>,
+    callee: Option<u8>,
+) -> bool
     requires { callee ≡ Rules.callee_at cert.now successor.now }
     ensures { result ≡ Rules.is_uncovered cert.now procedure successor.now }
 {
     match successor.target {
-        Target::At(address) => !covered_at(cert, procedure, address, &successor.state),
-        Target::Call(_) => is_back_uncovered(
-            cert,
-            procedure,
-            successor.next,
-            &successor.state,
-            callee,
-        ),
+        Target::At(address) => !is_covered(cert, near, procedure, address, successor),
+        Target::Call(_) => is_back_missed(cert, procedure, successor, callee),
         Target::Return | Target::Unknown => false,
     }
 }
 
 pub(crate) fn has_uncovered(
     cert: &Cert<'_>,
+    near: u32,
     procedure: u8,
-    way: &Option<Successor>,
+    way: &Option<Successor<'_>>,
     callee: Option<u8>,
 ) -> bool
     requires { callee ≡ Rules.callee_in cert.now way.now }
@@ -177,7 +242,7 @@ pub(crate) fn has_uncovered(
 {
     match way {
         None => false,
-        Some(successor) => is_uncovered(cert, procedure, successor, callee),
+        Some(successor) => is_uncovered(cert, near, procedure, successor, callee),
     }
 }
 
@@ -194,7 +259,12 @@ pub(crate) fn is_outside_of(cert: &Cert<'_>, procedure: u8, callee: Option<u8>) 
 }
 
 #[tactic(auto, unfolding(crate::specs::Rules::is_uncallable, crate::specs::Rules::callee_at))]
-fn is_uncallable(cert: &Cert<'_>, procedure: u8, successor: &Successor, callee: Option<u8>) -> bool
+fn is_uncallable(
+    cert: &Cert<'_>,
+    procedure: u8,
+    successor: &Successor<'_>,
+    callee: Option<u8>,
+) -> bool
     requires { callee ≡ Rules.callee_at cert.now successor.now }
     ensures { result ≡ Rules.is_uncallable cert.now procedure successor.now }
 {
@@ -207,7 +277,7 @@ fn is_uncallable(cert: &Cert<'_>, procedure: u8, successor: &Successor, callee: 
 pub(crate) fn has_uncallable(
     cert: &Cert<'_>,
     procedure: u8,
-    way: &Option<Successor>,
+    way: &Option<Successor<'_>>,
     callee: Option<u8>,
 ) -> bool
     requires { callee ≡ Rules.callee_in cert.now way.now }
@@ -230,20 +300,26 @@ fn is_exit_missed(state: &Abs, exit: Option<Abs>) -> bool
     }
 }
 
+/// Whether a successor returns as its procedure's exit doesn't say.
+#[inline(never)]
+fn is_exit_missed_from(cert: &Cert<'_>, procedure: u8, successor: &Successor<'_>) -> bool
+    ensures { result ≡ Rules.is_exit_missed successor.now.state (Procedures.exit_of cert.now procedure) }
+{
+    is_exit_missed(&successor.state(), exit_of(cert, procedure))
+}
+
 /// Whether a successor returns as its procedure may not. Main may not at all.
 #[tactic(auto, unfolding(crate::specs::Rules::is_unreturnable))]
-fn is_unreturnable(cert: &Cert<'_>, procedure: u8, successor: &Successor) -> bool
+fn is_unreturnable(cert: &Cert<'_>, procedure: u8, successor: &Successor<'_>) -> bool
     ensures { result ≡ Rules.is_unreturnable cert.now procedure successor.now }
 {
     match successor.target {
-        Target::Return => {
-            procedure == 0 || is_exit_missed(&successor.state, exit_of(cert, procedure))
-        }
+        Target::Return => procedure == 0 || is_exit_missed_from(cert, procedure, successor),
         Target::At(_) | Target::Call(_) | Target::Unknown => false,
     }
 }
 
-pub(crate) fn has_unreturnable(cert: &Cert<'_>, procedure: u8, way: &Option<Successor>) -> bool
+pub(crate) fn has_unreturnable(cert: &Cert<'_>, procedure: u8, way: &Option<Successor<'_>>) -> bool
     ensures { result ≡ has (Rules.is_unreturnable cert.now procedure) way.now }
 {
     match way {

@@ -120,7 +120,7 @@ fn stores_outside(
     cert: &Cert<'_>,
     node: &NodeRef<'_>,
     row: Row,
-    ways: &Successors,
+    ways: &Successors<'_>,
 ) -> bool
     requires { ways.now ≡ successors_of rom.now row node.now.address node.now.state }
     ensures { result ≡ Rules.stores_outside rom.now cert.now node.now row }
@@ -131,7 +131,13 @@ fn stores_outside(
 
 /// Whether one of them may meet cartridge RAM while it is closed.
 #[tactic(auto, unfolding(crate::specs::Rules::meets_ram, crate::specs::Rules::any_of))]
-fn meets_ram(rom: &Rom<'_>, node: &NodeRef<'_>, state: &Abs, row: Row, ways: &Successors) -> bool
+fn meets_ram(
+    rom: &Rom<'_>,
+    node: &NodeRef<'_>,
+    state: &Abs,
+    row: Row,
+    ways: &Successors<'_>,
+) -> bool
     requires state { state.now ≡ node.now.state }
     requires ways { ways.now ≡ successors_of rom.now row node.now.address node.now.state }
     ensures { result ≡ Rules.meets_ram rom.now node.now row }
@@ -148,7 +154,7 @@ fn meets_transfer(
     node: &NodeRef<'_>,
     state: &Abs,
     row: Row,
-    ways: &Successors,
+    ways: &Successors<'_>,
 ) -> bool
     requires state { state.now ≡ node.now.state }
     requires ways { ways.now ≡ successors_of rom.now row node.now.address node.now.state }
@@ -164,7 +170,7 @@ fn meets_transfer(
 
 /// Whether one of them may lead anywhere.
 #[tactic(auto, unfolding(crate::specs::Rules::leads_anywhere, crate::specs::Rules::any_of))]
-fn leads_anywhere(rom: &Rom<'_>, node: &NodeRef<'_>, row: Row, ways: &Successors) -> bool
+fn leads_anywhere(rom: &Rom<'_>, node: &NodeRef<'_>, row: Row, ways: &Successors<'_>) -> bool
     requires { ways.now ≡ successors_of rom.now row node.now.address node.now.state }
     ensures { result ≡ Rules.leads_anywhere rom.now node.now row }
 {
@@ -179,7 +185,7 @@ fn grows_too_deep(
     node: &NodeRef<'_>,
     state: &Abs,
     row: Row,
-    ways: &Successors,
+    ways: &Successors<'_>,
     callees: Callees,
 ) -> bool
     requires state { state.now ≡ node.now.state }
@@ -200,9 +206,10 @@ fn grows_too_deep(
 fn leads_uncovered(
     rom: &Rom<'_>,
     cert: &Cert<'_>,
+    near: u32,
     node: &NodeRef<'_>,
     row: Row,
-    ways: &Successors,
+    ways: &Successors<'_>,
     callees: Callees,
 ) -> bool
     requires ways { ways.now ≡ successors_of rom.now row node.now.address node.now.state }
@@ -210,9 +217,9 @@ fn leads_uncovered(
     ensures { result ≡ Rules.leads_uncovered rom.now cert.now node.now row }
 {
     let procedure = node.procedure();
-    has_uncovered(cert, procedure, &ways.taken, callees.taken)
-        || has_uncovered(cert, procedure, &ways.not_taken, callees.not_taken)
-        || has_uncovered(cert, procedure, &ways.stays, callees.stays)
+    has_uncovered(cert, near, procedure, &ways.taken, callees.taken)
+        || has_uncovered(cert, near, procedure, &ways.not_taken, callees.not_taken)
+        || has_uncovered(cert, near, procedure, &ways.stays, callees.stays)
 }
 
 /// Whether one of them calls what it may not.
@@ -222,7 +229,7 @@ fn calls_wrongly(
     cert: &Cert<'_>,
     node: &NodeRef<'_>,
     row: Row,
-    ways: &Successors,
+    ways: &Successors<'_>,
     callees: Callees,
 ) -> bool
     requires ways { ways.now ≡ successors_of rom.now row node.now.address node.now.state }
@@ -242,7 +249,7 @@ fn returns_wrongly(
     cert: &Cert<'_>,
     node: &NodeRef<'_>,
     row: Row,
-    ways: &Successors,
+    ways: &Successors<'_>,
 ) -> bool
     requires { ways.now ≡ successors_of rom.now row node.now.address node.now.state }
     ensures { result ≡ Rules.returns_wrongly rom.now cert.now node.now row }
@@ -258,6 +265,7 @@ fn returns_wrongly(
 fn reason_of_row(
     rom: &Rom<'_>,
     cert: &Cert<'_>,
+    near: u32,
     node: &NodeRef<'_>,
     state: &Abs,
     row: Row,
@@ -287,7 +295,7 @@ fn reason_of_row(
         Some(Reason::OamTransfer)
     } else if leads_anywhere(rom, node, row, &ways) {
         Some(Reason::JumpHl)
-    } else if leads_uncovered(rom, cert, node, row, &ways, callees) {
+    } else if leads_uncovered(rom, cert, near, node, row, &ways, callees) {
         Some(Reason::Uncovered)
     } else if calls_wrongly(rom, cert, node, row, &ways, callees) {
         Some(Reason::Callee)
@@ -299,9 +307,16 @@ fn reason_of_row(
 }
 
 /// The lowest reason against a node, by the rules of its instruction. Its state is given, so that it is
-/// read from the certificate once.
+/// read from the certificate once. Nodes that cover are looked for from
+/// the node with the number `near` on, best its own: they are found quickly a little above it.
 #[tactic(auto, unfolding(crate::specs::Rules::reason_of, crate::specs::Rules::applies, crate::specs::Rules::node_bytes))]
-pub fn reason_of(rom: &Rom<'_>, cert: &Cert<'_>, node: &NodeRef<'_>, state: &Abs) -> Option<Reason>
+pub fn reason_near(
+    rom: &Rom<'_>,
+    cert: &Cert<'_>,
+    near: u32,
+    node: &NodeRef<'_>,
+    state: &Abs,
+) -> Option<Reason>
     requires { state.now ≡ node.now.state }
     ensures { result ≡ Rules.reason_of rom.now cert.now node.now }
 {
@@ -317,8 +332,16 @@ pub fn reason_of(rom: &Rom<'_>, cert: &Cert<'_>, node: &NodeRef<'_>, state: &Abs
     };
     match decode(&bytes) {
         None => Some(Reason::UndefinedOpcode),
-        Some(row) => reason_of_row(rom, cert, node, state, row),
+        Some(row) => reason_of_row(rom, cert, near, node, state, row),
     }
+}
+
+/// The same, with no node to look from.
+pub fn reason_of(rom: &Rom<'_>, cert: &Cert<'_>, node: &NodeRef<'_>, state: &Abs) -> Option<Reason>
+    requires { state.now ≡ node.now.state }
+    ensures { result ≡ Rules.reason_of rom.now cert.now node.now }
+{
+    reason_near(rom, cert, 0, node, state)
 }
 
 /// Checks the node with a number by the rules of its instruction.
@@ -347,7 +370,7 @@ fn lowest_reason(rom: &Rom<'_>, cert: &Cert<'_>, i: u32) -> Result<(), Reason>
 {
     let node = cert.node(i);
     let state = node.state();
-    match reason_of(rom, cert, &node, &state) {
+    match reason_near(rom, cert, i, &node, &state) {
         None => Ok(()),
         Some(reason) => Err(reason),
     }

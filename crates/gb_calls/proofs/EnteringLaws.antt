@@ -97,5 +97,5 @@ Means-entered s entry base x m lt =
 pub enter_sound : (s o : AbsState) → o ≡ entered s → IsSoundEntering s o
 enter_sound s o e =
     record {
-      gives = λ entry base x m set lt. subst (λ (w : AbsState). Means w x x.processor.sp x) (sym e) (Means-entered s entry base x m lt);
+      gives = λ entry base x m lt. subst (λ (w : AbsState). Means w x x.processor.sp x) (sym e) (Means-entered s entry base x m lt);
     }

@@ -41,14 +41,6 @@ use Rattle.gb_calls.proofs.CellLaws.{AllByRecursion-merged, AllByRecursion-take}
 
 -- ---- what is given back
 
--- any byte that is what this held at entry stands for a value exactly where that one is
-pub covers_own : (o : Origin) (v : Val) → v.hi < 256 → covers_val v (own o any_val) ≡ is_own o v
-unfolding covers_val
-covers_own o v small = ap (λ b. b && covers_origin v.origin (Some o)) bounds
-  where
-    bounds : (nat_le 0 v.lo && nat_le v.hi 255) ≡ true
-    bounds = grind (arith, nat_tests)
-
 same_own : (p : Option Origin) (o : Origin) → covers_origin p (Some o) ≡ true → p ≡ Some o
 same_own None o h = cc
 same_own (Some q) o h = ap Some (same_origin q o h)

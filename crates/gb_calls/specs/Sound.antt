@@ -22,7 +22,7 @@ without_word x = record x { processor = with_sp x.processor (x.processor.sp + 2)
 pub record IsSoundEntering (s after : AbsState) : Type 0 where
   pub gives :
       (entry : MState) (base : ℕ) (x : MState)
-      → Means s entry base (without_word x) → s.core.stack_set ≡ true → x.processor.sp < 65536
+      → Means s entry base (without_word x) → x.processor.sp < 65536
       → Means after x x.processor.sp x
 
 -- A procedure was left in s by a call, and the callee, which was entered in the state called, has come back: x is

@@ -5,20 +5,18 @@ ghost use Rattle.gb_calls.specs.Calls as Calls;
 ghost use Rattle.gb_calls.specs.Sound.{IsSoundResuming};
 
 use crate::cells::cells_back;
-use crate::entering::{own, without_origin};
+use crate::entering::without_origin;
 use arrayvec::ArrayVec;
-use gb_abs::covering::covers_val;
+use gb_abs::covering::covers_origin;
 use gb_cert::types::{Abs, Core, Origin, Range, Val};
 use gb_ops::op::Register;
 use gb_ops::registers::Registers;
-use gb_vals::vals::any;
 
 /// Whether a value is what this held at entry.
-#[tactic(auto, using(crate::proofs::ResumingLaws::covers_own), unfolding(gb_abs::specs::Covering::covers_val))]
 fn is_own(origin: Origin, val: Val) -> bool
     ensures { result ≡ Calls.is_own origin val }
 {
-    covers_val(&val, &own(origin, any()))
+    covers_origin(val.origin, Some(origin))
 }
 
 /// What the callee gives back as it was is the caller's; else its exit says what it is, and that is no copy.

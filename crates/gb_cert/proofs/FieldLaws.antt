@@ -152,7 +152,7 @@ flag-of b h = same _ _ (below 2 (λ c. spelled.flag (is_one c) == c) refl b (hig
     high : (b : ℕ) → is_between 0 1 b ≡ true → b < 2
     high b h = grind (arith, nat_tests)
 
-of-flag : (b : Bool) → is_one (spelled.flag b) ≡ b
+pub of-flag : (b : Bool) → is_one (spelled.flag b) ≡ b
 of-flag true = refl
 of-flag false = refl
 
@@ -169,7 +169,7 @@ IsFormat-yes_no =
     IsFormat-as yes_no spelled_flag (λ b. (spelled.flag b < 256) × (is_between 0 1 (spelled.flag b) ≡ true)) (λ b. Unit {0}) (λ b h. tt) (λ b h. flag_fits b)
     (IsFormat-mapped is_one spelled.flag (byte_between 0 1) spelled_byte _ flag-of (λ b h. of-flag b) (IsFormat-byte_between 0 1))
 
-origin_of-number : (o : Option Origin) → origin_of (spelled.origin_number o) ≡ o
+pub origin_of-number : (o : Option Origin) → origin_of (spelled.origin_number o) ≡ o
 origin_of-number None = refl
 origin_of-number (Some (Of A)) = refl
 origin_of-number (Some F) = refl
@@ -232,7 +232,7 @@ number-may b h = same _ _ (below 4 (λ c. spelled.may_number (to_may c) == c) re
     high : (b : ℕ) → is_between 1 3 b ≡ true → b < 4
     high b h = grind (arith, nat_tests)
 
-may-number : (m : May) → to_may (spelled.may_number m) ≡ m
+pub may-number : (m : May) → to_may (spelled.may_number m) ≡ m
 may-number m = by m.clear m.set
   where
     by : (c s : Bool) → to_may (2 * spelled.flag s + spelled.flag c) ≡ record { clear = c; set = s }
@@ -277,7 +277,7 @@ number-ime b h = same _ _ (below 8 (λ c. spelled.ime_number (to_ime c) == c) re
     high : (b : ℕ) → is_between 1 7 b ≡ true → b < 8
     high b h = grind (arith, nat_tests)
 
-ime-number : (m : ImeSet) → to_ime (spelled.ime_number m) ≡ m
+pub ime-number : (m : ImeSet) → to_ime (spelled.ime_number m) ≡ m
 ime-number m = by m.off m.pending m.on
   where
     by : (c s t : Bool) → to_ime (4 * spelled.flag t + 2 * spelled.flag s + spelled.flag c) ≡ record { off = c; pending = s; on = t }
@@ -371,10 +371,10 @@ IsFormat-test =
 
 -- ---- flags
 
-abbrev Flags : Type 0
+abbrev pub Flags : Type 0
 Flags = May × (May × (May × May))
 
-abbrev number_of : Flags → ℕ
+abbrev pub number_of : Flags → ℕ
 number_of p = spelled.flags_number p.0 p.1.0 p.1.1.0 p.1.1.1
 
 number-flags : (b : ℕ) → b < 256 → number_of (to_flags b) ≡ b
@@ -398,7 +398,7 @@ one-flag n b e = rw e (of-flag b)
 flags-same : (a b c d e f g h a2 b2 c2 d2 e2 f2 g2 h2 : Bool) → a ≡ a2 → b ≡ b2 → c ≡ c2 → d ≡ d2 → e ≡ e2 → f ≡ f2 → g ≡ g2 → h ≡ h2 → all_flags a b c d e f g h ≡ all_flags a2 b2 c2 d2 e2 f2 g2 h2
 flags-same a b c d e f g h a2 b2 c2 d2 e2 f2 g2 h2 ea eb ec ed ee ef eg eh = rw (ea, eb, ec, ed, ee, ef, eg, eh) refl
 
-flags-number : (p : Flags) → to_flags (number_of p) ≡ p
+pub flags-number : (p : Flags) → to_flags (number_of p) ≡ p
 flags-number p = by p.0.set p.1.0.set p.1.1.0.set p.1.1.1.set p.0.clear p.1.0.clear p.1.1.0.clear p.1.1.1.clear
   where
     by : (a b c d e f g h : Bool) → to_flags (number_of (all_flags a b c d e f g h)) ≡ all_flags a b c d e f g h
@@ -414,7 +414,7 @@ flags_small p = omega (arith, flag_small p.0.set, flag_small p.1.0.set, flag_sma
 own-there : (n : ℕ) → (n < 256) × (is_own_number n ≡ true) → spelled.own_number (is_two n) ≡ n
 own-there n h = grind (arith, nat_tests)
 
-own-again : (b : Bool) → is_two (spelled.own_number b) ≡ b
+pub own-again : (b : Bool) → is_two (spelled.own_number b) ≡ b
 own-again true = refl
 own-again false = refl
 

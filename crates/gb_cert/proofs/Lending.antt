@@ -107,7 +107,7 @@ test-long : (o : Option ℕ) → length (spelled.test o) ≡ 2
 test-long None = refl
 test-long (Some a) = refl
 
-core-long : (c : Core) → length (spelled.core c) ≡ 40
+pub core-long : (c : Core) → length (spelled.core c) ≡ 40
 unfolding spelled.val spelled.flg spelled.ctl spelled.vals spelled.core
 core-long c = simp length-append (omega (arith, test-long c.test))
 

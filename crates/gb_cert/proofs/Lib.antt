@@ -1,4 +1,5 @@
 pub mod CertificateLaws
+pub mod CheckedLaws
 pub mod Entries
 pub mod FieldLaws
 pub mod Formats

@@ -1,5 +1,6 @@
 pub mod Borrowed
 pub mod Certificate
+pub mod Checked
 pub mod Places
 pub mod Reading
 pub mod Rules

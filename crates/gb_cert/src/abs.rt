@@ -79,6 +79,16 @@ impl Abs {
         self.core = core;
     }
 
+    /// It becomes the state with this core, without items and cells.
+    #[inline(always)]
+    pub fn set_plain(&mut self, core: Core)
+        ensures { self.new ≡ state_of core }
+    {
+        self.core = core;
+        self.items.clear();
+        self.cells.clear();
+    }
+
     /// It gets other items. Its core and cells stay.
     pub fn set_items(&mut self, items: ArrayVec<Item, 16>)
         ensures { self.new ≡ record self.old { items = items.items } }

@@ -1,9 +1,10 @@
 //! Reading the fields of a state, one after the other.
 
-ghost use Rattle.std.specs.Prelude.{◌≡◌, ◌&&◌, ◌||◌, nat_le};
+ghost use Rattle.std.specs.Prelude.{◌≡◌, ◌+◌, ◌≤◌, ◌&&◌, ◌||◌, nat_le, length};
 ghost use Rattle.gb_fields.specs.Format.{Gives};
 ghost use Rattle.gb_cert.specs.Rules.{has_value};
-ghost use Rattle.gb_cert.specs.Reading.{origin_of, origin_at, val_at, may_at, ime_at, test_at, flg_at, ctl_at, vals_at, core_at};
+ghost use Rattle.gb_cert.specs.Checked.{val_in, flg_in, ctl_in, vals_in, core_in, begins_with_zero, are_none};
+ghost use Rattle.gb_cert.specs.Reading.{to_may, origin_of, origin_at, val_at, may_at, ime_at, test_at, flg_at, ctl_at, vals_at, core_at};
 
 use crate::role::Role;
 use crate::types::{Core, Ctl, Flg, ImeSet, May, Origin, Val};
@@ -223,4 +224,130 @@ pub fn core_at(role: Role, bytes: &[u8]) -> Result<(Core, &[u8]), CertFault>
         registers,
     };
     Ok((core, rest))
+}
+
+// ---- reading again what has been checked
+
+/// The value at a place where one stands.
+#[inline(always)]
+fn val_in(bytes: &[u8], place: usize) -> Val
+    requires { place + 3 ≤ length bytes.now }
+    ensures { result ≡ val_in bytes.now place }
+{
+    Val {
+        lo: bytes[place],
+        hi: bytes[place + 1],
+        origin: origin_of(bytes[place + 2]),
+    }
+}
+
+#[inline(always)]
+fn may_in(bits: u8) -> May
+    ensures { result ≡ to_may bits }
+{
+    May {
+        clear: bits % 2 == 1,
+        set: bits / 2 == 1,
+    }
+}
+
+#[inline(always)]
+fn flg_in(bits: u8, own: u8) -> Flg
+    ensures { result ≡ flg_in bits own }
+{
+    Flg {
+        zero: May {
+            clear: bits / 8 % 2 == 1,
+            set: bits / 128 == 1,
+        },
+        subtract: May {
+            clear: bits / 4 % 2 == 1,
+            set: bits / 64 % 2 == 1,
+        },
+        half_carry: May {
+            clear: bits / 2 % 2 == 1,
+            set: bits / 32 % 2 == 1,
+        },
+        carry: May {
+            clear: bits % 2 == 1,
+            set: bits / 16 % 2 == 1,
+        },
+        is_own: own == 2,
+    }
+}
+
+#[inline(always)]
+fn ctl_in(bytes: &[u8]) -> Ctl
+    requires { 40 ≤ length bytes.now }
+    ensures { result ≡ ctl_in bytes.now }
+{
+    Ctl {
+        bank_lo: u16::from_le_bytes([bytes[5], bytes[6]]),
+        bank_hi: u16::from_le_bytes([bytes[7], bytes[8]]),
+        second_lo: bytes[9],
+        second_hi: bytes[10],
+        gate: may_in(bytes[11]),
+        mode: may_in(bytes[12]),
+        is_kept: bytes[13] == 1,
+    }
+}
+
+#[inline(always)]
+fn vals_in(bytes: &[u8]) -> Registers<Val>
+    requires { 40 ≤ length bytes.now }
+    ensures { result ≡ vals_in bytes.now }
+{
+    Registers {
+        a: val_in(bytes, 19),
+        b: val_in(bytes, 22),
+        c: val_in(bytes, 25),
+        d: val_in(bytes, 28),
+        e: val_in(bytes, 31),
+        h: val_in(bytes, 34),
+        l: val_in(bytes, 37),
+    }
+}
+
+/// The core at the front of bytes that have been checked: each field is read at its place, and not checked again.
+#[inline(always)]
+pub(crate) fn core_in(bytes: &[u8]) -> Core
+    requires { 40 ≤ length bytes.now }
+    ensures { result ≡ core_in bytes.now }
+{
+    let ime = bytes[0];
+    Core {
+        ime: ImeSet {
+            off: ime % 2 == 1,
+            pending: ime / 2 % 2 == 1,
+            on: ime / 4 == 1,
+        },
+        bound: bytes[1],
+        stack_set: bytes[2] == 1,
+        test: if bytes[3] == 1 { Some(bytes[4]) } else { None },
+        ctl: ctl_in(bytes),
+        flags: flg_in(bytes[14], bytes[15]),
+        ie: val_in(bytes, 16),
+        registers: vals_in(bytes),
+    }
+}
+
+#[inline(always)]
+fn begins_with_zero(bytes: &[u8]) -> bool
+    ensures { result ≡ begins_with_zero bytes.now }
+{
+    match bytes {
+        [] => false,
+        [first, ..] => *first == 0,
+    }
+}
+
+/// Whether the numbers of items and of cells behind a core say that there is none.
+#[inline(always)]
+pub(crate) fn are_none(bytes: &[u8]) -> bool
+    ensures { result ≡ are_none bytes.now }
+{
+    match bytes {
+        [] => false,
+        [items, rest @ ..] => *items == 0 && begins_with_zero(rest),
+    }
 }

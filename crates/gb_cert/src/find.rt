@@ -5,7 +5,7 @@ ghost use Rattle.gb_cert.specs.Rules.{key};
 ghost use Rattle.gb_rows.specs.Rows.{IsFound};
 
 use crate::cert::Cert;
-use gb_rows::{Found, Rows, find_in};
+use gb_rows::{Found, Rows, find_in, find_near};
 
 /// The nodes of a certificate, as rows.
 #[derive(Drop)]
@@ -38,5 +38,13 @@ impl<'a> Cert<'a> {
     {
         let _region = self.region();
         find_in(&mut NodeRows { cert: self }, procedure, address)
+    }
+
+    /// The same numbers, by `find_near`: quickly found where they are a little above `near`.
+    pub fn find_near(&self, near: u32, procedure: u8, address: u16) -> Found
+        ensures { IsFound (map key self.now.nodes) (procedure, address) result.first result.after }
+    {
+        let _region = self.region();
+        find_near(&mut NodeRows { cert: self }, near, procedure, address)
     }
 }

@@ -1,10 +1,10 @@
 //! A node of a certificate, in the bytes of its file.
 
-ghost use Rattle.std.specs.Prelude.{◌≡◌};
+ghost use Rattle.std.specs.Prelude.{◌≡◌, false, []};
 ghost use Rattle.std.specs.List.{flat_map};
 ghost use Rattle.gb_cert.specs.Spelling as spelled;
 
-use crate::fields::core_at;
+use crate::fields::{are_none, core_in};
 use crate::role::Role;
 use crate::states::state_at;
 use crate::types::{Abs, Core};
@@ -90,13 +90,40 @@ impl<'a> NodeRef<'a> {
     }
 
     /// The core of its state.
+    #[inline(always)]
     pub fn core(&self) -> Core
         ensures { result ≡ self.now.state.core }
     {
-        match core_at(Role::of(self.procedure), self.state) {
-            Ok((core, _)) => core,
-            Err(_) => unreachable!(),
+        core_in(self.state)
+    }
+
+    /// Whether its state may hold items or cells.
+    #[inline(always)]
+    pub fn has_lists(&self) -> bool
+        ensures { result ≡ false → (self.now.state.items ≡ []) × (self.now.state.cells ≡ []) }
+    {
+        !are_none(from_place(self.state, CORE))
+    }
+
+    /// Its state, in the place of another one. It takes no memory.
+    #[inline(always)]
+    #[tactic(auto, using(crate::proofs::CheckedLaws::plain_state))]
+    pub fn read(&self, state: &mut Abs)
+        ensures { state.new ≡ self.now.state }
+    {
+        if self.has_lists() {
+            self.read_lists(state);
+        } else {
+            state.set_plain(self.core());
         }
+    }
+
+    /// The same where it holds some: kept out of line, so that a state is cleared and copied only then.
+    #[inline(never)]
+    fn read_lists(&self, state: &mut Abs)
+        ensures { state.new ≡ self.now.state }
+    {
+        *state = self.state();
     }
 
     /// Its state. It takes no memory.

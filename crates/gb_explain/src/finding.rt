@@ -49,9 +49,9 @@ fn push_finding(cert: &Cert<'_>, procedure: u8, state: &Abs) -> Option<Finding> 
 }
 
 /// The words that a call would need, where they are too many.
-fn call_finding(cert: &Cert<'_>, procedure: u8, successor: &Successor) -> Option<Finding> {
+fn call_finding(cert: &Cert<'_>, procedure: u8, successor: &Successor<'_>) -> Option<Finding> {
     let callee = callee_at(cert, successor)?;
-    let held = successor.state.items().len();
+    let held = successor.state().items().len();
     let need = need_of(cert, procedure);
     let wanted = need_of(cert, callee);
     let sum = held + 1 + usize::from(wanted);
@@ -121,20 +121,20 @@ fn way_finding(cert: &Cert<'_>, procedure: u8, way: Way, state: &Abs) -> Option<
 }
 
 /// Where a successor goes on, in its procedure or behind a call.
-fn uncovered_finding(cert: &Cert<'_>, procedure: u8, successor: &Successor) -> Option<Finding> {
+fn uncovered_finding(cert: &Cert<'_>, procedure: u8, successor: &Successor<'_>) -> Option<Finding> {
     match successor.target {
         Target::At(address) => {
             let way = Way {
                 behind: None,
                 address,
             };
-            way_finding(cert, procedure, way, &successor.state)
+            way_finding(cert, procedure, way, &successor.state())
         }
         Target::Call(_) => {
             let callee = callee_at(cert, successor)?;
             let exit = exit_of(cert, callee)?;
             let ranges = ranges_of(cert, callee);
-            let resumed = resume(ranges.as_slice(), &successor.state, &exit);
+            let resumed = resume(ranges.as_slice(), &successor.state(), &exit);
             let way = Way {
                 behind: Some(callee),
                 address: successor.next,
@@ -211,12 +211,12 @@ fn range_finding(cert: &Cert<'_>, procedure: u8, callee: u8) -> Option<Finding> 
 }
 
 /// What is in the way of a call.
-fn callee_finding(cert: &Cert<'_>, procedure: u8, successor: &Successor) -> Option<Finding> {
+fn callee_finding(cert: &Cert<'_>, procedure: u8, successor: &Successor<'_>) -> Option<Finding> {
     let Target::Call(address) = successor.target else {
         return None;
     };
     match callee_at(cert, successor) {
-        None => Some(entry_finding(cert, address, &successor.state)),
+        None => Some(entry_finding(cert, address, &successor.state())),
         Some(callee) => range_finding(cert, procedure, callee),
     }
 }
@@ -237,7 +237,7 @@ fn exit_finding(procedure: u8, state: &Abs, exit: &Abs) -> Option<Finding> {
 }
 
 /// What is in the way of a return.
-fn return_finding(cert: &Cert<'_>, procedure: u8, successor: &Successor) -> Option<Finding> {
+fn return_finding(cert: &Cert<'_>, procedure: u8, successor: &Successor<'_>) -> Option<Finding> {
     let Target::Return = successor.target else {
         return None;
     };
@@ -246,7 +246,7 @@ fn return_finding(cert: &Cert<'_>, procedure: u8, successor: &Successor) -> Opti
     }
     match exit_of(cert, procedure) {
         None => Some(plain(Obstacle::NoExit { procedure })),
-        Some(exit) => exit_finding(procedure, &successor.state, &exit),
+        Some(exit) => exit_finding(procedure, &successor.state(), &exit),
     }
 }
 
@@ -255,7 +255,7 @@ fn successor_finding(
     cert: &Cert<'_>,
     procedure: u8,
     reason: Reason,
-    way: &Option<Successor>,
+    way: &Option<Successor<'_>>,
 ) -> Option<Finding> {
     let Some(successor) = way else { return None };
     match reason {
@@ -283,11 +283,13 @@ pub fn finding_of(
         return push_finding(cert, procedure, &state);
     }
     let ways = successors_of(rom, row, node.address(), &state);
-    for way in [&ways.taken, &ways.not_taken, &ways.stays] {
-        let finding = successor_finding(cert, procedure, reason, way);
-        if finding.is_some() {
-            return finding;
-        }
+    let taken = successor_finding(cert, procedure, reason, &ways.taken);
+    if taken.is_some() {
+        return taken;
     }
-    None
+    let not_taken = successor_finding(cert, procedure, reason, &ways.not_taken);
+    if not_taken.is_some() {
+        return not_taken;
+    }
+    successor_finding(cert, procedure, reason, &ways.stays)
 }

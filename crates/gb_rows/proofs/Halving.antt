@@ -3,7 +3,7 @@ use Rattle.std.proofs.Common.{◌≡◌, ℕ, zero, suc, ◌+◌, ◌-◌, ◌*�
 use Rattle.std.specs.Prelude.{slice_get, not}
 use Rattle.std.proofs.lemmas.Bool.Decides.{nat_tests}
 use native.Mathlib.Numerals.{unary_clauses}
-use Rattle.gb_rows.specs.Rows.{is_before, AreInOrder, is_counted, IsFound, AskedAtMost}
+use Rattle.gb_rows.specs.Rows.{is_before, AreInOrder, is_counted, IsBetween, IsFound, AskedAtMost}
 
 earlier : (a b t : ℕ × ℕ) → is_before b a ≡ false → is_before b t ≡ true → is_before a t ≡ true
 earlier a b t o h = grind (arith, nat_tests)
@@ -30,14 +30,6 @@ others-after w t a b o h = by (is_counted w t b) refl
     by false e = refl
     by true e = let f = counted-before w t a b o e in cc
 
--- what halving knows: the rows below low are counted, those from high on are not, and how many keys were asked
-pub record Halving (keys : List (ℕ × ℕ)) (w : Bool) (t : ℕ × ℕ) (before now : ℕ → Type 0) (low high : ℕ) : Type 0 where
-  pub order : low ≤ high
-  pub within : high ≤ length keys
-  pub counted : (i : ℕ) (k : ℕ × ℕ) → i < low → slice_get keys i ≡ Some k → is_counted w t k ≡ true
-  pub others : (i : ℕ) (k : ℕ × ℕ) → high ≤ i → slice_get keys i ≡ Some k → is_counted w t k ≡ false
-  pub asked : (bits : ℕ) → length keys < 2 ^ bits → (n : ℕ) → before n → (m : ℕ) × (k : ℕ) × (m + k ≤ bits) × (high - low < 2 ^ k) × now (n + m)
-
 none_above : (keys : List (ℕ × ℕ)) (i : ℕ) (k : ℕ × ℕ) → length keys ≤ i → slice_get keys i ≡ Some k → ⊥
 none_above keys i k le e = omega (arith, below keys i k e)
   where
@@ -46,14 +38,40 @@ none_above keys i k le e = omega (arith, below keys i k e)
     below (x ∷ xs) zero k e = omega arith
     below (x ∷ xs) (suc i) k e = omega (arith, below xs i k e)
 
-pub halving-begins : (keys : List (ℕ × ℕ)) (w : Bool) (t : ℕ × ℕ) (before : ℕ → Type 0) (high : ℕ) → high ≡ length keys → Halving keys w t before before 0 high
-halving-begins keys w t before high e = record {
+pub between-all : (keys : List (ℕ × ℕ)) (w : Bool) (t : ℕ × ℕ) (high : ℕ) → high ≡ length keys → IsBetween keys w t 0 high
+between-all keys w t high e = record {
   order = omega arith;
   within = omega arith;
   counted = λ i k lt f. absurd (omega arith);
   others = λ i k le f. absurd (none_above keys i k (omega arith) f);
-  asked = λ bits few n a. (0, bits, omega arith, omega arith, subst before (zero-more n) a);
 }
+
+pub between-up : (keys : List (ℕ × ℕ)) (w : Bool) (t : ℕ × ℕ) (low high middle : ℕ) (key : ℕ × ℕ) → AreInOrder keys → middle < high → slice_get keys middle ≡ Some key → is_counted w t key ≡ true
+    → IsBetween keys w t low high → IsBetween keys w t (middle + 1) high
+between-up keys w t low high middle key sorted lt at is h = record {
+  order = omega arith;
+  within = h.within;
+  counted = λ i k below e. counted-before w t k key (sorted i middle k key (omega arith) e at) is;
+  others = h.others;
+}
+
+pub between-down : (keys : List (ℕ × ℕ)) (w : Bool) (t : ℕ × ℕ) (low high middle : ℕ) (key : ℕ × ℕ) → AreInOrder keys → low ≤ middle → middle < high → slice_get keys middle ≡ Some key → is_counted w t key ≡ false
+    → IsBetween keys w t low high → IsBetween keys w t low middle
+between-down keys w t low high middle key sorted le lt at isnt h = record {
+  order = le;
+  within = omega (arith, h.within);
+  counted = h.counted;
+  others = λ i k above e. others-after w t key k (sorted middle i key k (omega arith) at e) isnt;
+}
+
+-- ---- how many keys are asked for
+
+-- what halving knows of them: of so many rows it has asked for some, and the rest are few
+pub record Halving (size : ℕ) (before now : ℕ → Type 0) (left : ℕ) : Type 0 where
+  pub asked : (bits : ℕ) → size < 2 ^ bits → (n : ℕ) → before n → (m : ℕ) × (k : ℕ) × (m + k ≤ bits) × (left < 2 ^ k) × now (n + m)
+
+pub halving-begins : (size : ℕ) (before : ℕ → Type 0) → Halving size before before size
+halving-begins size before = record { asked = λ bits few n a. (0, bits, omega arith, few, subst before (zero-more n) a) }
   where
     zero-more : (n : ℕ) → n ≡ n + 0
     zero-more n = omega arith
@@ -72,38 +90,17 @@ one-more P n m h = subst P (assoc n m) h
     assoc : (n m : ℕ) → n + m + 1 ≡ n + (m + 1)
     assoc n m = omega arith
 
-asked-on : (keys : List (ℕ × ℕ)) (before now next : ℕ → Type 0) (low high bits low2 high2 : ℕ) → low < high → 2 * (high2 - low2) ≤ high - low → ((n : ℕ) → now n → next (n + 1)) → (n : ℕ)
-    → ((m : ℕ) × (k : ℕ) × (m + k ≤ bits) × (high - low < 2 ^ k) × now (n + m)) → (m : ℕ) × (k : ℕ) × (m + k ≤ bits) × (high2 - low2 < 2 ^ k) × next (n + m)
-asked-on keys before now next low high bits low2 high2 lt half step n a =
-    let h = halved (high - low) a.1 (high2 - low2) (omega arith) a.3 half in
+asked-on : (before now next : ℕ → Type 0) (left bits left2 : ℕ) → 0 < left → 2 * left2 ≤ left → ((n : ℕ) → now n → next (n + 1)) → (n : ℕ)
+    → ((m : ℕ) × (k : ℕ) × (m + k ≤ bits) × (left < 2 ^ k) × now (n + m)) → (m : ℕ) × (k : ℕ) × (m + k ≤ bits) × (left2 < 2 ^ k) × next (n + m)
+asked-on before now next left bits left2 some half step n a =
+    let h = halved left a.1 left2 some a.3 half in
     (a.0 + 1, h.0, omega (arith, a.2, h.1), h.2, one-more next n a.0 (step (n + a.0) a.4))
 
-pub halving-up : (keys : List (ℕ × ℕ)) (w : Bool) (t : ℕ × ℕ) (before now next : ℕ → Type 0) (low high middle : ℕ) (key : ℕ × ℕ) → AreInOrder keys → low < high → middle ≡ low + (high - low) / 2 → slice_get keys middle ≡ Some key → is_counted w t key ≡ true
-    → ((n : ℕ) → now n → next (n + 1)) → Halving keys w t before now low high → Halving keys w t before next (middle + 1) high
-halving-up keys w t before now next low high middle key sorted lt mid at is step h =
-    let half : 2 * (high - (middle + 1)) ≤ high - low = omega arith in
-    record {
-      order = omega arith;
-      within = h.within;
-      counted = λ i k below e. counted-before w t k key (sorted i middle k key (omega arith) e at) is;
-      others = h.others;
-      asked = λ bits few n a. asked-on keys before now next low high bits (middle + 1) high lt half step n (h.asked bits few n a);
-    }
+pub halving-on : (size : ℕ) (before now next : ℕ → Type 0) (left left2 : ℕ) → 0 < left → 2 * left2 ≤ left → ((n : ℕ) → now n → next (n + 1)) → Halving size before now left → Halving size before next left2
+halving-on size before now next left left2 some half step h = record { asked = λ bits few n a. asked-on before now next left bits left2 some half step n (h.asked bits few n a) }
 
-pub halving-down : (keys : List (ℕ × ℕ)) (w : Bool) (t : ℕ × ℕ) (before now next : ℕ → Type 0) (low high middle : ℕ) (key : ℕ × ℕ) → AreInOrder keys → low < high → middle ≡ low + (high - low) / 2 → slice_get keys middle ≡ Some key → is_counted w t key ≡ false
-    → ((n : ℕ) → now n → next (n + 1)) → Halving keys w t before now low high → Halving keys w t before next low middle
-halving-down keys w t before now next low high middle key sorted lt mid at isnt step h =
-    let half : 2 * (middle - low) ≤ high - low = omega arith in
-    record {
-      order = omega arith;
-      within = omega (arith, h.within);
-      counted = h.counted;
-      others = λ i k above e. others-after w t key k (sorted middle i key k (omega arith) at e) isnt;
-      asked = λ bits few n a. asked-on keys before now next low high bits low middle lt half step n (h.asked bits few n a);
-    }
-
-pub halving-done : (keys : List (ℕ × ℕ)) (w : Bool) (t : ℕ × ℕ) (before now : ℕ → Type 0) (low high bits : ℕ) → Halving keys w t before now low high → length keys < 2 ^ bits → AskedAtMost before now bits
-halving-done keys w t before now low high bits h few n a =
+pub halving-done : (size : ℕ) (before now : ℕ → Type 0) (left bits : ℕ) → Halving size before now left → size < 2 ^ bits → AskedAtMost before now bits
+halving-done size before now left bits h few n a =
     let p = h.asked bits few n a in
     (p.0, omega (arith, p.2), p.4)
 
@@ -126,13 +123,7 @@ some-at [] i h = absurd (omega arith)
 some-at (x ∷ xs) zero h = (x, refl)
 some-at (x ∷ xs) (suc i) h = some-at xs i (omega arith)
 
--- what a count says
-pub record IsCount (keys : List (ℕ × ℕ)) (w : Bool) (t : ℕ × ℕ) (count : ℕ) : Type 0 where
-  pub within : count ≤ length keys
-  pub counted : (i : ℕ) (k : ℕ × ℕ) → i < count → slice_get keys i ≡ Some k → is_counted w t k ≡ true
-  pub others : (i : ℕ) (k : ℕ × ℕ) → count ≤ i → slice_get keys i ≡ Some k → is_counted w t k ≡ false
-
-pub counts-found : (keys : List (ℕ × ℕ)) (t : ℕ × ℕ) (first after : ℕ) → IsCount keys false t first → IsCount keys true t after → IsFound keys t first after
+pub counts-found : (keys : List (ℕ × ℕ)) (t : ℕ × ℕ) (first after : ℕ) → IsBetween keys false t first first → IsBetween keys true t after after → IsFound keys t first after
 counts-found keys t first after f a = record {
   order = order;
   within = a.within;

@@ -14,6 +14,13 @@ abbrev pub is_counted : Bool → ℕ × ℕ → ℕ × ℕ → Bool
 is_counted true target key = not (is_before target key)
 is_counted false target key = is_before key target
 
+-- The rows below low are counted, and those from high on are not: the number of those that are lies between them.
+pub record IsBetween (keys : List (ℕ × ℕ)) (with_targets : Bool) (target : ℕ × ℕ) (low high : ℕ) : Type 0 where
+  pub order : low ≤ high
+  pub within : high ≤ length keys
+  pub counted : (i : ℕ) (k : ℕ × ℕ) → i < low → slice_get keys i ≡ Some k → is_counted with_targets target k ≡ true
+  pub others : (i : ℕ) (k : ℕ × ℕ) → high ≤ i → slice_get keys i ≡ Some k → is_counted with_targets target k ≡ false
+
 -- The rows with this key are those from first to below after.
 pub record IsFound (keys : List (ℕ × ℕ)) (key : ℕ × ℕ) (first after : ℕ) : Type 0 where
   pub order : first ≤ after

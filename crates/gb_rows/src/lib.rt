@@ -2,8 +2,8 @@
 //! they are, and how many keys it asks for at most.
 #![tactic(auto)]
 
-ghost use Rattle.std.specs.Prelude.{◌≡◌, ℕ, ◌+◌, ◌*◌, ◌^◌, ◌≤◌, ◌<◌, true, false, List, length, slice_get, Some};
-ghost use Rattle.gb_rows.specs.Rows.{is_before, AreInOrder, is_counted, IsFound, AskedAtMost};
+ghost use Rattle.std.specs.Prelude.{◌≡◌, ℕ, ◌+◌, ◌-◌, ◌*◌, ◌^◌, ◌≤◌, ◌<◌, true, false, List, length, slice_get, Some};
+ghost use Rattle.gb_rows.specs.Rows.{is_before, AreInOrder, is_counted, IsBetween, IsFound, AskedAtMost};
 
 /// Rows, each with a key: a procedure's number and an address. Contracts see the keys, and how
 /// many of them have been asked for.
@@ -52,17 +52,23 @@ fn is_counted(with_targets: bool, target: (u8, u16), key: (u8, u16)) -> bool
     }
 }
 
-/// The number of rows that come before a target, or, with the targets, that may be the target too.
-fn count_before<R: Rows>(rows: &mut R, with_targets: bool, target: (u8, u16)) -> u32
-    requires { AreInOrder (R.keys rows.old) }
-    ensures within { result ≤ length (R.keys rows.old) }
-    ensures counted { (i : ℕ) (k : ℕ × ℕ) → i < result → slice_get (R.keys rows.old) i ≡ Some k → is_counted with_targets target k ≡ true }
-    ensures others { (i : ℕ) (k : ℕ × ℕ) → result ≤ i → slice_get (R.keys rows.old) i ≡ Some k → is_counted with_targets target k ≡ false }
+/// The number of rows that come before a target, or, with the targets, that may be the target too: it lies from low
+/// to high.
+fn count_between<R: Rows>(
+    rows: &mut R,
+    with_targets: bool,
+    target: (u8, u16),
+    from: u32,
+    to: u32,
+) -> u32
+    requires order { AreInOrder (R.keys rows.old) }
+    requires between { IsBetween (R.keys rows.old) with_targets target from to }
+    ensures count { IsBetween (R.keys rows.old) with_targets target result result }
     ensures same { R.keys rows.new ≡ R.keys rows.old }
-    ensures asked { (bits : ℕ) → length (R.keys rows.old) < 2 ^ bits → AskedAtMost (R.asked rows.old) (R.asked rows.new) bits }
+    ensures asked { (bits : ℕ) → to - from < 2 ^ bits → AskedAtMost (R.asked rows.old) (R.asked rows.new) bits }
 {
-    let mut low = 0;
-    let mut high = rows.len();
+    let mut low = from;
+    let mut high = to;
     while low < high {
         let middle = low + (high - low) / 2;
         let key = rows.key(middle);
@@ -73,6 +79,51 @@ fn count_before<R: Rows>(rows: &mut R, with_targets: bool, target: (u8, u16)) ->
         }
     }
     low
+}
+
+/// The same number, among all rows.
+fn count_before<R: Rows>(rows: &mut R, with_targets: bool, target: (u8, u16)) -> u32
+    requires { AreInOrder (R.keys rows.old) }
+    ensures count { IsBetween (R.keys rows.old) with_targets target result result }
+    ensures same { R.keys rows.new ≡ R.keys rows.old }
+    ensures asked { (bits : ℕ) → length (R.keys rows.old) < 2 ^ bits → AskedAtMost (R.asked rows.old) (R.asked rows.new) bits }
+{
+    let after = rows.len();
+    count_between(rows, with_targets, target, 0, after)
+}
+
+/// Numbers that it lies between, found from a row on by steps that double: few keys are asked for where it is a
+/// little above that row's.
+fn bracket<R: Rows>(rows: &mut R, with_targets: bool, target: (u8, u16), near: u32) -> (u32, u32)
+    requires { AreInOrder (R.keys rows.old) }
+    ensures between { IsBetween (R.keys rows.old) with_targets target result.0 result.1 }
+    ensures same { R.keys rows.new ≡ R.keys rows.old }
+{
+    let mut low = 0;
+    let mut high = rows.len();
+    let mut probe = near;
+    let mut step: u32 = 0;
+    while probe < high {
+        let key = rows.key(probe);
+        if is_counted(with_targets, target, key) {
+            low = probe + 1;
+            probe = low.saturating_add(step);
+            step = step.saturating_mul(2).saturating_add(1);
+        } else {
+            high = probe;
+        }
+    }
+    (low, high)
+}
+
+/// The same number, looked for from a row on.
+fn count_near<R: Rows>(rows: &mut R, with_targets: bool, target: (u8, u16), near: u32) -> u32
+    requires { AreInOrder (R.keys rows.old) }
+    ensures count { IsBetween (R.keys rows.old) with_targets target result result }
+    ensures same { R.keys rows.new ≡ R.keys rows.old }
+{
+    let (low, high) = bracket(rows, with_targets, target, near);
+    count_between(rows, with_targets, target, low, high)
 }
 
 /// The rows with a key, among rows in order. Among fewer than 2 ^ n rows it asks for at most
@@ -88,5 +139,17 @@ pub fn find_in<R: Rows>(rows: &mut R, procedure: u8, address: u16) -> Found
     let key = (procedure, address);
     let first = count_before(rows, false, key);
     let after = count_before(rows, true, key);
+    Found { first, after }
+}
+
+/// The same rows, looked for from a row on: few keys are asked for where they are a little behind it.
+pub fn find_near<R: Rows>(rows: &mut R, near: u32, procedure: u8, address: u16) -> Found
+    requires { AreInOrder (R.keys rows.old) }
+    ensures found { IsFound (R.keys rows.old) (procedure, address) result.first result.after }
+    ensures same { R.keys rows.new ≡ R.keys rows.old }
+{
+    let key = (procedure, address);
+    let first = count_near(rows, false, key, near);
+    let after = count_near(rows, true, key, first);
     Found { first, after }
 }

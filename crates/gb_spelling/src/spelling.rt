@@ -122,7 +122,8 @@ fn bare(op: Op) -> &'static str {
         Op::JumpHl => "JP HL",
         Op::DisableInterrupts => "DI",
         Op::EnableInterrupts => "EI",
+        Op::Nop => "NOP",
         // All others are printed with their operands.
-        _ => "NOP",
+        _ => "?",
     }
 }

@@ -36,7 +36,7 @@ use Rattle.gb_abs_memory.specs.Sound.{IsRom, IsStored, view}
 use Rattle.gb_abs_memory.proofs.LoadLaws.{IsLoaded-loaded_val}
 use Rattle.gb_abs_memory.proofs.StoreLaws.{IsSoundStore-stored_state, stored-view}
 use Rattle.gb_abs_memory.proofs.AfterStoreLaws.{is_store_limited-stored, store_meets_closed_ram-stored}
-use Rattle.gb_successors.specs.Successors.{read_item, behind, written, starts}
+use Rattle.gb_successors.specs.Behind.{read_item, behind, written, starts}
 use Rattle.gb_successors.specs.Refused.{is_unstorable, reads_closed_ram, writes_closed_ram, is_stack_limited, is_read_limited, is_write_limited}
 use Rattle.gb_abs_memory.specs.Kept.{IsKept}
 use Rattle.gb_successors.proofs.PlainLaws.{Keeps, IsPlainRead, IsPlainWrite}

@@ -1,3 +1,4 @@
+pub mod MovedLaws
 pub mod PlainLaws
 pub mod AccessLaws
 pub mod WordLaws

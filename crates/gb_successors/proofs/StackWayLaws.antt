@@ -48,8 +48,9 @@ use Rattle.gb_abs_effects.proofs.ReadLaws.{read_of_sound}
 use Rattle.gb_abs_effects.proofs.TargetLaws.{sp-pushed, sp-popped, pc-returned}
 use Rattle.gb_abs_memory.specs.Sound.{view}
 use Rattle.gb_abs_memory.specs.Kept.{IsKept}
-use Rattle.gb_successors.specs.declared.successor.Successor.{Successor}
-use Rattle.gb_successors.specs.Successors.{read_item, written, starts, with_stack_of, ended, taken_successor}
+use Rattle.gb_successors.specs.Way.{Successor}
+use Rattle.gb_successors.specs.Behind.{read_item, written, starts, with_stack_of, ended}
+use Rattle.gb_successors.specs.Successors.{taken_successor}
 use Rattle.gb_successors.specs.Refused.{reads_closed_ram, is_stack_limited, is_read_limited, is_write_limited}
 use Rattle.gb_successors.specs.Sound.{words_behind, IsPushable, IsPoppable, IsReturnable, IsStackKnown, IsStackFit, IsAllowed, Leads, LeadsTo}
 use Rattle.gb_successors.specs.Words.{item_or_any, word_item}

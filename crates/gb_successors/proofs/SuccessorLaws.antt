@@ -47,8 +47,9 @@ use Rattle.gb_abs_effects.proofs.TargetLaws.{target_of_sound, sp-kept, sp-loaded
 use Rattle.gb_abs_effects.proofs.TransferLaws.{transfer_sound}
 use Rattle.gb_abs_memory.specs.Sound.{view, AreVals}
 use Rattle.gb_abs_memory.proofs.LoadLaws.{IsVal-loaded_val}
-use Rattle.gb_successors.specs.declared.successor.Successor.{Successor}
-use Rattle.gb_successors.specs.Successors.{read_item, written, starts, with_stack_of, ended, taken_successor}
+use Rattle.gb_successors.specs.Way.{Successor}
+use Rattle.gb_successors.specs.Behind.{read_item, written, starts, with_stack_of, ended}
+use Rattle.gb_successors.specs.Successors.{taken_successor}
 use Rattle.gb_successors.specs.Refused.{is_unstorable, meets_closed, meets_oam_transfer, reads_closed_ram, writes_closed_ram, is_read_limited, is_write_limited}
 use Rattle.gb_successors.specs.Sound.{words_behind, IsAllowed, Leads, LeadsTo, Stands, IsRuled}
 use Rattle.gb_successors.specs.Words.{item_or_any}

@@ -39,7 +39,8 @@ use Rattle.gb_abs_effects.proofs.SideLaws.{sides_of_sound, sides_of_inhabited}
 use Rattle.gb_abs_effects.proofs.TransferLaws.{untaken_sound}
 use Rattle.gb_abs_memory.specs.Sound.{view}
 use Rattle.gb_successors.specs.declared.successors.Successors.{Successors}
-use Rattle.gb_successors.specs.Successors.{starts, written, with_stack_of, ended, taken_successor, untaken_successor, staying_successor, woken, may_stay, stays, successors_of}
+use Rattle.gb_successors.specs.Behind.{starts, written, with_stack_of, ended}
+use Rattle.gb_successors.specs.Successors.{taken_successor, untaken_successor, staying_successor, woken, may_stay, stays, successors_of}
 use Rattle.gb_successors.specs.Sound.{words_behind, Leads, LeadsTo, LeadsBy, IsHalt, Stands, IsRuled, Executes, AreSoundSuccessors}
 use Rattle.gb_successors.proofs.PlainLaws.{Keeps-both, Keeps-settle, Keeps-not_taken}
 use Rattle.gb_successors.proofs.MarkLaws.{executed_mark}

@@ -17,7 +17,7 @@ use Rattle.gb_abs_effects.specs.declared.targets.Target.TheVariants as target
 use Rattle.gb_abs_effects.specs.Accesses.{read_of}
 use Rattle.gb_abs_effects.specs.Targets.{target_of, is_push, is_pop, is_call, is_return}
 use Rattle.gb_abs_effects.specs.Transfer.{transfer}
-use Rattle.gb_successors.specs.Successors.{with_stack_of, pushed_if_room}
+use Rattle.gb_successors.specs.Behind.{with_stack_of, pushed_if_room}
 
 -- PUSH
 pub record IsPush (o : Op) (next : ℕ) (c : Core) (low high : Val) : Type 0 where

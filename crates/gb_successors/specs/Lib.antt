@@ -1,4 +1,6 @@
+pub mod Behind
 pub mod Successors
 pub mod Refused
 pub mod Sound
 pub mod Words
+pub mod Way

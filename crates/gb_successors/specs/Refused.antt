@@ -13,8 +13,8 @@ use Rattle.gb_abs_effects.specs.declared.writes.AbsWrite.TheVariants as write
 use Rattle.gb_abs_effects.specs.declared.targets.Target.{Target}
 use Rattle.gb_abs_effects.specs.declared.targets.Target.TheVariants as target
 use Rattle.gb_abs_memory.specs.Access.{is_storable, meets_closed_ram, store_meets_closed_ram, is_limited, is_store_limited}
-use Rattle.gb_successors.specs.declared.successor.Successor.{Successor}
-use Rattle.gb_successors.specs.Successors.{behind}
+use Rattle.gb_successors.specs.Way.{Successor}
+use Rattle.gb_successors.specs.Behind.{behind}
 
 -- a write that may lie where no store is allowed; both bytes of a word are asked for
 unfoldable pub is_unstorable : Kind → Region → List Range → AbsWrite → Bool

@@ -26,7 +26,7 @@ use Rattle.gb_abs_effects.specs.Sound.{HasBytes}
 use Rattle.gb_abs_effects.specs.Targets.{moves_sp, is_push, is_pop, is_call, is_return}
 use Rattle.gb_abs_memory.specs.Kept.{IsKept}
 use Rattle.gb_abs_memory.specs.Sound.{IsRom, AreVals}
-use Rattle.gb_successors.specs.declared.successor.Successor.{Successor}
+use Rattle.gb_successors.specs.Way.{Successor}
 use Rattle.gb_successors.specs.declared.successors.Successors.{Successors}
 use Rattle.gb_successors.specs.Refused.{is_unstorable, meets_closed, meets_oam_transfer}
 use Rattle.gb_successors.specs.Words.{word_item}

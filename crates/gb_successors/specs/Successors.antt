@@ -1,72 +1,24 @@
 -- The possible successors of an instruction (abstract interpretation: abstract semantics; own).
-use Rattle.std.specs.Prelude.{ℕ, ◌+◌, ◌%◌, Bool, true, false, ◌&&◌, ◌||◌, if◌then◌else◌, ◌==◌, List, [], length, Option, Some, None, option_map}
-use Rattle.gb_ops.specs.declared.machine.Kind.{Kind}
-use Rattle.gb_ops.specs.declared.op.Pair.TheVariants as pair
+use Rattle.std.specs.Prelude.{ℕ, ◌+◌, ◌%◌, Bool, false, ◌&&◌, ◌||◌, if◌then◌else◌, List, length, Option, Some, None, option_map}
 use Rattle.gb_ops.specs.declared.op.Op.{Op}
 use Rattle.gb_ops.specs.declared.op.Op.TheVariants as op
 use Rattle.gb_ops.specs.declared.op.Row.{Row}
 use Rattle.gb_ops.specs.Cartridge.{kind_of}
 use Rattle.gb_cert.specs.declared.types.Core.{Core}
-use Rattle.gb_cert.specs.declared.types.Item.{Item}
-use Rattle.gb_cert.specs.Types.{AbsState, any_item}
-use Rattle.gb_vals.specs.Vals.{any_val}
+use Rattle.gb_cert.specs.Types.{AbsState}
 use Rattle.gb_vals.specs.Bits.{may_enable}
 use Rattle.gb_abs.specs.Span.{one}
-use Rattle.gb_abs.specs.Operations.{core_settle, core_end, with_core}
-use Rattle.gb_abs.specs.Stack.{pushed, popped, youngest}
-use Rattle.gb_abs_effects.specs.declared.reads.AbsRead.{AbsRead}
+use Rattle.gb_abs.specs.Operations.{core_settle, with_core}
 use Rattle.gb_abs_effects.specs.declared.reads.AbsRead.TheVariants as read
-use Rattle.gb_abs_effects.specs.declared.writes.AbsWrite.{AbsWrite}
 use Rattle.gb_abs_effects.specs.declared.writes.AbsWrite.TheVariants as write
 use Rattle.gb_abs_effects.specs.declared.targets.Target.TheVariants as target
 use Rattle.gb_abs_effects.specs.Accesses.{read_of}
 use Rattle.gb_abs_effects.specs.Sides.{sides_of}
 use Rattle.gb_abs_effects.specs.Targets.{target_of}
 use Rattle.gb_abs_effects.specs.Transfer.{transfer, only_on}
-use Rattle.gb_abs_memory.specs.Access.{loaded_val, stored_state, starts_oam_transfer}
-use Rattle.gb_successors.specs.declared.successor.Successor.{Successor}
+use Rattle.gb_successors.specs.Way.{Successor}
 use Rattle.gb_successors.specs.declared.successors.Successors.{Successors}
-use Rattle.gb_successors.specs.Words.{item_or_any}
-
--- ---- accesses
-
--- what is known of what is read: of a byte, or of the word that was pushed last
-unfoldable pub read_item : List ℕ → AbsState → AbsRead → Item
-read_item rom s (read.Byte span) = record { high = any_val; low = loaded_val rom s span }
-read_item rom s read.Top = item_or_any (youngest s)
-read_item rom s _ = any_item
-
--- the address behind an address
-abbrev pub behind : ℕ → ℕ
-behind a = (a + 1) % 65536
-
--- the states after a write: a word is two stores, the low byte first; a word that is pushed changes no cell
-unfoldable pub written : Kind → AbsWrite → AbsState → AbsState
-written k (write.Byte span v) s = stored_state k span v s
-written k (write.Word a low high) s = stored_state k (one (behind a)) high (stored_state k (one a) low s)
-written k _ s = s
-
--- the write starts an OAM transfer
-unfoldable pub starts : AbsWrite → Bool
-starts (write.Byte span v) = starts_oam_transfer span
-starts (write.Word a low high) = starts_oam_transfer (one a) || starts_oam_transfer (one (behind a))
-starts _ = false
-
--- a word is pushed, where fewer than 16 are held; PUSH is refused where there are 16
-unfoldable pub pushed_if_room : Item → AbsState → AbsState
-pushed_if_room i s = if length s.items == 16 then s else pushed i s
-
--- LD SP,n16 sets the stack, with no words on it; PUSH pushes what it writes, and POP pops. A return address belongs to
--- the callee: it is no word of its caller's.
-unfoldable pub with_stack_of : Op → AbsWrite → AbsState → AbsState
-with_stack_of (op.LoadPair pair.Sp w) what s = record { core = record s.core { stack_set = true }; items = []; cells = s.cells }
-with_stack_of (op.Push from) (write.Push high low) s = pushed_if_room (record { high = high; low = low }) s
-with_stack_of (op.Pop to) what s = popped s
-with_stack_of _ what s = s
-
--- an instruction of n M-cycles has ended
-unfoldable pub ended : Bool → ℕ → AbsState → AbsState
-ended is_started n s = with_core s (core_end is_started n s.core)
+use Rattle.gb_successors.specs.Behind.{read_item, behind, written, starts, with_stack_of, ended}
 
 -- ---- successors
 

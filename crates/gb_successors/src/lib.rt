@@ -3,9 +3,10 @@
 //! the states behind it. Whatever the machine does from a state that the node's state stands for is
 //! one of them, as long as its accesses are not refused (`Sound` of the definitions).
 //!
-//! Read `successor`, then `successors`, and `refused`: what refuses a successor.
+//! Read `way`, `successor`, then `successors`, and `refused`: what refuses a successor.
 #![tactic(auto)]
 
 pub mod refused;
 pub mod successor;
 pub mod successors;
+pub mod way;

@@ -97,7 +97,7 @@ fn is_write_limited(region: Region, core: &Core, write: AbsWrite) -> bool
 
 /// Whether an access of the way on may meet cartridge RAM while it is closed, at this gate.
 #[tactic(auto, unfolding(crate::specs::Refused::meets_closed))]
-fn meets_closed(rom: &Rom<'_>, core: &Core, successor: &Successor) -> bool
+fn meets_closed(rom: &Rom<'_>, core: &Core, successor: &Successor<'_>) -> bool
     ensures { result ≡ Refused.meets_closed rom.now core.now successor.now }
 {
     reads_closed_ram(rom, core, successor.read) || writes_closed_ram(rom, core, successor.write)
@@ -105,7 +105,7 @@ fn meets_closed(rom: &Rom<'_>, core: &Core, successor: &Successor) -> bool
 
 /// Whether an OAM transfer may close an access of the way on, at this bound, or start unseen.
 #[tactic(auto, unfolding(crate::specs::Refused::meets_oam_transfer))]
-fn meets_oam_transfer(region: Region, core: &Core, successor: &Successor) -> bool
+fn meets_oam_transfer(region: Region, core: &Core, successor: &Successor<'_>) -> bool
     ensures { result ≡ Refused.meets_oam_transfer region core.now successor.now }
 {
     is_read_limited(region, core, successor.read) || is_write_limited(region, core, successor.write)
@@ -118,7 +118,7 @@ fn is_unknown(target: Target) -> bool
     matches!(target, Target::Unknown)
 }
 
-fn has_unstorable(kind: Kind, region: Region, ranges: &[Range], way: &Option<Successor>) -> bool
+fn has_unstorable(kind: Kind, region: Region, ranges: &[Range], way: &Option<Successor<'_>>) -> bool
     ensures { result ≡ has (λ t. Refused.is_unstorable kind region ranges.now t.write) way.now }
 {
     match way {
@@ -127,7 +127,7 @@ fn has_unstorable(kind: Kind, region: Region, ranges: &[Range], way: &Option<Suc
     }
 }
 
-fn has_closed(rom: &Rom<'_>, core: &Core, way: &Option<Successor>) -> bool
+fn has_closed(rom: &Rom<'_>, core: &Core, way: &Option<Successor<'_>>) -> bool
     ensures { result ≡ has (Refused.meets_closed rom.now core.now) way.now }
 {
     match way {
@@ -136,7 +136,7 @@ fn has_closed(rom: &Rom<'_>, core: &Core, way: &Option<Successor>) -> bool
     }
 }
 
-fn has_limited(region: Region, core: &Core, way: &Option<Successor>) -> bool
+fn has_limited(region: Region, core: &Core, way: &Option<Successor<'_>>) -> bool
     ensures { result ≡ has (Refused.meets_oam_transfer region core.now) way.now }
 {
     match way {
@@ -145,7 +145,7 @@ fn has_limited(region: Region, core: &Core, way: &Option<Successor>) -> bool
     }
 }
 
-fn has_unknown(way: &Option<Successor>) -> bool
+fn has_unknown(way: &Option<Successor<'_>>) -> bool
     ensures { result ≡ has (λ t. Refused.is_unknown t.target) way.now }
 {
     match way {
@@ -154,7 +154,7 @@ fn has_unknown(way: &Option<Successor>) -> bool
     }
 }
 
-impl Successors {
+impl<'a> Successors<'a> {
     ghost use Rattle.gb_successors.specs.Successors.{any_successor};
     ghost use Rattle.gb_successors.specs.Refused as Refused;
 

@@ -1,37 +1,27 @@
-//! One successor of an instruction.
+//! How the successors of an instruction come about.
 
-ghost use Rattle.std.specs.Prelude.{◌≡◌, [], true};
+ghost use Rattle.std.specs.Prelude.{◌≡◌};
 ghost use Rattle.gb_cert.specs.Types.{any_item};
-ghost use Rattle.gb_abs.specs.Stack.{youngest, popped};
+ghost use Rattle.gb_abs.specs.Operations.{with_core};
+ghost use Rattle.gb_abs.specs.Stack.{youngest};
+ghost use Rattle.gb_successors.specs.Behind as Behind;
 ghost use Rattle.gb_successors.specs.Successors as Succession;
 ghost use Rattle.gb_successors.specs.Words.{item_or_any};
 
-use arrayvec::ArrayVec;
+pub use crate::way::{Moved, Successor};
 use gb_abs::operations::end;
 use gb_abs::span::Span;
-use gb_abs::stack::{pop, push};
 use gb_abs_effects::reads::{AbsRead, read_of};
 use gb_abs_effects::targets::{Target, target_of};
 use gb_abs_effects::transfer::transfer;
 use gb_abs_effects::writes::AbsWrite;
-use gb_abs_memory::load::loaded_val;
-use gb_abs_memory::store::{starts_oam_transfer, store_in};
+use gb_abs_memory::load::loaded_by;
+use gb_abs_memory::store::{Area, area_of, starts_oam_transfer, stored_core};
 use gb_cert::types::{Abs, Core, ImeSet, Item};
 use gb_header::Rom;
 use gb_ops::machine::Kind;
 use gb_ops::op::{Op, Pair, Row};
 use gb_vals::vals::any;
-
-/// One way on from an instruction: what it reads and writes besides its own bytes, where it goes on,
-/// the address behind it, where a call returns to, and the states behind it.
-#[derive(Drop)]
-pub struct Successor {
-    pub read: AbsRead,
-    pub write: AbsWrite,
-    pub target: Target,
-    pub next: u16,
-    pub state: Abs,
-}
 
 /// Any word.
 fn any_item() -> Item
@@ -55,40 +45,24 @@ fn top_item(state: &Abs) -> Item
 }
 
 /// What is known of what is read: of a byte, or of the word that was pushed last.
-#[tactic(auto, unfolding(crate::specs::Successors::read_item))]
-fn read_item(rom: &Rom<'_>, state: &Abs, read: AbsRead) -> Item
-    ensures { result ≡ Succession.read_item rom.now state.now read }
+#[tactic(auto, unfolding(crate::specs::Behind::read_item))]
+fn read_item(rom: &Rom<'_>, state: &Abs, core: &Core, read: AbsRead) -> Item
+    ensures { result ≡ Behind.read_item rom.now (with_core state.now core.now) read }
 {
     match read {
         AbsRead::Byte(span) => Item {
             high: any(),
-            low: loaded_val(rom, state, span),
+            low: loaded_by(rom, core, state, span),
         },
         AbsRead::Top => top_item(state),
         AbsRead::Nothing => any_item(),
     }
 }
 
-/// A write changes the states. A word is two stores, the low byte first. A word that is
-/// pushed changes no cell.
-#[tactic(auto, unfolding(crate::specs::Successors::written))]
-fn write(kind: Kind, write: AbsWrite, state: &mut Abs)
-    ensures { state.new ≡ Succession.written kind write state.old }
-{
-    match write {
-        AbsWrite::Byte(span, val) => store_in(kind, span, &val, state),
-        AbsWrite::Word(address, low, high) => {
-            store_in(kind, Span::one(address), &low, state);
-            store_in(kind, Span::one(address.wrapping_add(1)), &high, state);
-        }
-        AbsWrite::Nothing | AbsWrite::Push { .. } => {}
-    }
-}
-
 /// Whether a write starts an OAM transfer.
-#[tactic(auto, unfolding(crate::specs::Successors::starts))]
+#[tactic(auto, unfolding(crate::specs::Behind::starts))]
 fn starts(write: AbsWrite) -> bool
-    ensures { result ≡ Succession.starts write }
+    ensures { result ≡ Behind.starts write }
 {
     match write {
         AbsWrite::Byte(span, _) => starts_oam_transfer(span),
@@ -100,113 +74,132 @@ fn starts(write: AbsWrite) -> bool
     }
 }
 
-/// Its stack gets set, with no words on it.
-fn set_stack(state: &mut Abs)
-    ensures { state.new ≡ record { core = record state.old.core { stack_set = true }; items = []; cells = state.old.cells } }
-{
-    state.set_core(Core {
-        stack_set: true,
-        ..*state.core()
-    });
-    state.set_items(ArrayVec::new());
-}
-
-/// The state with a word pushed, where fewer than 16 are held. PUSH is refused where there are 16.
-#[tactic(auto, unfolding(crate::specs::Successors::pushed_if_room))]
-fn pushed_if_room(item: Item, state: &Abs) -> Abs
-    ensures { result ≡ Succession.pushed_if_room item state.now }
-{
-    match push(state, item) {
-        Some(pushed) => pushed,
-        None => state.copied(),
-    }
-}
-
-/// The state without the word that was pushed last, if there is one.
-#[tactic(auto, using(crate::proofs::WordLaws::popped_empty))]
-fn popped_state(state: &Abs) -> Abs
-    ensures { result ≡ popped state.now }
-{
-    if state.items().is_empty() {
-        return state.copied();
-    }
-    match pop(state) {
-        Some(popped) => popped.state,
-        None => state.copied(),
-    }
-}
-
-/// What an instruction does to the stack: LD SP,n16 sets it, PUSH pushes what it writes, and POP pops.
-/// A return address belongs to the callee: it is no word of its caller's.
-#[tactic(auto, unfolding(crate::specs::Successors::with_stack_of))]
-fn move_stack(op: Op, write: AbsWrite, state: &mut Abs)
-    ensures { state.new ≡ Succession.with_stack_of op write state.old }
+/// Whether an instruction moves the stack.
+#[tactic(auto, unfolding(crate::specs::Behind::moves_stack))]
+fn moves_stack(op: Op, write: AbsWrite) -> bool
+    ensures { result ≡ Behind.moves_stack op write }
 {
     match (op, write) {
-        (Op::LoadPair(Pair::Sp, _), _) => set_stack(state),
-        (Op::Push(_), AbsWrite::Push { high, low }) => {
-            *state = pushed_if_room(Item { high, low }, state);
-        }
-        (Op::Pop(_), _) => *state = popped_state(state),
-        _ => {}
+        (Op::LoadPair(Pair::Sp, _), _) => true,
+        (Op::Push(_), AbsWrite::Push { .. }) => true,
+        (Op::Pop(_), _) => true,
+        _ => false,
     }
 }
 
-/// An instruction has ended, which started an OAM transfer or didn't.
-#[tactic(auto, unfolding(crate::specs::Successors::ended))]
-fn end_instruction(is_started: bool, cycles: u8, state: &mut Abs)
-    ensures { state.new ≡ Succession.ended is_started cycles state.old }
+fn is_in_ram(area: Option<Area>) -> bool
+    ensures { result ≡ Behind.is_in_ram area }
 {
-    state.set_core(end(is_started, cycles, state.core()));
+    matches!(area, Some(Area::Ram))
+}
+
+/// Whether a write may change a cell.
+#[tactic(auto, unfolding(crate::specs::Behind::changes_cells))]
+fn changes_cells(kind: Kind, write: AbsWrite) -> bool
+    ensures { result ≡ Behind.changes_cells kind write }
+{
+    match write {
+        AbsWrite::Byte(span, _) => is_in_ram(area_of(kind, span)),
+        AbsWrite::Word(_, _, _) => true,
+        AbsWrite::Nothing | AbsWrite::Push { .. } => false,
+    }
+}
+
+/// What changes words or cells, if something does.
+#[tactic(auto, unfolding(crate::specs::Behind::move_of))]
+fn move_of(kind: Kind, op: Op, write: AbsWrite) -> Option<Moved>
+    ensures { result ≡ Behind.move_of kind op write }
+{
+    if moves_stack(op, write) || changes_cells(kind, write) {
+        Some(Moved { kind, op })
+    } else {
+        None
+    }
+}
+
+/// The core behind an instruction that may move the stack.
+#[tactic(auto, unfolding(crate::specs::Behind::stack_core))]
+fn stack_core(op: Op, core: Core) -> Core
+    ensures { result ≡ Behind.stack_core op core }
+{
+    match op {
+        Op::LoadPair(Pair::Sp, _) => Core {
+            stack_set: true,
+            ..core
+        },
+        _ => core,
+    }
+}
+
+/// The core behind a write.
+#[tactic(auto, unfolding(crate::specs::Behind::written_core))]
+fn written_core(kind: Kind, write: AbsWrite, core: Core) -> Core
+    ensures { result ≡ Behind.written_core kind write core }
+{
+    match write {
+        AbsWrite::Byte(span, val) => stored_core(kind, span, &val, &core),
+        AbsWrite::Word(address, low, high) => {
+            let first = stored_core(kind, Span::one(address), &low, &core);
+            stored_core(kind, Span::one(address.wrapping_add(1)), &high, &first)
+        }
+        AbsWrite::Nothing | AbsWrite::Push { .. } => core,
+    }
+}
+
+/// The core behind an instruction, of its effect.
+#[tactic(auto, unfolding(crate::specs::Behind::core_behind))]
+fn core_behind(kind: Kind, op: Op, cycles: u8, write: AbsWrite, core: Core) -> Core
+    ensures { result ≡ Behind.core_behind kind op cycles write core }
+{
+    let written = written_core(kind, write, stack_core(op, core));
+    end(starts(write), cycles, &written)
 }
 
 /// The successor where the instruction is taken, from a settled core. The address behind it is given.
-#[tactic(auto, unfolding(crate::specs::Successors::taken_successor))]
-pub(crate) fn taken_successor(
+#[tactic(auto, using(crate::proofs::MovedLaws::taken_state), unfolding(crate::specs::Successors::taken_successor))]
+pub(crate) fn taken_successor<'a>(
     rom: &Rom<'_>,
     row: Row,
     next: u16,
-    state: &Abs,
+    state: &'a Abs,
     core: Core,
-) -> Successor
+) -> Successor<'a>
     ensures { result ≡ Succession.taken_successor rom.now row next state.now core }
 {
     let read = read_of(row.op, &core);
-    let mut after = state.with_core(core);
-    let item = read_item(rom, &after, read);
+    let item = read_item(rom, state, &core, read);
     let effect = transfer(row.op, next, &core, item.low, item.high);
-    after.set_core(effect.core);
-    move_stack(row.op, effect.write, &mut after);
-    write(rom.kind(), effect.write, &mut after);
-    end_instruction(starts(effect.write), row.cycles, &mut after);
+    let kind = rom.kind();
     Successor {
         read,
         write: effect.write,
         target: target_of(row.op, next, &core),
         next,
-        state: after,
+        core: core_behind(kind, row.op, row.cycles, effect.write, effect.core),
+        moved: move_of(kind, row.op, effect.write),
+        before: state,
     }
 }
 
 /// The successor where the instruction isn't taken: nothing happens but that time passes.
-#[tactic(auto, unfolding(crate::specs::Successors::untaken_successor))]
-pub(crate) fn untaken_successor(row: Row, next: u16, state: &Abs, core: Core) -> Successor
+#[tactic(auto, unfolding(crate::specs::Successors::untaken_successor, crate::specs::Behind::ended))]
+pub(crate) fn untaken_successor(row: Row, next: u16, state: &Abs, core: Core) -> Successor<'_>
     ensures { result ≡ Succession.untaken_successor row next state.now core }
 {
-    let mut after = state.with_core(core);
-    end_instruction(false, row.cycles_not_taken, &mut after);
     Successor {
         read: AbsRead::Nothing,
         write: AbsWrite::Nothing,
         target: Target::At(next),
         next,
-        state: after,
+        core: end(false, row.cycles_not_taken, &core),
+        moved: None,
+        before: state,
     }
 }
 
 /// The successor where the processor stays on HALT, and interrupts become on.
-#[tactic(auto, unfolding(crate::specs::Successors::staying_successor))]
-pub(crate) fn staying_successor(address: u16, state: &Abs) -> Successor
+#[tactic(auto, unfolding(crate::specs::Successors::staying_successor, crate::specs::Behind::ended))]
+pub(crate) fn staying_successor(address: u16, state: &Abs) -> Successor<'_>
     ensures { result ≡ Succession.staying_successor address state.now }
 {
     let woken = Core {
@@ -217,13 +210,13 @@ pub(crate) fn staying_successor(address: u16, state: &Abs) -> Successor
         },
         ..*state.core()
     };
-    let mut after = state.with_core(woken);
-    end_instruction(false, 1, &mut after);
     Successor {
         read: AbsRead::Nothing,
         write: AbsWrite::Nothing,
         target: Target::At(address),
         next: address,
-        state: after,
+        core: end(false, 1, &woken),
+        moved: None,
+        before: state,
     }
 }

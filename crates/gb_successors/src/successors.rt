@@ -14,11 +14,11 @@ use gb_vals::bits::may_enable;
 
 /// The possible successors of an instruction.
 #[derive(Drop)]
-pub struct Successors {
-    pub taken: Option<Successor>,
-    pub not_taken: Option<Successor>,
+pub struct Successors<'a> {
+    pub taken: Option<Successor<'a>>,
+    pub not_taken: Option<Successor<'a>>,
     /// The processor stays on HALT: interrupts were pending, and one that is enabled is requested.
-    pub stays: Option<Successor>,
+    pub stays: Option<Successor<'a>>,
 }
 
 /// Whether the processor may stay on the instruction (halt).
@@ -33,7 +33,7 @@ fn may_stay(op: Op, core: &Core) -> bool
 }
 
 #[tactic(auto, unfolding(crate::specs::Successors::stays))]
-fn stays(row: Row, address: u16, state: &Abs) -> Option<Successor>
+fn stays(row: Row, address: u16, state: &Abs) -> Option<Successor<'_>>
     ensures { result ≡ Succession.stays row address state.now }
 {
     if may_stay(row.op, state.core()) {
@@ -46,7 +46,7 @@ fn stays(row: Row, address: u16, state: &Abs) -> Option<Successor>
 /// The possible successors of the instruction at an address, from the states that one stands for.
 /// Whatever the machine does there leads by one of them, if nothing refuses that one's accesses.
 #[tactic(auto, using(crate::proofs::WayLaws::successors_of_sound))]
-pub fn successors_of(rom: &Rom<'_>, row: Row, address: u16, state: &Abs) -> Successors
+pub fn successors_of<'a>(rom: &Rom<'_>, row: Row, address: u16, state: &'a Abs) -> Successors<'a>
     ensures exact { result ≡ Succession.successors_of rom.now row address state.now }
     ensures sound { AreSoundSuccessors rom.now row address state.now result }
 {
@@ -54,7 +54,7 @@ pub fn successors_of(rom: &Rom<'_>, row: Row, address: u16, state: &Abs) -> Succ
 }
 
 #[tactic(auto, unfolding(crate::specs::Successors::successors_of))]
-fn ways(rom: &Rom<'_>, row: Row, address: u16, state: &Abs) -> Successors
+fn ways<'a>(rom: &Rom<'_>, row: Row, address: u16, state: &'a Abs) -> Successors<'a>
     ensures { result ≡ Succession.successors_of rom.now row address state.now }
 {
     let next = address.wrapping_add(u16::from(row.length));

@@ -15,7 +15,7 @@ use Rattle.gb_cert.specs.declared.types.Range.{Range}
 use Rattle.gb_abs_effects.specs.declared.targets.Target.{Target}
 use Rattle.gb_abs_effects.specs.declared.targets.Target.TheVariants as target
 use Rattle.gb_calls.specs.Calls.{entered, is_entry, or_later, entry_from, entry_behind_main, callee_of}
-use Rattle.gb_successors.specs.declared.successor.Successor.{Successor}
+use Rattle.gb_successors.specs.Way.{Successor}
 use Rattle.gb_successors.specs.Successors.{has, any_successor, successors_of}
 use Rattle.gb_blocks.specs.Procedures.{ranges_of, need_of, exit_of}
 use Rattle.gb_blocks.specs.Rules.{pushes_too_deep, callee_by, callee_at, is_over, calls_too_deep, is_resumed_uncovered, is_back_uncovered, is_uncovered_at, is_uncovered, is_outside_of, is_uncallable_at, is_uncallable, is_unreturnable_at, is_unreturnable, interrupts, handles_too_deep, is_unhandled, lacks_handler, test_row, test_instruction, node_bytes, any_of, grows_too_deep, stores_outside, leads_uncovered, calls_wrongly, returns_wrongly, applies_to_row, applies, reasons, reason_of}

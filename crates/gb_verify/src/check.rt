@@ -11,7 +11,7 @@ use gb_abs::covering::covers;
 use gb_abs::reason::Reason;
 use gb_abs_memory::load::holds_bytes;
 use gb_blocks::interrupts::lacks_handler;
-use gb_blocks::rules::reason_of;
+use gb_blocks::rules::reason_near;
 use gb_cert::types::{Abs, Cert, Core, Ctl, Flg, ImeSet, Origin, Val};
 use gb_header::Rom;
 use gb_ops::machine::Region;
@@ -104,17 +104,18 @@ fn is_bad_entry(rom: &Rom<'_>, cert: &Cert<'_>, entry: u32) -> bool
     node.address() != 0x100 || node.bank() != 0 || !covers(&start, &state)
 }
 
-/// The lowest reason against the node with a number.
+/// The lowest reason against the node with a number. The node's state is read in the place of another one, so that no
+/// room for it has to be cleared.
 #[tactic(auto, unfolding(crate::specs::Verdict::reason_against))]
-fn reason_against(rom: &Rom<'_>, cert: &Cert<'_>, i: u32) -> Option<Reason>
+fn reason_against(rom: &Rom<'_>, cert: &Cert<'_>, i: u32, state: &mut Abs) -> Option<Reason>
     requires { i < length cert.now.nodes }
     ensures { result ≡ reason_against_at rom.now cert.now i }
 {
     let node = cert.node(i);
-    let state = node.state();
-    match reason_of(rom, cert, &node, &state) {
+    node.read(state);
+    match reason_near(rom, cert, i, &node, state) {
         Some(reason) => Some(reason),
-        None if lacks_handler(cert, &node, &state) => Some(Reason::Interrupt),
+        None if lacks_handler(cert, &node, state) => Some(Reason::Interrupt),
         None => None,
     }
 }
@@ -131,8 +132,9 @@ fn verdict(rom: &Rom<'_>, cert: &Cert<'_>) -> Verdict
             reason: Reason::Entry,
         };
     }
+    let mut state = Abs::new(core_at_power_up(rom, cert.region()));
     for i in 0..cert.nodes() {
-        if let Some(reason) = reason_against(rom, cert, i) {
+        if let Some(reason) = reason_against(rom, cert, i, &mut state) {
             return Verdict::Refused { node: i, reason };
         }
     }

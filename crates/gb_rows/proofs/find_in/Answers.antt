@@ -1,13 +1,12 @@
 use Rattle.std.proofs.Common.{◌≡◌, ℕ, ◌*◌, ◌^◌, ◌<◌, List, length, false, true, subst, arith}
-use Rattle.gb_rows.specs.Rows.{AskedAtMost}
-use Rattle.gb_rows.proofs.Halving.{IsCount, counts-found, asked-twice}
+use Rattle.gb_rows.specs.Rows.{IsBetween, AskedAtMost}
+use Rattle.gb_rows.proofs.Halving.{counts-found, asked-twice}
 use Rattle.gb_rows.proofs.find_in.Goals as goal
 
 pub returns-clause-found : goal.returns-clause-found
 returns-clause-found g c =
-    let first : IsCount (g.R.Rows.keys c.args.rows.now) false (c.args.procedure, c.args.address) c.count_before-first.result = record { within = c.count_before-first.ensures.within; counted = c.count_before-first.ensures.counted; others = c.count_before-first.ensures.others } in
-    let behind : IsCount (g.R.Rows.keys c.count_before-first.new.rows) true (c.args.procedure, c.args.address) c.count_before-after.result = record { within = c.count_before-after.ensures.within; counted = c.count_before-after.ensures.counted; others = c.count_before-after.ensures.others } in
-    counts-found (g.R.Rows.keys c.args.rows.now) (c.args.procedure, c.args.address) c.count_before-first.result c.count_before-after.result first (subst (λ (keys : List (ℕ × ℕ)). IsCount keys true (c.args.procedure, c.args.address) c.count_before-after.result) c.count_before-first.ensures.same behind)
+    counts-found (g.R.Rows.keys c.args.rows.now) (c.args.procedure, c.args.address) c.count_before-first.result c.count_before-after.result c.count_before-first.ensures.count
+    (subst (λ (keys : List (ℕ × ℕ)). IsBetween keys true (c.args.procedure, c.args.address) c.count_before-after.result c.count_before-after.result) c.count_before-first.ensures.same c.count_before-after.ensures.count)
 
 twice : (keys between : List (ℕ × ℕ)) (before mid after : ℕ → Type 0) (bits : ℕ) → between ≡ keys → ((bits : ℕ) → length keys < 2 ^ bits → AskedAtMost before mid bits) → ((bits : ℕ) → length between < 2 ^ bits → AskedAtMost mid after bits) → length keys < 2 ^ bits → AskedAtMost before after (2 * bits)
 twice keys between before mid after bits e f h few = asked-twice before mid after bits (f bits few) (h bits (rw e few))

@@ -1,0 +1,50 @@
+-- The core at the front of bytes that have been checked, each field at its place (own format).
+use Rattle.std.specs.Prelude.{ℕ, ◌+◌, Bool, false, ◌&&◌, ◌==◌, List, [], ◌∷◌, slice_index}
+use Rattle.gb_ops.specs.declared.registers.Registers.{Registers}
+use Rattle.gb_cert.specs.declared.types.Val.{Val}
+use Rattle.gb_cert.specs.declared.types.Flg.{Flg}
+use Rattle.gb_cert.specs.declared.types.Ctl.{Ctl}
+use Rattle.gb_cert.specs.declared.types.Core.{Core}
+use Rattle.gb_fields.specs.Reading.{word_of, is_one}
+use Rattle.gb_cert.specs.Reading.{origin_of, to_may, to_ime, to_test, to_flags, to_flg, is_two}
+
+abbrev pub val_in : List ℕ → ℕ → Val
+val_in b i = record { lo = slice_index b i; hi = slice_index b (i + 1); origin = origin_of (slice_index b (i + 2)) }
+
+abbrev pub flg_in : ℕ → ℕ → Flg
+flg_in bits own = to_flg (to_flags bits, is_two own)
+
+abbrev pub ctl_in : List ℕ → Ctl
+ctl_in b = record {
+  bank_lo = word_of (slice_index b 5, slice_index b 6);
+  bank_hi = word_of (slice_index b 7, slice_index b 8);
+  second_lo = slice_index b 9;
+  second_hi = slice_index b 10;
+  gate = to_may (slice_index b 11);
+  mode = to_may (slice_index b 12);
+  is_kept = is_one (slice_index b 13);
+}
+
+abbrev pub vals_in : List ℕ → Registers Val
+vals_in b = record { a = val_in b 19; b = val_in b 22; c = val_in b 25; d = val_in b 28; e = val_in b 31; h = val_in b 34; l = val_in b 37 }
+
+abbrev pub core_in : List ℕ → Core
+core_in b = record {
+  ime = to_ime (slice_index b 0);
+  bound = slice_index b 1;
+  stack_set = is_one (slice_index b 2);
+  test = to_test (is_one (slice_index b 3), slice_index b 4);
+  ctl = ctl_in b;
+  flags = flg_in (slice_index b 14) (slice_index b 15);
+  ie = val_in b 16;
+  registers = vals_in b;
+}
+
+abbrev pub begins_with_zero : List ℕ → Bool
+begins_with_zero [] = false
+begins_with_zero (n ∷ rest) = n == 0
+
+-- behind the core stand the numbers of items and cells: none of both
+abbrev pub are_none : List ℕ → Bool
+are_none [] = false
+are_none (n ∷ rest) = n == 0 && begins_with_zero rest

@@ -1,0 +1,100 @@
+-- The states behind an instruction are those before, with another core, and moved where it moves words or cells.
+use Rattle.std.proofs.Common.{◌≡◌, ℕ, Bool, true, false, ◌||◌, ◌==◌, if◌then◌else◌, length, Option, Some, None, refl, sym, ap, ◌∙◌}
+use Rattle.gb_ops.specs.declared.machine.Kind.{Kind}
+use Rattle.gb_ops.specs.declared.op.Pair.TheVariants as pair
+use Rattle.gb_ops.specs.declared.op.Op.{Op}
+use Rattle.gb_ops.specs.declared.op.Op.TheVariants as op
+use Rattle.gb_cert.specs.declared.types.Val.{Val}
+use Rattle.gb_cert.specs.declared.types.Item.{Item}
+use Rattle.gb_cert.specs.declared.types.Core.{Core}
+use Rattle.gb_cert.specs.Types.{AbsState}
+use Rattle.gb_abs.specs.declared.span.Span.{Span}
+use Rattle.gb_abs.specs.Span.{one}
+use Rattle.gb_abs.specs.Operations.{core_end, with_core}
+use Rattle.gb_abs.specs.Stack.{pushed, popped}
+use Rattle.gb_abs_effects.specs.declared.writes.AbsWrite.{AbsWrite}
+use Rattle.gb_abs_effects.specs.declared.writes.AbsWrite.TheVariants as write
+use Rattle.gb_abs_memory.specs.declared.store.Area.{Area}
+use Rattle.gb_abs_memory.specs.declared.store.Area.TheVariants as area
+use Rattle.gb_abs_memory.specs.Access.{area_of, ram_stored, stored_in, stored_state, stored_core_in, stored_core}
+use Rattle.gb_successors.specs.declared.way.Moved.{Moved}
+use Rattle.gb_successors.specs.Behind.{behind, written, starts, pushed_if_room, with_stack_of, ended, moves_stack, is_in_ram, changes_cells, move_of, moved_by, state_behind, stack_core, written_core, core_behind}
+
+-- ---- the core apart
+
+stored_by : (a : Option Area) (k : Kind) (span : Span) (v : Val) (s : AbsState) (c : Core) → stored_in a k span v (with_core s c) ≡ with_core (stored_in a k span v s) (stored_core_in a k span v c)
+unfolding ram_stored
+stored_by (Some (area.Controller (Some r))) k span v s c = refl
+stored_by (Some area.Ram) k span v s c = refl
+stored_by (Some area.InterruptEnable) k span v s c = refl
+stored_by _ k span v s c = refl
+
+stored : (k : Kind) (span : Span) (v : Val) (s : AbsState) (c : Core) → stored_state k span v (with_core s c) ≡ with_core (stored_state k span v s) (stored_core k span v c)
+unfolding stored_state stored_core
+stored k span v s c = stored_by (area_of k span) k span v s c
+
+written_by : (k : Kind) (w : AbsWrite) (s : AbsState) (c : Core) → written k w (with_core s c) ≡ with_core (written k w s) (written_core k w c)
+unfolding written written_core
+written_by k (write.Byte span v) s c = stored k span v s c
+written_by k (write.Word a low high) s c =
+    ap (λ (t : AbsState). stored_state k (one (behind a)) high t) (stored k (one a) low s c)
+    ∙ stored k (one (behind a)) high (stored_state k (one a) low s) (stored_core k (one a) low c)
+written_by k _ s c = refl
+
+pushed_by : (i : Item) (s : AbsState) (c : Core) → pushed_if_room i (with_core s c) ≡ with_core (pushed_if_room i s) c
+unfolding pushed_if_room pushed
+pushed_by i s c = by (length s.items == 16)
+  where
+    by : (b : Bool) → (if b then with_core s c else pushed i (with_core s c)) ≡ with_core (if b then s else pushed i s) c
+    by true = refl
+    by false = refl
+
+stacked_by : (o : Op) (w : AbsWrite) (s : AbsState) (c : Core) → with_stack_of o w (with_core s c) ≡ with_core (with_stack_of o w s) (stack_core o c)
+unfolding with_stack_of stack_core popped
+stacked_by (op.LoadPair pair.Sp n) w s c = refl
+stacked_by (op.Push from) (write.Push high low) s c = pushed_by (record { high = high; low = low }) s c
+stacked_by (op.Pop to) w s c = refl
+stacked_by _ w s c = refl
+
+-- ---- words and cells that stay
+
+same_stack : (o : Op) (w : AbsWrite) (s : AbsState) → moves_stack o w ≡ false → with_stack_of o w s ≡ s
+unfolding with_stack_of moves_stack
+same_stack (op.LoadPair pair.Sp n) w s h = absurd cc
+same_stack (op.Push from) (write.Push high low) s h = absurd cc
+same_stack (op.Pop to) w s h = absurd cc
+same_stack _ w s h = refl
+
+same_stored : (a : Option Area) (k : Kind) (span : Span) (v : Val) (s : AbsState) (c : Core) → is_in_ram a ≡ false → with_core (stored_in a k span v s) c ≡ with_core s c
+same_stored (Some (area.Controller (Some r))) k span v s c h = refl
+same_stored (Some area.Ram) k span v s c h = absurd cc
+same_stored (Some area.InterruptEnable) k span v s c h = refl
+same_stored _ k span v s c h = refl
+
+same_cells : (k : Kind) (w : AbsWrite) (s : AbsState) (c : Core) → changes_cells k w ≡ false → with_core (written k w s) c ≡ with_core s c
+unfolding written changes_cells stored_state
+same_cells k (write.Byte span v) s c h = same_stored (area_of k span) k span v s c h
+same_cells k (write.Word a low high) s c h = absurd cc
+same_cells k _ s c h = refl
+
+neither : (a b : Bool) → (a || b) ≡ false → (a ≡ false) × (b ≡ false)
+neither true b h = absurd cc
+neither false b h = (refl, h)
+
+moved_is : (k : Kind) (o : Op) (w : AbsWrite) (s : AbsState) (c : Core) → with_core (written k w (with_stack_of o w s)) c ≡ state_behind (move_of k o w) w c s
+unfolding move_of
+moved_is k o w s c = by (moves_stack o w || changes_cells k w) refl
+  where
+    by : (b : Bool) → (moves_stack o w || changes_cells k w) ≡ b → with_core (written k w (with_stack_of o w s)) c ≡ state_behind (if b then Some (record { kind = k; op = o }) else None) w c s
+    by true e = refl
+    by false e =
+        let h = neither (moves_stack o w) (changes_cells k w) e in
+        ap (λ (t : AbsState). with_core (written k w t) c) (same_stack o w s h.0) ∙ same_cells k w s c h.1
+
+pub taken_state : (k : Kind) (o : Op) (w : AbsWrite) (n : ℕ) (s : AbsState) (c : Core)
+    → state_behind (move_of k o w) w (core_behind k o n w c) s ≡ ended (starts w) n (written k w (with_stack_of o w (with_core s c)))
+unfolding ended core_behind
+taken_state k o w n s c =
+    let parts : written k w (with_stack_of o w (with_core s c)) ≡ with_core (written k w (with_stack_of o w s)) (written_core k w (stack_core o c)) =
+    ap (λ (t : AbsState). written k w t) (stacked_by o w s c) ∙ written_by k w (with_stack_of o w s) (stack_core o c) in
+    sym (ap (λ (t : AbsState). ended (starts w) n t) parts ∙ moved_is k o w s (core_end (starts w) n (written_core k w (stack_core o c))))

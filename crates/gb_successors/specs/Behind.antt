@@ -1,0 +1,106 @@
+-- The states behind an instruction, by the stack that it moves, what it writes and its core (abstract semantics; own).
+use Rattle.std.specs.Prelude.{ℕ, ◌+◌, ◌%◌, Bool, true, false, ◌||◌, if◌then◌else◌, ◌==◌, List, [], length, Option, Some, None}
+use Rattle.gb_ops.specs.declared.machine.Kind.{Kind}
+use Rattle.gb_ops.specs.declared.op.Pair.TheVariants as pair
+use Rattle.gb_ops.specs.declared.op.Op.{Op}
+use Rattle.gb_ops.specs.declared.op.Op.TheVariants as op
+use Rattle.gb_cert.specs.declared.types.Core.{Core}
+use Rattle.gb_cert.specs.declared.types.Item.{Item}
+use Rattle.gb_cert.specs.Types.{AbsState, any_item}
+use Rattle.gb_vals.specs.Vals.{any_val}
+use Rattle.gb_abs.specs.Span.{one}
+use Rattle.gb_abs.specs.Operations.{core_end, with_core}
+use Rattle.gb_abs.specs.Stack.{pushed, popped, youngest}
+use Rattle.gb_abs_effects.specs.declared.reads.AbsRead.{AbsRead}
+use Rattle.gb_abs_effects.specs.declared.reads.AbsRead.TheVariants as read
+use Rattle.gb_abs_effects.specs.declared.writes.AbsWrite.{AbsWrite}
+use Rattle.gb_abs_effects.specs.declared.writes.AbsWrite.TheVariants as write
+use Rattle.gb_abs_effects.specs.Transfer.{transfer}
+use Rattle.gb_abs_memory.specs.declared.store.Area.{Area}
+use Rattle.gb_abs_memory.specs.declared.store.Area.TheVariants as area
+use Rattle.gb_abs_memory.specs.Access.{loaded_val, area_of, stored_state, stored_core, starts_oam_transfer}
+use Rattle.gb_successors.specs.declared.way.Moved.{Moved}
+use Rattle.gb_successors.specs.Words.{item_or_any}
+
+-- ---- accesses
+
+-- what is known of what is read: of a byte, or of the word that was pushed last
+unfoldable pub read_item : List ℕ → AbsState → AbsRead → Item
+read_item rom s (read.Byte span) = record { high = any_val; low = loaded_val rom s span }
+read_item rom s read.Top = item_or_any (youngest s)
+read_item rom s _ = any_item
+
+-- the address behind an address
+abbrev pub behind : ℕ → ℕ
+behind a = (a + 1) % 65536
+
+-- the states after a write: a word is two stores, the low byte first; a word that is pushed changes no cell
+unfoldable pub written : Kind → AbsWrite → AbsState → AbsState
+written k (write.Byte span v) s = stored_state k span v s
+written k (write.Word a low high) s = stored_state k (one (behind a)) high (stored_state k (one a) low s)
+written k _ s = s
+
+-- the write starts an OAM transfer
+unfoldable pub starts : AbsWrite → Bool
+starts (write.Byte span v) = starts_oam_transfer span
+starts (write.Word a low high) = starts_oam_transfer (one a) || starts_oam_transfer (one (behind a))
+starts _ = false
+
+-- a word is pushed, where fewer than 16 are held; PUSH is refused where there are 16
+unfoldable pub pushed_if_room : Item → AbsState → AbsState
+pushed_if_room i s = if length s.items == 16 then s else pushed i s
+
+-- LD SP,n16 sets the stack, with no words on it; PUSH pushes what it writes, and POP pops. A return address belongs to
+-- the callee: it is no word of its caller's.
+unfoldable pub with_stack_of : Op → AbsWrite → AbsState → AbsState
+with_stack_of (op.LoadPair pair.Sp w) what s = record { core = record s.core { stack_set = true }; items = []; cells = s.cells }
+with_stack_of (op.Push from) (write.Push high low) s = pushed_if_room (record { high = high; low = low }) s
+with_stack_of (op.Pop to) what s = popped s
+with_stack_of _ what s = s
+
+-- an instruction of n M-cycles has ended
+unfoldable pub ended : Bool → ℕ → AbsState → AbsState
+ended is_started n s = with_core s (core_end is_started n s.core)
+
+-- ---- the states behind an instruction, by their core and the states before
+
+-- it moves the stack
+unfoldable pub moves_stack : Op → AbsWrite → Bool
+moves_stack (op.LoadPair pair.Sp w) what = true
+moves_stack (op.Push from) (write.Push high low) = true
+moves_stack (op.Pop to) what = true
+moves_stack _ what = false
+
+abbrev pub is_in_ram : Option Area → Bool
+is_in_ram (Some area.Ram) = true
+is_in_ram _ = false
+
+-- a write may change a cell
+unfoldable pub changes_cells : Kind → AbsWrite → Bool
+changes_cells k (write.Byte span v) = is_in_ram (area_of k span)
+changes_cells k (write.Word a low high) = true
+changes_cells k _ = false
+
+-- what changes words or cells, if something does
+unfoldable pub move_of : Kind → Op → AbsWrite → Option Moved
+move_of k o what = if moves_stack o what || changes_cells k what then Some (record { kind = k; op = o }) else None
+
+abbrev pub moved_by : Option Moved → AbsWrite → AbsState → AbsState
+moved_by None what s = s
+moved_by (Some m) what s = written m.kind what (with_stack_of m.op what s)
+
+abbrev pub state_behind : Option Moved → AbsWrite → Core → AbsState → AbsState
+state_behind m what core s = with_core (moved_by m what s) core
+
+-- what the stack's moves and a write make of the core
+unfoldable pub stack_core : Op → Core → Core
+stack_core (op.LoadPair pair.Sp w) core = record core { stack_set = true }
+stack_core _ core = core
+
+unfoldable pub written_core : Kind → AbsWrite → Core → Core
+written_core k (write.Byte span v) core = stored_core k span v core
+written_core k (write.Word a low high) core = stored_core k (one (behind a)) high (stored_core k (one a) low core)
+written_core k _ core = core
+
+unfoldable pub core_behind : Kind → Op → ℕ → AbsWrite → Core → Core
+core_behind k o n what core = core_end (starts what) n (written_core k what (stack_core o core))
