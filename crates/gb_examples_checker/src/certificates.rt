@@ -256,3 +256,25 @@ fn reads_the_most_of_each(rt: HostRuntime) -> Result<(), Fail> {
     assert!(rt; encode(rt.alloc(), &cert)?.as_slice() == bytes.as_slice());
     Ok(())
 }
+
+fn finds_none(cert: &Cert<'_>, procedure: u8, address: u16) -> bool {
+    let found = cert.find(procedure, address);
+    found.first == found.after
+}
+
+/// Nodes of main, four of which have one address.
+const ADDRESSES: [u16; 10] = [
+    0x0100, 0x0101, 0x0150, 0x0152, 0x0154, 0x0156, 0x0156, 0x0156, 0x0156, 0x0158,
+];
+
+/// Numbers 5 to 8 have one address.
+#[test]
+fn nodes_of_one_address(rt: HostRuntime) -> Result<(), Fail> {
+    let mut bytes = [0; 488];
+    write_nodes(&mut bytes, &ADDRESSES);
+    let cert = Cert::parse(rt.alloc(), &bytes)?;
+    assert!(rt; cert.find(0, 0x0156) == Found { first: 5, after: 9 });
+    assert!(rt; finds_none(&cert, 0, 0x0155));
+    assert!(rt; finds_none(&cert, 1, 0x0156));
+    Ok(())
+}

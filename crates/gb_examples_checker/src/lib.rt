@@ -2,8 +2,8 @@
 //! implementation's verdicts), what no contract says (text, want of memory, failing sinks), and each public call once.
 //! The functions here promise nothing but to be safe.
 //!
-//! Read controllers.rt and memory.rt first (loads and stores), then certificates.rt and verdicts.rt; examples.rt has whole
-//! programs, and judged.rt plays them.
+//! Read controllers.rt and memory.rt first (loads and stores), then certificates.rt, verdicts.rt and copies.rt. Whole
+//! programs with their certificates stand in `gb_verdicts`.
 #![tactic(auto)]
 
 #[cfg(test)]
@@ -11,9 +11,7 @@ mod certificates;
 #[cfg(test)]
 mod controllers;
 #[cfg(test)]
-mod examples;
-#[cfg(test)]
-mod judged;
+mod copies;
 #[cfg(test)]
 mod memory;
 #[cfg(test)]

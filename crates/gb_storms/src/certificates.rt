@@ -1,0 +1,167 @@
+//! Changed certificates: what the calls that read them say has to agree.
+
+ghost use Rattle.std.specs.Prelude.{◌≡◌, false};
+
+use crate::random::Random;
+use crate::tally::Tally;
+use gb_cert::types::Cert;
+use gb_cert::{CertFault, encode};
+use gb_cert_place::place::{Sought, fault_place};
+use gb_main::show_bytes;
+use gb_text::kept_bytes::KeptBytes;
+use gb_verify::upgrade::{Upgraded, upgrade_bytes};
+use gb_verify::verify::{Outcome, verify_bytes};
+use std::alloc::Global;
+use std::io;
+
+/// Room for what is written of the certificates that are changed here.
+const ROOM: usize = 12_288;
+
+fn sink() -> KeptBytes
+    ensures { result.has_failed ≡ false }
+{
+    KeptBytes::new(ROOM, ROOM)
+}
+
+/// Changes, inserts or takes away a byte, or cuts off what is behind it.
+fn change(random: &mut Random, bytes: &mut Vec<u8>) -> io::Result<()> {
+    if bytes.is_empty() {
+        return Ok(());
+    }
+    // Half of the changes are near the head and the first node's core.
+    let near = bytes
+        .len()
+        .min(if random.below(2) == 0 { 64 } else { usize::MAX });
+    let at = random.below(near);
+    match random.below(16) {
+        0 => bytes.truncate(at),
+        1 => bytes.insert(at, random.byte())?,
+        2 => {
+            bytes.remove(at);
+        }
+        3 => bytes.push(random.byte())?,
+        _ => bytes[at] = random.changed(bytes[at]),
+    }
+    Ok(())
+}
+
+/// The line of a fault.
+fn fault_line(fault: CertFault) -> [u8; 15] {
+    let mut line = *b"CERTIFICATE C0\n";
+    line[13] = b'0'.wrapping_add(fault.number());
+    line
+}
+
+/// Whether `show` and `upgrade` write a fault's line, and its place lies in the file.
+fn agree_on_fault(alloc: Global, bytes: &[u8], fault: CertFault) -> bool {
+    let line = fault_line(fault);
+    let (mut shown, mut upgraded) = (sink(), sink());
+    let is_told = show_bytes(alloc, bytes, &mut shown) == Ok(Some(fault))
+        && upgrade_bytes(alloc, bytes, &mut upgraded) == Ok(Upgraded::Unreadable)
+        && shown.kept() == line.as_slice()
+        && upgraded.kept() == line.as_slice();
+    let is_placed = match fault_place(alloc, bytes) {
+        Sought::Fault(place) => {
+            place.fault == fault && place.offset <= place.end && place.end <= bytes.len()
+        }
+        Sought::Certificate | Sought::NoMemory => false,
+    };
+    is_told && is_placed
+}
+
+/// Whether a certificate's bytes in version 2 are read as so many nodes and procedures, and are their own.
+fn agree_on_upgrade(alloc: Global, bytes: &[u8], nodes: u32, procedures: u8) -> bool {
+    let mut again = sink();
+    match Cert::parse(alloc, bytes) {
+        Ok(cert) => {
+            cert.version() == 2
+                && cert.nodes() == nodes
+                && cert.procedures() == procedures
+                && upgrade_bytes(alloc, bytes, &mut again) == Ok(Upgraded::Written)
+                && again.kept() == bytes
+        }
+        Err(_) => false,
+    }
+}
+
+/// Whether a certificate is written as it was read, `show` has a line for its region and for each procedure and node, and
+/// version 2 says the same.
+fn agree_on_certificate(alloc: Global, bytes: &[u8], cert: &Cert<'_>) -> bool {
+    let is_written = match encode(alloc, cert) {
+        Ok(written) => written.as_slice() == bytes,
+        Err(_) => false,
+    };
+    let (mut shown, mut upgraded) = (sink(), sink());
+    let is_shown = show_bytes(alloc, bytes, &mut shown) == Ok(None);
+    let lines = shown.kept().iter().filter(|byte| **byte == b'\n').count();
+    let is_upgraded = upgrade_bytes(alloc, bytes, &mut upgraded) == Ok(Upgraded::Written)
+        && agree_on_upgrade(alloc, upgraded.kept(), cert.nodes(), cert.procedures());
+    let expected = u64::from(cert.nodes()) + u64::from(cert.procedures()) + 1;
+    is_written
+        && is_shown
+        && is_upgraded
+        && lines as u64 == expected
+        && fault_place(alloc, bytes) == Sought::Certificate
+}
+
+/// Whether one line was written, which begins so.
+fn is_one_line(written: &[u8], beginning: &[u8]) -> bool {
+    written.starts_with(beginning)
+        && written.iter().position(|byte| *byte == b'\n') == written.len().checked_sub(1)
+}
+
+/// Whether the verdict's line is one, and of the kind that the outcome names.
+fn agree_on_verdict(
+    alloc: Global,
+    rom: &[u8],
+    bytes: &[u8],
+    fault: Option<CertFault>,
+) -> Option<Outcome> {
+    let mut out = sink();
+    let outcome = verify_bytes(alloc, rom, bytes, &mut out).ok()?;
+    let is_right = match (outcome, fault) {
+        (Outcome::Accepted, None) => is_one_line(out.kept(), b"ACCEPTED nodes "),
+        (Outcome::Refused, None) => is_one_line(out.kept(), b"REFUSED node "),
+        (Outcome::Unreadable, Some(fault)) => out.kept() == fault_line(fault).as_slice(),
+        _ => false,
+    };
+    if is_right { Some(outcome) } else { None }
+}
+
+/// Whether all calls agree on these bytes.
+fn judge(alloc: Global, rom: &[u8], bytes: &[u8], tally: &mut Tally) {
+    let (fault, agree) = match Cert::parse(alloc, bytes) {
+        Ok(cert) => {
+            tally.count_readable();
+            (None, agree_on_certificate(alloc, bytes, &cert))
+        }
+        Err(fault) => {
+            tally.note(fault.number());
+            (Some(fault), agree_on_fault(alloc, bytes, fault))
+        }
+    };
+    let verdict = agree_on_verdict(alloc, rom, bytes, fault);
+    if verdict == Some(Outcome::Accepted) {
+        tally.count_accepted();
+    }
+    tally.count(agree && verdict.is_some());
+}
+
+/// Changes a certificate so many times, a few changes each, and puts it before the calls that read it.
+pub fn storm(
+    alloc: Global,
+    random: &mut Random,
+    rom: &[u8],
+    cert: &[u8],
+    count: usize,
+) -> io::Result<Tally> {
+    let mut tally = Tally::new();
+    for _ in 0..count {
+        let mut bytes = Vec::from_slice(alloc, cert)?;
+        for _ in 0..=random.below(3) {
+            change(random, &mut bytes)?;
+        }
+        judge(alloc, rom, bytes.as_slice(), &mut tally);
+    }
+    Ok(tally)
+}

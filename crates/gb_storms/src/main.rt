@@ -1,0 +1,224 @@
+//! Storms: cartridges and certificates with bytes changed, cut off and put in, words in any order, and frames with random
+//! keys. Of each file the calls that read it have to say the same; a certificate that can be read is written again byte for
+//! byte, and a fault's place lies in the file; where the checker accepts, each frame is whole.
+//!
+//! Examples come from standard input, as lines: `about` with a sentence; `sizes`, `rom` and `cert` (example.rt); then `storm`
+//! with how many certificates, cartridges and frames. `words` reads so many lists of words, and `seen` says which faults were
+//! met. `cuts` cuts both files off at each of their lengths; `check` with offsets and bytes, as 117=05, gives the verdict on the
+//! certificate with these bytes; `stays` with a number runs a frame, and then so many more, which change nothing where the
+//! console is locked or stopped. The program's word multiplies the storms' numbers, so that `1000` makes storms of millions.
+#![tactic(auto)]
+
+mod cartridges;
+mod certificates;
+mod changes;
+mod example;
+mod random;
+mod tally;
+mod words;
+
+use example::Example;
+use gb_header::Rom;
+use gb_text::kept_bytes::KeptBytes;
+use gb_verify::verify::{Outcome, verify_bytes};
+use random::Random;
+use std::alloc::Global;
+use std::env;
+use std::io::{self, BufRead, BufReader, BufWriter, Write};
+use tally::Tally;
+
+/// What all storms share.
+#[derive(Drop)]
+struct Weather {
+    random: Random,
+    factor: usize,
+    certificates: Tally,
+    cartridges: Tally,
+}
+
+/// A number of a line, in decimal digits, times the factor.
+fn number_of(digits: &str, factor: usize) -> usize {
+    digits.parse::<usize>().unwrap_or(0).wrapping_mul(factor)
+}
+
+/// Adds what one storm met to what all met.
+fn joined(all: &Tally, one: &Tally) -> Tally {
+    Tally {
+        inputs: all.inputs.wrapping_add(one.inputs),
+        wrong: all.wrong.wrapping_add(one.wrong),
+        readable: all.readable.wrapping_add(one.readable),
+        accepted: all.accepted.wrapping_add(one.accepted),
+        faults: all.faults | one.faults,
+    }
+}
+
+/// Whether the example is accepted as it is.
+fn is_accepted(alloc: Global, example: &Example) -> bool {
+    let mut out = KeptBytes::new(96, 96);
+    verify_bytes(
+        alloc,
+        example.rom.as_slice(),
+        example.cert.as_slice(),
+        &mut out,
+    ) == Ok(Outcome::Accepted)
+}
+
+/// Runs frames of the example with random keys and seconds.
+fn runs(alloc: Global, random: &mut Random, example: &Example, frames: usize) -> bool {
+    match Rom::parse(example.rom.as_slice()) {
+        Ok(rom) => cartridges::runs(alloc, random, &rom, frames),
+        Err(_) => false,
+    }
+}
+
+/// The storms of an example, with these numbers of certificates, cartridges and frames.
+fn storm<W: Write>(
+    alloc: Global,
+    out: &mut W,
+    weather: &mut Weather,
+    example: &mut Example,
+    counts: (usize, usize, usize),
+) -> io::Result<()> {
+    if !is_accepted(alloc, example) {
+        return writeln!(out, "it isn't accepted");
+    }
+    let certificates = certificates::storm(
+        alloc,
+        &mut weather.random,
+        example.rom.as_slice(),
+        example.cert.as_slice(),
+        counts.0,
+    )?;
+    let cartridges = cartridges::storm(
+        alloc,
+        &mut weather.random,
+        example.rom.as_mut_slice(),
+        example.cert.as_slice(),
+        counts.1,
+    );
+    writeln!(
+        out,
+        "{} certificates, {} wrong; {} cartridges, {} wrong",
+        certificates.inputs, certificates.wrong, cartridges.inputs, cartridges.wrong
+    )?;
+    weather.certificates = joined(&weather.certificates, &certificates);
+    weather.cartridges = joined(&weather.cartridges, &cartridges);
+    if runs(alloc, &mut weather.random, example, counts.2) {
+        writeln!(out, "{} frames are whole", counts.2)
+    } else {
+        writeln!(out, "a frame isn't whole")
+    }
+}
+
+fn yes_or_no(is_so: bool) -> &'static str {
+    if is_so { "yes" } else { "no" }
+}
+
+/// Says what the storms met, so that none of them passes by meeting nothing.
+fn write_seen<W: Write>(out: &mut W, weather: &Weather) -> io::Result<()> {
+    let (certificates, cartridges) = (&weather.certificates, &weather.cartridges);
+    writeln!(
+        out,
+        "each of C1 to C8 was met: {}; each of H1 to H7: {}",
+        yes_or_no(certificates.has_all(8)),
+        yes_or_no(cartridges.has_all(7))
+    )?;
+    writeln!(
+        out,
+        "certificates were read: {}; accepted: {}; refused: {}",
+        yes_or_no(certificates.readable > 0),
+        yes_or_no(certificates.accepted > 0),
+        yes_or_no(certificates.accepted < certificates.readable)
+    )?;
+    writeln!(
+        out,
+        "cartridges were read: {}; accepted: {}; refused: {}",
+        yes_or_no(cartridges.readable > 0),
+        yes_or_no(cartridges.accepted > 0),
+        yes_or_no(cartridges.accepted < cartridges.readable)
+    )
+}
+
+/// Reads lists of words.
+fn storm_of_words<W: Write>(
+    alloc: Global,
+    out: &mut W,
+    random: &mut Random,
+    count: usize,
+) -> io::Result<()> {
+    let tally = words::storm(alloc, random, count);
+    writeln!(
+        out,
+        "{} lists of words, {} wrong; tasks were read: {}; others were refused: {}",
+        tally.inputs,
+        tally.wrong,
+        yes_or_no(tally.readable > 0),
+        yes_or_no(tally.readable < tally.inputs)
+    )
+}
+
+/// Takes a line.
+fn take<W: Write>(
+    alloc: Global,
+    out: &mut W,
+    weather: &mut Weather,
+    example: &mut Example,
+    line: &str,
+) -> io::Result<()> {
+    let (word, rest) = line.split_once(' ').unwrap_or((line, ""));
+    match word {
+        "about" => {
+            *example = Example::new(alloc);
+            writeln!(out, "{rest}")?;
+        }
+        "storm" => {
+            let (certificates, rest) = rest.split_once(' ').unwrap_or((rest, ""));
+            let (cartridges, frames) = rest.split_once(' ').unwrap_or((rest, ""));
+            let counts = (
+                number_of(certificates, weather.factor),
+                number_of(cartridges, weather.factor),
+                number_of(frames, weather.factor),
+            );
+            storm(alloc, out, weather, example, counts)?;
+        }
+        "words" => {
+            let count = number_of(rest, weather.factor);
+            storm_of_words(alloc, out, &mut weather.random, count)?;
+        }
+        "seen" => write_seen(out, weather)?,
+        "cuts" => changes::write_cuts(alloc, out, example)?,
+        "check" => changes::write_verdict(alloc, out, example, rest)?,
+        "stays" => {
+            let frames = number_of(rest, 1);
+            changes::write_stay(alloc, out, &mut weather.random, example, frames)?;
+        }
+        _ => example.take(alloc, word, rest)?,
+    }
+    Ok(())
+}
+
+fn main(rt: HostRuntime) -> io::Result<()> {
+    let mut factor = 1;
+    for word in env::args(&rt)?.skip(1) {
+        factor = number_of(word.as_str(), 1).max(1);
+    }
+    let mut weather = Weather {
+        random: Random::new(0x5DEE_CE66),
+        factor,
+        certificates: Tally::new(),
+        cartridges: Tally::new(),
+    };
+    let mut example = Example::new(rt.alloc());
+    let mut out = BufWriter::new(rt.alloc(), io::writer(&rt))?;
+    let lines = BufReader::new(rt.alloc(), rt.reader())?.lines(rt.alloc());
+    for line in lines {
+        take(
+            rt.alloc(),
+            &mut out,
+            &mut weather,
+            &mut example,
+            line?.as_str(),
+        )?;
+    }
+    out.flush()
+}
