@@ -1,12 +1,8 @@
--- Which files are standard input (own).
-use Rattle.std.specs.Prelude.{ℕ, List, Bool, false, ◌&&◌, codes}
-use Rattle.std.specs.Str.{bytes_eq}
+-- Which commands have standard input twice (own).
+use Rattle.std.specs.Prelude.{Bool, false, ◌&&◌}
+use Rattle.gb_files.specs.Input.{is_input}
 use Rattle.gb_words.specs.declared.words.Task.{Task}
 use Rattle.gb_words.specs.declared.words.Task.TheVariants as task
-
--- a lone hyphen
-abbrev pub is_input : List ℕ → Bool
-is_input name = bytes_eq name (codes "-")
 
 -- two files of a command are standard input, which can be read only once
 abbrev pub has_input_twice : Task → Bool

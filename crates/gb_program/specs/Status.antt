@@ -13,8 +13,8 @@ use Rattle.gb_main.specs.declared.commands.RunOutcome.{RunOutcome}
 use Rattle.gb_main.specs.declared.commands.RunOutcome.TheVariants as played
 use Rattle.gb_program.specs.declared.status.Status.{Status}
 use Rattle.gb_program.specs.declared.status.Status.TheVariants as status
-use Rattle.gb_program.specs.declared.files.Trouble.{Trouble}
-use Rattle.gb_program.specs.declared.files.Trouble.TheVariants as trouble
+use Rattle.gb_files.specs.declared.trouble.Trouble.{Trouble}
+use Rattle.gb_files.specs.declared.trouble.Trouble.TheVariants as trouble
 
 abbrev pub verify_status : Outcome → Status
 verify_status outcome.Accepted = status.Done

@@ -1,10 +1,10 @@
 //! The program: its words, files and statuses, and what it says to a person.
 //!
 //! `run` does what the words ask for; the lines that it prints are gb_verify's and gb_main's, whose contracts say what they
-//! are. `status` says which status each outcome has. Read `perform` first, then `files`, `messages` and `status`.
+//! are. `status` says which status each outcome has. Read `perform` first, then `messages` and `status`; files are read by gb_files.
 #![tactic(auto)]
 
-mod files;
+mod inputs;
 mod messages;
 mod perform;
 mod progress;

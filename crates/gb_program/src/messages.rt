@@ -1,44 +1,22 @@
-//! What the program says on standard error, and the lines of its faults.
+//! What the program says on standard error, and that a device or memory failed.
 
 ghost use Rattle.std.specs.Prelude.{◌≡◌};
-ghost use Rattle.gb_program.specs.Messages.{fault_text};
 ghost use Rattle.gb_program.specs.declared.status.Status.TheVariants as status;
 
-use crate::files::{Trouble, shown_name};
 use crate::status::Status;
 use gb_cert_place::place::{Sought, fault_place};
 use gb_explain::explain;
-use std::io;
+use gb_files::{Trouble, shown_name};
 
-/// The line of a fault.
-fn fault_text(trouble: Trouble) -> &'static str
-    ensures { result.now ≡ fault_text trouble }
-{
-    match trouble {
-        Trouble::Memory => "FAULT memory",
-        Trouble::Device => "FAULT device",
-    }
-}
+/// The program's name, in what it says to a person.
+pub const PROGRAM: &str = "gulmyrek";
 
 /// Prints that memory or a device failed.
 pub fn complain<R: Print>(rt: &R, trouble: Trouble) -> Status
     ensures { result ≡ status.Failed }
 {
-    let _ = rt.println(fault_text(trouble));
+    let _ = rt.println(trouble.line());
     Status::Failed
-}
-
-/// Says why a file can't be read.
-pub fn tell_file<R: Eprint>(rt: &R, name: &str, error: &io::Error) {
-    let _ = match error.kind() {
-        io::ErrorKind::NotFound => eprintln!(rt; "gulmyrek: {name}: no such file"),
-        io::ErrorKind::PermissionDenied => eprintln!(rt;
-            "gulmyrek: {name}: no permission to read it"
-        ),
-        io::ErrorKind::IsADirectory => eprintln!(rt; "gulmyrek: {name}: it is a folder"),
-        io::ErrorKind::OutOfMemory => eprintln!(rt; "gulmyrek: {name}: memory ran out"),
-        _ => eprintln!(rt; "gulmyrek: {name}: {error}"),
-    };
 }
 
 /// Says where in a certificate's file its fault is, if it has one. The bytes are read again; where that

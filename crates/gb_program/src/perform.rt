@@ -1,8 +1,8 @@
 //! The commands, and what becomes of the words.
 
-use crate::files::{Trouble, has_input_twice, read_cartridge, read_certificate, read_file};
+use crate::inputs::has_input_twice;
 use crate::messages::{
-    complain, explain_input, explain_name, tell_fault, tell_output, tell_refusal,
+    PROGRAM, complain, explain_input, explain_name, tell_fault, tell_output, tell_refusal,
 };
 use crate::progress::Shown;
 use crate::status::{
@@ -11,6 +11,7 @@ use crate::status::{
 use crate::stored;
 use clap::Error;
 use clap::error::ErrorKind;
+use gb_files::{Trouble, read_cartridge, read_certificate, read_file};
 use gb_header::Rom;
 use gb_main::{header_bytes, run_bytes, show_bytes};
 use gb_text::sink::Plain;
@@ -36,8 +37,8 @@ fn verify_files<R: Print + Eprint + Input + Files + AllocGlobal>(
     rom: &str,
     cert: &str,
 ) -> Result<Status, Trouble> {
-    let rom = read_cartridge(rt, rom)?;
-    let bytes = read_certificate(rt, cert)?;
+    let rom = read_cartridge(rt, PROGRAM, rom)?;
+    let bytes = read_certificate(rt, PROGRAM, cert)?;
     let status = verify(rt, &rom, &bytes);
     if status == Status::Unreadable && Rom::parse(&rom).is_ok() {
         tell_fault(rt, cert, &bytes);
@@ -53,7 +54,7 @@ fn header<R: Print + Eprint + Input + Files + AllocGlobal>(
     rt: &R,
     rom: &str,
 ) -> Result<Status, Trouble> {
-    let rom = read_cartridge(rt, rom)?;
+    let rom = read_cartridge(rt, PROGRAM, rom)?;
     let mut out = Plain::new(io::writer(rt));
     match header_bytes(&rom, &mut out) {
         Ok(fault) => Ok(header_status(fault)),
@@ -66,7 +67,7 @@ fn show<R: Print + Eprint + Input + Files + AllocGlobal>(
     rt: &R,
     cert: &str,
 ) -> Result<Status, Trouble> {
-    let bytes = read_certificate(rt, cert)?;
+    let bytes = read_certificate(rt, PROGRAM, cert)?;
     let mut out = Plain::new(io::writer(rt));
     let status = match show_bytes(rt.alloc(), &bytes, &mut out) {
         Ok(fault) => show_status(fault),
@@ -83,7 +84,7 @@ fn upgrade<R: Print + Eprint + Input + Files + AllocGlobal>(
     rt: &R,
     cert: &str,
 ) -> Result<Status, Trouble> {
-    let bytes = read_certificate(rt, cert)?;
+    let bytes = read_certificate(rt, PROGRAM, cert)?;
     let mut out = Plain::new(io::writer(rt));
     let status = match upgrade_bytes(rt.alloc(), &bytes, &mut out) {
         Ok(upgraded) => upgrade_status(upgraded),
@@ -103,8 +104,8 @@ fn run<R: Print + Eprint + Input + Files + AllocGlobal>(
     frames: u32,
     is_shown: bool,
 ) -> Result<Status, Trouble> {
-    let rom = read_cartridge(rt, rom)?;
-    let script = read_file(rt, script, u64::from(frames))?;
+    let rom = read_cartridge(rt, PROGRAM, rom)?;
+    let script = read_file(rt, PROGRAM, script, u64::from(frames))?;
     let mut out = Plain::new(io::writer(rt));
     let mut progress = Shown::new(rt, is_shown);
     match run_bytes(rt.alloc(), &rom, &script, frames, &mut out, &mut progress) {

@@ -3,9 +3,9 @@
 ghost use Rattle.std.specs.Prelude.{◌≡◌};
 ghost use Rattle.gb_program.specs.Status.{verify_status, header_status, show_status, upgrade_status, run_status};
 
-use crate::files::Trouble;
 use gb_cert::CertFault;
 use gb_console::Ending;
+use gb_files::Trouble;
 use gb_header::HeaderFault;
 use gb_main::RunOutcome;
 use gb_verify::upgrade::Upgraded;

@@ -32,7 +32,7 @@ fn own(register: Register, value: u8) -> Val
 
 /// The core at power-up (Power-up sequence): each value is known, and each is its own origin.
 #[tactic(auto, unfolding(crate::specs::PowerUp::core_at_power_up))]
-fn core_at_power_up(rom: &Rom<'_>, region: Region) -> Core
+pub fn core_at_power_up(rom: &Rom<'_>, region: Region) -> Core
     ensures { result ≡ core_at_power_up rom.now region }
 {
     let others = known(rom.checksum() != 0);

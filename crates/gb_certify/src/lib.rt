@@ -1,0 +1,34 @@
+//! The program `certify`: its words, files and statuses, and what it says to a person.
+//!
+//! Read `perform` first, then `making` and `reading`. What it makes is trusted no more than any other certificate: the verdict
+//! that it prints is gb_verify's. Of the texts nothing is promised.
+#![tactic(auto)]
+
+mod files;
+mod help;
+mod making;
+mod messages;
+mod perform;
+mod progress;
+mod reading;
+mod status;
+mod words;
+
+use perform::start;
+use status::Status;
+use std::io::Input;
+use std::process::ExitCode;
+use std::rt::{Env, Files};
+
+/// Runs the program on the words behind its name, and answers its status. `is_shown` says whether a person sees standard
+/// error as it comes.
+pub fn run<R: Print + Eprint + Input + Files + Env + AllocGlobal>(
+    rt: &R,
+    is_shown: bool,
+) -> ExitCode {
+    let status: Status = match start(rt, is_shown) {
+        Ok(status) => status,
+        Err(trouble) => messages::complain(rt, trouble),
+    };
+    ExitCode::from(status as u8)
+}

@@ -1,0 +1,120 @@
+//! A certificate is made, checked, and written where it is accepted.
+
+use crate::files::write_file;
+use crate::messages::tell_output;
+use crate::progress::Shown;
+use crate::status::{Status, verify_status};
+use crate::words::Task;
+use gb_files::Trouble;
+use gb_header::Rom;
+use gb_obstacles::{Obstacle, Told, obstacle_json};
+use gb_refine::{Limits, Made, make};
+use gb_symbols::Symbols;
+use gb_text::sink::Plain;
+use gb_verify::verify::{Outcome, verify_bytes};
+use std::io;
+use std::rt::Files;
+
+/// The most rounds of refinement.
+const ROUNDS: u32 = 400;
+
+/// Prints the line of a cartridge and a certificate.
+pub fn verify<R: Print + Eprint + AllocGlobal>(rt: &R, rom: &[u8], cert: &[u8]) -> Status {
+    let mut out = Plain::new(io::writer(rt));
+    match verify_bytes(rt.alloc(), rom, cert, &mut out) {
+        Ok(outcome) => verify_status(outcome),
+        Err(_) => tell_output(rt),
+    }
+}
+
+/// Whether the checker accepts a certificate, which prints nothing.
+fn is_accepted<R: AllocGlobal>(rt: &R, rom: &[u8], cert: &[u8]) -> bool {
+    let mut out = Plain::new(io::sink());
+    match verify_bytes(rt.alloc(), rom, cert, &mut out) {
+        Ok(outcome) => outcome == Outcome::Accepted,
+        Err(_) => false,
+    }
+}
+
+/// What the maker gives.
+pub fn made<R: Eprint + AllocGlobal>(
+    rt: &R,
+    task: &Task<'_>,
+    rom: &Rom<'_>,
+    is_shown: bool,
+) -> Result<Made, Trouble> {
+    let limits = Limits {
+        nodes: task.nodes as usize,
+        rounds: ROUNDS,
+        region: task.region,
+    };
+    let mut progress = Shown::new(rt, is_shown);
+    Ok(make(rt.alloc(), rom, limits, &mut progress)?)
+}
+
+/// Tells obstacles as JSON, an object a line, on standard output.
+fn print_json<R: Print + Eprint + AllocGlobal>(
+    rt: &R,
+    obstacles: &[Obstacle],
+    symbols: &Symbols<'_>,
+) -> Result<Status, Trouble> {
+    for obstacle in obstacles {
+        let text = obstacle_json(rt.alloc(), obstacle, symbols)?;
+        if rt.println(text.as_str()).is_err() {
+            return Ok(tell_output(rt));
+        }
+    }
+    Ok(Status::Refused)
+}
+
+/// Tells obstacles to a person, on standard error.
+pub fn tell_obstacles<R: Eprint>(rt: &R, obstacles: &[Obstacle], symbols: &Symbols<'_>) {
+    for (number, obstacle) in obstacles.iter().enumerate() {
+        let number = number.saturating_add(1);
+        let told = Told {
+            obstacle: &*obstacle,
+            symbols: &*symbols,
+        };
+        let _ = eprintln!(rt; "{number}. {told}");
+    }
+}
+
+/// Says that there is no certificate, and what is in the way.
+pub fn report<R: Print + Eprint + AllocGlobal>(
+    rt: &R,
+    task: &Task<'_>,
+    obstacles: &[Obstacle],
+    symbols: &Symbols<'_>,
+) -> Result<Status, Trouble> {
+    if task.is_json {
+        return print_json(rt, obstacles, symbols);
+    }
+    tell_obstacles(rt, obstacles, symbols);
+    let count = obstacles.len();
+    match println!(rt; "NO CERTIFICATE obstacles {count}") {
+        Ok(()) => Ok(Status::Refused),
+        Err(_) => Ok(tell_output(rt)),
+    }
+}
+
+/// Makes a certificate, writes it where the checker accepts it, and prints the verdict's line.
+pub fn make_file<R: Print + Eprint + Files + AllocGlobal>(
+    rt: &R,
+    task: &Task<'_>,
+    bytes: &[u8],
+    symbols: &Symbols<'_>,
+    is_shown: bool,
+) -> Result<Status, Trouble> {
+    let Ok(rom) = Rom::parse(bytes) else {
+        // The line says what is wrong with the cartridge.
+        return Ok(verify(rt, bytes, b""));
+    };
+    match made(rt, task, &rom, is_shown)? {
+        Made::Obstacles(obstacles) => report(rt, task, &obstacles, symbols),
+        Made::Certificate(cert) if is_accepted(rt, bytes, &cert) => {
+            write_file(rt, task.cert, &cert)?;
+            Ok(verify(rt, bytes, &cert))
+        }
+        Made::Certificate(_) => report(rt, task, &[Obstacle::Refused], symbols),
+    }
+}

@@ -1,0 +1,106 @@
+//! What becomes of the words.
+
+use crate::files::read_symbols;
+use crate::making::make_file;
+use crate::messages::{PROGRAM, complain, tell_output, tell_symbols, tell_words};
+use crate::reading::{explain_file, list_file};
+use crate::status::Status;
+use crate::words::{Task, Work, read_words};
+use clap::Error;
+use clap::error::ErrorKind;
+use gb_files::{Trouble, is_input, read_cartridge};
+use gb_symbols::Symbols;
+use std::io::Input;
+use std::rt::{Env, Files};
+use std::{env, io};
+
+/// Prints what is wrong with the words, or the help that was asked for.
+fn explain<R: Print + Eprint>(rt: &R, error: &Error) -> Status {
+    if error.kind() == ErrorKind::OutOfMemory {
+        return complain(rt, Trouble::Memory);
+    }
+    if error.use_stderr() {
+        let _ = eprint!(rt; "{error}");
+        return Status::Unreadable;
+    }
+    match print!(rt; "{error}") {
+        Ok(()) => Status::Done,
+        Err(_) => tell_output(rt),
+    }
+}
+
+/// How many of the files are standard input, which can be read only once.
+fn inputs(task: &Task<'_>) -> usize {
+    let names = [Some(task.rom), Some(task.cert), task.symbols];
+    names.iter().flatten().filter(|name| is_input(name)).count()
+}
+
+/// Does what a task says, with the bytes of its cartridge and its symbols.
+fn work_on<R: Print + Eprint + Input + Files + AllocGlobal>(
+    rt: &R,
+    task: &Task<'_>,
+    bytes: &[u8],
+    symbols: &Symbols<'_>,
+    is_shown: bool,
+) -> Result<Status, Trouble> {
+    match task.work {
+        Work::Make => make_file(rt, task, bytes, symbols, is_shown),
+        Work::Explain => explain_file(rt, task, bytes, symbols, is_shown),
+        Work::List => list_file(rt, task, bytes, symbols),
+    }
+}
+
+/// Does what a task says; `is_shown` says whether a person sees standard error.
+fn perform<R: Print + Eprint + Input + Files + AllocGlobal>(
+    rt: &R,
+    task: &Task<'_>,
+    is_shown: bool,
+) -> Result<Status, Trouble> {
+    if inputs(task) > 1 {
+        return Ok(tell_words(rt, "only one of the files can be - for standard input"));
+    }
+    if task.work == Work::Make && is_input(task.cert) {
+        return Ok(tell_words(
+            rt,
+            "CERT is written, so it can't be -; a file of that name is ./-",
+        ));
+    }
+    let bytes = read_cartridge(rt, PROGRAM, task.rom)?;
+    let text = read_symbols(rt, task.symbols)?;
+    match Symbols::parse(rt.alloc(), &text) {
+        Ok(symbols) => work_on(rt, task, &bytes, &symbols, is_shown),
+        Err(fault) => match task.symbols {
+            Some(name) => Ok(tell_symbols(rt, name, fault)),
+            None => Err(Trouble::Memory),
+        },
+    }
+}
+
+/// Runs the program on the words after its name.
+pub fn start<R: Print + Eprint + Input + Files + Env + AllocGlobal>(
+    rt: &R,
+    is_shown: bool,
+) -> Result<Status, Trouble> {
+    let args = match env::args(rt) {
+        Ok(args) => args,
+        Err(error) if error.kind() == io::ErrorKind::InvalidData => {
+            return Ok(tell_words(
+                rt,
+                "a word is not UTF-8; a cartridge with such a name can be given as - by < on standard input",
+            ));
+        }
+        Err(error) => return Err(Trouble::from(error)),
+    };
+    let mut words = Vec::new(rt.alloc());
+    for word in args.skip(1) {
+        words.push(word)?;
+    }
+    let mut texts = Vec::new(rt.alloc());
+    for word in &words {
+        texts.push(word.as_str())?;
+    }
+    match read_words(rt.alloc(), &texts) {
+        Ok(task) => perform(rt, &task, is_shown),
+        Err(error) => Ok(explain(rt, &error)),
+    }
+}

@@ -1,0 +1,108 @@
+//! A certificate that is there: its refusal explained, or its nodes listed.
+
+use crate::making::{made, tell_obstacles, verify};
+use crate::messages::{PROGRAM, tell_fault, tell_output};
+use crate::status::Status;
+use crate::words::Task;
+use gb_cert::types::Cert;
+use gb_explain::explain;
+use gb_files::{Trouble, read_certificate, shown_name};
+use gb_header::Rom;
+use gb_obstacles::Listing;
+use gb_refine::Made;
+use gb_symbols::Symbols;
+use std::io::Input;
+use std::rt::Files;
+
+/// Says why a certificate is refused: of the node what gulmyrek says, and before it the node's symbol.
+fn tell_refusal<R: Eprint + AllocGlobal>(
+    rt: &R,
+    name: &str,
+    rom: &[u8],
+    cert: &[u8],
+    symbols: &Symbols<'_>,
+) {
+    let Some(explanation) = explain(rt.alloc(), rom, cert) else {
+        return;
+    };
+    let name = shown_name(name);
+    match symbols.place(explanation.bank, explanation.address) {
+        Some(place) => {
+            let _ = eprintln!(rt; "certify: {name}: in {place}, {explanation}");
+        }
+        None => {
+            let _ = eprintln!(rt; "certify: {name}: {explanation}");
+        }
+    }
+}
+
+/// Says what the maker finds for the same cartridge.
+fn tell_made<R: Eprint + AllocGlobal>(
+    rt: &R,
+    task: &Task<'_>,
+    rom: &Rom<'_>,
+    symbols: &Symbols<'_>,
+    is_shown: bool,
+) -> Result<(), Trouble> {
+    match made(rt, task, rom, is_shown)? {
+        Made::Certificate(_) => {
+            let _ = eprintln!(rt;
+                "certify: the cartridge itself is in order: without --explain a certificate is made"
+            );
+        }
+        Made::Obstacles(obstacles) => {
+            let _ = eprintln!(rt; "certify: no certificate can be made either:");
+            tell_obstacles(rt, &obstacles, symbols);
+        }
+    }
+    Ok(())
+}
+
+/// Prints the verdict's line of a certificate that is there, and says why it is refused.
+pub fn explain_file<R: Print + Eprint + Input + Files + AllocGlobal>(
+    rt: &R,
+    task: &Task<'_>,
+    bytes: &[u8],
+    symbols: &Symbols<'_>,
+    is_shown: bool,
+) -> Result<Status, Trouble> {
+    let cert = read_certificate(rt, PROGRAM, task.cert)?;
+    let status = verify(rt, bytes, &cert);
+    let Ok(rom) = Rom::parse(bytes) else {
+        return Ok(status);
+    };
+    match status {
+        Status::Unreadable => tell_fault(rt, task.cert, &cert),
+        Status::Refused => {
+            tell_refusal(rt, task.cert, bytes, &cert, symbols);
+            tell_made(rt, task, &rom, symbols, is_shown)?;
+        }
+        Status::Done | Status::Failed => {}
+    }
+    Ok(status)
+}
+
+/// Prints the nodes of a certificate that is there, right or wrong.
+pub fn list_file<R: Print + Eprint + Input + Files + AllocGlobal>(
+    rt: &R,
+    task: &Task<'_>,
+    bytes: &[u8],
+    symbols: &Symbols<'_>,
+) -> Result<Status, Trouble> {
+    let cert_bytes = read_certificate(rt, PROGRAM, task.cert)?;
+    let (Ok(rom), Ok(cert)) = (Rom::parse(bytes), Cert::parse(rt.alloc(), &cert_bytes)) else {
+        // The line says which file is none, and what is wrong with it.
+        let status = verify(rt, bytes, &cert_bytes);
+        tell_fault(rt, task.cert, &cert_bytes);
+        return Ok(status);
+    };
+    let listing = Listing {
+        rom: &rom,
+        cert: &cert,
+        symbols: &*symbols,
+    };
+    match print!(rt; "{listing}") {
+        Ok(()) => Ok(Status::Done),
+        Err(_) => Ok(tell_output(rt)),
+    }
+}

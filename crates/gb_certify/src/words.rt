@@ -1,0 +1,228 @@
+//! The program's words, read by `clap`.
+
+use crate::help;
+use clap::error::ErrorKind;
+use clap::{Arg, ArgAction, ArgMatches, Command, Error};
+use gb_ops::machine::Region;
+use std::alloc::{AllocError, Global};
+
+/// The most nodes that may be allowed.
+const MOST_NODES: i64 = 4_000_000;
+
+/// The most nodes, where nothing is said.
+const NODES: u32 = 400_000;
+
+/// What is to be done with the certificate's file.
+#[derive(Clone, Copy, Debug, PartialEq, Eq)]
+pub enum Work {
+    /// It is made.
+    Make,
+    /// It is there, and its refusal is explained.
+    Explain,
+    /// It is there, and its nodes are listed.
+    List,
+}
+
+/// What the program is asked to do.
+#[derive(Clone, Copy, Debug, PartialEq, Eq)]
+pub struct Task<'a> {
+    pub work: Work,
+    pub rom: &'a str,
+    pub cert: &'a str,
+    pub symbols: Option<&'a str>,
+    pub nodes: u32,
+    pub region: Option<Region>,
+    pub is_json: bool,
+}
+
+/// An argument that names a file.
+fn file_arg<'a>(alloc: Global, id: &'a str, value_name: &'a str, text: &'a str) -> Arg<'a> {
+    Arg::new(alloc, id)
+        .value_name(value_name)
+        .help(text)
+        .required(true)
+}
+
+/// An option with a value.
+fn option_arg<'a>(alloc: Global, id: &'a str, value_name: &'a str, text: &'a str) -> Arg<'a> {
+    Arg::new(alloc, id)
+        .long(id)
+        .value_name(value_name)
+        .help(text)
+}
+
+/// An option without a value.
+fn flag_arg<'a>(alloc: Global, id: &'a str, text: &'a str) -> Arg<'a> {
+    Arg::new(alloc, id)
+        .long(id)
+        .help(text)
+        .action(ArgAction::SetTrue)
+}
+
+/// A command with one more argument, where it could be built so far.
+fn with_arg<'a>(
+    command: Result<Command<'a>, AllocError>,
+    arg: Arg<'a>,
+) -> Result<Command<'a>, AllocError> {
+    command?.arg(arg)
+}
+
+/// The program without its words.
+fn plain_command<'a>(alloc: Global) -> Result<Command<'a>, AllocError> {
+    Command::new(alloc, "certify")
+        .about("certify makes a certificate for a Game Boy cartridge and has it checked")
+        .after_help(help::BELOW)
+        .version("0.5.0")
+        .no_binary_name(true)
+        .bin_name("certify")
+}
+
+/// The program with its two files.
+fn with_files<'a>(alloc: Global) -> Result<Command<'a>, AllocError> {
+    let command = plain_command(alloc);
+    let command = with_arg(
+        command,
+        file_arg(alloc, "rom", "ROM", "The cartridge's file"),
+    );
+    with_arg(
+        command,
+        file_arg(
+            alloc,
+            "cert",
+            "CERT",
+            "The certificate's file, which is written",
+        ),
+    )
+}
+
+/// The program with its options that have values.
+fn with_options<'a>(alloc: Global) -> Result<Command<'a>, AllocError> {
+    let command = with_files(alloc);
+    let symbols = option_arg(
+        alloc,
+        "sym",
+        "FILE",
+        "Tell addresses by the symbols of this file",
+    );
+    let nodes = option_arg(
+        alloc,
+        "nodes",
+        "N",
+        "Allow so many nodes, 400000 if nothing is said",
+    )
+    .value_parser(clap::value_parser!(u32).range(1..=MOST_NODES));
+    let stack = option_arg(
+        alloc,
+        "stack",
+        "FIRST..LAST",
+        "The stack's addresses, as DF00..DFFF; else the least that is needed below LD SP",
+    );
+    with_arg(with_arg(with_arg(command, symbols), nodes), stack)
+}
+
+/// The program's command line.
+fn program_command<'a>(alloc: Global) -> Result<Command<'a>, AllocError> {
+    let command = with_options(alloc);
+    let explain = flag_arg(
+        alloc,
+        "explain",
+        "Explain why CERT, which is there, is refused",
+    );
+    let list = flag_arg(alloc, "list", "List the nodes of CERT, which is there");
+    let json = flag_arg(
+        alloc,
+        "json",
+        "Tell what is in the way as JSON on standard output",
+    );
+    let command = with_arg(with_arg(command, explain), list);
+    with_arg(command, json)
+}
+
+/// An address of four hexadecimal digits, with or without `$` or `0x`.
+fn address_of(text: &str) -> Option<u16> {
+    let text = match text.strip_prefix('$') {
+        Some(digits) => digits,
+        None => text,
+    };
+    let digits = match text.strip_prefix("0x") {
+        Some(digits) => digits,
+        None => text,
+    };
+    if digits.starts_with('+') {
+        return None;
+    }
+    u16::from_str_radix(digits, 16).ok()
+}
+
+/// A stack region, as `DF00..DFFF`: whole words inside of work RAM or high RAM.
+fn region_of(text: &str) -> Option<Region> {
+    let (first, last) = text.split_once("..")?;
+    let region = Region {
+        first: address_of(first)?,
+        last: address_of(last)?,
+    };
+    let is_work_ram = 0xC000 <= region.first && region.last <= 0xDFFF;
+    let is_high_ram = 0xFF80 <= region.first && region.last <= 0xFFFE;
+    let is_whole = region.first < region.last && (region.last - region.first) % 2 == 1;
+    if is_whole && (is_work_ram || is_high_ram) {
+        Some(region)
+    } else {
+        None
+    }
+}
+
+/// An error with a text of our own.
+fn wrong(alloc: Global, text: &str) -> Error {
+    match program_command(alloc) {
+        Ok(mut command) => match command.error(ErrorKind::ValueValidation, text) {
+            Ok(error) => error,
+            Err(error) => Error::from(error),
+        },
+        Err(error) => Error::from(error),
+    }
+}
+
+/// What the stack's option says.
+fn stack_of(alloc: Global, matches: &ArgMatches<'_>) -> Result<Option<Region>, Error> {
+    let Some(text) = matches.get_str("stack") else {
+        return Ok(None);
+    };
+    match region_of(text) {
+        Some(region) => Ok(Some(region)),
+        None => Err(wrong(
+            alloc,
+            "--stack wants FIRST..LAST in hexadecimal, an even number of bytes inside C000..DFFF or FF80..FFFE, as DF00..DFFF",
+        )),
+    }
+}
+
+/// What is to be done with the certificate's file.
+fn work_of(alloc: Global, matches: &ArgMatches<'_>) -> Result<Work, Error> {
+    match (matches.get_flag("explain"), matches.get_flag("list")) {
+        (false, false) => Ok(Work::Make),
+        (true, false) => Ok(Work::Explain),
+        (false, true) => Ok(Work::List),
+        (true, true) => Err(wrong(alloc, "--explain and --list can't be used together")),
+    }
+}
+
+/// What the words after the program's name ask for.
+pub fn read_words<'a>(alloc: Global, words: &'a [&'a str]) -> Result<Task<'a>, Error> {
+    let matches = program_command(alloc)?.try_get_matches_from(words)?;
+    let (Some(rom), Some(cert)) = (matches.get_str("rom"), matches.get_str("cert")) else {
+        return Err(wrong(alloc, "ROM and CERT are wanted"));
+    };
+    let nodes = match matches.get_one::<u32>("nodes") {
+        Some(nodes) => nodes,
+        None => NODES,
+    };
+    Ok(Task {
+        work: work_of(alloc, &matches)?,
+        rom,
+        cert,
+        symbols: matches.get_str("sym"),
+        nodes,
+        region: stack_of(alloc, &matches)?,
+        is_json: matches.get_flag("json"),
+    })
+}

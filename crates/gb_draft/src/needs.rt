@@ -1,0 +1,84 @@
+//! The words of stack that procedures need.
+
+use gb_fixpoint::types::{Call, Run};
+use std::alloc::{AllocError, Global};
+use std::collections::BTreeMap;
+
+/// The most procedures of a certificate.
+const PROCEDURES: usize = 255;
+
+/// For each call the most words that its sites hold.
+type Held = BTreeMap<Call, usize>;
+
+/// Finds the least needs of a run's procedures: the words that a procedure's own nodes hold, and at each call those, the
+/// return word and the callee's need. Some where there are none: the number of a procedure on a cycle of calls.
+pub fn find_needs(alloc: Global, run: &mut Run<'_>) -> Result<Option<usize>, AllocError> {
+    let held = held_at_calls(alloc, run)?;
+    set_own_needs(run);
+    for _ in 0..=PROCEDURES {
+        if !raise_needs(run, &held) {
+            return Ok(None);
+        }
+    }
+    Ok(raised_need(run, &held))
+}
+
+fn held_at_calls(alloc: Global, run: &Run<'_>) -> Result<Held, AllocError> {
+    let mut held = BTreeMap::new(alloc);
+    for (callee, procedure) in run.procedures.iter().enumerate() {
+        for site in &procedure.sites {
+            if let Some(node) = run.nodes.get(*site) {
+                let caller = node.key.procedure;
+                let words = node.state.items().len();
+                let most = held.entry(Call { caller, callee })?.or_insert(0);
+                *most = words.max(*most);
+            }
+        }
+    }
+    Ok(held)
+}
+
+/// Each procedure needs the words that its own nodes hold.
+fn set_own_needs(run: &mut Run<'_>) {
+    for node in &run.nodes {
+        if let Some(procedure) = run.procedures.get_mut(node.key.procedure) {
+            procedure.need = procedure.need.max(node.state.items().len());
+        }
+    }
+}
+
+/// What a caller needs at a call.
+fn need_at(run: &Run<'_>, call: &Call, held: usize) -> usize {
+    match run.procedures.get(call.callee) {
+        Some(callee) => held.saturating_add(1).saturating_add(callee.need),
+        None => 0,
+    }
+}
+
+/// Raises each caller's need to what its calls need. True where one was raised.
+fn raise_needs(run: &mut Run<'_>, held: &Held) -> bool {
+    let mut is_raised = false;
+    for (call, words) in held {
+        let need = need_at(run, call, *words);
+        if let Some(caller) = run.procedures.get_mut(call.caller)
+            && caller.need < need
+        {
+            caller.need = need;
+            is_raised = true;
+        }
+    }
+    is_raised
+}
+
+/// A caller whose need would be raised again.
+fn raised_need(run: &Run<'_>, held: &Held) -> Option<usize> {
+    for (call, words) in held {
+        let need = need_at(run, call, *words);
+        if let Some(caller) = run.procedures.get(call.caller)
+            && caller.need < need
+        {
+            return Some(call.caller);
+        }
+    }
+    None
+}

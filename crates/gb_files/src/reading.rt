@@ -1,0 +1,167 @@
+//! Reading files and standard input to their end, or as far as a file of that kind can go.
+
+ghost use Rattle.std.specs.Prelude.{◌≡◌};
+ghost use Rattle.gb_files.specs.Input.{is_input};
+
+use crate::trouble::Trouble;
+use std::alloc::Global;
+use std::fs;
+use std::io::{self, Input, Read};
+use std::rt::Files;
+
+/// The most bytes that are read of a cartridge: one more than the largest has.
+const CARTRIDGE_LIMIT: u64 = 8_388_609;
+
+/// The most bytes that are read of a certificate: more than the largest has.
+const CERTIFICATE_LIMIT: u64 = 320_000_000;
+
+/// Whether a name is standard input's.
+pub fn is_input(name: &str) -> bool
+    ensures { result ≡ is_input name.now }
+{
+    name == "-"
+}
+
+/// How a person is told of a file with this name.
+pub fn shown_name<'a>(name: &'a str) -> &'a str {
+    if is_input(name) {
+        "standard input"
+    } else {
+        name
+    }
+}
+
+/// Says why a file can't be read.
+fn tell<R: Eprint>(rt: &R, program: &str, name: &str, error: &io::Error) {
+    let _ = match error.kind() {
+        io::ErrorKind::NotFound => eprintln!(rt; "{program}: {name}: no such file"),
+        io::ErrorKind::PermissionDenied => eprintln!(rt;
+            "{program}: {name}: no permission to read it"
+        ),
+        io::ErrorKind::IsADirectory => eprintln!(rt; "{program}: {name}: it is a folder"),
+        io::ErrorKind::OutOfMemory => eprintln!(rt; "{program}: {name}: memory ran out"),
+        _ => eprintln!(rt; "{program}: {name}: {error}"),
+    };
+}
+
+/// Reads to the end, or so many bytes.
+fn read_within<R: Read + Drop>(alloc: Global, reader: R, limit: u64) -> io::Result<Vec<u8>> {
+    let mut bytes = Vec::new(alloc);
+    reader.take(limit).read_to_end(&mut bytes)?;
+    Ok(bytes)
+}
+
+/// Reads a file with this name to its end, or so many bytes.
+fn read_named<R: Files + AllocGlobal>(rt: &R, name: &str, limit: u64) -> io::Result<Vec<u8>> {
+    read_within(rt.alloc(), fs::open(rt, name)?, limit)
+}
+
+/// Reads a file, or standard input where its name is `-`, to its end or so many bytes.
+///
+/// # Errors
+///
+/// Trouble where memory ran out or the file can't be opened or read; standard error then names the program and the file and
+/// says why.
+pub fn read_file<R: Eprint + Input + Files + AllocGlobal>(
+    rt: &R,
+    program: &str,
+    name: &str,
+    limit: u64,
+) -> Result<Vec<u8>, Trouble> {
+    let read = if is_input(name) {
+        read_within(rt.alloc(), rt.reader(), limit)
+    } else {
+        read_named(rt, name, limit)
+    };
+    match read {
+        Ok(bytes) => Ok(bytes),
+        Err(error) => {
+            tell(rt, program, shown_name(name), &error);
+            Err(Trouble::from(error))
+        }
+    }
+}
+
+/// Reads a cartridge's file, or what of it can tell that it is none.
+///
+/// # Errors
+///
+/// As `read_file`.
+pub fn read_cartridge<R: Eprint + Input + Files + AllocGlobal>(
+    rt: &R,
+    program: &str,
+    name: &str,
+) -> Result<Vec<u8>, Trouble> {
+    read_file(rt, program, name, CARTRIDGE_LIMIT)
+}
+
+/// Reads a certificate's file, or what of it can tell that it is none.
+///
+/// # Errors
+///
+/// As `read_file`.
+pub fn read_certificate<R: Eprint + Input + Files + AllocGlobal>(
+    rt: &R,
+    program: &str,
+    name: &str,
+) -> Result<Vec<u8>, Trouble> {
+    read_file(rt, program, name, CERTIFICATE_LIMIT)
+}
+
+#[cfg(test)]
+mod tests {
+    use super::*;
+    use std::test::Fail;
+
+    /// Gives a few bytes, one at a time, and then fails or ends.
+    #[derive(Drop)]
+    struct Few {
+        left: u8,
+        ends: bool,
+    }
+
+    impl Read for Few {
+        fn read(&mut self, buf: &mut [u8]) -> io::Result<usize> {
+            if self.left == 0 {
+                return if self.ends {
+                    Ok(0)
+                } else {
+                    Err(io::Error::from(io::ErrorKind::Other))
+                };
+            }
+            if buf.is_empty() {
+                return Ok(0);
+            }
+            self.left -= 1;
+            buf[0] = self.left;
+            Ok(1)
+        }
+    }
+
+    #[test]
+    fn reads_to_the_end_or_the_limit(rt: HostRuntime) -> Result<(), Fail> {
+        let whole = Few {
+            left: 5,
+            ends: true,
+        };
+        let bytes = read_within(rt.alloc(), whole, 10).map_err(|_| "five bytes can be read")?;
+        assert_eq!(rt; bytes.as_slice(), [4, 3, 2, 1, 0].as_slice());
+        let cut = Few {
+            left: 5,
+            ends: false,
+        };
+        let bytes = read_within(rt.alloc(), cut, 3).map_err(|_| "three bytes can be read")?;
+        assert_eq!(rt; bytes.as_slice(), [4, 3, 2].as_slice());
+        Ok(())
+    }
+
+    #[test]
+    fn a_read_that_fails_in_the_middle_is_the_devices(rt: HostRuntime) {
+        let failing = Few {
+            left: 2,
+            ends: false,
+        };
+        let trouble = read_within(rt.alloc(), failing, 10).err();
+        assert_eq!(rt; trouble.map(Trouble::from), Some(Trouble::Device));
+    }
+}

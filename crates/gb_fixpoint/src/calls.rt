@@ -1,0 +1,189 @@
+//! Calls and dispatches: procedures are found or made, entered, and resumed behind.
+
+use crate::run::PROCEDURES;
+use crate::stop::Stop;
+use crate::types::{Call, Procedure, Run};
+use gb_calls::entering::enter;
+use gb_calls::resuming::resume;
+use gb_cert::types::{Abs, Core, Range};
+use gb_joins::tracking::keep_tracked;
+use gb_partition::cause::Cause;
+use gb_partition::keys::{ControllerKey, KnownRegisters, NodeKey, ProcedureKey};
+use gb_partition::register_set::RegisterSet;
+use std::collections::BTreeSet;
+use std::mem;
+
+impl<'a> Run<'a> {
+    /// A node calls a target, or is interrupted by it, from a state with the return word on the stack, and goes on at
+    /// an address behind it.
+    pub(crate) fn call(
+        &mut self,
+        number: usize,
+        caller: &Abs,
+        target: u16,
+        back: u16,
+        is_handler: bool,
+    ) -> Result<(), Stop> {
+        let Some(node) = self.nodes.get(number) else {
+            return Ok(());
+        };
+        let procedure = node.key.procedure;
+        let mut entered = enter(caller);
+        keep_tracked(&mut entered, self.tracked.as_slice());
+        let cells = self.number_cells(entered.cells())?;
+        let key = self.procedure_key(entered.core(), target, is_handler, cells);
+        let callee = self.procedure_with(key)?;
+        self.link(number, procedure, callee, target)?;
+        self.arrive(Some(number), NodeKey::of_entry(callee, target), entered)?;
+        self.inherit_ranges(procedure, callee)?;
+        if let Some(resumed) = self.resumed(callee, caller) {
+            self.flow(number, back, resumed)?;
+        }
+        Ok(())
+    }
+
+    /// The key of the procedure that begins at a target in a state, with the number of the values of its key cells.
+    pub(crate) fn procedure_key(
+        &self,
+        core: &Core,
+        target: u16,
+        is_handler: bool,
+        cells: usize,
+    ) -> ProcedureKey {
+        let is_flat = self.configuration.flat.contains(&target);
+        let registers = match self.configuration.parted.get(&target) {
+            Some(registers) => *registers,
+            None => RegisterSet::empty(),
+        };
+        ProcedureKey {
+            target,
+            is_handler,
+            ime: (core.ime.off, core.ime.pending, core.ime.on),
+            bound: core.bound,
+            controller: if is_flat {
+                None
+            } else {
+                Some(ControllerKey::of(&core.ctl))
+            },
+            ie: if is_handler {
+                (0, 0)
+            } else {
+                (core.ie.lo, core.ie.hi)
+            },
+            registers: KnownRegisters::of(&core.registers, &registers),
+            cells: if is_flat { 0 } else { cells },
+        }
+    }
+
+    /// The procedure with a key, which is made where there is none.
+    fn procedure_with(&mut self, key: ProcedureKey) -> Result<usize, Stop> {
+        if let Some(number) = self.procedure_index.get(&key) {
+            return Ok(*number);
+        }
+        let number = self.procedures.len();
+        if number >= PROCEDURES {
+            return Err(Stop::TooLarge);
+        }
+        self.procedure_index.insert(key, number)?;
+        self.procedures.push(Procedure::new(self.alloc, key))?;
+        Ok(number)
+    }
+
+    /// A node becomes a site of a callee. A call that closes a cycle of procedures is a failure.
+    fn link(
+        &mut self,
+        number: usize,
+        caller: usize,
+        callee: usize,
+        target: u16,
+    ) -> Result<(), Stop> {
+        if let Some(called) = self.procedures.get_mut(callee) {
+            called.sites.insert(number)?;
+        }
+        let call = Call { caller, callee };
+        if self.calls.insert(call)? {
+            if let Some(calling) = self.procedures.get_mut(caller) {
+                calling.callees.insert(callee)?;
+            }
+            if self.reaches(callee, caller)? {
+                self.cyclic.insert(call)?;
+            }
+        }
+        if self.cyclic.contains(&call) {
+            let cause = Cause::Recursion { target };
+            return Err(Run::failure(number, cause, RegisterSet::empty()));
+        }
+        Ok(())
+    }
+
+    /// Whether a procedure is another one, or calls it, itself or by others.
+    fn reaches(&self, from: usize, to: usize) -> Result<bool, Stop> {
+        let mut seen = BTreeSet::new(self.alloc);
+        seen.insert(from)?;
+        let mut open = vec![in self.alloc; from]?;
+        for _ in 0..=PROCEDURES {
+            let Some(procedure) = open.pop() else {
+                return Ok(false);
+            };
+            if procedure == to {
+                return Ok(true);
+            }
+            if let Some(calling) = self.procedures.get(procedure) {
+                for callee in &calling.callees {
+                    if seen.insert(*callee)? {
+                        open.push(*callee)?;
+                    }
+                }
+            }
+        }
+        Ok(false)
+    }
+
+    /// What the caller goes on with behind a callee, if that has returned yet.
+    fn resumed(&self, callee: usize, caller: &Abs) -> Option<Abs> {
+        let called = self.procedures.get(callee)?;
+        match &called.exit {
+            Some(exit) => Some(resume(called.ranges.as_slice(), caller, exit)),
+            None => None,
+        }
+    }
+
+    /// What a callee may write its caller may write too.
+    fn inherit_ranges(&mut self, caller: usize, callee: usize) -> Result<(), Stop> {
+        let Some(called) = self.procedures.get(callee) else {
+            return Ok(());
+        };
+        let ranges = called.ranges.copied();
+        for range in ranges.as_slice() {
+            self.record_written(caller, *range)?;
+        }
+        Ok(())
+    }
+
+    /// A procedure may write a range. Where its ranges grew, its callers take them over.
+    pub(crate) fn record_written(&mut self, procedure: usize, range: Range) -> Result<(), Stop> {
+        let region = self.configuration.region;
+        let Some(writing) = self.procedures.get_mut(procedure) else {
+            return Ok(());
+        };
+        if writing.ranges.add(range, region) {
+            self.enqueue_sites(procedure)?;
+        }
+        Ok(())
+    }
+
+    /// All callers of a procedure wait for their turns.
+    pub(crate) fn enqueue_sites(&mut self, procedure: usize) -> Result<(), Stop> {
+        let Some(called) = self.procedures.get_mut(procedure) else {
+            return Ok(());
+        };
+        let sites = mem::replace(&mut called.sites, BTreeSet::new(self.alloc));
+        for site in &sites {
+            self.enqueue(*site)?;
+        }
+        if let Some(called) = self.procedures.get_mut(procedure) {
+            called.sites = sites;
+        }
+        Ok(())
+    }
+}

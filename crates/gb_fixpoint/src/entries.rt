@@ -1,0 +1,74 @@
+//! What nodes enter, for who puts procedures in order.
+
+use crate::reading::decoded;
+use crate::stepping::FIRST_VECTOR;
+use crate::types::Run;
+use gb_abs_effects::targets::Target;
+use gb_calls::entering::enter;
+use gb_calls::interrupts::{dispatched, may_come};
+use gb_cert::types::Abs;
+use gb_joins::tracking::keep_tracked;
+use gb_successors::successor::Successor;
+use gb_successors::successors::successors_of;
+use std::alloc::AllocError;
+
+/// What a node enters, and where.
+#[derive(Drop)]
+pub struct Entered {
+    pub target: u16,
+    pub is_handler: bool,
+    pub state: Abs,
+}
+
+impl<'a> Run<'a> {
+    /// What a node's instruction calls, and which handlers may interrupt it.
+    pub fn entered_from(&self, number: usize) -> Result<Vec<Entered>, AllocError> {
+        let mut all = Vec::new(self.alloc);
+        let Some(node) = self.nodes.get(number) else {
+            return Ok(all);
+        };
+        if let Ok(row) = decoded(self.rom, &node.state, node.key.address) {
+            let ways = successors_of(self.rom, row, node.key.address, &node.state);
+            let taken = self.called_by(&ways.taken);
+            let not_taken = self.called_by(&ways.not_taken);
+            let stays = self.called_by(&ways.stays);
+            for entered in [taken, not_taken, stays].into_iter().flatten() {
+                all.push(entered)?;
+            }
+        }
+        let after = dispatched(&node.state);
+        for interrupt in 0..5u8 {
+            if may_come(interrupt, node.state.core()) {
+                let vector = FIRST_VECTOR + 8 * u16::from(interrupt);
+                all.push(self.entered_in(vector, true, &after))?;
+            }
+        }
+        Ok(all)
+    }
+
+    fn called_by(&self, way: &Option<Successor<'_>>) -> Option<Entered> {
+        let Some(successor) = way else { return None };
+        match successor.target {
+            Target::Call(target) => Some(self.entered_in(target, false, &successor.state())),
+            Target::At(_) | Target::Return | Target::Unknown => None,
+        }
+    }
+
+    fn entered_in(&self, target: u16, is_handler: bool, caller: &Abs) -> Entered {
+        let mut state = enter(caller);
+        keep_tracked(&mut state, self.tracked.as_slice());
+        Entered {
+            target,
+            is_handler,
+            state,
+        }
+    }
+
+    /// The procedure that the run enters there.
+    pub fn own_procedure(&self, entered: &Entered) -> Option<usize> {
+        let cells = self.find_cells(entered.state.cells())?;
+        let core = entered.state.core();
+        let key = self.procedure_key(core, entered.target, entered.is_handler, cells);
+        self.procedure_index.get(&key).copied()
+    }
+}

@@ -1,0 +1,150 @@
+//! Exits: what procedures return with, and what their callers see of it.
+
+use crate::stop::Stop;
+use crate::types::Run;
+use arrayvec::ArrayVec;
+use gb_abs::covering::covers;
+use gb_cert::types::{Abs, Cell, Core, Ctl, Flg, May, Origin, Range, Val};
+use gb_joins::joining::join;
+use gb_ops::op::Register;
+use gb_ops::registers::Registers;
+
+/// How often an exit grows before it is widened.
+const GROWTHS: u32 = 40;
+
+/// Any value of a bit.
+const EITHER: May = May {
+    clear: true,
+    set: true,
+};
+
+/// What stands for a controller that is as it was.
+const KEPT: Ctl = Ctl {
+    bank_lo: 0,
+    bank_hi: 511,
+    second_lo: 0,
+    second_hi: 255,
+    gate: EITHER,
+    mode: EITHER,
+    is_kept: true,
+};
+
+/// A value; any, where it is what this held at entry, since the caller's own value comes back then.
+fn seen_val(origin: Origin, val: Val) -> Val {
+    if val.origin == Some(origin) {
+        Val {
+            lo: 0,
+            hi: 255,
+            origin: val.origin,
+        }
+    } else {
+        Val {
+            origin: None,
+            ..val
+        }
+    }
+}
+
+fn seen_flags(flags: Flg) -> Flg {
+    if flags.is_own {
+        Flg {
+            zero: EITHER,
+            subtract: EITHER,
+            half_carry: EITHER,
+            carry: EITHER,
+            is_own: true,
+        }
+    } else {
+        flags
+    }
+}
+
+fn seen_registers(registers: &Registers<Val>) -> Registers<Val> {
+    Registers {
+        a: seen_val(Origin::Register(Register::A), registers.a),
+        b: seen_val(Origin::Register(Register::B), registers.b),
+        c: seen_val(Origin::Register(Register::C), registers.c),
+        d: seen_val(Origin::Register(Register::D), registers.d),
+        e: seen_val(Origin::Register(Register::E), registers.e),
+        h: seen_val(Origin::Register(Register::H), registers.h),
+        l: seen_val(Origin::Register(Register::L), registers.l),
+    }
+}
+
+/// The cells in the ranges: the caller's own come back elsewhere.
+fn seen_cells(ranges: &[Range], cells: &[Cell]) -> ArrayVec<Cell, 32> {
+    let mut seen = ArrayVec::new();
+    for cell in cells {
+        let is_seen = ranges.iter().any(|range| range.first <= cell.address
+            && cell.address <= range.last);
+        if is_seen {
+            let _ = seen.try_push(Cell {
+                address: cell.address,
+                val: Val {
+                    origin: None,
+                    ..cell.val
+                },
+            });
+        }
+    }
+    seen
+}
+
+/// What the callers of a procedure with these ranges see of its exit. Where it is the same, they go on with the same.
+fn seen(ranges: &[Range], exit: &Abs) -> Abs {
+    let core = exit.core();
+    let seen = Core {
+        test: None,
+        ctl: if core.ctl.is_kept { KEPT } else { core.ctl },
+        flags: seen_flags(core.flags),
+        ie: seen_val(Origin::Ie, core.ie),
+        registers: seen_registers(&core.registers),
+        ..*core
+    };
+    Abs::of_parts(seen, ArrayVec::new(), seen_cells(ranges, exit.cells()))
+}
+
+impl<'a> Run<'a> {
+    /// A procedure's exit becomes one above it and a state. Where its callers see that it grew, they go on again.
+    pub(crate) fn exit(&mut self, procedure: usize, state: Abs) -> Result<(), Stop> {
+        let Some(exit) = self.grown_exit(procedure, state) else {
+            return Ok(());
+        };
+        let is_seen = self.is_growth_seen(procedure, &exit);
+        if let Some(left) = self.procedures.get_mut(procedure) {
+            left.exit = Some(exit);
+            left.growths = left.growths.saturating_add(1);
+        }
+        if is_seen {
+            self.enqueue_sites(procedure)?;
+        }
+        Ok(())
+    }
+
+    /// A procedure's exit with one more state; None where it covers that already.
+    fn grown_exit(&self, procedure: usize, state: Abs) -> Option<Abs> {
+        let left = self.procedures.get(procedure)?;
+        let Some(exit) = &left.exit else {
+            return Some(state);
+        };
+        if covers(&state, exit) {
+            None
+        } else if left.growths > GROWTHS {
+            Some(self.widening.widen(exit, &state))
+        } else {
+            Some(join(exit, &state))
+        }
+    }
+
+    /// Whether a procedure's callers see that its exit grows to this one.
+    fn is_growth_seen(&self, procedure: usize, grown: &Abs) -> bool {
+        let Some(left) = self.procedures.get(procedure) else {
+            return false;
+        };
+        let Some(exit) = &left.exit else {
+            return true;
+        };
+        let ranges = left.ranges.as_slice();
+        !covers(&seen(ranges, grown), &seen(ranges, exit))
+    }
+}

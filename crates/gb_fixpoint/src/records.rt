@@ -1,0 +1,125 @@
+//! What refinement wants to know of a step's accesses.
+
+use crate::stop::Stop;
+use crate::types::{CellStore, Run, Spot};
+use gb_abs::span::Span;
+use gb_abs::storage::is_ram;
+use gb_abs_effects::reads::AbsRead;
+use gb_abs_effects::writes::AbsWrite;
+use gb_cert::types::{Range, Val};
+use gb_ops::op::{Op, Operand, Register};
+use gb_successors::successors::Successors;
+
+/// Where the byte at an address is kept: the echo of work RAM is the same byte.
+fn home_of(address: u16) -> u16 {
+    match address {
+        0xE000..=0xFDFF => address - 0x2000,
+        _ => address,
+    }
+}
+
+/// Whether an instruction stores A.
+fn stores_a(op: Op) -> bool {
+    matches!(
+        op,
+        Op::StoreA(_)
+            | Op::StoreHigh(_)
+            | Op::StoreHighC
+            | Op::StoreAbsolute(_)
+            | Op::Load(Operand::AtHl, Operand::Register(Register::A))
+    )
+}
+
+/// Whether an instruction names the byte that it loads.
+fn names_cell(op: Op) -> bool {
+    matches!(op, Op::LoadHigh(_) | Op::LoadAbsolute(_))
+}
+
+/// Whether all of these addresses are work RAM's, or high RAM's.
+fn lies_in_ram(span: Span) -> bool {
+    span.is_inside(0xC000, 0xDFFF) || span.is_inside(0xFF80, 0xFFFE)
+}
+
+impl<'a> Run<'a> {
+    /// Records the accesses of a node's instruction, none of which is refused.
+    pub(crate) fn record_accesses(
+        &mut self,
+        number: usize,
+        op: Op,
+        ways: &Successors<'_>,
+    ) -> Result<(), Stop> {
+        let Some(node) = self.nodes.get(number) else {
+            return Ok(());
+        };
+        let spot = Spot {
+            procedure: node.key.procedure,
+            address: node.key.address,
+        };
+        let Some(taken) = &ways.taken else {
+            return Ok(());
+        };
+        if let AbsRead::Byte(span) = taken.read {
+            self.record_read(op, span)?;
+        }
+        match taken.write {
+            AbsWrite::Byte(span, val) => self.record_store(number, spot, op, span, val),
+            AbsWrite::Word(address, low, high) => {
+                let behind = Span::one(address.wrapping_add(1));
+                self.record_store(number, spot, op, Span::one(address), low)?;
+                self.record_store(number, spot, op, behind, high)
+            }
+            AbsWrite::Nothing | AbsWrite::Push { .. } => Ok(()),
+        }
+    }
+
+    /// A byte of RAM that is read at one address is wanted.
+    fn record_read(&mut self, op: Op, span: Span) -> Result<(), Stop> {
+        let home = home_of(span.first);
+        if span.is_one() && is_ram(home) {
+            self.wanted.insert(home)?;
+            if names_cell(op) {
+                self.named.insert(home)?;
+            }
+        }
+        Ok(())
+    }
+
+    fn record_store(
+        &mut self,
+        number: usize,
+        spot: Spot,
+        op: Op,
+        span: Span,
+        val: Val,
+    ) -> Result<(), Stop> {
+        let is_known = val.lo == val.hi;
+        if span.last < 0x8000 && !is_known {
+            self.switches.insert(spot)?;
+        }
+        if !lies_in_ram(span) {
+            return Ok(());
+        }
+        let cell = span.first;
+        if span.is_one() {
+            if !is_known && stores_a(op) && self.configuration.tracked.contains(&cell) {
+                self.stores.insert(CellStore { cell, spot })?;
+            }
+        } else if self.holds_cell(number, span) {
+            self.killers.insert(spot)?;
+        }
+        let range = Range {
+            first: span.first,
+            last: span.last,
+        };
+        self.record_written(spot.procedure, range)
+    }
+
+    /// Whether a node holds a cell at one of these addresses.
+    fn holds_cell(&self, number: usize, span: Span) -> bool {
+        match self.nodes.get(number) {
+            Some(node) => node.state.cells().iter().any(|cell| span.first <= cell.address
+                && cell.address <= span.last),
+            None => false,
+        }
+    }
+}

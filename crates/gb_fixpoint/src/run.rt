@@ -1,0 +1,222 @@
+//! A run from power-up to the fixpoint.
+
+use crate::stop::Stop;
+use crate::types::{Procedure, Run, Spot, Turn};
+use gb_cert::types::Abs;
+use gb_code::code::known_bytes;
+use gb_header::Rom;
+use gb_joins::ranges::RangeSet;
+use gb_joins::steps::Steps;
+use gb_ops::op::Register;
+use gb_partition::cause::{Cause, Failure, Outcome};
+use gb_partition::configuration::{Configuration, Place};
+use gb_partition::keys::{NodeKey, ProcedureKey};
+use gb_partition::register_set::RegisterSet;
+use gb_verify::check::core_at_power_up;
+use std::alloc::{AllocError, Global};
+use std::collections::{BTreeSet, HashMap, HashSet};
+
+/// Where main begins.
+const START: u16 = 0x0100;
+
+/// The most procedures of a certificate.
+pub(crate) const PROCEDURES: usize = 255;
+
+/// The most steps of a run.
+const STEPS: u64 = 60_000_000;
+
+impl Procedure {
+    pub(crate) fn new(alloc: Global, key: ProcedureKey) -> Procedure {
+        Procedure {
+            key,
+            entry: None,
+            exit: None,
+            growths: 0,
+            ranges: RangeSet::new(),
+            sites: BTreeSet::new(alloc),
+            callees: BTreeSet::new(alloc),
+            need: 0,
+        }
+    }
+}
+
+impl<'a> Run<'a> {
+    /// A run that begins with nothing.
+    pub fn new(
+        alloc: Global,
+        rom: &'a Rom<'a>,
+        configuration: &'a Configuration,
+    ) -> Result<Run<'a>, AllocError> {
+        let points = configuration.points.clone()?;
+        let tracked = configuration.tracked.iter().copied().collect(alloc)?;
+        let widening = Steps::new(&points);
+        Ok(Run {
+            rom,
+            configuration,
+            nodes: Vec::new(alloc),
+            procedures: Vec::new(alloc),
+            at: HashMap::new(alloc),
+            edges: BTreeSet::new(alloc),
+            heads: HashSet::new(alloc),
+            wanted: BTreeSet::new(alloc),
+            fetched: BTreeSet::new(alloc),
+            named: BTreeSet::new(alloc),
+            killers: BTreeSet::new(alloc),
+            switches: BTreeSet::new(alloc),
+            stores: BTreeSet::new(alloc),
+            calls: BTreeSet::new(alloc),
+            points,
+            sp: None,
+            failures: Vec::new(alloc),
+            steps: 0,
+            alloc,
+            tracked,
+            node_index: HashMap::new(alloc),
+            procedure_index: HashMap::new(alloc),
+            cell_index: HashMap::new(alloc),
+            cyclic: BTreeSet::new(alloc),
+            queue: BTreeSet::new(alloc),
+            widening,
+        })
+    }
+
+    /// Goes from power-up to the fixpoint, to the first failure at a place that wasn't given up, or to a limit.
+    pub fn run(&mut self) -> Result<Outcome, AllocError> {
+        match self.run_to_stop() {
+            Ok(()) => Ok(Outcome::Finished),
+            Err(Stop::Failed(failure)) => Ok(Outcome::Failed(failure)),
+            Err(Stop::StackSet(sp)) => Ok(Outcome::StackSet { sp }),
+            Err(Stop::TooLarge) => Ok(Outcome::TooLarge),
+            Err(Stop::Memory(error)) => Err(error),
+        }
+    }
+
+    fn run_to_stop(&mut self) -> Result<(), Stop> {
+        self.begin()?;
+        for _ in 0..STEPS {
+            let Some(turn) = self.queue.pop_first() else {
+                return Ok(());
+            };
+            if self.nodes.len() > self.configuration.limit {
+                return Err(Stop::TooLarge);
+            }
+            self.take_turn(turn.node)?;
+        }
+        Err(Stop::TooLarge)
+    }
+
+    /// Main is entered.
+    fn begin(&mut self) -> Result<(), Stop> {
+        let core = core_at_power_up(self.rom, self.configuration.region);
+        let main = Procedure::new(self.alloc, ProcedureKey::of_main(&core));
+        self.procedures.push(main)?;
+        self.arrive(None, NodeKey::of_entry(0, START), Abs::new(core))
+    }
+
+    /// Steps a node.
+    fn take_turn(&mut self, node: usize) -> Result<(), Stop> {
+        if let Some(waiting) = self.nodes.get_mut(node) {
+            waiting.is_queued = false;
+        }
+        self.steps = self.steps.saturating_add(1);
+        let outcome = self.step(node);
+        self.keep(outcome)
+    }
+
+    /// A failure at a place that was given up is kept, the first of each place, and stops nothing.
+    pub(crate) fn keep(&mut self, outcome: Result<(), Stop>) -> Result<(), Stop> {
+        match outcome {
+            Err(Stop::Failed(failure)) if self.is_given_up(failure.node) => {
+                if !self.has_failed(failure.node) {
+                    self.failures.push(failure)?;
+                }
+                Ok(())
+            }
+            outcome => outcome,
+        }
+    }
+
+    /// A failure at a node.
+    pub(crate) fn failure(node: usize, cause: Cause, registers: RegisterSet) -> Stop {
+        Stop::Failed(Failure {
+            node,
+            cause,
+            registers,
+        })
+    }
+
+    fn is_given_up(&self, node: usize) -> bool {
+        match self.place_of(node) {
+            Some(place) => self.configuration.given_up.contains(&place),
+            None => false,
+        }
+    }
+
+    /// Whether a failure is kept at the place of a node.
+    fn has_failed(&self, node: usize) -> bool {
+        let place = self.place_of(node);
+        self.failures
+            .iter()
+            .any(|failure| self.place_of(failure.node) == place)
+    }
+
+    /// A node waits for its turn.
+    pub(crate) fn enqueue(&mut self, node: usize) -> Result<(), Stop> {
+        let Some(waiting) = self.nodes.get_mut(node) else {
+            return Ok(());
+        };
+        if !waiting.is_queued {
+            waiting.is_queued = true;
+            let turn = Turn {
+                rank: PROCEDURES.saturating_sub(waiting.key.procedure),
+                address: waiting.key.address,
+                node,
+            };
+            self.queue.insert(turn)?;
+        }
+        Ok(())
+    }
+
+    /// Where a procedure begins.
+    pub fn target(&self, procedure: usize) -> u16 {
+        match self.procedures.get(procedure) {
+            Some(procedure) => procedure.key.target,
+            None => START,
+        }
+    }
+
+    /// The place of a node.
+    pub fn place_of(&self, node: usize) -> Option<Place> {
+        let key = self.nodes.get(node)?.key;
+        Some(Place {
+            target: self.target(key.procedure),
+            address: key.address,
+        })
+    }
+
+    /// The numbers of the nodes at an address of a procedure.
+    pub fn nodes_at(&self, spot: Spot) -> &[usize] {
+        match self.at.get(&spot) {
+            Some(nodes) => nodes.as_slice(),
+            None => &[],
+        }
+    }
+
+    /// The bytes of the instruction at an address of a procedure, where they are known in its first node.
+    pub fn bytes_at(&self, spot: Spot) -> Option<[u8; 3]> {
+        let number = self.nodes_at(spot).first()?;
+        let node = self.nodes.get(*number)?;
+        known_bytes(self.rom, &node.state, spot.address)
+    }
+
+    /// Whether a register has one value alone in a node.
+    pub fn is_known(&self, node: usize, register: Register) -> bool {
+        match self.nodes.get(node) {
+            Some(node) => {
+                let val = node.state.core().registers.get(register);
+                val.lo == val.hi
+            }
+            None => false,
+        }
+    }
+}

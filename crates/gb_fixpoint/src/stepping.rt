@@ -1,0 +1,99 @@
+//! One step: a node's instruction is executed, and the interrupts come that may come.
+
+use crate::refusals::refusal;
+use crate::stop::Stop;
+use crate::types::Run;
+use gb_abs_effects::targets::Target;
+use gb_calls::interrupts::{dispatched, may_come};
+use gb_cert::types::Abs;
+use gb_joins::tracking::keep_tracked;
+use gb_partition::cause::Cause;
+use gb_partition::register_set::RegisterSet;
+use gb_successors::successor::Successor;
+use gb_successors::successors::successors_of;
+
+/// The address that interrupt 0 calls; those of the others follow it, 8 bytes apart.
+pub(crate) const FIRST_VECTOR: u16 = 0x40;
+
+impl<'a> Run<'a> {
+    /// Executes the instruction at a node, and dispatches each interrupt that may come there.
+    pub(crate) fn step(&mut self, number: usize) -> Result<(), Stop> {
+        let row = self.instruction_at(number)?;
+        let Some(node) = self.nodes.get(number) else {
+            return Ok(());
+        };
+        let address = node.key.address;
+        let state = node.state.copied();
+        let ways = successors_of(self.rom, row, address, &state);
+        let region = self.configuration.region;
+        if let Some((cause, registers)) = refusal(self.rom, region, &state, address, row, &ways) {
+            return Err(Run::failure(number, cause, registers));
+        }
+        self.record_accesses(number, row.op, &ways)?;
+        let taken = self.follow(number, ways.taken);
+        self.keep(taken)?;
+        let not_taken = self.follow(number, ways.not_taken);
+        self.keep(not_taken)?;
+        let stays = self.follow(number, ways.stays);
+        self.keep(stays)?;
+        self.interrupt(number)
+    }
+
+    /// Goes on by one way.
+    fn follow(&mut self, number: usize, way: Option<Successor<'_>>) -> Result<(), Stop> {
+        let Some(successor) = way else {
+            return Ok(());
+        };
+        match successor.target {
+            Target::At(address) => self.flow(number, address, successor.state()),
+            Target::Call(address) => {
+                self.call(number, &successor.state(), address, successor.next, false)
+            }
+            Target::Return => self.leave(number, successor.state()),
+            Target::Unknown => Ok(()),
+        }
+    }
+
+    /// Dispatches each interrupt that may come at a node.
+    fn interrupt(&mut self, number: usize) -> Result<(), Stop> {
+        let Some(node) = self.nodes.get(number) else {
+            return Ok(());
+        };
+        let core = *node.state.core();
+        let address = node.key.address;
+        if !core.ime.on {
+            return Ok(());
+        }
+        let after = dispatched(&node.state);
+        for interrupt in 0..5u8 {
+            if may_come(interrupt, &core) {
+                if !core.stack_set {
+                    let cause = Cause::InterruptWithoutStack { interrupt };
+                    return Err(Run::failure(number, cause, RegisterSet::empty()));
+                }
+                let vector = FIRST_VECTOR + 8 * u16::from(interrupt);
+                let outcome = self.call(number, &after, vector, address, true);
+                self.keep(outcome)?;
+            }
+        }
+        Ok(())
+    }
+
+    /// A node's procedure returns in a state.
+    fn leave(&mut self, number: usize, mut state: Abs) -> Result<(), Stop> {
+        let Some(node) = self.nodes.get(number) else {
+            return Ok(());
+        };
+        let procedure = node.key.procedure;
+        if procedure == 0 {
+            return Err(Run::failure(number, Cause::ReturnInMain, RegisterSet::empty()));
+        }
+        let words = state.items().len();
+        if words != 0 {
+            let cause = Cause::ReturnWithWords { words };
+            return Err(Run::failure(number, cause, RegisterSet::empty()));
+        }
+        keep_tracked(&mut state, self.tracked.as_slice());
+        self.exit(procedure, state)
+    }
+}

@@ -1,0 +1,144 @@
+//! What a run is made of: nodes, procedures, and what refinement asks of them.
+
+use gb_cert::types::Abs;
+use gb_header::Rom;
+use gb_joins::ranges::RangeSet;
+use gb_joins::steps::Steps;
+use gb_partition::cause::Failure;
+use gb_partition::configuration::Configuration;
+use gb_partition::keys::{NodeKey, ProcedureKey};
+use std::alloc::Global;
+use std::collections::{BTreeSet, HashMap, HashSet};
+
+/// An address of a procedure.
+#[derive(Clone, Copy, Debug, PartialEq, Eq, PartialOrd, Ord, Hash)]
+pub struct Spot {
+    /// The number of the procedure.
+    pub procedure: usize,
+    pub address: u16,
+}
+
+/// A way on inside a procedure, from an address to the next.
+#[derive(Clone, Copy, Debug, PartialEq, Eq, PartialOrd, Ord, Hash)]
+pub struct Edge {
+    /// The number of the procedure.
+    pub procedure: usize,
+    pub from: u16,
+    pub to: u16,
+}
+
+/// A procedure calls another one, or is interrupted by it.
+#[derive(Clone, Copy, Debug, PartialEq, Eq, PartialOrd, Ord, Hash)]
+pub struct Call {
+    /// The caller's number.
+    pub caller: usize,
+    /// The callee's number.
+    pub callee: usize,
+}
+
+/// A store of A, which isn't known, to a tracked cell.
+#[derive(Clone, Copy, Debug, PartialEq, Eq, PartialOrd, Ord, Hash)]
+pub struct CellStore {
+    pub cell: u16,
+    /// Where the store stands.
+    pub spot: Spot,
+}
+
+/// A cell that has one value alone.
+#[derive(Clone, Copy, Default, PartialEq, Eq, Hash)]
+pub struct CellValue {
+    pub address: u16,
+    pub value: u8,
+}
+
+/// When a node's turn comes: those of procedures that were found later come first, so that callees are finished
+/// before their callers go on, and of one procedure those at lower addresses, so that loops are finished before what
+/// is behind them.
+#[derive(Clone, Copy, PartialEq, Eq, PartialOrd, Ord)]
+pub(crate) struct Turn {
+    /// How many procedures could still be found behind the node's.
+    pub rank: usize,
+    pub address: u16,
+    pub node: usize,
+}
+
+/// A set of states at an address of a procedure.
+#[derive(Drop)]
+pub struct Node {
+    pub key: NodeKey,
+    pub state: Abs,
+    /// How often its state grew.
+    pub growths: u32,
+    /// The node that it was first reached from: where a procedure was entered, the node of the first call or dispatch.
+    /// None for main's entry.
+    pub via: Option<usize>,
+    /// Whether it waits in the queue.
+    pub(crate) is_queued: bool,
+}
+
+/// A procedure: main, or what is called at a target or dispatched, in states of one key.
+#[derive(Drop)]
+pub struct Procedure {
+    pub key: ProcedureKey,
+    /// The number of its first node, once it was entered.
+    pub entry: Option<usize>,
+    /// What it returns with, if it has returned yet.
+    pub exit: Option<Abs>,
+    /// How often its exit grew.
+    pub growths: u32,
+    /// What it and its callees may write.
+    pub ranges: RangeSet,
+    /// The numbers of the nodes that call it, or that it may interrupt.
+    pub sites: BTreeSet<usize>,
+    /// The numbers of the procedures that it calls, or that may interrupt it.
+    pub callees: BTreeSet<usize>,
+    /// The words of stack that it needs, once `Run::needs` has found them.
+    pub need: usize,
+}
+
+/// One fixpoint under a configuration.
+#[derive(Drop)]
+pub struct Run<'a> {
+    pub rom: &'a Rom<'a>,
+    pub configuration: &'a Configuration,
+    pub nodes: Vec<Node>,
+    /// Procedure 0 is main.
+    pub procedures: Vec<Procedure>,
+    /// The numbers of the nodes at an address of a procedure.
+    pub at: HashMap<Spot, Vec<usize>>,
+    pub edges: BTreeSet<Edge>,
+    /// Targets of backward ways.
+    pub heads: HashSet<Spot>,
+    /// Cells that were read at a single address, or fetched.
+    pub wanted: BTreeSet<u16>,
+    /// Cells that were fetched.
+    pub fetched: BTreeSet<u16>,
+    /// Cells that an instruction names: LD A,(n16) and LDH A,(n8).
+    pub named: BTreeSet<u16>,
+    /// Stores to several addresses that dropped tracked cells.
+    pub killers: BTreeSet<Spot>,
+    /// Stores below 8000 of a value that isn't known.
+    pub switches: BTreeSet<Spot>,
+    /// Stores of A, which isn't known, to tracked cells.
+    pub stores: BTreeSet<CellStore>,
+    pub calls: BTreeSet<Call>,
+    /// Where widening stops: the configuration's points, and the values that were compared with or loaded.
+    pub points: BTreeSet<u8>,
+    /// What LD SP,n16 loads, once it was met.
+    pub sp: Option<u16>,
+    /// The failures at places that were given up, the first of each.
+    pub failures: Vec<Failure>,
+    /// How many nodes were stepped.
+    pub steps: u64,
+    pub(crate) alloc: Global,
+    /// The configuration's tracked cells, in order.
+    pub(crate) tracked: Vec<u16>,
+    pub(crate) node_index: HashMap<NodeKey, usize>,
+    pub(crate) procedure_index: HashMap<ProcedureKey, usize>,
+    /// The numbers of the values that the key cells had, from 1 on.
+    pub(crate) cell_index: HashMap<Vec<CellValue>, usize>,
+    /// Calls that close a cycle of procedures.
+    pub(crate) cyclic: BTreeSet<Call>,
+    pub(crate) queue: BTreeSet<Turn>,
+    pub(crate) widening: Steps,
+}

@@ -1,0 +1,24 @@
+//! What stands in the way of a certificate, told to a person: where, by which rule, in what state, on which way it was
+//! reached, and what usually mends it. And a certificate as a listing.
+//!
+//! Read `obstacle`, which takes what is to be told from a run, then `topic` and `advice` (all texts of rules and of what
+//! mends them stand there), `told` (lines for a person), `json` and `listing`. Of the texts nothing is promised.
+#![tactic(auto)]
+
+mod advice;
+mod crowd;
+mod handlers;
+mod json;
+mod listing;
+mod obstacle;
+mod path;
+mod state;
+mod told;
+mod topic;
+
+pub use crowd::Crowd;
+pub use json::obstacle_json;
+pub use listing::Listing;
+pub use obstacle::{Obstacle, Standing};
+pub use path::{Path, Segment, Start};
+pub use told::Told;

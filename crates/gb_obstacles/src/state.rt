@@ -1,0 +1,141 @@
+//! A state as a person reads it: registers, flags, banks, the stack and cells.
+
+use gb_cert::types::{Abs, Cell, Ctl, Flg, ImeSet, May, Val};
+use std::fmt;
+
+/// A value, or an interval of values.
+#[derive(Clone, Copy, Debug, PartialEq, Eq)]
+pub(crate) struct ShownVal(pub(crate) Val);
+
+impl fmt::Display for ShownVal {
+    fn fmt<W: fmt::Write>(&self, f: &mut fmt::Formatter<W>) -> fmt::Result {
+        let lo = self.0.lo;
+        let hi = self.0.hi;
+        if lo == hi {
+            write!(f, "{lo:02X}")
+        } else if lo == 0 && hi == 255 {
+            write!(f, "any")
+        } else {
+            write!(f, "{lo:02X}..{hi:02X}")
+        }
+    }
+}
+
+/// What a flag may be.
+fn flag_text(may: May) -> &'static str {
+    match (may.clear, may.set) {
+        (true, false) => "0",
+        (false, true) => "1",
+        _ => "?",
+    }
+}
+
+/// The flags.
+#[derive(Clone, Copy, Debug, PartialEq, Eq)]
+pub(crate) struct ShownFlags(pub(crate) Flg);
+
+impl fmt::Display for ShownFlags {
+    fn fmt<W: fmt::Write>(&self, f: &mut fmt::Formatter<W>) -> fmt::Result {
+        let zero = flag_text(self.0.zero);
+        let carry = flag_text(self.0.carry);
+        write!(f, "Z={zero} C={carry}")
+    }
+}
+
+/// What the interrupt master enable may be.
+pub(crate) fn ime_text(ime: ImeSet) -> &'static str {
+    match (ime.off, ime.pending, ime.on) {
+        (true, false, false) => "interrupts off",
+        (false, true, false) => "interrupts on after the next instruction",
+        (false, false, true) => "interrupts on",
+        _ => "interrupts on or off",
+    }
+}
+
+/// What the gate of cartridge RAM may be.
+pub(crate) fn gate_text(gate: May) -> &'static str {
+    match (gate.clear, gate.set) {
+        (true, false) => "closed",
+        (false, true) => "open",
+        _ => "open or closed",
+    }
+}
+
+/// What the controller's registers may be.
+#[derive(Clone, Copy, Debug, PartialEq, Eq)]
+pub(crate) struct ShownController(pub(crate) Ctl);
+
+impl fmt::Display for ShownController {
+    fn fmt<W: fmt::Write>(&self, f: &mut fmt::Formatter<W>) -> fmt::Result {
+        let lo = self.0.bank_lo;
+        let hi = self.0.bank_hi;
+        let gate = gate_text(self.0.gate);
+        if lo == hi {
+            write!(f, "bank {lo:02X}, cartridge RAM {gate}")
+        } else {
+            write!(f, "bank {lo:02X}..{hi:02X}, cartridge RAM {gate}")
+        }
+    }
+}
+
+/// The registers.
+#[derive(Clone, Copy)]
+pub(crate) struct ShownRegisters<'a>(pub(crate) &'a Abs);
+
+impl fmt::Display for ShownRegisters<'_> {
+    fn fmt<W: fmt::Write>(&self, f: &mut fmt::Formatter<W>) -> fmt::Result {
+        let registers = self.0.core().registers;
+        let a = ShownVal(registers.a);
+        let b = ShownVal(registers.b);
+        let c = ShownVal(registers.c);
+        let d = ShownVal(registers.d);
+        let e = ShownVal(registers.e);
+        let h = ShownVal(registers.h);
+        let l = ShownVal(registers.l);
+        write!(f, "A={a} B={b} C={c} D={d} E={e} H={h} L={l}")
+    }
+}
+
+/// A cell.
+#[derive(Clone, Copy, Debug, PartialEq, Eq)]
+pub(crate) struct ShownCell(pub(crate) Cell);
+
+impl fmt::Display for ShownCell {
+    fn fmt<W: fmt::Write>(&self, f: &mut fmt::Formatter<W>) -> fmt::Result {
+        let address = self.0.address;
+        let val = ShownVal(self.0.val);
+        write!(f, "{address:04X}={val}")
+    }
+}
+
+/// A whole state in some lines, each behind a margin, the last without its end.
+#[derive(Clone, Copy)]
+pub(crate) struct ShownState<'a>(pub(crate) &'a Abs);
+
+impl fmt::Display for ShownState<'_> {
+    fn fmt<W: fmt::Write>(&self, f: &mut fmt::Formatter<W>) -> fmt::Result {
+        let state = self.0;
+        let registers = ShownRegisters(state);
+        let flags = ShownFlags(state.core().flags);
+        let ime = ime_text(state.core().ime);
+        let controller = ShownController(state.core().ctl);
+        let ie = ShownVal(state.core().ie);
+        let words = state.items().len();
+        let bound = state.core().bound;
+        write!(
+            f,
+            "    {registers} {flags}\n    {ime}, IE={ie}, {controller}, pushed words: {words}"
+        )?;
+        if bound != 0 {
+            write!(f, ", up to {bound} cycles of an OAM transfer left")?;
+        }
+        for (number, cell) in state.cells().iter().enumerate() {
+            let cell = ShownCell(*cell);
+            if number % 8 == 0 {
+                write!(f, "\n   ")?;
+            }
+            write!(f, " {cell}")?;
+        }
+        Ok(())
+    }
+}

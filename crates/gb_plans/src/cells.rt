@@ -1,0 +1,287 @@
+//! Memory cells: which are tracked, and which registers were loaded from them.
+
+use crate::plan::{Edit, Plan};
+use crate::sources::{copied, pointer_of, sources, stacked, without};
+use crate::spots::{has_entry, op_at, open_at, pointed_at};
+use crate::ways::Ways;
+use gb_fixpoint::types::{Run, Spot};
+use gb_ops::op::{Op, Operand, Register, StackPair};
+use gb_partition::register_set::{REGISTERS, RegisterSet};
+use std::alloc::{AllocError, Global};
+use std::collections::{BTreeMap, BTreeSet};
+
+/// How many spots are looked at on the way back to cells.
+const SPOTS: usize = 3000;
+
+/// A spot with the registers whose source is sought.
+#[derive(Clone, Copy, Debug, PartialEq, Eq)]
+struct Question {
+    spot: Spot,
+    wanted: RegisterSet,
+}
+
+/// A set of registers as a number, by which sets are ordered.
+fn number_of(set: &RegisterSet) -> u32 {
+    let mut number: u32 = 0;
+    for register in REGISTERS {
+        number = number.wrapping_mul(2);
+        if set.contains(register) {
+            number = number.wrapping_add(1);
+        }
+    }
+    number
+}
+
+/// A search back from registers to the cells that they were loaded from: over joins, calls, and PUSH with POP.
+#[derive(Drop)]
+struct Search {
+    alloc: Global,
+    /// Only copies are followed, and nothing that is computed.
+    is_of_copies: bool,
+    cells: BTreeSet<u16>,
+    seen: BTreeSet<(Spot, u32)>,
+    left: Vec<Question>,
+    ways: BTreeMap<usize, Ways>,
+}
+
+impl Search {
+    fn ask(&mut self, spot: Spot, wanted: RegisterSet) -> Result<(), AllocError> {
+        if !wanted.is_empty() {
+            self.left.push(Question { spot, wanted })?;
+        }
+        Ok(())
+    }
+
+    /// The spots before one, in its procedure.
+    fn spots_before(&mut self, run: &Run<'_>, spot: Spot) -> Result<Vec<u16>, AllocError> {
+        if !self.ways.contains_key(&spot.procedure) {
+            let ways = Ways::of(self.alloc, run, spot.procedure)?;
+            self.ways.insert(spot.procedure, ways)?;
+        }
+        match self.ways.get(&spot.procedure) {
+            Some(ways) => ways.before(spot.address),
+            None => Ok(Vec::new(self.alloc)),
+        }
+    }
+
+    /// Where a procedure begins, the question goes to its callers.
+    fn ask_callers(
+        &mut self,
+        run: &Run<'_>,
+        spot: Spot,
+        wanted: RegisterSet,
+    ) -> Result<(), AllocError> {
+        let Some(procedure) = run.procedures.get(spot.procedure) else {
+            return Ok(());
+        };
+        if procedure.key.is_handler || !has_entry(run, spot) {
+            return Ok(());
+        }
+        for site in procedure.sites.iter() {
+            if let Some(node) = run.nodes.get(*site) {
+                let caller = Spot {
+                    procedure: node.key.procedure,
+                    address: node.key.address,
+                };
+                self.ask(caller, wanted)?;
+            }
+        }
+        Ok(())
+    }
+
+    /// A is loaded from a cell: that is found, if it is tracked.
+    fn meet_cell(
+        &mut self,
+        run: &Run<'_>,
+        spot: Spot,
+        cell: u16,
+        wanted: &RegisterSet,
+    ) -> Result<(), AllocError> {
+        if run.configuration.tracked.contains(&cell) {
+            self.cells.insert(cell)?;
+        }
+        self.ask(spot, without(wanted, Register::A))
+    }
+
+    /// A register is loaded from a cell through a pair: the cell is found, if it is tracked.
+    fn meet_pointed(
+        &mut self,
+        run: &Run<'_>,
+        spot: Spot,
+        cell: u16,
+        op: Op,
+        wanted: &RegisterSet,
+    ) -> Result<(), AllocError> {
+        if run.configuration.tracked.contains(&cell) {
+            self.cells.insert(cell)?;
+        }
+        match op {
+            Op::Load(Operand::Register(target), _) => self.ask(spot, without(wanted, target)),
+            _ => self.ask(spot, without(wanted, Register::A)),
+        }
+    }
+
+    /// Whether a POP at a spot may take what a node pushes, by their numbers of words.
+    fn may_take(run: &Run<'_>, pop: Spot, words: usize) -> bool {
+        for number in run.nodes_at(pop) {
+            if let Some(node) = run.nodes.get(*number) {
+                if node.state.items().len() == words.saturating_add(1) {
+                    return true;
+                }
+            }
+        }
+        false
+    }
+
+    /// Registers are popped: the question goes to what was pushed.
+    fn meet_pop(
+        &mut self,
+        run: &Run<'_>,
+        pop: Spot,
+        to: StackPair,
+        wanted: &RegisterSet,
+    ) -> Result<(), AllocError> {
+        let popped = stacked(to);
+        let mut rest = *wanted;
+        for register in popped.iter().flatten() {
+            rest = without(&rest, *register);
+        }
+        self.ask(pop, rest)?;
+        for node in &run.nodes {
+            let push = Spot {
+                procedure: node.key.procedure,
+                address: node.key.address,
+            };
+            if push.procedure != pop.procedure
+                || !Search::may_take(run, pop, node.state.items().len())
+            {
+                continue;
+            }
+            let Some(Op::Push(from)) = op_at(run, push) else {
+                continue;
+            };
+            let mut pushed = RegisterSet::empty();
+            for (target, source) in popped.iter().zip(stacked(from).iter()) {
+                if let (Some(target), Some(source)) = (target, source) {
+                    if wanted.contains(*target) {
+                        pushed.insert(*source);
+                    }
+                }
+            }
+            self.ask(push, pushed)?;
+        }
+        Ok(())
+    }
+
+    /// The question goes to before an instruction.
+    fn step_back(
+        &mut self,
+        run: &Run<'_>,
+        spot: Spot,
+        wanted: &RegisterSet,
+    ) -> Result<(), AllocError> {
+        let Some(op) = op_at(run, spot) else {
+            return Ok(());
+        };
+        let before = if self.is_of_copies {
+            copied(op, wanted)
+        } else {
+            sources(op, wanted)
+        };
+        if let Some(before) = before {
+            return self.ask(spot, before);
+        }
+        if let Some(cell) = pointer_of(op, wanted).and_then(|pair| pointed_at(run, spot, pair)) {
+            return self.meet_pointed(run, spot, cell, op, wanted);
+        }
+        match op {
+            Op::LoadHigh(low) => self.meet_cell(run, spot, 0xFF00 | u16::from(low), wanted),
+            Op::LoadAbsolute(cell) => self.meet_cell(run, spot, cell, wanted),
+            Op::Pop(to) => self.meet_pop(run, spot, to, wanted),
+            _ => Ok(()),
+        }
+    }
+
+    /// Takes a question back by one instruction, on all ways. What is known at the spot needs no answer, but for copies.
+    fn answer(&mut self, run: &Run<'_>, question: Question) -> Result<(), AllocError> {
+        let Question { spot, wanted } = question;
+        let open = if self.is_of_copies {
+            wanted
+        } else {
+            open_at(run, spot, &wanted, true)
+        };
+        if open.is_empty() || !self.seen.insert((spot, number_of(&open)))? {
+            return Ok(());
+        }
+        self.ask_callers(run, spot, open)?;
+        for address in &self.spots_before(run, spot)? {
+            let before = Spot {
+                procedure: spot.procedure,
+                address: *address,
+            };
+            self.step_back(run, before, &open)?;
+        }
+        Ok(())
+    }
+}
+
+/// The tracked cells that registers at a spot were loaded from, or are copies of.
+fn cells_behind(
+    alloc: Global,
+    run: &Run<'_>,
+    spot: Spot,
+    wanted: &RegisterSet,
+    is_of_copies: bool,
+) -> Result<BTreeSet<u16>, AllocError> {
+    let mut search = Search {
+        alloc,
+        is_of_copies,
+        cells: BTreeSet::new(alloc),
+        seen: BTreeSet::new(alloc),
+        left: Vec::new(alloc),
+        ways: BTreeMap::new(alloc),
+    };
+    search.ask(spot, *wanted)?;
+    for _ in 0..SPOTS {
+        let Some(question) = search.left.pop() else {
+            break
+        };
+        search.answer(run, question)?;
+    }
+    let Search { cells, .. } = search;
+    Ok(cells)
+}
+
+/// The tracked cells that registers at a spot were loaded from become part of every key.
+pub(crate) fn key_cells(
+    alloc: Global,
+    run: &Run<'_>,
+    spot: Spot,
+    wanted: &RegisterSet,
+) -> Result<Option<Plan>, AllocError> {
+    let mut plan = Plan::new(alloc);
+    let mut has_some = false;
+    for cell in cells_behind(alloc, run, spot, wanted, false)?.iter() {
+        if !run.configuration.key_cells.contains(cell) {
+            plan.add(Edit::Cell(*cell))?;
+            has_some = true;
+        }
+    }
+    if has_some { Ok(Some(plan)) } else { Ok(None) }
+}
+
+/// The tracked cells that the high byte of a pointer is a copy of: the pointer itself is kept in RAM.
+pub fn pointer_cells(
+    alloc: Global,
+    run: &Run<'_>,
+    spot: Spot,
+    registers: &RegisterSet,
+) -> Result<BTreeSet<u16>, AllocError> {
+    let mut high = RegisterSet::empty();
+    for register in [Register::B, Register::D, Register::H] {
+        if registers.contains(register) {
+            high.insert(register);
+        }
+    }
+    cells_behind(alloc, run, spot, &high, true)
+}

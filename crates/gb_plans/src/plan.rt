@@ -1,0 +1,146 @@
+//! What refinement changes.
+
+use gb_ops::op::Register;
+use gb_partition::configuration::{Configuration, Place};
+use gb_partition::register_set::RegisterSet;
+use std::alloc::{AllocError, Global};
+use std::collections::BTreeSet;
+
+/// One change of a configuration.
+#[derive(Clone, Copy, Debug, PartialEq, Eq)]
+pub enum Edit {
+    /// The known registers become part of the key at a place.
+    Key(Place),
+    /// H and D are taken value by value at a place.
+    Page(Place),
+    /// A register is taken value by value at a place.
+    Split(Place, Register),
+    /// The procedures at a target are parted by registers.
+    Part(u16, RegisterSet),
+    /// A cell becomes part of every key.
+    Cell(u16),
+}
+
+/// Changes that are made together.
+#[derive(Drop)]
+pub struct Plan {
+    alloc: Global,
+    edits: Vec<Edit>,
+}
+
+impl Plan {
+    /// No change yet.
+    pub(crate) fn new(alloc: Global) -> Plan {
+        Plan {
+            alloc,
+            edits: Vec::new(alloc),
+        }
+    }
+
+    /// One change.
+    pub(crate) fn of(alloc: Global, edit: Edit) -> Result<Plan, AllocError> {
+        let mut plan = Plan::new(alloc);
+        plan.add(edit)?;
+        Ok(plan)
+    }
+
+    /// One more change.
+    pub(crate) fn add(&mut self, edit: Edit) -> Result<(), AllocError> {
+        self.edits.push(edit)?;
+        Ok(())
+    }
+
+    /// All addresses are paged, in the procedures that begin at a target.
+    pub(crate) fn page_all(
+        alloc: Global,
+        target: u16,
+        addresses: &BTreeSet<u16>,
+    ) -> Result<Plan, AllocError> {
+        let mut plan = Plan::new(alloc);
+        for address in addresses.iter() {
+            plan.add(Edit::Page(Place {
+                target,
+                address: *address,
+            }))?;
+        }
+        Ok(plan)
+    }
+
+    /// All addresses are keyed, in the procedures that begin at a target.
+    pub(crate) fn key_all(
+        alloc: Global,
+        target: u16,
+        addresses: &BTreeSet<u16>,
+    ) -> Result<Plan, AllocError> {
+        let mut plan = Plan::new(alloc);
+        for address in addresses.iter() {
+            plan.add(Edit::Key(Place {
+                target,
+                address: *address,
+            }))?;
+        }
+        Ok(plan)
+    }
+
+    /// The places that it keys, where it splits no register: these can be taken back later.
+    pub fn loose_keys(&self) -> Result<Vec<Place>, AllocError> {
+        let mut keys = Vec::new(self.alloc);
+        for edit in &self.edits {
+            match edit {
+                Edit::Key(place) => keys.push(*place)?,
+                Edit::Split(..) => return Ok(Vec::new(self.alloc)),
+                Edit::Page(_) | Edit::Part(..) | Edit::Cell(_) => {}
+            }
+        }
+        Ok(keys)
+    }
+
+    /// Makes the changes.
+    pub fn apply(&self, configuration: &mut Configuration) -> Result<(), AllocError> {
+        for edit in &self.edits {
+            apply_edit(*edit, configuration)?;
+        }
+        Ok(())
+    }
+}
+
+/// Makes a change.
+fn apply_edit(edit: Edit, configuration: &mut Configuration) -> Result<(), AllocError> {
+    match edit {
+        Edit::Key(place) => {
+            configuration.keyed.insert(place)?;
+        }
+        Edit::Page(place) => {
+            configuration.paged.insert(place)?;
+        }
+        Edit::Split(place, register) => {
+            let mut registers = split_at(configuration, place);
+            registers.insert(register);
+            configuration.split.insert(place, registers)?;
+        }
+        Edit::Part(target, registers) => {
+            let registers = parted_by(configuration, target).union(&registers);
+            configuration.parted.insert(target, registers)?;
+        }
+        Edit::Cell(cell) => {
+            configuration.key_cells.insert(cell)?;
+        }
+    }
+    Ok(())
+}
+
+/// The registers that are taken value by value at a place.
+pub(crate) fn split_at(configuration: &Configuration, place: Place) -> RegisterSet {
+    match configuration.split.get(&place) {
+        Some(registers) => *registers,
+        None => RegisterSet::empty(),
+    }
+}
+
+/// The registers by which the procedures at a target are parted.
+pub fn parted_by(configuration: &Configuration, target: u16) -> RegisterSet {
+    match configuration.parted.get(&target) {
+        Some(registers) => *registers,
+        None => RegisterSet::empty(),
+    }
+}

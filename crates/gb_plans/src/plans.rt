@@ -1,0 +1,518 @@
+//! What to refine after a failure.
+
+use crate::cells::key_cells;
+use crate::loops::refine_loops;
+use crate::plan::{Edit, Plan, parted_by};
+use crate::slices::{Sought, slice};
+use crate::spots::{is_known, place_of, value_of};
+use crate::ways::Ways;
+use gb_fixpoint::types::{Procedure, Run, Spot};
+use gb_ops::op::Register;
+use gb_partition::cause::{Cause, Failure};
+use gb_partition::register_set::{REGISTERS, RegisterSet};
+use std::alloc::{AllocError, Global};
+use std::collections::BTreeSet;
+
+/// How many calls are gone back from a failure.
+const CALLERS: u32 = 6;
+
+/// How many procedures are looked at for one failure.
+const PROCEDURES: usize = 200;
+
+/// The most values of a register by which calls are told apart at once.
+const VALUES: usize = 24;
+
+/// The most different calls by which a procedure is parted.
+const KINDS: usize = 40;
+
+/// What is too wide, and where.
+#[derive(Clone, Copy, Debug, PartialEq, Eq)]
+struct Trouble {
+    wanted: RegisterSet,
+    /// The failure is JP HL's: then only values from a table may be told apart.
+    is_jump: bool,
+    /// The pointer is kept in RAM: then it is followed through no loop without an end, since it would walk through all memory.
+    is_kept_in_ram: bool,
+}
+
+/// All registers but A: what is usually passed to a procedure in pairs.
+fn all_but_a() -> RegisterSet {
+    RegisterSet::of(&[
+        Register::B,
+        Register::C,
+        Register::D,
+        Register::E,
+        Register::H,
+        Register::L,
+    ])
+}
+
+/// All registers.
+fn all_registers() -> RegisterSet {
+    RegisterSet::of(&REGISTERS)
+}
+
+/// The calls of a procedure are told apart by registers, where that is new. Main and handlers have no calls.
+fn part(
+    alloc: Global,
+    run: &Run<'_>,
+    number: usize,
+    registers: &RegisterSet,
+) -> Result<Option<Plan>, AllocError> {
+    let Some(procedure) = run.procedures.get(number) else {
+        return Ok(None);
+    };
+    let target = run.target(number);
+    let is_new = !registers.is_inside(&parted_by(run.configuration, target));
+    if number == 0 || procedure.key.is_handler || !is_new {
+        return Ok(None);
+    }
+    Ok(Some(Plan::of(alloc, Edit::Part(target, *registers))?))
+}
+
+/// Whether each call of a procedure knows a register, and the calls have a few values in it.
+fn is_known_by_calls(
+    alloc: Global,
+    run: &Run<'_>,
+    procedure: &Procedure,
+    register: Register,
+) -> Result<bool, AllocError> {
+    let mut values = BTreeSet::new(alloc);
+    for site in procedure.sites.iter() {
+        let Some(node) = run.nodes.get(*site) else {
+            return Ok(false);
+        };
+        if !is_known(node, register) {
+            return Ok(false);
+        }
+        values.insert(value_of(node, register).lo)?;
+    }
+    Ok(values.len() <= VALUES)
+}
+
+/// The registers that a procedure's first node doesn't know.
+fn unknown_at_entry(run: &Run<'_>, procedure: &Procedure) -> RegisterSet {
+    let mut unknown = RegisterSet::empty();
+    let Some(entry) = procedure.entry else {
+        return unknown;
+    };
+    if let Some(node) = run.nodes.get(entry) {
+        for register in REGISTERS {
+            if register != Register::A && !is_known(node, register) {
+                unknown.insert(register);
+            }
+        }
+    }
+    unknown
+}
+
+/// The registers that aren't known where a procedure begins, though each call knows them.
+fn joined_by_calls(alloc: Global, run: &Run<'_>, number: usize) -> Result<RegisterSet, AllocError> {
+    let mut joined = RegisterSet::empty();
+    let Some(procedure) = run.procedures.get(number) else {
+        return Ok(joined);
+    };
+    let unknown = unknown_at_entry(run, procedure);
+    for register in REGISTERS {
+        if unknown.contains(register) && is_known_by_calls(alloc, run, procedure, register)? {
+            joined.insert(register);
+        }
+    }
+    Ok(joined)
+}
+
+/// Those of the wanted registers that aren't known where a procedure begins, or all of them where these are told apart already.
+fn wide_at_entry(run: &Run<'_>, number: usize, wanted: &RegisterSet) -> RegisterSet {
+    let Some(procedure) = run.procedures.get(number) else {
+        return RegisterSet::empty();
+    };
+    let unknown = unknown_at_entry(run, procedure);
+    let mut wide = RegisterSet::empty();
+    for register in REGISTERS {
+        if unknown.contains(register) && wanted.contains(register) {
+            wide.insert(register);
+        }
+    }
+    if wide.is_inside(&parted_by(run.configuration, run.target(number))) {
+        unknown
+    } else {
+        wide
+    }
+}
+
+/// How many different calls of a procedure there are, by what they know of registers.
+fn kinds_of_calls(alloc: Global, run: &Run<'_>, number: usize) -> Result<usize, AllocError> {
+    let mut kinds: BTreeSet<[u16; 6]> = BTreeSet::new(alloc);
+    let Some(procedure) = run.procedures.get(number) else {
+        return Ok(0);
+    };
+    for site in procedure.sites.iter() {
+        if let Some(node) = run.nodes.get(*site) {
+            let registers = node.state.core().registers;
+            kinds.insert([
+                known_or(registers.b.lo, registers.b.hi),
+                known_or(registers.c.lo, registers.c.hi),
+                known_or(registers.d.lo, registers.d.hi),
+                known_or(registers.e.lo, registers.e.hi),
+                known_or(registers.h.lo, registers.h.hi),
+                known_or(registers.l.lo, registers.l.hi),
+            ])?;
+        }
+    }
+    Ok(kinds.len())
+}
+
+/// A value that is known, or a number that is no value.
+fn known_or(lo: u8, hi: u8) -> u16 {
+    if lo == hi { u16::from(lo) } else { 0x100 }
+}
+
+/// All of a procedure is paged, or keyed where it is paged already.
+fn refine_all(alloc: Global, run: &Run<'_>, number: usize) -> Result<Option<Plan>, AllocError> {
+    let mut all = BTreeSet::new(alloc);
+    let mut is_paged = true;
+    let mut is_keyed = true;
+    for node in &run.nodes {
+        if node.key.procedure == number {
+            let spot = Spot {
+                procedure: number,
+                address: node.key.address,
+            };
+            let place = place_of(run, spot);
+            let has_key = run.configuration.keyed.contains(&place);
+            is_keyed = is_keyed && has_key;
+            is_paged = is_paged && (has_key || run.configuration.paged.contains(&place));
+            all.insert(node.key.address)?;
+        }
+    }
+    let target = run.target(number);
+    if !is_paged {
+        Ok(Some(Plan::page_all(alloc, target, &all)?))
+    } else if !is_keyed {
+        Ok(Some(Plan::key_all(alloc, target, &all)?))
+    } else {
+        Ok(None)
+    }
+}
+
+/// A slice back from a spot, if there are registers to follow.
+fn slice_to(
+    alloc: Global,
+    run: &Run<'_>,
+    ways: &Ways,
+    spot: Spot,
+    trouble: &Trouble,
+    most: u32,
+) -> Result<Option<Plan>, AllocError> {
+    if trouble.wanted.is_empty() {
+        return Ok(None);
+    }
+    let sought = Sought {
+        wanted: trouble.wanted,
+        most,
+        by_table: trouble.is_jump,
+    };
+    slice(alloc, run, ways, spot, &sought)
+}
+
+/// What is nearest to a spot: its calls, a slice, a jump table's cells, its loops.
+fn plan_near(
+    alloc: Global,
+    run: &Run<'_>,
+    spot: Spot,
+    trouble: &Trouble,
+) -> Result<Option<Plan>, AllocError> {
+    let joined = joined_by_calls(alloc, run, spot.procedure)?;
+    if let Some(plan) = part(alloc, run, spot.procedure, &joined)? {
+        return Ok(Some(plan));
+    }
+    let ways = Ways::of(alloc, run, spot.procedure)?;
+    if let Some(plan) = slice_to(alloc, run, &ways, spot, trouble, 64)? {
+        return Ok(Some(plan));
+    }
+    if trouble.is_jump {
+        if let Some(plan) = key_cells(alloc, run, spot, &trouble.wanted)? {
+            return Ok(Some(plan));
+        }
+    }
+    if let Some(plan) = refine_loops(alloc, run, &ways, spot, !trouble.is_kept_in_ram)? {
+        return Ok(Some(plan));
+    }
+    if trouble.is_jump {
+        return Ok(None);
+    }
+    slice_to(alloc, run, &ways, spot, trouble, 256)
+}
+
+/// What there is to refine in the procedure of a spot.
+fn plan_in(
+    alloc: Global,
+    run: &Run<'_>,
+    spot: Spot,
+    trouble: &Trouble,
+) -> Result<Option<Plan>, AllocError> {
+    if let Some(plan) = plan_near(alloc, run, spot, trouble)? {
+        return Ok(Some(plan));
+    }
+    let wide = wide_at_entry(run, spot.procedure, &trouble.wanted);
+    let parted = part(alloc, run, spot.procedure, &wide)?;
+    let kinds = kinds_of_calls(alloc, run, spot.procedure)?;
+    if parted.is_some() && kinds > 1 && kinds <= KINDS {
+        return Ok(parted);
+    }
+    if trouble.is_kept_in_ram {
+        return Ok(parted);
+    }
+    match refine_all(alloc, run, spot.procedure)? {
+        Some(plan) => Ok(Some(plan)),
+        None => Ok(parted),
+    }
+}
+
+/// The calls of a procedure that isn't a handler.
+fn callers_of(alloc: Global, run: &Run<'_>, number: usize) -> Result<Vec<Spot>, AllocError> {
+    let mut callers = Vec::new(alloc);
+    let Some(procedure) = run.procedures.get(number) else {
+        return Ok(callers);
+    };
+    if !procedure.key.is_handler {
+        for site in procedure.sites.iter() {
+            if let Some(node) = run.nodes.get(*site) {
+                callers.push(Spot {
+                    procedure: node.key.procedure,
+                    address: node.key.address,
+                })?;
+            }
+        }
+    }
+    Ok(callers)
+}
+
+/// What there is to refine at a spot, or at the calls that lead to it.
+fn plan_at(
+    alloc: Global,
+    run: &Run<'_>,
+    spot: Spot,
+    trouble: &Trouble,
+) -> Result<Option<Plan>, AllocError> {
+    let mut seen = BTreeSet::new(alloc);
+    let mut left = Vec::new(alloc);
+    left.push((spot, 0u32))?;
+    for _ in 0..PROCEDURES {
+        let Some((spot, depth)) = left.pop() else {
+            break
+        };
+        if !seen.insert(spot.procedure)? {
+            continue;
+        }
+        if let Some(plan) = plan_in(alloc, run, spot, trouble)? {
+            return Ok(Some(plan));
+        }
+        if depth < CALLERS {
+            let mut callers = callers_of(alloc, run, spot.procedure)?;
+            callers.reverse();
+            for caller in &callers {
+                left.push((*caller, depth.saturating_add(1)))?;
+            }
+        }
+    }
+    Ok(None)
+}
+
+/// Loops around the first of some spots that can be refined.
+fn plan_loops(
+    alloc: Global,
+    run: &Run<'_>,
+    spots: &BTreeSet<Spot>,
+) -> Result<Option<Plan>, AllocError> {
+    for spot in spots.iter() {
+        let ways = Ways::of(alloc, run, spot.procedure)?;
+        if let Some(plan) = refine_loops(alloc, run, &ways, *spot, true)? {
+            return Ok(Some(plan));
+        }
+    }
+    Ok(None)
+}
+
+/// Code in RAM isn't known: loops that drop its cells, or one copy of everything for each value that is patched in.
+fn plan_code(alloc: Global, run: &Run<'_>, byte: u16) -> Result<Option<Plan>, AllocError> {
+    if let Some(plan) = plan_loops(alloc, run, &run.killers)? {
+        return Ok(Some(plan));
+    }
+    let sought = Sought {
+        wanted: RegisterSet::of(&[Register::A]),
+        most: 256,
+        by_table: false,
+    };
+    let mut is_stored = false;
+    for store in run.stores.iter() {
+        if store.cell != byte {
+            continue;
+        }
+        is_stored = true;
+        let ways = Ways::of(alloc, run, store.spot.procedure)?;
+        if let Some(mut plan) = slice(alloc, run, &ways, store.spot, &sought)? {
+            plan.add(Edit::Cell(byte))?;
+            return Ok(Some(plan));
+        }
+    }
+    if is_stored && !run.configuration.key_cells.contains(&byte) {
+        return Ok(Some(Plan::of(alloc, Edit::Cell(byte))?));
+    }
+    Ok(None)
+}
+
+/// The bank isn't known: the cells that it was switched by, the calls of what switches it, or its value there.
+fn plan_bank(alloc: Global, run: &Run<'_>) -> Result<Option<Plan>, AllocError> {
+    if let Some(plan) = plan_loops(alloc, run, &run.killers)? {
+        return Ok(Some(plan));
+    }
+    let a = RegisterSet::of(&[Register::A]);
+    for spot in run.switches.iter() {
+        if let Some(plan) = key_cells(alloc, run, *spot, &a)? {
+            return Ok(Some(plan));
+        }
+    }
+    for registers in [a, all_registers()] {
+        for spot in run.switches.iter() {
+            if let Some(plan) = part(alloc, run, spot.procedure, &registers)? {
+                return Ok(Some(plan));
+            }
+        }
+    }
+    let trouble = Trouble {
+        wanted: a,
+        is_jump: false,
+        is_kept_in_ram: false,
+    };
+    for spot in run.switches.iter() {
+        if let Some(plan) = plan_at(alloc, run, *spot, &trouble)? {
+            return Ok(Some(plan));
+        }
+    }
+    Ok(None)
+}
+
+/// The procedures that call a procedure, directly or by others, or that are called by it.
+fn reached(
+    alloc: Global,
+    run: &Run<'_>,
+    number: usize,
+    are_callers: bool,
+) -> Result<BTreeSet<usize>, AllocError> {
+    let mut seen = BTreeSet::new(alloc);
+    let mut left = Vec::new(alloc);
+    left.push(number)?;
+    for _ in 0..=run.procedures.len() {
+        let Some(at) = left.pop() else { break };
+        for call in run.calls.iter() {
+            let (from, to) = if are_callers {
+                (call.callee, call.caller)
+            } else {
+                (call.caller, call.callee)
+            };
+            if from == at && seen.insert(to)? {
+                left.push(to)?;
+            }
+        }
+    }
+    Ok(seen)
+}
+
+/// A procedure may be running when it is called: the procedures of the cycle are told apart by registers.
+fn plan_recursion(alloc: Global, run: &Run<'_>, number: usize) -> Result<Option<Plan>, AllocError> {
+    let callers = reached(alloc, run, number, true)?;
+    let callees = reached(alloc, run, number, false)?;
+    for registers in [all_but_a(), all_registers()] {
+        for member in callers.iter() {
+            if callees.contains(member) {
+                if let Some(plan) = part(alloc, run, *member, &registers)? {
+                    return Ok(Some(plan));
+                }
+            }
+        }
+    }
+    Ok(None)
+}
+
+/// A pointer is too wide, or one that is known ran too far.
+fn plan_pointer(
+    alloc: Global,
+    run: &Run<'_>,
+    spot: Spot,
+    failure: &Failure,
+    is_kept_in_ram: bool,
+) -> Result<Option<Plan>, AllocError> {
+    let wanted = failure.registers;
+    let Some(node) = run.nodes.get(failure.node) else {
+        return Ok(None);
+    };
+    let is_exact = REGISTERS.iter().all(|register| !wanted.contains(*register)
+        || is_known(node, *register));
+    if is_exact && !wanted.is_empty() {
+        // Only a loop that isn't exact itself may have brought it here.
+        let ways = Ways::of(alloc, run, spot.procedure)?;
+        return refine_loops(alloc, run, &ways, spot, !is_kept_in_ram);
+    }
+    if wanted.is_empty() {
+        // The instruction names its address, so it is the gate that isn't known.
+        return match failure.cause {
+            Cause::CartridgeRam { .. } => plan_bank(alloc, run),
+            _ => Ok(None),
+        };
+    }
+    let trouble = Trouble {
+        wanted,
+        is_jump: failure.cause == Cause::JumpHl,
+        is_kept_in_ram,
+    };
+    match plan_at(alloc, run, spot, &trouble)? {
+        Some(plan) => Ok(Some(plan)),
+        None => key_cells(alloc, run, spot, &wanted),
+    }
+}
+
+/// What to refine after a failure, if anything may help; whether its pointer is kept in RAM is given.
+pub fn plan_for(
+    alloc: Global,
+    run: &Run<'_>,
+    failure: &Failure,
+    is_kept_in_ram: bool,
+) -> Result<Option<Plan>, AllocError> {
+    let Some(node) = run.nodes.get(failure.node) else {
+        return Ok(None);
+    };
+    let spot = Spot {
+        procedure: node.key.procedure,
+        address: node.key.address,
+    };
+    match failure.cause {
+        Cause::Recursion { .. } => plan_recursion(alloc, run, spot.procedure),
+        Cause::Bank => plan_bank(alloc, run),
+        Cause::Unreadable { byte } => match plan_code(alloc, run, byte)? {
+            Some(plan) => Ok(Some(plan)),
+            None => {
+                let trouble = Trouble {
+                    wanted: RegisterSet::empty(),
+                    is_jump: false,
+                    is_kept_in_ram: false,
+                };
+                plan_at(alloc, run, spot, &trouble)
+            }
+        },
+        Cause::Store { .. }
+        | Cause::CartridgeRam { .. }
+        | Cause::CopiesCartridgeRam { .. }
+        | Cause::OamTransfer(_)
+        | Cause::JumpHl => plan_pointer(alloc, run, spot, failure, is_kept_in_ram),
+        Cause::Area
+        | Cause::UndefinedOpcode { .. }
+        | Cause::Stop
+        | Cause::Halt
+        | Cause::Stack(_)
+        | Cause::PushesTooMany
+        | Cause::ReturnInMain
+        | Cause::ReturnWithWords { .. }
+        | Cause::InterruptWithoutStack { .. } => Ok(None),
+    }
+}

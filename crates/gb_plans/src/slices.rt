@@ -1,0 +1,201 @@
+//! Slices: straight-line code backwards, to where the wanted registers come from one register that can be taken value by
+//! value.
+
+use crate::plan::{Edit, Plan, split_at};
+use crate::sources::{count, first, pointer_of, sources};
+use crate::spots::{has_entry, narrower, op_at, open_at, place_of, points_to_rom, width_at};
+use crate::ways::Ways;
+use gb_fixpoint::types::{Run, Spot};
+use gb_ops::op::Register;
+use gb_partition::configuration::Place;
+use gb_partition::register_set::RegisterSet;
+use std::alloc::{AllocError, Global};
+
+/// How many instructions a slice goes back.
+const LENGTH: u32 = 40;
+
+/// The most pairs of values, where one register of two is split and the other follows.
+const PAIRS: u32 = 1024;
+
+/// What is sought.
+#[derive(Clone, Copy, Debug, PartialEq, Eq)]
+pub(crate) struct Sought {
+    /// The registers that are to be known.
+    pub(crate) wanted: RegisterSet,
+    /// The most values that a register is split into.
+    pub(crate) most: u32,
+    /// Whether the values have to come from a table in ROM.
+    pub(crate) by_table: bool,
+}
+
+/// A register that may be split at an address, and how many addresses from there on are to be keyed.
+#[derive(Clone, Copy, Debug, PartialEq, Eq)]
+struct Cut {
+    width: u32,
+    keyed: usize,
+    address: u16,
+    register: Register,
+}
+
+/// A slice on its way back.
+#[derive(Drop)]
+struct Walk {
+    procedure: usize,
+    at: u16,
+    wanted: RegisterSet,
+    /// A load from a table in ROM lies behind.
+    is_behind_table: bool,
+    /// The addresses so far, the last instruction first.
+    chain: Vec<u16>,
+    /// The best register to split alone, and the best of two.
+    one: Option<Cut>,
+    two: Option<Cut>,
+}
+
+impl Walk {
+    fn spot(&self) -> Spot {
+        Spot {
+            procedure: self.procedure,
+            address: self.at,
+        }
+    }
+
+    /// Whether a register is split at a place already.
+    fn is_split(run: &Run<'_>, place: Place, register: Register) -> bool {
+        split_at(run.configuration, place).contains(register)
+    }
+
+    /// One register alone is open: it may be split here.
+    fn note_one(&mut self, run: &Run<'_>, open: &RegisterSet, most: u32) {
+        let Some(register) = first(open) else { return };
+        let width = width_at(run, self.spot(), register);
+        if width > most || Walk::is_split(run, place_of(run, self.spot()), register) {
+            return;
+        }
+        let is_better = match self.one {
+            None => true,
+            Some(cut) => width < cut.width,
+        };
+        if is_better {
+            self.one = Some(Cut {
+                width,
+                keyed: self.chain.len(),
+                address: self.at,
+                register,
+            });
+        }
+    }
+
+    /// Two registers are open: one may be split here, and the other one later.
+    fn note_two(&mut self, run: &Run<'_>, open: &RegisterSet) {
+        let Some((register, width)) = narrower(run, self.spot(), open) else {
+            return;
+        };
+        if width > PAIRS || Walk::is_split(run, place_of(run, self.spot()), register) {
+            return;
+        }
+        let is_better = match self.two {
+            None => true,
+            Some(cut) => width <= cut.width,
+        };
+        if is_better {
+            self.two = Some(Cut {
+                width,
+                keyed: self.chain.len(),
+                address: self.at,
+                register,
+            });
+        }
+    }
+
+    /// Looks at the address at hand; whether it is worth while to go on.
+    fn look(&mut self, run: &Run<'_>, sought: &Sought) -> bool {
+        let spot = self.spot();
+        let open = open_at(run, spot, &self.wanted, false);
+        if open.is_empty() || run.nodes_at(spot).is_empty() {
+            return false;
+        }
+        let may_split = !has_entry(run, spot) && (!sought.by_table || self.is_behind_table);
+        match count(&open) {
+            1 if may_split => self.note_one(run, &open, sought.most),
+            2 if may_split => self.note_two(run, &open),
+            _ => {}
+        }
+        true
+    }
+
+    /// Goes back by one instruction; whether that was possible.
+    fn step_back(&mut self, run: &Run<'_>, ways: &Ways) -> Result<bool, AllocError> {
+        let Some(before) = ways.only_before(self.at) else {
+            return Ok(false);
+        };
+        if self.chain.contains(&before) {
+            return Ok(false);
+        }
+        let spot = Spot {
+            procedure: self.procedure,
+            address: before,
+        };
+        let Some(op) = op_at(run, spot) else {
+            return Ok(false);
+        };
+        let Some(wanted) = sources(op, &self.wanted) else {
+            return Ok(false);
+        };
+        if let Some((high, _)) = pointer_of(op, &self.wanted) {
+            self.is_behind_table = self.is_behind_table || points_to_rom(run, spot, high);
+        }
+        self.wanted = wanted;
+        self.at = before;
+        self.chain.push(before)?;
+        Ok(true)
+    }
+
+    /// The register is split, and the addresses from there on are keyed.
+    fn plan(&self, alloc: Global, target: u16) -> Result<Option<Plan>, AllocError> {
+        let cut = match (self.one, self.two) {
+            (Some(cut), _) | (None, Some(cut)) => cut,
+            (None, None) => return Ok(None),
+        };
+        let mut plan = Plan::new(alloc);
+        for address in self.chain.iter().take(cut.keyed) {
+            plan.add(Edit::Key(Place {
+                target,
+                address: *address,
+            }))?;
+        }
+        let place = Place {
+            target,
+            address: cut.address,
+        };
+        plan.add(Edit::Split(place, cut.register))?;
+        Ok(Some(plan))
+    }
+}
+
+/// A register to be split before a spot, so that the wanted registers are known there.
+pub(crate) fn slice(
+    alloc: Global,
+    run: &Run<'_>,
+    ways: &Ways,
+    spot: Spot,
+    sought: &Sought,
+) -> Result<Option<Plan>, AllocError> {
+    let mut chain = Vec::new(alloc);
+    chain.push(spot.address)?;
+    let mut walk = Walk {
+        procedure: spot.procedure,
+        at: spot.address,
+        wanted: sought.wanted,
+        is_behind_table: false,
+        chain,
+        one: None,
+        two: None,
+    };
+    for _ in 0..LENGTH {
+        if !walk.look(run, sought) || !walk.step_back(run, ways)? {
+            break;
+        }
+    }
+    walk.plan(alloc, run.target(spot.procedure))
+}

@@ -1,0 +1,185 @@
+//! The ways inside one procedure, and the loops that they make.
+
+use gb_fixpoint::types::Run;
+use std::alloc::{AllocError, Global};
+use std::collections::BTreeSet;
+
+/// The most loops around an address that are told apart.
+const NESTING: usize = 32;
+
+/// A way on from an address to the next.
+#[derive(Clone, Copy, Debug, PartialEq, Eq)]
+struct Way {
+    from: u16,
+    to: u16,
+}
+
+impl Way {
+    /// The same way backwards.
+    fn turned(self) -> Way {
+        Way {
+            from: self.to,
+            to: self.from,
+        }
+    }
+}
+
+/// Along the ways, or against them.
+#[derive(Clone, Copy, Debug, PartialEq, Eq)]
+enum Direction {
+    Onwards,
+    Back,
+}
+
+/// The addresses of a loop.
+pub(crate) type Loop = BTreeSet<u16>;
+
+/// The ways inside one procedure, but for those from an address to itself.
+#[derive(Drop)]
+pub(crate) struct Ways {
+    alloc: Global,
+    ways: Vec<Way>,
+}
+
+impl Ways {
+    /// The ways inside a procedure.
+    pub(crate) fn of(alloc: Global, run: &Run<'_>, procedure: usize) -> Result<Ways, AllocError> {
+        let mut ways = Vec::new(alloc);
+        for edge in run.edges.iter() {
+            if edge.procedure == procedure && edge.from != edge.to {
+                ways.push(Way {
+                    from: edge.from,
+                    to: edge.to,
+                })?;
+            }
+        }
+        Ok(Ways { alloc, ways })
+    }
+
+    /// The address before, where there is just one.
+    pub(crate) fn only_before(&self, address: u16) -> Option<u16> {
+        let mut before = None;
+        for way in &self.ways {
+            if way.to == address {
+                if before.is_some() {
+                    return None;
+                }
+                before = Some(way.from);
+            }
+        }
+        before
+    }
+
+    /// The addresses before.
+    pub(crate) fn before(&self, address: u16) -> Result<Vec<u16>, AllocError> {
+        let mut before = Vec::new(self.alloc);
+        for way in &self.ways {
+            if way.to == address {
+                before.push(way.from)?;
+            }
+        }
+        Ok(before)
+    }
+
+    /// What is reached from an address in one step or more, inside of some addresses if they are given.
+    fn reached(
+        &self,
+        from: u16,
+        direction: Direction,
+        inside: &Option<Loop>,
+    ) -> Result<Loop, AllocError> {
+        let mut seen = BTreeSet::new(self.alloc);
+        let mut left = Vec::new(self.alloc);
+        left.push(from)?;
+        // Each address is taken once.
+        for _ in 0..0x10001 {
+            let Some(at) = left.pop() else { break };
+            for way in &self.ways {
+                let way = match direction {
+                    Direction::Onwards => *way,
+                    Direction::Back => way.turned(),
+                };
+                let is_inside = match inside {
+                    None => true,
+                    Some(addresses) => addresses.contains(&way.to),
+                };
+                if way.from == at && is_inside && seen.insert(way.to)? {
+                    left.push(way.to)?;
+                }
+            }
+        }
+        Ok(seen)
+    }
+
+    /// The greatest loop around an address, inside of some addresses if they are given.
+    fn loop_around(&self, address: u16, inside: &Option<Loop>) -> Result<Option<Loop>, AllocError> {
+        let onwards = self.reached(address, Direction::Onwards, inside)?;
+        if !onwards.contains(&address) {
+            return Ok(None);
+        }
+        let back = self.reached(address, Direction::Back, inside)?;
+        let mut around = BTreeSet::new(self.alloc);
+        for reached in onwards.iter() {
+            if back.contains(reached) {
+                around.insert(*reached)?;
+            }
+        }
+        Ok(Some(around))
+    }
+
+    /// Whether an address of a loop is entered from outside of it.
+    fn is_head(&self, around: &Loop, address: u16) -> bool {
+        self.ways
+            .iter()
+            .any(|way| way.to == address && !around.contains(&way.from))
+    }
+
+    /// The addresses of a loop where it is entered.
+    pub(crate) fn heads(&self, around: &Loop) -> Result<Vec<u16>, AllocError> {
+        let mut heads = Vec::new(self.alloc);
+        for address in around.iter() {
+            if self.is_head(around, *address) {
+                heads.push(*address)?;
+            }
+        }
+        Ok(heads)
+    }
+
+    /// The addresses of a loop but for those where it is entered, or but for the first where it is never entered.
+    fn without_heads(&self, around: &Loop) -> Result<Loop, AllocError> {
+        let mut inner = BTreeSet::new(self.alloc);
+        for address in around.iter() {
+            if !self.is_head(around, *address) {
+                inner.insert(*address)?;
+            }
+        }
+        if inner.len() == around.len() {
+            inner.pop_first();
+        }
+        Ok(inner)
+    }
+
+    /// The loops around an address, the innermost first.
+    pub(crate) fn loops(&self, address: u16) -> Result<Vec<Loop>, AllocError> {
+        let mut loops = Vec::new(self.alloc);
+        let mut inside: Option<Loop> = None;
+        for _ in 0..NESTING {
+            let Some(around) = self.loop_around(address, &inside)? else {
+                break;
+            };
+            let inner = self.without_heads(&around)?;
+            loops.push(around)?;
+            if !inner.contains(&address) {
+                break;
+            }
+            inside = Some(inner);
+        }
+        loops.reverse();
+        Ok(loops)
+    }
+
+    /// Whether nothing leads out of a loop.
+    pub(crate) fn is_endless(&self, around: &Loop) -> bool {
+        self.ways.iter().all(|way| !around.contains(&way.from) || around.contains(&way.to))
+    }
+}

@@ -1,0 +1,42 @@
+//! The refinement of certificates' maker: runs of the fixpoint, one after another, each under a finer configuration where
+//! the one before failed.
+//!
+//! `make` gives a certificate, or what is in the way. Nothing here is trusted: who uses it has the certificate checked. Read
+//! `rounds` first, over gb_plans, which says what to refine after a failure; `tracking` chooses the memory cells that are kept,
+//! and `shrink` takes back what a certificate doesn't need.
+#![tactic(auto)]
+
+mod rounds;
+mod shrink;
+mod tracking;
+
+use gb_header::Rom;
+use rounds::Refinement;
+pub use rounds::{Limits, Made, Progress};
+use std::alloc::{AllocError, Global};
+
+/// A certificate of a cartridge, or what is in the way. The certificate isn't checked as a last step: that is left to who
+/// calls.
+///
+/// # Errors
+///
+/// Where memory ran out.
+pub fn make<P: Progress>(
+    alloc: Global,
+    rom: &Rom<'_>,
+    limits: Limits,
+    progress: &mut P,
+) -> Result<Made, AllocError> {
+    let mut refinement = Refinement::new(alloc, rom, limits)?;
+    let made = refinement.make(progress)?;
+    let made = match made {
+        Made::Certificate(bytes) => Made::Certificate(shrink::shrink(
+            &refinement,
+            bytes,
+            progress,
+        )?),
+        Made::Obstacles(obstacles) => Made::Obstacles(obstacles),
+    };
+    progress.done();
+    Ok(made)
+}

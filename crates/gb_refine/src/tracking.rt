@@ -1,0 +1,158 @@
+//! Which memory cells are tracked: at most 32, code and what keys go by first.
+
+use gb_abs::storage::is_ram;
+use gb_cert::types::CELLS;
+use gb_fixpoint::types::Run;
+use gb_ops::machine::Region;
+use gb_partition::configuration::Configuration;
+use std::alloc::{AllocError, Global};
+use std::collections::BTreeSet;
+
+/// What has been learnt of cells over all rounds.
+#[derive(Drop)]
+pub(crate) struct Cells {
+    /// Cells that were read and are not tracked, since they can't be, or since others matter more.
+    pub(crate) untracked: BTreeSet<u16>,
+    /// Cells that instructions name.
+    pub(crate) named: BTreeSet<u16>,
+    /// Cells that hold code.
+    pub(crate) fetched: BTreeSet<u16>,
+}
+
+/// How much a cell matters; the greatest goes first where there are too many.
+#[derive(Clone, Copy, Debug, PartialEq, Eq, PartialOrd, Ord)]
+struct Rank {
+    /// 0 for code and keys, 1 for cells that instructions name, 2 for others.
+    class: u8,
+    is_work_ram: bool,
+    address: u16,
+}
+
+impl Cells {
+    /// Nothing yet.
+    pub(crate) fn new(alloc: Global) -> Cells {
+        Cells {
+            untracked: BTreeSet::new(alloc),
+            named: BTreeSet::new(alloc),
+            fetched: BTreeSet::new(alloc),
+        }
+    }
+
+    /// Takes over what a run met.
+    pub(crate) fn learn(&mut self, run: &Run<'_>) -> Result<(), AllocError> {
+        for cell in run.named.iter() {
+            self.named.insert(*cell)?;
+        }
+        for cell in run.fetched.iter() {
+            self.fetched.insert(*cell)?;
+        }
+        Ok(())
+    }
+
+    /// The cells that a run wants and that aren't tracked, but might be.
+    pub(crate) fn missing(&self, alloc: Global, run: &Run<'_>) -> Result<Vec<u16>, AllocError> {
+        let mut missing = Vec::new(alloc);
+        for cell in run.wanted.iter() {
+            if !self.untracked.contains(cell) && !run.configuration.tracked.contains(cell) {
+                missing.push(*cell)?;
+            }
+        }
+        Ok(missing)
+    }
+
+    fn rank(&self, configuration: &Configuration, cell: u16) -> Rank {
+        let class = if self.fetched.contains(&cell) || configuration.key_cells.contains(&cell) {
+            0
+        } else if self.named.contains(&cell) {
+            1
+        } else {
+            2
+        };
+        Rank {
+            class,
+            is_work_ram: cell < 0xFF00,
+            address: cell,
+        }
+    }
+
+    /// The tracked cell that matters least.
+    fn least(&self, configuration: &Configuration) -> Option<u16> {
+        let mut least: Option<Rank> = None;
+        for cell in configuration.tracked.iter() {
+            let rank = self.rank(configuration, *cell);
+            let is_less = match least {
+                None => true,
+                Some(other) => other < rank,
+            };
+            if is_less {
+                least = Some(rank);
+            }
+        }
+        match least {
+            None => None,
+            Some(rank) => Some(rank.address),
+        }
+    }
+
+    /// A cell is tracked no more, for good.
+    fn drop_cell(
+        &mut self,
+        configuration: &mut Configuration,
+        cell: u16,
+    ) -> Result<(), AllocError> {
+        configuration.tracked.remove(&cell);
+        self.untracked.insert(cell)?;
+        Ok(())
+    }
+
+    /// Tracks more cells, those that can be; where they are more than a state holds, those that matter least go.
+    pub(crate) fn track(
+        &mut self,
+        configuration: &mut Configuration,
+        more: &[u16],
+    ) -> Result<(), AllocError> {
+        for cell in more {
+            if is_ram(*cell) && !meets(configuration.region, *cell) {
+                configuration.tracked.insert(*cell)?;
+            } else {
+                self.untracked.insert(*cell)?;
+            }
+        }
+        for _ in 0..more.len() {
+            if configuration.tracked.len() <= CELLS {
+                break;
+            }
+            let Some(cell) = self.least(configuration) else {
+                break
+            };
+            self.drop_cell(configuration, cell)?;
+        }
+        Ok(())
+    }
+
+    /// The stack region gets another place: no cell lies in it.
+    pub(crate) fn set_region(
+        &mut self,
+        alloc: Global,
+        configuration: &mut Configuration,
+        region: Region,
+    ) -> Result<(), AllocError> {
+        configuration.region = region;
+        let mut inside = Vec::new(alloc);
+        for cell in configuration.tracked.iter() {
+            if meets(region, *cell) {
+                inside.push(*cell)?;
+            }
+        }
+        for cell in &inside {
+            configuration.key_cells.remove(cell);
+            self.drop_cell(configuration, *cell)?;
+        }
+        Ok(())
+    }
+}
+
+/// Whether a cell lies in the stack region.
+fn meets(region: Region, cell: u16) -> bool {
+    region.first <= cell && cell <= region.last
+}

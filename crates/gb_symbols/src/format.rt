@@ -1,0 +1,176 @@
+//! The formats, and what their lines say.
+
+use std::str::SplitWhitespace;
+
+/// Who wrote a file of symbols.
+#[derive(Clone, Copy, Debug, PartialEq, Eq)]
+pub enum Format {
+    /// `rgblink -n`: lines `BB:AAAA NAME`.
+    RgbdsSym,
+    /// SDCC's linker with `-j`: lines `DEF NAME 0xADDR`, the bank above the low sixteen bits.
+    SdccNoi,
+    /// SDCC's linker with `-m`: tables with lines `ADDR NAME`, the bank above the low sixteen bits.
+    SdccMap,
+}
+
+/// A name at a bank and an address, as a line says.
+#[derive(Clone, Copy, Debug, PartialEq, Eq)]
+pub(crate) struct Named<'a> {
+    pub(crate) bank: u16,
+    pub(crate) address: u16,
+    pub(crate) name: &'a str,
+}
+
+/// What a line is.
+#[derive(Clone, Copy, Debug, PartialEq, Eq)]
+pub(crate) enum Line<'a> {
+    Symbol(Named<'a>),
+    /// Nothing of interest: a comment, an empty line, or a directive of another kind.
+    Other,
+    /// Not a line of this format.
+    Wrong,
+}
+
+/// The text in front of a comment.
+fn without_comment(line: &str) -> &str {
+    match line.split_once(';') {
+        Some((before, _)) => before,
+        None => line,
+    }
+}
+
+/// A hexadecimal number of one to eight digits.
+fn hexadecimal(digits: &str) -> Option<u32> {
+    if digits.is_empty() || digits.len() > 8 || digits.starts_with('+') {
+        return None;
+    }
+    u32::from_str_radix(digits, 16).ok()
+}
+
+/// A name at a number that has the bank above its low sixteen bits.
+fn named_at<'a>(number: u32, name: &'a str) -> Option<Named<'a>> {
+    let bank = u16::try_from(number >> 16).ok()?;
+    let address = u16::try_from(number & 0xFFFF).ok()?;
+    Some(Named {
+        bank,
+        address,
+        name,
+    })
+}
+
+/// A bank and an address, as `01:4000`. A bank in words, as RGBDS writes `BOOT`, is bank 0.
+fn banked<'a>(place: &str, name: &'a str) -> Option<Named<'a>> {
+    let (bank, address) = place.split_once(':')?;
+    let bank = if bank == "BOOT" {
+        0
+    } else {
+        u16::try_from(hexadecimal(bank)?).ok()?
+    };
+    let address = u16::try_from(hexadecimal(address)?).ok()?;
+    Some(Named {
+        bank,
+        address,
+        name,
+    })
+}
+
+/// The next word and the one behind it.
+fn two_words<'a>(words: &mut SplitWhitespace<'a>) -> Option<(&'a str, &'a str)> {
+    let first = words.next()?;
+    let second = words.next()?;
+    Some((first, second))
+}
+
+/// A line of an RGBDS file.
+fn sym_line<'a>(line: &'a str) -> Line<'a> {
+    let line = without_comment(line).trim();
+    if line.is_empty() {
+        return Line::Other;
+    }
+    let mut words = line.split_whitespace();
+    let Some((place, name)) = two_words(&mut words) else {
+        return Line::Wrong;
+    };
+    match banked(place, name) {
+        Some(named) => Line::Symbol(named),
+        None => Line::Wrong,
+    }
+}
+
+/// A line of an SDCC `.noi` file; other directives than DEF name no symbol.
+fn noi_line<'a>(line: &'a str) -> Line<'a> {
+    let mut words = line.split_whitespace();
+    match words.next() {
+        None => return Line::Other,
+        Some(word) if word != "DEF" => return Line::Other,
+        Some(_) => {}
+    }
+    let Some((name, number)) = two_words(&mut words) else {
+        return Line::Wrong;
+    };
+    let digits = match number.strip_prefix("0x") {
+        Some(digits) => digits,
+        None => number,
+    };
+    match hexadecimal(digits).and_then(|number| named_at(number, name)) {
+        Some(named) => Line::Symbol(named),
+        None => Line::Wrong,
+    }
+}
+
+/// A line of an SDCC `.map` file: most are headings and names of files.
+fn map_line<'a>(line: &'a str) -> Line<'a> {
+    let mut words = line.split_whitespace();
+    let Some((first, second)) = two_words(&mut words) else {
+        return Line::Other;
+    };
+    let (digits, name) = if first == "C:" || first == "D:" {
+        match words.next() {
+            Some(third) => (second, third),
+            None => return Line::Other,
+        }
+    } else {
+        (first, second)
+    };
+    if digits.len() < 4 {
+        return Line::Other;
+    }
+    match hexadecimal(digits).and_then(|number| named_at(number, name)) {
+        Some(named) => Line::Symbol(named),
+        None => Line::Other,
+    }
+}
+
+impl Format {
+    /// What a line is in this format.
+    pub(crate) fn line<'a>(self, line: &'a str) -> Line<'a> {
+        match self {
+            Format::RgbdsSym => sym_line(line),
+            Format::SdccNoi => noi_line(line),
+            Format::SdccMap => map_line(line),
+        }
+    }
+
+    /// The format of a text, by its first line that tells; an empty one, or one of comments alone, is RGBDS's.
+    pub fn of(text: &str) -> Option<Format> {
+        let mut is_blank = true;
+        for line in text.lines() {
+            if line.contains("Global Defined In Module") {
+                return Some(Format::SdccMap);
+            }
+            if let Line::Symbol(_) = noi_line(line) {
+                return Some(Format::SdccNoi);
+            }
+            match sym_line(line) {
+                Line::Symbol(_) => return Some(Format::RgbdsSym),
+                Line::Other => {}
+                Line::Wrong => is_blank = false,
+            }
+        }
+        if is_blank {
+            Some(Format::RgbdsSym)
+        } else {
+            None
+        }
+    }
+}

@@ -1,0 +1,154 @@
+//! The symbols of a file, and which of them an address belongs to.
+
+use crate::fault::{SymbolFault, SymbolFaultKind};
+use crate::format::{Format, Line, Named};
+use std::alloc::Global;
+use std::{fmt, str};
+
+/// A name at a bank and an address.
+#[derive(Clone, Copy, Debug, PartialEq, Eq)]
+pub struct Symbol<'a> {
+    pub bank: u16,
+    pub address: u16,
+    pub name: &'a str,
+}
+
+/// An address told by a symbol: its name, and how far behind it the address lies.
+#[derive(Clone, Copy, Debug, PartialEq, Eq)]
+pub struct Place<'a> {
+    pub name: &'a str,
+    pub offset: u16,
+}
+
+impl fmt::Display for Place<'_> {
+    fn fmt<W: fmt::Write>(&self, f: &mut fmt::Formatter<W>) -> fmt::Result {
+        let name = self.name;
+        let offset = self.offset;
+        if offset == 0 {
+            write!(f, "{name}")
+        } else {
+            write!(f, "{name}+{offset:X}")
+        }
+    }
+}
+
+/// The symbols of a file.
+#[derive(Drop)]
+pub struct Symbols<'a> {
+    format: Option<Format>,
+    symbols: Vec<Symbol<'a>>,
+}
+
+/// The first address of the part of memory in which an address lies; a symbol tells nothing of addresses in other parts.
+fn part_of(address: u16) -> u16 {
+    match address {
+        0x0000..=0x3FFF => 0x0000,
+        0x4000..=0x7FFF => 0x4000,
+        0x8000..=0x9FFF => 0x8000,
+        0xA000..=0xBFFF => 0xA000,
+        0xC000..=0xDFFF => 0xC000,
+        0xE000..=0xFDFF => 0xE000,
+        0xFE00..=0xFEFF => 0xFE00,
+        0xFF00..=0xFF7F => 0xFF00,
+        _ => 0xFF80,
+    }
+}
+
+impl<'a> Symbols<'a> {
+    /// No symbols.
+    pub fn none(alloc: Global) -> Symbols<'a> {
+        Symbols {
+            format: None,
+            symbols: Vec::new(alloc),
+        }
+    }
+
+    /// Reads a file's bytes.
+    ///
+    /// # Errors
+    ///
+    /// What is wrong with the file: it isn't text, has no known format, or has a line that doesn't fit its format.
+    pub fn parse(alloc: Global, bytes: &'a [u8]) -> Result<Symbols<'a>, SymbolFault> {
+        let Ok(text) = str::from_utf8(bytes) else {
+            return Err(SymbolFault {
+                kind: SymbolFaultKind::NotText,
+                line: 0,
+            });
+        };
+        let Some(format) = Format::of(text) else {
+            return Err(SymbolFault {
+                kind: SymbolFaultKind::NoFormat,
+                line: 0,
+            });
+        };
+        let mut symbols = Vec::new(alloc);
+        for (number, line) in text.lines().enumerate() {
+            match format.line(line) {
+                Line::Symbol(
+                    Named {
+                        bank,
+                        address,
+                        name,
+                    },
+                ) => symbols.push(Symbol {
+                    bank,
+                    address,
+                    name,
+                })?,
+                Line::Other => {}
+                Line::Wrong => {
+                    return Err(SymbolFault {
+                        kind: SymbolFaultKind::Line,
+                        line: number.saturating_add(1),
+                    });
+                }
+            }
+        }
+        Ok(Symbols {
+            format: Some(format),
+            symbols,
+        })
+    }
+
+    /// Who wrote the file, if there was one.
+    pub fn format(&self) -> Option<Format> {
+        self.format
+    }
+
+    /// How many symbols there are.
+    pub fn len(&self) -> usize {
+        self.symbols.len()
+    }
+
+    /// Whether there are none.
+    pub fn is_empty(&self) -> bool {
+        self.symbols.is_empty()
+    }
+
+    /// The last symbol at or before an address in the same part of memory. The bank counts for 4000-7FFF alone; of symbols at
+    /// one address the first counts.
+    pub fn place(&self, bank: u16, address: u16) -> Option<Place<'a>> {
+        let part = part_of(address);
+        let mut nearest: Option<Place<'a>> = None;
+        for symbol in &self.symbols {
+            let is_shown = part != 0x4000 || symbol.bank == bank;
+            if !is_shown || part_of(symbol.address) != part {
+                continue;
+            }
+            let Some(offset) = address.checked_sub(symbol.address) else {
+                continue;
+            };
+            let is_nearer = match nearest {
+                None => true,
+                Some(place) => offset < place.offset,
+            };
+            if is_nearer {
+                nearest = Some(Place {
+                    name: symbol.name,
+                    offset,
+                });
+            }
+        }
+        nearest
+    }
+}
