@@ -98,6 +98,7 @@ fn bracket<R: Rows>(rows: &mut R, with_targets: bool, target: (u8, u16), near: u
     requires { AreInOrder (R.keys rows.old) }
     ensures between { IsBetween (R.keys rows.old) with_targets target result.0 result.1 }
     ensures same { R.keys rows.new ≡ R.keys rows.old }
+    ensures asked { (bits : ℕ) → length (R.keys rows.old) < 2 ^ bits → AskedAtMost (R.asked rows.old) (R.asked rows.new) bits }
 {
     let mut low = 0;
     let mut high = rows.len();
@@ -121,6 +122,7 @@ fn count_near<R: Rows>(rows: &mut R, with_targets: bool, target: (u8, u16), near
     requires { AreInOrder (R.keys rows.old) }
     ensures count { IsBetween (R.keys rows.old) with_targets target result result }
     ensures same { R.keys rows.new ≡ R.keys rows.old }
+    ensures asked { (bits : ℕ) → length (R.keys rows.old) < 2 ^ bits → AskedAtMost (R.asked rows.old) (R.asked rows.new) (2 * bits) }
 {
     let (low, high) = bracket(rows, with_targets, target, near);
     count_between(rows, with_targets, target, low, high)
@@ -142,11 +144,15 @@ pub fn find_in<R: Rows>(rows: &mut R, procedure: u8, address: u16) -> Found
     Found { first, after }
 }
 
-/// The same rows, looked for from a row on: few keys are asked for where they are a little behind it.
+/// The same rows, looked for from a row on: few keys are asked for where they are a little behind it, and wherever they
+/// are at most 4 * n among fewer than 2 ^ n rows: 64 among 65,535 rows, 84 among 1,048,576.
 pub fn find_near<R: Rows>(rows: &mut R, near: u32, procedure: u8, address: u16) -> Found
     requires { AreInOrder (R.keys rows.old) }
     ensures found { IsFound (R.keys rows.old) (procedure, address) result.first result.after }
     ensures same { R.keys rows.new ≡ R.keys rows.old }
+    ensures asked { (bits : ℕ) → length (R.keys rows.old) < 2 ^ bits → AskedAtMost (R.asked rows.old) (R.asked rows.new) (4 * bits) }
+    ensures few { length (R.keys rows.old) ≤ 65535 → AskedAtMost (R.asked rows.old) (R.asked rows.new) 64 }
+    ensures most { length (R.keys rows.old) ≤ 1048576 → AskedAtMost (R.asked rows.old) (R.asked rows.new) 84 }
 {
     let key = (procedure, address);
     let first = count_near(rows, false, key, near);

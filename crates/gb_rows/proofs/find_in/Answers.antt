@@ -1,4 +1,4 @@
-use Rattle.std.proofs.Common.{◌≡◌, ℕ, ◌*◌, ◌^◌, ◌<◌, List, length, false, true, subst, arith}
+use Rattle.std.proofs.Common.{◌≡◌, ℕ, ◌*◌, ◌^◌, ◌<◌, List, length, true, subst, arith}
 use Rattle.gb_rows.specs.Rows.{IsBetween, AskedAtMost}
 use Rattle.gb_rows.proofs.Halving.{counts-found, asked-twice}
 use Rattle.gb_rows.proofs.find_in.Goals as goal
