@@ -1,0 +1,132 @@
+//! Files and devices that end early, fail, give a byte at a time, or have no end.
+
+use std::fs::{Metadata, OpenFile};
+use std::io::{self, BufRead, ErrorKind, Read, Seek, SeekFrom, Write};
+
+/// How many bytes one read gives.
+#[derive(Clone, Copy, PartialEq, Eq)]
+pub enum Pace {
+    /// As many as there is room for.
+    Whole,
+    /// One.
+    Slow,
+    /// As many as there is room for, but a signal interrupts every other read.
+    Interrupted,
+}
+
+/// What comes behind a device's bytes.
+#[derive(Clone, Copy, PartialEq, Eq)]
+pub enum Ending {
+    /// Nothing.
+    End,
+    /// A fault at each further read.
+    Failing(ErrorKind),
+    /// Zeros without an end.
+    Zeros,
+}
+
+/// What stands behind a name, once it is opened.
+#[derive(Clone, Copy)]
+pub struct Device<'a> {
+    pub bytes: &'a [u8],
+    pub pace: Pace,
+    pub ending: Ending,
+}
+
+/// A device that is read.
+#[derive(Drop)]
+pub struct Reading<'a> {
+    rest: &'a [u8],
+    pace: Pace,
+    ending: Ending,
+    is_interrupted: bool,
+}
+
+impl<'a> Reading<'a> {
+    /// Reads from the device's first byte on.
+    pub fn new(device: Device<'a>) -> Reading<'a> {
+        Reading {
+            rest: device.bytes,
+            pace: device.pace,
+            ending: device.ending,
+            is_interrupted: false,
+        }
+    }
+}
+
+/// That nothing but reading is done with a device.
+fn unsupported<T>() -> io::Result<T> {
+    Err(io::Error::from(ErrorKind::Unsupported))
+}
+
+impl Read for Reading<'_> {
+    fn read(&mut self, buf: &mut [u8]) -> io::Result<usize> {
+        if self.pace == Pace::Interrupted {
+            self.is_interrupted = !self.is_interrupted;
+            if self.is_interrupted {
+                return Err(io::Error::from(ErrorKind::Interrupted));
+            }
+        }
+        let at_once = if self.pace == Pace::Slow {
+            1
+        } else {
+            usize::MAX
+        };
+        let count = self.rest.len().min(buf.len()).min(at_once);
+        if count > 0 {
+            buf[..count].copy_from_slice(&self.rest[..count]);
+            self.rest = &self.rest[count..];
+            return Ok(count);
+        }
+        match self.ending {
+            Ending::End => Ok(0),
+            Ending::Failing(kind) => Err(io::Error::from(kind)),
+            Ending::Zeros => {
+                buf.fill(0);
+                Ok(buf.len())
+            }
+        }
+    }
+}
+
+impl BufRead for Reading<'_> {
+    fn fill_buf(&mut self) -> io::Result<&[u8]> {
+        unsupported()
+    }
+
+    fn consume(&mut self, _amount: usize) {}
+}
+
+impl Write for Reading<'_> {
+    fn write(&mut self, _buf: &[u8]) -> io::Result<usize> {
+        Err(io::Error::from(ErrorKind::Unsupported))
+    }
+
+    fn flush(&mut self) -> io::Result<()> {
+        unsupported()
+    }
+}
+
+impl Seek for Reading<'_> {
+    fn seek(&mut self, _to: SeekFrom) -> io::Result<u64> {
+        unsupported()
+    }
+}
+
+impl OpenFile for Reading<'_> {
+    fn metadata(&self) -> io::Result<Metadata> {
+        unsupported()
+    }
+
+    fn set_len(&self, _size: u64) -> io::Result<()> {
+        unsupported()
+    }
+
+    fn sync_all(&self) -> io::Result<()> {
+        unsupported()
+    }
+
+    fn sync_data(&self) -> io::Result<()> {
+        unsupported()
+    }
+}

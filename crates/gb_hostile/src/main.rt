@@ -1,0 +1,49 @@
+//! The whole program on a stage in place of the system: files and a standard input that are missing, refused, cut off, slow,
+//! interrupted, failing or without an end, an output that takes so many bytes and no more, and a standard error that takes
+//! nothing.
+//!
+//! rows.rt has the examples, with the line and the status that README.md says. Each is played as it is, with a standard error
+//! that fails, and with an output that fails behind each number of bytes (play.rt): then the beginning of the line is out, the
+//! status is 3, and standard error says so. A line for each example says how often it was played and how often it did
+//! otherwise: twice, and once for each byte of its line (of a screen's 11,679 bytes, for every 389th).
+#![tactic(auto)]
+
+mod device;
+mod play;
+mod rows;
+mod said;
+mod stage;
+
+use gb_samples::cartridges::{PLAIN, put, small};
+use gb_samples::certificates::{least, least_in_version_2};
+use gb_samples::programs::LOOP;
+use play::{Contents, Plays, play, play_cuts};
+use rows::{CUTS, FAULTY, READ};
+use std::io::{self, Write};
+
+/// Says how an example went.
+fn write_plays<W: Write>(out: &mut W, about: &str, plays: Plays) -> io::Result<()> {
+    let (played, wrong) = (plays.played, plays.wrong);
+    writeln!(out, "{about}: {played} plays, {wrong} wrong")
+}
+
+fn main(rt: HostRuntime) -> io::Result<()> {
+    let mut longer = [0; 160];
+    put(&mut longer, 0, &least());
+    let contents = Contents {
+        cartridge: &small(PLAIN, LOOP),
+        longer: &longer,
+        upgraded: &least_in_version_2(),
+    };
+    let mut out = io::writer(&rt);
+    for row in READ.iter().chain(FAULTY) {
+        let plays = play(rt.alloc(), &contents, row);
+        write_plays(&mut out, row.about, plays)?;
+    }
+    for cuts in CUTS {
+        let lengths = (cuts.most, cuts.step);
+        let plays = play_cuts(rt.alloc(), &contents, &cuts.row, cuts.place, lengths);
+        write_plays(&mut out, cuts.row.about, plays)?;
+    }
+    Ok(())
+}

@@ -1,0 +1,173 @@
+//! Plays the program on a stage.
+
+use crate::device::{Device, Ending, Pace};
+use crate::rows::{Content, Given, Place, Row, Written};
+use crate::said::Said;
+use crate::stage::{Entry, Names, Stage};
+use gb_program::run;
+use std::alloc::Global;
+use std::io::ErrorKind;
+use std::process::ExitCode;
+
+/// The files' bytes.
+#[derive(Drop)]
+pub struct Contents<'a> {
+    pub cartridge: &'a [u8],
+    /// The certificate, with a byte left over.
+    pub longer: &'a [u8],
+    /// The certificate in version 2.
+    pub upgraded: &'a [u8],
+}
+
+/// How often the program was played, and how often it did otherwise than it has to.
+#[derive(Clone, Copy, PartialEq, Eq)]
+pub struct Plays {
+    pub played: usize,
+    pub wrong: usize,
+}
+
+impl Plays {
+    /// None yet.
+    pub fn new() -> Plays {
+        Plays {
+            played: 0,
+            wrong: 0,
+        }
+    }
+
+    /// Counts one.
+    fn count(&mut self, is_right: bool) {
+        self.played = self.played.wrapping_add(1);
+        self.wrong = self.wrong.wrapping_add(usize::from(!is_right));
+    }
+}
+
+impl<'a> Contents<'a> {
+    /// A file's bytes.
+    fn of(&self, content: Content) -> &'a [u8] {
+        match content {
+            Content::Empty => &[],
+            Content::Cartridge => self.cartridge,
+            Content::Certificate => &self.longer[..self.longer.len().saturating_sub(1)],
+            Content::Longer => self.longer,
+        }
+    }
+
+    /// What a device gives.
+    fn device(&self, given: Given) -> Option<Device<'a>> {
+        let Given::Read(content, length, pace, ending) = given else {
+            return None;
+        };
+        let bytes = self.of(content);
+        Some(Device {
+            bytes: &bytes[..length.min(bytes.len())],
+            pace,
+            ending,
+        })
+    }
+
+    /// What becomes of a name.
+    fn entry(&self, given: Given) -> Entry<'a> {
+        match (given, self.device(given)) {
+            (_, Some(device)) => Entry::Opened(device),
+            (Given::Refused(kind), None) => Entry::Refused(kind),
+            (Given::Read(..), None) => Entry::Refused(ErrorKind::Other),
+        }
+    }
+
+    /// What is to be written.
+    fn said(&self, written: Written) -> Said<'a> {
+        match written {
+            Written::Text(text) => Said::Bytes(text.as_bytes()),
+            Written::Screen(ending) => Said::Screen(ending.as_bytes()),
+            Written::Upgraded => Said::Bytes(self.upgraded),
+        }
+    }
+
+    /// The stage of an example.
+    fn stage(&self, alloc: Global, row: &Row, told: &'a str) -> Stage<'a> {
+        let names = Names {
+            game: self.entry(row.game),
+            cert: self.entry(row.cert),
+            keys: self.entry(row.keys),
+            input: self.device(row.input).unwrap_or(Device {
+                bytes: &[],
+                pace: Pace::Whole,
+                ending: Ending::End,
+            }),
+        };
+        Stage::new(alloc, row.words, names, self.said(row.written), told)
+    }
+}
+
+/// Whether the program ends with this status on a stage, and does there what it has to.
+fn is_right(stage: &Stage<'_>, status: u8) -> bool {
+    run(stage, false) == ExitCode::from(status) && stage.is_as_wanted()
+}
+
+/// Plays an example as it is, and with a standard error that takes nothing.
+fn play_whole(alloc: Global, contents: &Contents<'_>, row: &Row, plays: &mut Plays) {
+    let stage = contents.stage(alloc, row, row.told);
+    plays.count(is_right(&stage, row.status));
+    let silent = contents.stage(alloc, row, row.told).in_silence();
+    plays.count(is_right(&silent, row.status));
+}
+
+/// Plays an example with an output that takes fewer bytes than there are: each number of them, or of a screen a few.
+fn play_short(alloc: Global, contents: &Contents<'_>, row: &Row, plays: &mut Plays) {
+    let length = contents.said(row.written).len();
+    let step = if length < 1_000 { 1 } else { 389 };
+    let told = if row.status == 3 {
+        row.told
+    } else {
+        "standard output"
+    };
+    for room in (0..length).step_by(step) {
+        let stage = contents.stage(alloc, row, told).with_room(room);
+        plays.count(is_right(&stage, 3));
+    }
+}
+
+/// Plays an example in each of these ways.
+pub fn play(alloc: Global, contents: &Contents<'_>, row: &Row) -> Plays {
+    let mut plays = Plays::new();
+    play_whole(alloc, contents, row, &mut plays);
+    play_short(alloc, contents, row, &mut plays);
+    plays
+}
+
+/// What is given of a place that ends behind so many bytes.
+fn shortened(given: Given, length: usize) -> Given {
+    match given {
+        Given::Read(content, _, pace, ending) => Given::Read(content, length, pace, ending),
+        Given::Refused(kind) => Given::Refused(kind),
+    }
+}
+
+/// An example whose place fails behind so many bytes.
+fn cut_off(row: &Row, place: Place, length: usize) -> Row {
+    let mut row = *row;
+    match place {
+        Place::Game => row.game = shortened(row.game, length),
+        Place::Cert => row.cert = shortened(row.cert, length),
+        Place::Keys => row.keys = shortened(row.keys, length),
+        Place::Input => row.input = shortened(row.input, length),
+    }
+    row
+}
+
+/// Plays an example with a place cut off behind 0 bytes, `step`, and so on up to `most`.
+pub fn play_cuts(
+    alloc: Global,
+    contents: &Contents<'_>,
+    row: &Row,
+    place: Place,
+    lengths: (usize, usize),
+) -> Plays {
+    let mut plays = Plays::new();
+    let (most, step) = lengths;
+    for length in (0..=most).step_by(step.max(1)) {
+        play_whole(alloc, contents, &cut_off(row, place, length), &mut plays);
+    }
+    plays
+}

@@ -1,0 +1,437 @@
+//! The worked examples: what the program meets, what it has to write, and its status.
+
+use crate::device::{Ending, Pace};
+use std::io::ErrorKind;
+
+/// A file's bytes.
+#[derive(Clone, Copy)]
+pub enum Content {
+    Empty,
+    /// The least cartridge.
+    Cartridge,
+    /// Its certificate.
+    Certificate,
+    /// The same with a byte left over.
+    Longer,
+}
+
+/// What stands behind a name.
+#[derive(Clone, Copy)]
+pub enum Given {
+    /// It can't be opened.
+    Refused(ErrorKind),
+    /// The first of these bytes, as many as are named, and what comes behind them.
+    Read(Content, usize, Pace, Ending),
+}
+
+/// What the program has to write.
+#[derive(Clone, Copy)]
+pub enum Written {
+    Text(&'static str),
+    /// A screen of the lightest shade, and then this line.
+    Screen(&'static str),
+    /// The certificate in version 2.
+    Upgraded,
+}
+
+/// An example. `told` is in what standard error tells, where it isn't empty.
+#[derive(Clone, Copy)]
+pub struct Row {
+    pub about: &'static str,
+    pub words: &'static [&'static [u8]],
+    pub game: Given,
+    pub cert: Given,
+    pub keys: Given,
+    pub input: Given,
+    pub written: Written,
+    pub status: u8,
+    pub told: &'static str,
+}
+
+/// Which of the four is cut off.
+#[derive(Clone, Copy)]
+pub enum Place {
+    Game,
+    Cert,
+    Keys,
+    Input,
+}
+
+/// An example that is played with a place cut off behind each of some numbers of bytes: 0, `step` and so on up to `most`.
+pub struct Cuts {
+    pub row: Row,
+    pub place: Place,
+    pub most: usize,
+    pub step: usize,
+}
+
+/// More bytes than any of the files has.
+const ALL: usize = usize::MAX;
+
+const CARTRIDGE: Given = Given::Read(Content::Cartridge, ALL, Pace::Whole, Ending::End);
+
+const CERTIFICATE: Given = Given::Read(Content::Certificate, ALL, Pace::Whole, Ending::End);
+
+const MISSING: Given = Given::Refused(ErrorKind::NotFound);
+
+const EMPTY: Given = Given::Read(Content::Empty, 0, Pace::Whole, Ending::End);
+
+/// Zeros without an end.
+const ZEROS: Given = Given::Read(Content::Empty, 0, Pace::Whole, Ending::Zeros);
+
+const FAILING: Ending = Ending::Failing(ErrorKind::Other);
+
+const NO_ROOM: Ending = Ending::Failing(ErrorKind::OutOfMemory);
+
+const ACCEPTED: Written = Written::Text("ACCEPTED nodes 3 procedures 1\n");
+
+const DEVICE: Written = Written::Text("FAULT device\n");
+
+const MEMORY: Written = Written::Text("FAULT memory\n");
+
+const NOTHING: Written = Written::Text("");
+
+const VERSION: Written = Written::Text("gulmyrek 0.5.0\n");
+
+const HEADER_LINE: Written = Written::Text("type 00 ROM rom 2 ram 0 clock no checksum E7\n");
+
+const SHOWN: Written = Written::Text(
+    "\
+stack DF00..DFFF procedures 1 nodes 3\n\
+procedure 0 entry 0 need 0 ranges 0 returns no\n\
+node 0 procedure 0 address 0100 bank 000\n\
+node 1 procedure 0 address 0101 bank 000\n\
+node 2 procedure 0 address 0150 bank 000\n",
+);
+
+/// Both files are read, and the verdict is written.
+const VERIFY: Row = Row {
+    about: "verify",
+    words: &[b"gulmyrek", b"verify", b"game.gb", b"game.cert"],
+    game: CARTRIDGE,
+    cert: CERTIFICATE,
+    keys: MISSING,
+    input: EMPTY,
+    written: ACCEPTED,
+    status: 0,
+    told: "",
+};
+
+const HEADER: Row = Row {
+    about: "header",
+    words: &[b"gulmyrek", b"header", b"game.gb"],
+    cert: MISSING,
+    written: HEADER_LINE,
+    ..VERIFY
+};
+
+const SHOW: Row = Row {
+    about: "show",
+    words: &[b"gulmyrek", b"show", b"game.cert"],
+    game: MISSING,
+    written: SHOWN,
+    ..VERIFY
+};
+
+const UPGRADE: Row = Row {
+    about: "upgrade",
+    words: &[b"gulmyrek", b"upgrade", b"game.cert"],
+    game: MISSING,
+    written: Written::Upgraded,
+    ..VERIFY
+};
+
+/// Two frames with a script that never ends: no more of it is read.
+const RUN: Row = Row {
+    about: "run with a script without an end",
+    words: &[b"gulmyrek", b"run", b"game.gb", b"game.keys", b"2"],
+    cert: MISSING,
+    keys: ZEROS,
+    written: Written::Screen("WHOLE frames 2\n"),
+    ..VERIFY
+};
+
+const VERIFY_INPUT: Row = Row {
+    about: "a cartridge on standard input, a byte with each read",
+    words: &[b"gulmyrek", b"verify", b"-", b"game.cert"],
+    game: MISSING,
+    input: Given::Read(Content::Cartridge, ALL, Pace::Slow, Ending::End),
+    ..VERIFY
+};
+
+pub const READ: &[Row] = &[
+    Row {
+        about: "no words",
+        words: &[b"gulmyrek"],
+        game: MISSING,
+        cert: MISSING,
+        ..VERIFY
+    },
+    VERIFY,
+    HEADER,
+    SHOW,
+    UPGRADE,
+    RUN,
+    Row {
+        about: "a byte with each read",
+        game: Given::Read(Content::Cartridge, ALL, Pace::Slow, Ending::End),
+        cert: Given::Read(Content::Certificate, ALL, Pace::Slow, Ending::End),
+        ..VERIFY
+    },
+    Row {
+        about: "every other read is interrupted",
+        game: Given::Read(Content::Cartridge, ALL, Pace::Interrupted, Ending::End),
+        cert: Given::Read(Content::Certificate, ALL, Pace::Interrupted, Ending::End),
+        ..VERIFY
+    },
+    VERIFY_INPUT,
+    Row {
+        about: "a certificate on standard input",
+        words: &[b"gulmyrek", b"verify", b"game.gb", b"-"],
+        cert: MISSING,
+        input: CERTIFICATE,
+        ..VERIFY
+    },
+    Row {
+        about: "a script on standard input, which fails behind as many bytes as there are frames",
+        words: &[b"gulmyrek", b"run", b"game.gb", b"-", b"2"],
+        keys: MISSING,
+        input: Given::Read(Content::Cartridge, 2, Pace::Slow, FAILING),
+        ..RUN
+    },
+    Row {
+        about: "the version",
+        words: &[b"gulmyrek", b"--version"],
+        written: VERSION,
+        ..VERIFY
+    },
+];
+
+pub const FAULTY: &[Row] = &[
+    Row {
+        about: "no cartridge",
+        game: MISSING,
+        written: DEVICE,
+        status: 3,
+        told: "game.gb",
+        ..VERIFY
+    },
+    Row {
+        about: "no certificate",
+        cert: MISSING,
+        written: DEVICE,
+        status: 3,
+        told: "game.cert",
+        ..VERIFY
+    },
+    Row {
+        about: "no script",
+        keys: MISSING,
+        written: DEVICE,
+        status: 3,
+        told: "game.keys",
+        ..RUN
+    },
+    Row {
+        about: "a cartridge that may not be read",
+        game: Given::Refused(ErrorKind::PermissionDenied),
+        written: DEVICE,
+        status: 3,
+        told: "game.gb",
+        ..HEADER
+    },
+    Row {
+        about: "a folder in a certificate's place",
+        cert: Given::Read(
+            Content::Empty,
+            ALL,
+            Pace::Whole,
+            Ending::Failing(ErrorKind::IsADirectory),
+        ),
+        written: DEVICE,
+        status: 3,
+        told: "game.cert",
+        ..SHOW
+    },
+    Row {
+        about: "no memory to open a certificate",
+        cert: Given::Refused(ErrorKind::OutOfMemory),
+        written: MEMORY,
+        status: 3,
+        told: "game.cert",
+        ..UPGRADE
+    },
+    Row {
+        about: "standard input fails",
+        input: Given::Read(Content::Empty, ALL, Pace::Whole, FAILING),
+        written: DEVICE,
+        status: 3,
+        told: "standard input",
+        ..VERIFY_INPUT
+    },
+    Row {
+        about: "an empty cartridge",
+        game: EMPTY,
+        cert: EMPTY,
+        written: Written::Text("CARTRIDGE H1\n"),
+        status: 2,
+        ..VERIFY
+    },
+    Row {
+        about: "a cartridge cut off before its header's end",
+        game: Given::Read(Content::Cartridge, 335, Pace::Whole, Ending::End),
+        written: Written::Text("CARTRIDGE H1\n"),
+        status: 2,
+        ..RUN
+    },
+    Row {
+        about: "a cartridge without its last byte",
+        game: Given::Read(Content::Cartridge, 32_767, Pace::Whole, Ending::End),
+        written: Written::Text("CARTRIDGE H1\n"),
+        status: 2,
+        ..RUN
+    },
+    Row {
+        about: "an empty certificate",
+        cert: EMPTY,
+        written: Written::Text("CERTIFICATE C1\n"),
+        status: 2,
+        told: "game.cert",
+        ..VERIFY
+    },
+    Row {
+        about: "a certificate without its last byte",
+        cert: Given::Read(Content::Certificate, 158, Pace::Whole, Ending::End),
+        written: Written::Text("CERTIFICATE C1\n"),
+        status: 2,
+        told: "game.cert",
+        ..UPGRADE
+    },
+    Row {
+        about: "a certificate with a byte left over",
+        cert: Given::Read(Content::Longer, ALL, Pace::Slow, Ending::End),
+        written: Written::Text("CERTIFICATE C8\n"),
+        status: 2,
+        told: "game.cert",
+        ..SHOW
+    },
+    Row {
+        about: "two files on standard input",
+        words: &[b"gulmyrek", b"verify", b"-", b"-"],
+        written: NOTHING,
+        status: 2,
+        told: "standard input",
+        ..VERIFY
+    },
+    Row {
+        about: "a word that isn't UTF-8",
+        words: &[b"gulmyrek", b"header", b"\xFF.gb"],
+        written: NOTHING,
+        status: 2,
+        told: "UTF-8",
+        ..VERIFY
+    },
+    Row {
+        about: "more frames than 36,000, and no file is opened",
+        words: &[b"gulmyrek", b"run", b"game.gb", b"game.keys", b"36001"],
+        game: MISSING,
+        keys: MISSING,
+        written: NOTHING,
+        status: 2,
+        told: "36001",
+        ..VERIFY
+    },
+];
+
+pub const CUTS: &[Cuts] = &[
+    Cuts {
+        row: Row {
+            about: "a cartridge that goes on in zeros without an end",
+            game: Given::Read(Content::Cartridge, ALL, Pace::Whole, Ending::Zeros),
+            written: Written::Text("CARTRIDGE H4\n"),
+            status: 2,
+            ..VERIFY
+        },
+        place: Place::Game,
+        most: 32_768,
+        step: 16_384,
+    },
+    Cuts {
+        row: Row {
+            game: Given::Read(Content::Cartridge, ALL, Pace::Whole, FAILING),
+            about: "a cartridge that fails",
+            written: DEVICE,
+            status: 3,
+            told: "game.gb",
+            ..VERIFY
+        },
+        place: Place::Game,
+        most: 32_768,
+        step: 1_024,
+    },
+    Cuts {
+        row: Row {
+            game: Given::Read(Content::Cartridge, ALL, Pace::Whole, NO_ROOM),
+            about: "a cartridge without room",
+            written: MEMORY,
+            status: 3,
+            told: "game.gb",
+            ..RUN
+        },
+        place: Place::Game,
+        most: 32_768,
+        step: 1_024,
+    },
+    Cuts {
+        row: Row {
+            cert: Given::Read(Content::Certificate, ALL, Pace::Whole, FAILING),
+            about: "a certificate that fails",
+            written: DEVICE,
+            status: 3,
+            told: "game.cert",
+            ..VERIFY
+        },
+        place: Place::Cert,
+        most: 159,
+        step: 1,
+    },
+    Cuts {
+        row: Row {
+            cert: Given::Read(Content::Certificate, ALL, Pace::Whole, NO_ROOM),
+            about: "a certificate without room",
+            written: MEMORY,
+            status: 3,
+            told: "game.cert",
+            ..SHOW
+        },
+        place: Place::Cert,
+        most: 159,
+        step: 1,
+    },
+    Cuts {
+        row: Row {
+            keys: Given::Read(Content::Cartridge, ALL, Pace::Whole, FAILING),
+            about: "a script that fails before its frames' end",
+            written: DEVICE,
+            status: 3,
+            told: "game.keys",
+            ..RUN
+        },
+        place: Place::Keys,
+        most: 1,
+        step: 1,
+    },
+    Cuts {
+        row: Row {
+            input: Given::Read(Content::Cartridge, ALL, Pace::Whole, FAILING),
+            about: "standard input that fails",
+            written: DEVICE,
+            status: 3,
+            told: "standard input",
+            ..VERIFY_INPUT
+        },
+        place: Place::Input,
+        most: 32_768,
+        step: 1_024,
+    },
+];
