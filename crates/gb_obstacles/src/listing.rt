@@ -11,15 +11,15 @@ use std::fmt;
 
 /// A certificate with its cartridge, and symbols.
 #[derive(Clone, Copy)]
-pub struct Listing<'a> {
-    pub rom: &'a Rom<'a>,
-    pub cert: &'a Cert<'a>,
-    pub symbols: &'a Symbols<'a>,
+pub struct Listing<'a, 'r, 'c, 's> {
+    pub rom: &'a Rom<'r>,
+    pub cert: &'a Cert<'c>,
+    pub symbols: &'a Symbols<'s>,
 }
 
 /// What a procedure says of itself.
 fn fmt_procedure<W: fmt::Write>(
-    listing: &Listing<'_>,
+    listing: &Listing<'_, '_, '_, '_>,
     number: u8,
     f: &mut fmt::Formatter<W>,
 ) -> fmt::Result {
@@ -74,7 +74,7 @@ fn fmt_state<W: fmt::Write>(state: &Abs, f: &mut fmt::Formatter<W>) -> fmt::Resu
 
 /// The procedure, if it is a new one, and a node.
 fn fmt_node<W: fmt::Write>(
-    listing: &Listing<'_>,
+    listing: &Listing<'_, '_, '_, '_>,
     number: u32,
     before: Option<u8>,
     f: &mut fmt::Formatter<W>,
@@ -104,7 +104,7 @@ fn fmt_node<W: fmt::Write>(
     Ok(Some(procedure))
 }
 
-impl fmt::Display for Listing<'_> {
+impl fmt::Display for Listing<'_, '_, '_, '_> {
     fn fmt<W: fmt::Write>(&self, f: &mut fmt::Formatter<W>) -> fmt::Result {
         let region = self.cert.region();
         let first = region.first;

@@ -3,9 +3,9 @@
 //!
 //! The program first takes all addresses that it may have, in blocks that are never written (hoard.rt), so that each further
 //! growth is refused. Then it gives one block back, takes all of it again but a hole, makes the call (calls.rt), and takes
-//! the addresses again. The holes of a call grow from nothing to more than it needs, by steps that are smaller than what it
-//! takes at once. A line for each call says what it answered with no hole, with the largest, and whether it ever answered
-//! anything but want of memory and what is right.
+//! the addresses again. The holes of a call grow from nothing to more than it needs, by 16 to 64 bytes. A line for each call
+//! says what it answered with no hole, with the largest, and whether it ever answered anything but want of memory and what is
+//! right.
 #![tactic(auto)]
 
 mod calls;
