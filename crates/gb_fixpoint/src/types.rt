@@ -92,7 +92,7 @@ pub struct Procedure {
     pub sites: BTreeSet<usize>,
     /// The numbers of the procedures that it calls, or that may interrupt it.
     pub callees: BTreeSet<usize>,
-    /// The words of stack that it needs, once `Run::needs` has found them.
+    /// The words of stack that it needs, once gb_draft's `find_needs` has found them.
     pub need: usize,
 }
 
