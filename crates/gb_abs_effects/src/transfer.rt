@@ -111,13 +111,18 @@ pub fn transfer(op: Op, next: u16, core: &Core, low: Val, high: Val) -> AbsEffec
     ensures sound { IsCore core.now → IsVal low → IsSoundTransfer op next core.now low high result }
     ensures inhabited { IsCore core.now → IsVal low → IsVal high → IsAbsEffect result }
 {
+    holds_bytes(op);
     apply(op, next, core, low, high)
 }
 
+/// An instruction's numbers are bytes and words.
+fn holds_bytes(op: Op)
+    ensures { HasBytes op }
+{}
+
 #[tactic(auto, unfolding(crate::specs::Transfer::transfer))]
 fn apply(op: Op, next: u16, core: &Core, low: Val, high: Val) -> AbsEffect
-    ensures exact { result ≡ Transfer.transfer op next core.now low high }
-    ensures bytes { HasBytes op }
+    ensures { result ≡ Transfer.transfer op next core.now low high }
 {
     let a = core.registers.a;
     let flags = core.flags;

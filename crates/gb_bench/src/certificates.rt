@@ -1,4 +1,4 @@
-//! Certificates of many nodes, each with the cartridge that it is for. In all of them each node is right.
+//! Certificates of many nodes, each with the cartridge that it is for. In all of them each node is right. `Sample` names them.
 
 use std::alloc::{AllocError, Global};
 
@@ -30,7 +30,7 @@ const ANY_BUT_L: &[u8] =
     b"\x00\xff\x00\x00\xff\x00\x00\xff\x00\x00\xff\x00\x00\xff\x00\x00\xff\x00";
 
 /// NOPs, with a jump over the header and one from the end back to behind the header.
-pub fn straight_line() -> [u8; 0x8000] {
+fn straight_line() -> [u8; 0x8000] {
     let mut rom = [0; 0x8000];
     rom[0x101] = 0xC3;
     rom[0x102] = 0x50;
@@ -43,7 +43,7 @@ pub fn straight_line() -> [u8; 0x8000] {
 }
 
 /// At 0100 a jump to itself.
-pub fn loop_alone() -> [u8; 0x8000] {
+fn loop_alone() -> [u8; 0x8000] {
     let mut rom = [0; 0x8000];
     rom[0x100] = 0x18;
     rom[0x101] = 0xFE;
@@ -52,7 +52,7 @@ pub fn loop_alone() -> [u8; 0x8000] {
 }
 
 /// At 0100 a jump to 0150, there one to 0160, and there one to itself.
-pub fn two_jumps() -> [u8; 0x8000] {
+fn two_jumps() -> [u8; 0x8000] {
     let mut rom = [0; 0x8000];
     rom[0x100] = 0xC3;
     rom[0x101] = 0x50;
@@ -98,19 +98,18 @@ fn push_node(bytes: &mut Vec<u8>, address: u16) -> Result<(), AllocError> {
 }
 
 /// Straight-line code, version 1: each address has two or three nodes, all in the same state.
-pub fn of_straight_line(alloc: Global) -> Result<Vec<u8>, AllocError> {
-    let mut bytes = Vec::new(alloc);
+fn push_straight_line(bytes: &mut Vec<u8>) -> Result<(), AllocError> {
     let thirds = FEW - 2 * ADDRESSES;
-    push_head(&mut bytes, (2 * 0x100 + thirds.min(0x100)) as u16)?;
+    push_head(bytes, (2 * 0x100 + thirds.min(0x100)) as u16)?;
     for node in 0..FEW {
         let place = if node < 3 * thirds {
             node / 3
         } else {
             thirds + (node - 3 * thirds) / 2
         };
-        push_node(&mut bytes, address_of(place))?;
+        push_node(bytes, address_of(place))?;
     }
-    Ok(bytes)
+    Ok(())
 }
 
 /// A procedure of version 2 that needs no stack, writes nothing and doesn't return.
@@ -119,39 +118,55 @@ fn push_procedure(bytes: &mut Vec<u8>, entry: u32) -> Result<(), AllocError> {
     bytes.extend_from_slice(&[0, 0, 0, 0])
 }
 
+/// The head of version 2 and its procedures.
+fn push_wide_head(bytes: &mut Vec<u8>) -> Result<(), AllocError> {
+    bytes.extend_from_slice(b"GBBC\x02\x00\xDF\xFF\xDF\x20\x00\x00\x10\x00")?;
+    push_procedure(bytes, 2 * 0x100)?;
+    for procedure in 1..PROCEDURES {
+        push_procedure(bytes, TWICE + procedure * ADDRESSES)?;
+    }
+    Ok(())
+}
+
+/// Main's nodes: the first addresses have two.
+fn push_mains(bytes: &mut Vec<u8>) -> Result<(), AllocError> {
+    for place in 0..ADDRESSES {
+        push_node(bytes, address_of(place))?;
+        if place < TWICE {
+            push_node(bytes, address_of(place))?;
+        }
+    }
+    Ok(())
+}
+
+/// The nodes of a procedure that is called: each address has one.
+fn push_below(bytes: &mut Vec<u8>, procedure: u8) -> Result<(), AllocError> {
+    for place in 0..ADDRESSES {
+        push_key(bytes, procedure, address_of(place))?;
+        bytes.extend_from_slice(FRONT_BELOW)?;
+        bytes.extend_from_slice(KNOWN)?;
+    }
+    Ok(())
+}
+
 /// Straight-line code, version 2, of as many nodes as there may be: in each of 32 procedures the same
 /// addresses have one node each, and in main the first of them two.
-pub fn of_procedures(alloc: Global) -> Result<Vec<u8>, AllocError> {
-    let mut bytes = Vec::new(alloc);
-    bytes.extend_from_slice(b"GBBC\x02\x00\xDF\xFF\xDF\x20\x00\x00\x10\x00")?;
-    push_procedure(&mut bytes, 2 * 0x100)?;
+fn push_procedures(bytes: &mut Vec<u8>) -> Result<(), AllocError> {
+    push_wide_head(bytes)?;
+    push_mains(bytes)?;
     for procedure in 1..PROCEDURES {
-        push_procedure(&mut bytes, TWICE + procedure * ADDRESSES)?;
+        push_below(bytes, procedure as u8)?;
     }
-    for place in 0..ADDRESSES {
-        push_node(&mut bytes, address_of(place))?;
-        if place < TWICE {
-            push_node(&mut bytes, address_of(place))?;
-        }
-    }
-    for procedure in 1..PROCEDURES {
-        for place in 0..ADDRESSES {
-            push_key(&mut bytes, procedure as u8, address_of(place))?;
-            bytes.extend_from_slice(FRONT_BELOW)?;
-            bytes.extend_from_slice(KNOWN)?;
-        }
-    }
-    Ok(bytes)
+    Ok(())
 }
 
 /// 65,535 nodes at 0100, all in the same state.
-pub fn of_one_address(alloc: Global) -> Result<Vec<u8>, AllocError> {
-    let mut bytes = Vec::new(alloc);
-    push_head(&mut bytes, 0)?;
+fn push_one_address(bytes: &mut Vec<u8>) -> Result<(), AllocError> {
+    push_head(bytes, 0)?;
     for _ in 0..FEW {
-        push_node(&mut bytes, 0x100)?;
+        push_node(bytes, 0x100)?;
     }
-    Ok(bytes)
+    Ok(())
 }
 
 /// A node of main with any value in each register but L.
@@ -165,15 +180,63 @@ fn push_wide(bytes: &mut Vec<u8>, address: u16, l: [u8; 3]) -> Result<(), AllocE
 
 /// 65,535 nodes, all but two of them at 0150, each with one value in L, and the last alone with 255:
 /// what comes from 0100 is covered there by L's values one by one.
-pub fn of_single_values(alloc: Global) -> Result<Vec<u8>, AllocError> {
-    let mut bytes = Vec::new(alloc);
-    push_head(&mut bytes, 0)?;
-    push_wide(&mut bytes, 0x100, [0, 255, 0])?;
+fn push_single_values(bytes: &mut Vec<u8>) -> Result<(), AllocError> {
+    push_head(bytes, 0)?;
+    push_wide(bytes, 0x100, [0, 255, 0])?;
     for node in 3..FEW {
         let value = (node % 255) as u8;
-        push_wide(&mut bytes, 0x150, [value, value, 0])?;
+        push_wide(bytes, 0x150, [value, value, 0])?;
     }
-    push_wide(&mut bytes, 0x150, [255, 255, 0])?;
-    push_wide(&mut bytes, 0x160, [0, 255, 0])?;
-    Ok(bytes)
+    push_wide(bytes, 0x150, [255, 255, 0])?;
+    push_wide(bytes, 0x160, [0, 255, 0])
+}
+
+/// A certificate of many nodes, and the cartridge that it is for.
+#[derive(Clone, Copy)]
+pub enum Sample {
+    StraightLine,
+    Procedures,
+    OneAddress,
+    SingleValues,
+}
+
+/// All of them, as they are measured.
+pub const SAMPLES: &[Sample] = &[
+    Sample::StraightLine,
+    Sample::Procedures,
+    Sample::OneAddress,
+    Sample::SingleValues,
+];
+
+impl Sample {
+    /// What it is.
+    pub fn name(self) -> &'static str {
+        match self {
+            Sample::StraightLine => "65,535 nodes of straight-line code",
+            Sample::Procedures => "1,048,576 nodes of 32 procedures",
+            Sample::OneAddress => "65,535 nodes at one address",
+            Sample::SingleValues => "65,533 single values at one address",
+        }
+    }
+
+    /// The cartridge.
+    pub fn cartridge(self) -> [u8; 0x8000] {
+        match self {
+            Sample::StraightLine | Sample::Procedures => straight_line(),
+            Sample::OneAddress => loop_alone(),
+            Sample::SingleValues => two_jumps(),
+        }
+    }
+
+    /// The certificate.
+    pub fn bytes(self, alloc: Global) -> Result<Vec<u8>, AllocError> {
+        let mut bytes = Vec::new(alloc);
+        match self {
+            Sample::StraightLine => push_straight_line(&mut bytes),
+            Sample::Procedures => push_procedures(&mut bytes),
+            Sample::OneAddress => push_one_address(&mut bytes),
+            Sample::SingleValues => push_single_values(&mut bytes),
+        }?;
+        Ok(bytes)
+    }
 }

@@ -9,6 +9,7 @@ mod certificates;
 mod picture;
 mod processor;
 
+use certificates::Sample;
 use gb_cert::types::Cert;
 use gb_header::Rom;
 use gb_verify::check::check;
@@ -32,69 +33,43 @@ fn report<R: Eprint + Clock>(rt: &R, what: &str, since: &Instant) -> io::Result<
     eprintln!(rt; "{what}: {micros} microseconds")
 }
 
-fn main(rt: HostRuntime) -> io::Result<()> {
-    let cycles = processor::run(&rt)?;
-    println!(rt; "the processor's steps took {cycles} M-cycles")?;
-    let drawn = picture::draw(&rt)?;
-    println!(rt; "a full scene was drawn: {drawn}")?;
-    let straight_line = certificates::straight_line();
-    let bytes = certificates::of_straight_line(rt.alloc())?;
-    check_certificate(
-        &rt,
-        "65,535 nodes of straight-line code",
-        &straight_line,
-        &bytes,
-    )?;
-    let bytes = certificates::of_procedures(rt.alloc())?;
-    check_certificate(
-        &rt,
-        "1,048,576 nodes of 32 procedures",
-        &straight_line,
-        &bytes,
-    )?;
-    let bytes = certificates::of_one_address(rt.alloc())?;
-    check_certificate(
-        &rt,
-        "65,535 nodes at one address",
-        &certificates::loop_alone(),
-        &bytes,
-    )?;
-    let bytes = certificates::of_single_values(rt.alloc())?;
-    check_certificate(
-        &rt,
-        "65,533 single values at one address",
-        &certificates::two_jumps(),
-        &bytes,
-    )
-}
-
-/// Reads, parses and checks a certificate.
-fn check_certificate<R: Print + Eprint + Clock + AllocGlobal>(
-    rt: &R,
-    what: &str,
-    cartridge: &[u8],
-    bytes: &[u8],
-) -> io::Result<()> {
-    eprintln!(rt; "{what}")?;
+/// Reads the bytes once, and answers their sum.
+fn read_once<R: Eprint + Clock>(rt: &R, bytes: &[u8]) -> io::Result<u8> {
     let start = Instant::now(rt)?;
     let sum = sum_of(bytes);
     report(rt, "reading the bytes once", &start)?;
+    Ok(sum)
+}
 
-    let Ok(rom) = Rom::parse(cartridge) else {
-        return println!(rt; "no cartridge");
-    };
+/// Checks the certificate.
+fn checked<R: Eprint + Clock>(rt: &R, rom: &Rom<'_>, cert: &Cert<'_>) -> io::Result<Verdict> {
     let start = Instant::now(rt)?;
-    let parsed = Cert::parse(rt.alloc(), bytes);
-    report(rt, "parse", &start)?;
-    let cert = match parsed {
-        Ok(cert) => cert,
-        Err(fault) => return println!(rt; "no certificate: C{}", fault.number()),
-    };
-
-    let start = Instant::now(rt)?;
-    let verdict = check(&rom, &cert);
+    let verdict = check(rom, cert);
     report(rt, "check", &start)?;
-    let length = bytes.len();
+    Ok(verdict)
+}
+
+/// Parses the certificate and checks it; no verdict where it can't be read.
+fn judged<R: Eprint + Clock + AllocGlobal>(
+    rt: &R,
+    rom: &Rom<'_>,
+    bytes: &[u8],
+) -> io::Result<Option<Verdict>> {
+    let start = Instant::now(rt)?;
+    match Cert::parse(rt.alloc(), bytes) {
+        Ok(cert) => {
+            let told = report(rt, "parse", &start);
+            let verdict = checked(rt, rom, &cert);
+            drop(cert);
+            told?;
+            Ok(Some(verdict?))
+        }
+        Err(_) => Ok(None),
+    }
+}
+
+/// Prints the verdict.
+fn tell<R: Print>(rt: &R, length: usize, sum: u8, verdict: Verdict) -> io::Result<()> {
     match verdict {
         Verdict::Accepted { nodes, procedures } => {
             println!(rt;
@@ -108,4 +83,44 @@ fn check_certificate<R: Print + Eprint + Clock + AllocGlobal>(
             )
         }
     }
+}
+
+/// Reads, parses and checks the bytes of a certificate, for a cartridge.
+fn measure<R: Print + Eprint + Clock + AllocGlobal>(
+    rt: &R,
+    cartridge: &[u8],
+    bytes: &[u8],
+) -> io::Result<()> {
+    let sum = read_once(rt, bytes)?;
+    let Ok(rom) = Rom::parse(cartridge) else {
+        return println!(rt; "no cartridge");
+    };
+    match judged(rt, &rom, bytes)? {
+        Some(verdict) => tell(rt, bytes.len(), sum, verdict),
+        None => println!(rt; "no certificate"),
+    }
+}
+
+/// Makes a certificate, and measures what it takes.
+fn measure_sample<R: Print + Eprint + Clock + AllocGlobal>(
+    rt: &R,
+    sample: Sample,
+) -> io::Result<()> {
+    let name = sample.name();
+    eprintln!(rt; "{name}")?;
+    let bytes = sample.bytes(rt.alloc())?;
+    let measured = measure(rt, &sample.cartridge(), bytes.as_slice());
+    drop(bytes);
+    measured
+}
+
+fn main(rt: HostRuntime) -> io::Result<()> {
+    let cycles = processor::run(&rt)?;
+    println!(rt; "the processor's steps took {cycles} M-cycles")?;
+    let drawn = picture::draw(&rt)?;
+    println!(rt; "a full scene was drawn: {drawn}")?;
+    for sample in certificates::SAMPLES {
+        measure_sample(&rt, *sample)?;
+    }
+    Ok(())
 }

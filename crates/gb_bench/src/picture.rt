@@ -36,6 +36,28 @@ fn fill(memory: &mut Memory<'_>) {
     memory.write(0xFF40, 0xF7);
 }
 
+/// Draws the frames.
+fn pass_frames<R: Eprint + Clock>(rt: &R, memory: &mut Memory<'_>) -> io::Result<()> {
+    let since = Instant::now(rt)?;
+    // A frame is 17,556 M-cycles: 4,389 times 4.
+    for _ in 0..FRAMES * 4389 {
+        memory.pass(4);
+    }
+    report(rt, "100 frames of a full scene", &since)
+}
+
+/// Whether the screen shows anything.
+fn shows(memory: &Memory<'_>) -> bool {
+    for line in memory.screen() {
+        for shade in line {
+            if *shade != 0 {
+                return true;
+            }
+        }
+    }
+    false
+}
+
 /// Draws the frames, and answers whether the last one shows anything.
 pub fn draw<R: Eprint + Clock + AllocGlobal>(rt: &R) -> io::Result<bool> {
     let bytes = cartridge();
@@ -44,18 +66,9 @@ pub fn draw<R: Eprint + Clock + AllocGlobal>(rt: &R) -> io::Result<bool> {
     };
     let mut memory = Memory::new(rt.alloc(), &rom)?;
     fill(&mut memory);
-    let since = Instant::now(rt)?;
-    // A frame is 17,556 M-cycles: 4,389 times 4.
-    for _ in 0..FRAMES * 4389 {
-        memory.pass(4);
-    }
-    report(rt, "100 frames of a full scene", &since)?;
-    for line in memory.screen() {
-        for shade in line {
-            if *shade != 0 {
-                return Ok(true);
-            }
-        }
-    }
-    Ok(false)
+    let told = pass_frames(rt, &mut memory);
+    let shown = shows(&memory);
+    drop(memory);
+    told?;
+    Ok(shown)
 }

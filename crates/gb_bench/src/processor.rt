@@ -25,6 +25,17 @@ fn cartridge() -> [u8; 0x8000] {
 }
 
 /// Runs the steps, and answers their M-cycles.
+fn run_steps<R: Eprint + Clock>(rt: &R, memory: &mut Memory<'_>, mut cpu: Cpu) -> io::Result<u64> {
+    let since = Instant::now(rt)?;
+    let mut cycles = 0u64;
+    for _ in 0..STEPS {
+        cycles = cycles.wrapping_add(u64::from(cpu.step(memory).cycles));
+    }
+    report(rt, "1,000,000 steps of the processor", &since)?;
+    Ok(cycles)
+}
+
+/// Runs the steps on the console's memory, and answers their M-cycles.
 pub fn run<R: Eprint + Clock + AllocGlobal>(rt: &R) -> io::Result<u64> {
     let bytes = cartridge();
     let Ok(rom) = Rom::parse(&bytes) else {
@@ -33,11 +44,7 @@ pub fn run<R: Eprint + Clock + AllocGlobal>(rt: &R) -> io::Result<u64> {
     let mut memory = Memory::new(rt.alloc(), &rom)?;
     let mut cpu = Cpu::at_power_up(&bytes);
     cpu.processor.pc = 0x150;
-    let since = Instant::now(rt)?;
-    let mut cycles = 0u64;
-    for _ in 0..STEPS {
-        cycles = cycles.wrapping_add(u64::from(cpu.step(&mut memory).cycles));
-    }
-    report(rt, "1,000,000 steps of the processor", &since)?;
-    Ok(cycles)
+    let cycles = run_steps(rt, &mut memory, cpu);
+    drop(memory);
+    cycles
 }

@@ -1,6 +1,5 @@
 -- An interrupt's dispatch: the procedure is left as by a call, and its handler is entered.
-use Rattle.std.proofs.Common.{◌≡◌, ℕ, ◌+◌, ◌-◌, ◌*◌, ◌/◌, ◌%◌, ◌≤◌, ◌<◌, Bool, true, false, ◌&&◌, ◌==◌, nat_lt, ◌⊎◌, inl, inr, List, length, Some, refl, sym, ◌∙◌, ap, subst, arith}
-use Rattle.std.proofs.lemmas.Bool.{eqb-true}
+use Rattle.std.proofs.Common.{◌≡◌, ℕ, ◌+◌, ◌-◌, ◌/◌, ◌%◌, ◌≤◌, ◌<◌, Bool, true, false, ◌&&◌, nat_lt, ◌⊎◌, inl, inr, List, length, Some, refl, sym, ◌∙◌, ap, subst, arith}
 use Rattle.std.proofs.lemmas.Bool.Decides.{nat_tests}
 use Rattle.std.proofs.lemmas.List.Elements.{All-nil}
 use Rattle.std.specs.List.{All, Contains}
@@ -19,7 +18,7 @@ use Rattle.gb_ops.specs.Play.{MState, within, outside}
 use Rattle.gb_cert.specs.declared.types.Core.{Core}
 use Rattle.gb_cert.specs.Types.{AbsState, Node}
 use Rattle.gb_cert.specs.Certificate.{Certificate}
-use Rattle.gb_cert.specs.Rules.{IsCertificate, meets}
+use Rattle.gb_cert.specs.Rules.{IsCertificate}
 use Rattle.gb_vals.specs.Vals.{single}
 use Rattle.gb_vals.specs.Bits.{has_bit, may_have_bit}
 use Rattle.gb_vals.proofs.BitLaws.{may_have_bit_sound}
@@ -27,8 +26,9 @@ use Rattle.gb_abs.specs.Cells.{ArePlaced}
 use Rattle.gb_abs.specs.Mark.{IsMarkHarmless}
 use Rattle.gb_abs.specs.Meaning.{Holds, MeansCore, Means, ime_may_be}
 use Rattle.gb_abs.specs.Operations.{core_end, with_core}
-use Rattle.gb_abs.specs.Stack.{AreInRegion, pushed}
+use Rattle.gb_abs.specs.Stack.{pushed}
 use Rattle.gb_abs.specs.Storage.{peek}
+use Rattle.gb_abs.proofs.OperationLaws.{Holds-single}
 use Rattle.gb_abs.proofs.StackLaws.{IsRegionOpen-bound, Means-pushed, Means-with_core}
 use Rattle.gb_abs_memory.specs.Kept.{IsKept}
 use Rattle.gb_abs_memory.specs.Sound.{view}
@@ -38,6 +38,7 @@ use Rattle.gb_calls.proofs.CalleeLaws.{IsCallee-found, IsEntryNode-entry}
 use Rattle.gb_code.specs.Places.{IsCertified}
 use Rattle.gb_successors.specs.Behind.{ended}
 use Rattle.gb_successors.specs.Words.{word_item}
+use Rattle.gb_successors.proofs.StackWayLaws.{not_pushed}
 use Rattle.gb_successors.proofs.SuccessorLaws.{Means-ended, passed_peek}
 use Rattle.gb_blocks.specs.Covered.{covered_at}
 use Rattle.gb_blocks.specs.Procedures.{ranges_of, need_of, exit_of}
@@ -143,22 +144,6 @@ MeansCore-masked s entry x i m = record {
   stopped = m.stopped;
 }
 
--- a byte that is kept isn't one of the word's
-not_pushed : (region : Region) (base sp words b k : ℕ) → AreInRegion region base (words + 1) → sp + 2 * words ≡ base → 1 ≤ k → k ≤ 2 → (meets region b b ≡ true → base ≤ b) → (b == sp - k) ≡ false
-not_pushed region base sp words b k room stack least most above = choose (b == sp - k) refl
-  where
-    inside : region.first + 2 ≤ sp → sp ≤ region.last + 1 → b ≡ sp - k → meets region b b ≡ true
-    inside first last e = grind (arith, nat_tests)
-
-    choose : (t : Bool) → (b == sp - k) ≡ t → (b == sp - k) ≡ false
-    choose true e =
-        let first = room.first in
-        let last = room.last in
-        let is : b ≡ sp - k = eqb-true b (sp - k) e in
-        let from : base ≤ b = above (inside (omega arith) (omega arith) is) in
-        absurd (omega arith)
-    choose false e = e
-
 record IsDispatched (rom : List ℕ) (cert : Certificate) (n : Node) (entry : MState) (base : ℕ) (x : MState) (i : ℕ) : Type 0 where
   means : Means (pushed (word_item n.address) (dispatched n.state)) entry base (left_by rom x i n.address)
   faults : store_faults cert.region (view rom x false) (write.Push x.processor.sp n.address) ≡ no_faults
@@ -167,9 +152,6 @@ record IsDispatched (rom : List ℕ) (cert : Certificate) (n : Node) (entry : MS
 pushed_ended : (s : AbsState) (a : ℕ) → ended false 5 (pushed (word_item a) (with_core s (masked s.core))) ≡ pushed (word_item a) (dispatched s)
 unfolding ended pushed dispatched
 pushed_ended s a = refl
-
-Holds-single : (entry : MState) (v : ℕ) → Holds (single v) entry v
-Holds-single entry v = record { least = omega arith; most = omega arith; origin = λ o h. cc }
 
 is_dispatched : (rom : List ℕ) (cert : Certificate) (n : Node) (entry : MState) (base : ℕ) (x : MState) (i : ℕ) → IsAt rom cert n entry base x → Contains cert.nodes n → IsCertificate cert
     → n.state.core.stack_set ≡ true → (n.state.core.bound ≡ 0) ⊎ (0xFF80 ≤ cert.region.first) → length n.state.items + 1 ≤ need_of cert n.procedure → IsDispatched rom cert n entry base x i
@@ -182,14 +164,14 @@ is_dispatched rom cert n entry base x i at is_node certificate set unlimited hel
     let means : Means (with_core n.state (masked n.state.core)) entry base y = Means-with_core n.state (masked n.state.core) entry base x y at.means core refl refl refl (λ on. on) in
     let done =
     Means-pushed cert.region (with_core n.state (masked n.state.core)) entry base y (view rom x false) (word_item n.address) n.address means refl set room s.is_region s.placed
-    (IsRegionOpen-bound n.state.core entry x cert.region at.means.core unlimited) (Holds-single entry (n.address / 256)) (Holds-single entry (n.address % 256)) s.address in
+    (IsRegionOpen-bound n.state.core entry x cert.region at.means.core unlimited) (Holds-single (n.address / 256) entry) (Holds-single (n.address % 256) entry) s.address in
     record {
       means = subst (λ z. Means z entry base (left_by rom x i n.address)) (pushed_ended n.state n.address)
           (Means-ended rom (pushed (word_item n.address) (with_core n.state (masked n.state.core))) entry base (left_by rom x i n.address).processor (stored (view rom x false) (write.Push x.processor.sp n.address)) false 5 done.starting done.means);
       faults = done.faults;
       kept = λ b kept. passed_peek (stored (view rom x false) (write.Push x.processor.sp n.address)) 5 b
-          ∙ done.others b kept.ram (not_pushed cert.region base x.processor.sp (length n.state.items) b 1 room top (omega arith) (omega arith) kept.above)
-          (not_pushed cert.region base x.processor.sp (length n.state.items) b 2 room top (omega arith) (omega arith) kept.above);
+          ∙ done.others b kept.ram (not_pushed cert.region base x.processor.sp (length n.state.items) (x.processor.sp - 1) b room top (inl refl) kept.above)
+          (not_pushed cert.region base x.processor.sp (length n.state.items) (x.processor.sp - 2) b room top (inr refl) kept.above);
     }
 
 -- ---- the handler

@@ -257,11 +257,17 @@ applies rom cert n reason.Unreadable = is_none (node_bytes rom n)
 applies rom cert n reason.UndefinedOpcode = is_undefined (node_bytes rom n)
 applies rom cert n r = test_instruction (λ row. applies_to_row rom cert n row r) (node_bytes rom n)
 
+-- the reasons against where its successors go on, the lowest first
+abbrev pub target_reasons : List Reason
+target_reasons = reason.JumpHl ∷ reason.Uncovered ∷ reason.Callee ∷ reason.Return ∷ []
+
+-- the reasons against its successors, the lowest first
+abbrev pub way_reasons : List Reason
+way_reasons = reason.Depth ∷ reason.Store ∷ reason.CartridgeRam ∷ reason.OamTransfer ∷ target_reasons
+
 -- the reasons against a known instruction, the lowest first
 abbrev pub row_reasons : List Reason
-row_reasons =
-    reason.Stop ∷ reason.Halt ∷ reason.Stack ∷ reason.Depth ∷ reason.Store ∷ reason.CartridgeRam ∷ reason.OamTransfer ∷ reason.JumpHl
-    ∷ reason.Uncovered ∷ reason.Callee ∷ reason.Return ∷ []
+row_reasons = reason.Stop ∷ reason.Halt ∷ reason.Stack ∷ way_reasons
 
 -- the reasons against nodes, the lowest first
 abbrev pub reasons : List Reason

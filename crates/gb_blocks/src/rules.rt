@@ -4,7 +4,7 @@ ghost use Rattle.std.specs.Prelude.{◌≡◌, ◌<◌, length, find, Option, So
 ghost use Rattle.gb_abs_effects.specs.Targets as Targets;
 ghost use Rattle.gb_successors.specs.Successors.{successors_of};
 ghost use Rattle.gb_blocks.specs.Rules as Rules;
-ghost use Rattle.gb_blocks.specs.Rules.{callees_of, row_reasons, reason_at};
+ghost use Rattle.gb_blocks.specs.Rules.{callees_of, row_reasons, way_reasons, target_reasons, reason_at};
 ghost use Rattle.gb_blocks.specs.Safety.{IsSafeAt};
 
 use crate::interrupts::{handles_too_deep, is_dispatch_limited};
@@ -260,6 +260,63 @@ fn returns_wrongly(
         || has_unreturnable(cert, procedure, &ways.stays)
 }
 
+/// The lowest reason against where the successors of a node's instruction go on.
+#[tactic(auto, unfolding(crate::specs::Rules::applies_to_row))]
+fn reason_of_targets(
+    rom: &Rom<'_>,
+    cert: &Cert<'_>,
+    near: u32,
+    node: &NodeRef<'_>,
+    row: Row,
+    ways: &Successors<'_>,
+    callees: Callees,
+) -> Option<Reason>
+    requires ways { ways.now ≡ successors_of rom.now row node.now.address node.now.state }
+    requires callees { callees ≡ callees_of cert.now ways.now }
+    ensures { result ≡ find (Rules.applies_to_row rom.now cert.now node.now row) target_reasons }
+{
+    if leads_anywhere(rom, node, row, ways) {
+        Some(Reason::JumpHl)
+    } else if leads_uncovered(rom, cert, near, node, row, ways, callees) {
+        Some(Reason::Uncovered)
+    } else if calls_wrongly(rom, cert, node, row, ways, callees) {
+        Some(Reason::Callee)
+    } else if returns_wrongly(rom, cert, node, row, ways) {
+        Some(Reason::Return)
+    } else {
+        None
+    }
+}
+
+/// The lowest reason against the successors of a node's instruction.
+#[tactic(auto, unfolding(crate::specs::Rules::applies_to_row))]
+fn reason_of_ways(
+    rom: &Rom<'_>,
+    cert: &Cert<'_>,
+    near: u32,
+    node: &NodeRef<'_>,
+    state: &Abs,
+    row: Row,
+    ways: &Successors<'_>,
+) -> Option<Reason>
+    requires state { state.now ≡ node.now.state }
+    requires ways { ways.now ≡ successors_of rom.now row node.now.address node.now.state }
+    ensures { result ≡ find (Rules.applies_to_row rom.now cert.now node.now row) way_reasons }
+{
+    let callees = callees_of(cert, ways);
+    if grows_too_deep(rom, cert, node, state, row, ways, callees) {
+        Some(Reason::Depth)
+    } else if stores_outside(rom, cert, node, row, ways) {
+        Some(Reason::Store)
+    } else if meets_ram(rom, node, state, row, ways) {
+        Some(Reason::CartridgeRam)
+    } else if meets_transfer(rom, cert.region(), node, state, row, ways) {
+        Some(Reason::OamTransfer)
+    } else {
+        reason_of_targets(rom, cert, near, node, row, ways, callees)
+    }
+}
+
 /// The lowest reason against a node whose instruction is known.
 #[tactic(auto, unfolding(crate::specs::Rules::applies_to_row))]
 fn reason_of_row(
@@ -279,31 +336,11 @@ fn reason_of_row(
     if may_read_twice(rom, node, state, row.op) {
         return Some(Reason::Halt);
     }
-    let region = cert.region();
-    if breaks_stack(region, node, state, row.op) {
+    if breaks_stack(cert.region(), node, state, row.op) {
         return Some(Reason::Stack);
     }
     let ways = successors_of(rom, row, node.address(), state);
-    let callees = callees_of(cert, &ways);
-    if grows_too_deep(rom, cert, node, state, row, &ways, callees) {
-        Some(Reason::Depth)
-    } else if stores_outside(rom, cert, node, row, &ways) {
-        Some(Reason::Store)
-    } else if meets_ram(rom, node, state, row, &ways) {
-        Some(Reason::CartridgeRam)
-    } else if meets_transfer(rom, region, node, state, row, &ways) {
-        Some(Reason::OamTransfer)
-    } else if leads_anywhere(rom, node, row, &ways) {
-        Some(Reason::JumpHl)
-    } else if leads_uncovered(rom, cert, near, node, row, &ways, callees) {
-        Some(Reason::Uncovered)
-    } else if calls_wrongly(rom, cert, node, row, &ways, callees) {
-        Some(Reason::Callee)
-    } else if returns_wrongly(rom, cert, node, row, &ways) {
-        Some(Reason::Return)
-    } else {
-        None
-    }
+    reason_of_ways(rom, cert, near, node, state, row, &ways)
 }
 
 /// The lowest reason against a node, by the rules of its instruction. Its state is given, so that it is

@@ -75,7 +75,7 @@ pub enum Block {
 }
 
 /// A part of a certificate.
-#[derive(Clone, Copy, Debug, PartialEq, Eq)]
+#[derive(Clone, Copy, PartialEq, Eq)]
 pub enum Part {
     Head,
     /// A procedure, by its number, but for its exit.

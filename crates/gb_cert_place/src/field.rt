@@ -8,7 +8,7 @@ use crate::block::Block;
 use gb_ops::op::Register;
 
 /// What a value is of.
-#[derive(Clone, Copy, Debug, PartialEq, Eq)]
+#[derive(Clone, Copy, PartialEq, Eq)]
 pub enum Owner {
     /// IE.
     Ie,
@@ -23,7 +23,7 @@ pub enum Owner {
 }
 
 /// A field of a certificate, in the order of the format. Numbers count from 0.
-#[derive(Clone, Copy, Debug, PartialEq, Eq)]
+#[derive(Clone, Copy, PartialEq, Eq)]
 pub enum Field {
     Magic,
     Version,

@@ -13,7 +13,7 @@ use gb_cert::types::Cert;
 use std::alloc::{AllocError, Global};
 
 /// Where in the file a certificate's fault is.
-#[derive(Clone, Copy, Debug, PartialEq, Eq)]
+#[derive(Clone, Copy, PartialEq, Eq)]
 pub struct FaultPlace {
     /// What is wrong: C1 to C8.
     pub fault: CertFault,
@@ -52,7 +52,7 @@ fn place_of(length: usize, stop: Stop) -> FaultPlace
 }
 
 /// What there is to say of the bytes of a file.
-#[derive(Clone, Copy, Debug, PartialEq, Eq)]
+#[derive(Clone, Copy, PartialEq, Eq)]
 pub enum Sought {
     /// They are a certificate.
     Certificate,

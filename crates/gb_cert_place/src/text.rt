@@ -42,46 +42,55 @@ impl fmt::Display for Owner {
     }
 }
 
+/// The text of a field that is named by no number.
+fn field_name(field: Field) -> &'static str {
+    match field {
+        Field::Magic => "letters GBBC",
+        Field::Version => "version",
+        Field::RegionFirst => "first address of the stack region",
+        Field::RegionLast => "last address of the stack region",
+        Field::ProcedureCount => "number of procedures",
+        Field::NodeCount => "number of nodes",
+        Field::Entry => "entry node",
+        Field::Need => "need",
+        Field::RangeCount => "number of ranges",
+        Field::Returns => "whether it returns",
+        Field::Procedure => "procedure",
+        Field::Address => "address",
+        Field::Bank => "bank",
+        Field::ImeSet => "IME set",
+        Field::TransferBound => "transfer bound",
+        Field::StackSet => "stack set",
+        Field::Test => "test",
+        Field::TestValue => "test value",
+        Field::BankLeast => "least of the bank register",
+        Field::BankGreatest => "greatest of the bank register",
+        Field::SecondLeast => "least of the second register",
+        Field::SecondGreatest => "greatest of the second register",
+        Field::GateSet => "gate set",
+        Field::ModeSet => "mode set",
+        Field::Kept => "kept",
+        Field::Flags => "flags",
+        Field::FlagsOrigin => "origin of the flags",
+        Field::ItemCount => "number of items",
+        Field::CellCount => "number of cells",
+        Field::Entries => "entry nodes of all procedures",
+        Field::LeftOver => "left-over bytes",
+        // All others are printed with their numbers.
+        _ => "?",
+    }
+}
+
 impl fmt::Display for Field {
     fn fmt<W: fmt::Write>(&self, f: &mut fmt::Formatter<W>) -> fmt::Result {
         match self {
-            Field::Magic => f.write_str("letters GBBC"),
-            Field::Version => f.write_str("version"),
-            Field::RegionFirst => f.write_str("first address of the stack region"),
-            Field::RegionLast => f.write_str("last address of the stack region"),
-            Field::ProcedureCount => f.write_str("number of procedures"),
-            Field::NodeCount => f.write_str("number of nodes"),
-            Field::Entry => f.write_str("entry node"),
-            Field::Need => f.write_str("need"),
-            Field::RangeCount => f.write_str("number of ranges"),
             Field::RangeFirst(index) => write!(f, "first address of range {index}"),
             Field::RangeLast(index) => write!(f, "last address of range {index}"),
-            Field::Returns => f.write_str("whether it returns"),
-            Field::Procedure => f.write_str("procedure"),
-            Field::Address => f.write_str("address"),
-            Field::Bank => f.write_str("bank"),
-            Field::ImeSet => f.write_str("IME set"),
-            Field::TransferBound => f.write_str("transfer bound"),
-            Field::StackSet => f.write_str("stack set"),
-            Field::Test => f.write_str("test"),
-            Field::TestValue => f.write_str("test value"),
-            Field::BankLeast => f.write_str("least of the bank register"),
-            Field::BankGreatest => f.write_str("greatest of the bank register"),
-            Field::SecondLeast => f.write_str("least of the second register"),
-            Field::SecondGreatest => f.write_str("greatest of the second register"),
-            Field::GateSet => f.write_str("gate set"),
-            Field::ModeSet => f.write_str("mode set"),
-            Field::Kept => f.write_str("kept"),
-            Field::Flags => f.write_str("flags"),
-            Field::FlagsOrigin => f.write_str("origin of the flags"),
             Field::ValueLeast(owner) => write!(f, "least of {owner}"),
             Field::ValueGreatest(owner) => write!(f, "greatest of {owner}"),
             Field::ValueOrigin(owner) => write!(f, "origin of {owner}"),
-            Field::ItemCount => f.write_str("number of items"),
-            Field::CellCount => f.write_str("number of cells"),
             Field::CellAddress(index) => write!(f, "address of cell {index}"),
-            Field::Entries => f.write_str("entry nodes of all procedures"),
-            Field::LeftOver => f.write_str("left-over bytes"),
+            named => f.write_str(field_name(*named)),
         }
     }
 }

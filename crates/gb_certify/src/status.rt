@@ -3,7 +3,7 @@
 use gb_verify::verify::Outcome;
 
 /// The statuses that the program ends with; those of gulmyrek.
-#[derive(Clone, Copy, Debug, PartialEq, Eq)]
+#[derive(Clone, Copy, PartialEq, Eq)]
 pub enum Status {
     /// Accepted, or listed.
     Done = 0,

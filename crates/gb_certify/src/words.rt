@@ -13,7 +13,7 @@ const MOST_NODES: i64 = 4_000_000;
 const NODES: u32 = 400_000;
 
 /// What is to be done with the certificate's file.
-#[derive(Clone, Copy, Debug, PartialEq, Eq)]
+#[derive(Clone, Copy, PartialEq, Eq)]
 pub enum Work {
     /// It is made.
     Make,
@@ -24,7 +24,7 @@ pub enum Work {
 }
 
 /// What the program is asked to do.
-#[derive(Clone, Copy, Debug, PartialEq, Eq)]
+#[derive(Clone, Copy, PartialEq, Eq)]
 pub struct Task<'a> {
     pub work: Work,
     pub rom: &'a str,

@@ -10,12 +10,9 @@ use Rattle.gb_console.specs.declared.frame.Ending.TheVariants as ending
 use Rattle.gb_console.specs.Console.{ConsoleState, IsReachable, rom_of, machine_of}
 use Rattle.gb_console.specs.Frame.{IsFrame, Goes, ending_by, ending_after}
 use Rattle.gb_console.specs.Verified.{IsVerified}
+use Rattle.gb_console.proofs.Going.{goes_cartridge}
 
 -- ---- the cartridge stays
-
-goes_cartridge : (old : ConsoleState) (keys : Keys) (seconds n : ℕ) (new : ConsoleState) → Goes old keys seconds n new → rom_of new ≡ rom_of old
-goes_cartridge old keys seconds zero new h = rw h refl
-goes_cartridge old keys seconds (suc n) new h = h.2.step.cartridge ∙ goes_cartridge old keys seconds n h.0 h.1
 
 frame_cartridge : (old : ConsoleState) (keys : Keys) (seconds : ℕ) (end : Ending) (new : ConsoleState) → IsFrame old keys seconds end new → rom_of new ≡ rom_of old
 frame_cartridge old keys seconds end new f = f.ends.step.cartridge ∙ goes_cartridge old keys seconds f.steps f.last f.goes

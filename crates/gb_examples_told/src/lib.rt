@@ -1,10 +1,16 @@
-//! Worked examples of what is told of a refused certificate: small cartridges, each with a certificate that lacks
-//! something, and what is in the way, by hand from the rules.
+//! Worked examples of what is told to a person: of a refused certificate what is in the way, by hand from the rules, on small
+//! cartridges, each with a certificate that lacks something; how instructions are spelled; and the names of symbols.
 //!
 //! Read refusals.rt first; spelled.rt spells certificates.
 #![tactic(auto)]
 
 #[cfg(test)]
+mod lines;
+#[cfg(test)]
 mod refusals;
 #[cfg(test)]
 mod spelled;
+#[cfg(test)]
+mod spellings;
+#[cfg(test)]
+mod symbols;

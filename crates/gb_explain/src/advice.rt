@@ -3,7 +3,7 @@
 use gb_abs::reason::Reason;
 
 /// What a reason means, in a sentence, and what usually mends it.
-#[derive(Clone, Copy, Debug, PartialEq, Eq)]
+#[derive(Clone, Copy)]
 pub struct Advice {
     pub problem: &'static str,
     pub remedy: &'static str,

@@ -8,7 +8,7 @@ use gb_spelling::Spelling;
 use std::fmt;
 
 /// What is known of the instruction at an address. It prints the instruction, or says what isn't known.
-#[derive(Clone, Copy, Debug, PartialEq, Eq)]
+#[derive(Clone, Copy)]
 pub enum Code {
     Instruction(Spelling),
     /// An opcode that is undefined.

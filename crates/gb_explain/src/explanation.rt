@@ -15,7 +15,7 @@ use std::fmt;
 /// A refused node with its place, its instruction and the reason. It prints three lines, the last without its end: the
 /// place and the instruction, what is wrong, and what usually mends it. Where the reason has to do with other nodes or
 /// with procedures, some lines follow on what is in the way.
-#[derive(Clone, Copy, Debug, PartialEq, Eq)]
+#[derive(Clone, Copy)]
 pub struct Explanation {
     pub node: u32,
     pub procedure: u8,

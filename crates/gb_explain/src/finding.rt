@@ -2,7 +2,6 @@
 
 ghost use Rattle.std.specs.Prelude.{◌<◌, length, IfSome};
 
-use crate::differences::Differences;
 use crate::obstacle::{Claim, Finding, Obstacle, Way, Words};
 use gb_abs::covering::covers;
 use gb_abs::reason::Reason;
@@ -15,6 +14,7 @@ use gb_calls::resuming::resume;
 use gb_cert::NodeRef;
 use gb_cert::types::{Abs, Cert, ITEMS, Range};
 use gb_code::code::known_bytes;
+use gb_differences::Differences;
 use gb_header::Rom;
 use gb_ops::decode::decode;
 use gb_ops::op::Op;
@@ -69,7 +69,7 @@ fn call_finding(cert: &Cert<'_>, procedure: u8, successor: &Successor<'_>) -> Op
 }
 
 /// A procedure, a node of it, and the parts in which that differs.
-#[derive(Clone, Copy, Debug, PartialEq, Eq)]
+#[derive(Clone, Copy)]
 struct Nearest {
     procedure: u8,
     node: u32,

@@ -1,24 +1,23 @@
 //! What is in the way, where a reason has to do with other nodes or with procedures.
 
-use crate::difference::Difference;
-use crate::differences::Differences;
 use gb_cert::types::Range;
+use gb_differences::{Difference, Differences};
 use std::fmt;
 
 /// So many words on the stack.
-#[derive(Clone, Copy, Debug, PartialEq, Eq)]
+#[derive(Clone, Copy)]
 pub struct Words(pub usize);
 
 /// Where an instruction goes on, at once or behind the procedure that it calls. It prints as the beginning of a
 /// sentence.
-#[derive(Clone, Copy, Debug, PartialEq, Eq)]
+#[derive(Clone, Copy)]
 pub struct Way {
     pub behind: Option<u8>,
     pub address: u16,
 }
 
 /// What is in the way. Each prints a line; behind one that ends with a colon the parts that differ are to be told.
-#[derive(Clone, Copy, Debug, PartialEq, Eq)]
+#[derive(Clone, Copy)]
 pub enum Obstacle {
     /// PUSH would hold more words than the procedure needs.
     PushOverNeed {
@@ -81,7 +80,7 @@ pub enum Obstacle {
 }
 
 /// Who claims the state that doesn't stand for what is left.
-#[derive(Clone, Copy, Debug, PartialEq, Eq)]
+#[derive(Clone, Copy)]
 pub enum Claim {
     Node(u32),
     Exit,
@@ -89,7 +88,7 @@ pub enum Claim {
 
 /// What is in the way, and the parts that differ, if states are compared. It prints some lines, the last without its
 /// end.
-#[derive(Clone, Copy, Debug, PartialEq, Eq)]
+#[derive(Clone, Copy)]
 pub struct Finding {
     pub obstacle: Obstacle,
     pub compared: Option<(Claim, Differences)>,

@@ -11,7 +11,7 @@ use std::alloc::Global;
 use std::collections::{BTreeSet, HashMap, HashSet};
 
 /// An address of a procedure.
-#[derive(Clone, Copy, Debug, PartialEq, Eq, PartialOrd, Ord, Hash)]
+#[derive(Clone, Copy, PartialEq, Eq, PartialOrd, Ord, Hash)]
 pub struct Spot {
     /// The number of the procedure.
     pub procedure: usize,
@@ -19,7 +19,7 @@ pub struct Spot {
 }
 
 /// A way on inside a procedure, from an address to the next.
-#[derive(Clone, Copy, Debug, PartialEq, Eq, PartialOrd, Ord, Hash)]
+#[derive(Clone, Copy, PartialEq, Eq, PartialOrd, Ord, Hash)]
 pub struct Edge {
     /// The number of the procedure.
     pub procedure: usize,
@@ -28,7 +28,7 @@ pub struct Edge {
 }
 
 /// A procedure calls another one, or is interrupted by it.
-#[derive(Clone, Copy, Debug, PartialEq, Eq, PartialOrd, Ord, Hash)]
+#[derive(Clone, Copy, PartialEq, Eq, PartialOrd, Ord, Hash)]
 pub struct Call {
     /// The caller's number.
     pub caller: usize,
@@ -37,7 +37,7 @@ pub struct Call {
 }
 
 /// A store of A, which isn't known, to a tracked cell.
-#[derive(Clone, Copy, Debug, PartialEq, Eq, PartialOrd, Ord, Hash)]
+#[derive(Clone, Copy, PartialEq, Eq, PartialOrd, Ord, Hash)]
 pub struct CellStore {
     pub cell: u16,
     /// Where the store stands.

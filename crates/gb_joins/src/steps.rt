@@ -9,7 +9,7 @@ use gb_vals::vals::any;
 use std::collections::BTreeSet;
 
 /// The values at which growing bounds stop: 0, 255 and some more.
-#[derive(Clone, Copy, Debug, PartialEq, Eq)]
+#[derive(Clone, Copy, PartialEq, Eq)]
 pub struct Steps {
     /// The greatest step that is at most a value.
     below: [u8; 256],

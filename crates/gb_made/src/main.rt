@@ -14,7 +14,7 @@ use gb_console::frame::Ending;
 use gb_header::Rom;
 use gb_obstacles::{Obstacle, Standing, Told, obstacle_json};
 use gb_refine::{Limits, Made, Progress, make};
-use gb_samples::cartridges::put;
+use gb_samples::spelled::{bytes_of, number_of, place, word_of};
 use gb_symbols::Symbols;
 use gb_text::kept_bytes::KeptBytes;
 use gb_timer::irqs::Keys;
@@ -59,23 +59,6 @@ impl Example {
             keys: Vec::new(alloc),
         }
     }
-}
-
-/// The bytes of hexadecimal digits; none where they spell none.
-fn bytes_of(alloc: Global, digits: &str) -> Vec<u8> {
-    hex::decode(alloc, digits).unwrap_or(Vec::new(alloc))
-}
-
-/// The number of hexadecimal digits; 0 where they spell none.
-fn number_of(digits: &str) -> usize {
-    usize::from_str_radix(digits, 16).unwrap_or(0)
-}
-
-/// Puts bytes at an offset of the cartridge.
-fn place(alloc: Global, rom: &mut [u8], rest: &str) {
-    let (offset, digits) = rest.split_once(' ').unwrap_or((rest, ""));
-    let piece = bytes_of(alloc, digits);
-    put(rom, number_of(offset), piece.as_slice());
 }
 
 /// Prints the verdict's first word: how many nodes a certificate has is the maker's choice.
@@ -153,26 +136,47 @@ fn tell_json<W: Write>(alloc: Global, out: &mut W, example: &Example) -> io::Res
     Ok(())
 }
 
-/// Runs the cartridge from power-up by its script of keys for so many frames, as long as they are whole, and says how it ends.
+/// Says how a run ended: in which frame, if one was cut off, and where.
+fn tell_run<W: Write>(
+    out: &mut W,
+    frames: usize,
+    cut: Option<(usize, Ending)>,
+    pc: u16,
+) -> io::Result<()> {
+    match cut {
+        Some((k, Ending::Locked)) => writeln!(out, "locked in frame {k} at {pc:04X}"),
+        Some((k, Ending::Stopped)) => writeln!(out, "stopped in frame {k} at {pc:04X}"),
+        _ => writeln!(out, "{frames} frames are whole"),
+    }
+}
+
+/// Runs frames, each with its keys of the script, as long as they are whole; answers the first that isn't.
+fn first_cut(console: &mut Console<'_>, keys: &[u8], frames: usize) -> Option<(usize, Ending)> {
+    for k in 0..frames {
+        let held = keys.get(k).copied().unwrap_or(0);
+        let ending = console.frame(Keys::from_bits_retain(held), 0);
+        if ending != Ending::Whole {
+            return Some((k, ending));
+        }
+    }
+    None
+}
+
+/// Runs the cartridge from power-up by its script of keys for so many frames, and says how it ends.
 fn run<W: Write>(alloc: Global, out: &mut W, example: &Example, frames: usize) -> io::Result<()> {
     let Ok(rom) = Rom::parse(example.rom.as_slice()) else {
         return writeln!(out, "no cartridge");
     };
     let mut console = Console::new(alloc, &rom)?;
-    for k in 0..frames {
-        let keys = example.keys.get(k).copied().unwrap_or(0);
-        match console.frame(Keys::from_bits_retain(keys), 0) {
-            Ending::Whole => {}
-            Ending::Locked => return writeln!(out, "locked in frame {k} at {:04X}", console.pc()),
-            Ending::Stopped => return writeln!(out, "stopped in frame {k} at {:04X}", console.pc()),
-        }
-    }
-    writeln!(out, "{frames} frames are whole")
+    let cut = first_cut(&mut console, example.keys.as_slice(), frames);
+    let pc = console.pc();
+    drop(console);
+    tell_run(out, frames, cut, pc)
 }
 
 /// Takes a line of an example.
 fn take<W: Write>(alloc: Global, out: &mut W, example: &mut Example, line: &str) -> io::Result<()> {
-    let (word, rest) = line.split_once(' ').unwrap_or((line, ""));
+    let (word, rest) = word_of(line);
     match word {
         "about" => {
             *example = Example::new(alloc);

@@ -31,31 +31,6 @@ fn number_of(word: &[u8], greatest: u64) -> Option<u64>
     if value <= greatest { Some(value) } else { None }
 }
 
-/// The next word as a number, where it is at most so much.
-pub fn number(words: &mut SplitWhitespace<'_>, greatest: u64) -> Option<u64>
-    ensures { IfSome result (λ n. n ≤ greatest) }
-{
-    number_of(words.next()?.as_bytes(), greatest)
-}
-
-/// The next word as a byte.
-pub fn byte(words: &mut SplitWhitespace<'_>) -> Option<u8> {
-    let value = number(words, 0xFF)?;
-    Some(value as u8)
-}
-
-/// The next word as an address.
-pub fn address(words: &mut SplitWhitespace<'_>) -> Option<u16> {
-    let value = number(words, 0xFFFF)?;
-    Some(value as u16)
-}
-
-/// The next word as 0 or 1.
-pub fn flag(words: &mut SplitWhitespace<'_>) -> Option<bool> {
-    let value = number(words, 1)?;
-    Some(value == 1)
-}
-
 /// The byte of two digits.
 pub fn byte_of(digits: &[u8]) -> Option<u8> {
     match digits {
@@ -64,15 +39,94 @@ pub fn byte_of(digits: &[u8]) -> Option<u8> {
     }
 }
 
-/// The next word as exactly so many bytes, two digits each.
-pub fn bytes<const N: usize>(words: &mut SplitWhitespace<'_>) -> Option<[u8; N]> {
-    let word = words.next()?.as_bytes();
-    let mut bytes = [0u8; N];
-    if word.len() / 2 != N || word.len() % 2 != 0 {
-        return None;
+/// The words of a line that are not read yet. A word that is missing, or that isn't what it is read as, makes the line
+/// wrong and is read as zeros, so that whoever reads asks once, behind the last word.
+#[derive(Drop)]
+pub struct Fields<'a> {
+    words: SplitWhitespace<'a>,
+    is_wrong: bool,
+}
+
+impl<'a> Fields<'a> {
+    pub fn new(line: &'a str) -> Fields<'a> {
+        Fields {
+            words: line.split_whitespace(),
+            is_wrong: false,
+        }
     }
-    for (byte, digits) in bytes.iter_mut().zip(word.chunks(2)) {
-        *byte = byte_of(digits)?;
+
+    /// Makes the line wrong.
+    pub fn refuse(&mut self) {
+        self.is_wrong = true;
     }
-    Some(bytes)
+
+    /// Whether a word so far makes the line wrong.
+    pub fn is_wrong(&self) -> bool {
+        self.is_wrong
+    }
+
+    /// Whether the line is right, with no word left.
+    pub fn is_read(&mut self) -> bool {
+        !self.is_wrong && self.words.next().is_none()
+    }
+
+    /// The next word, or none at the line's end.
+    pub fn word(&mut self) -> Option<&'a str> {
+        self.words.next()
+    }
+
+    /// The next word's digits; none where the line is wrong.
+    pub fn digits(&mut self) -> &'a [u8] {
+        match self.words.next() {
+            Some(word) if !self.is_wrong => word.as_bytes(),
+            _ => {
+                self.is_wrong = true;
+                &[]
+            }
+        }
+    }
+
+    /// The next word as a number, where it is at most so much.
+    pub fn number(&mut self, greatest: u64) -> u64
+        ensures { result ≤ greatest }
+    {
+        match number_of(self.digits(), greatest) {
+            Some(number) => number,
+            None => {
+                self.is_wrong = true;
+                0
+            }
+        }
+    }
+
+    /// The next word as a byte.
+    pub fn byte(&mut self) -> u8 {
+        self.number(0xFF) as u8
+    }
+
+    /// The next word as an address.
+    pub fn address(&mut self) -> u16 {
+        self.number(0xFFFF) as u16
+    }
+
+    /// The next word as 0 or 1.
+    pub fn flag(&mut self) -> bool {
+        self.number(1) == 1
+    }
+
+    /// The next word as exactly so many bytes, two digits each.
+    pub fn bytes<const N: usize>(&mut self) -> [u8; N] {
+        let mut bytes = [0u8; N];
+        let digits = self.digits();
+        if digits.len() / 2 != N || digits.len() % 2 != 0 {
+            self.is_wrong = true;
+        }
+        for (byte, digits) in bytes.iter_mut().zip(digits.chunks(2)) {
+            match byte_of(digits) {
+                Some(value) => *byte = value,
+                None => self.is_wrong = true,
+            }
+        }
+        bytes
+    }
 }

@@ -12,7 +12,7 @@ mod setup;
 use crate::report::report;
 use crate::setup::{Line, Setup};
 use std::alloc::Global;
-use std::io::{self, BufRead, BufReader, BufWriter, Write};
+use std::io::{self, BufRead, BufReader, BufWriter, Split, Write};
 
 /// A line, applied; an event is reported, and a wrong line is named by its number.
 fn answer<W: Write>(
@@ -23,21 +23,31 @@ fn answer<W: Write>(
     number: u64,
 ) -> io::Result<()> {
     match setup.apply(alloc, line)? {
-        Line::Nothing => Ok(()),
-        Line::Wrong => writeln!(out, "error line {number}"),
-        Line::Happens(event) => report(out, setup, event),
+        Line::Nothing => {}
+        Line::Wrong => writeln!(out, "error line {number}")?,
+        Line::Happens(event) => report(out, setup, event)?,
     }
+    // A peer at a pipe may wait for this line before it writes the next.
+    out.flush()
+}
+
+fn answer_lines<R: BufRead + Drop, W: Write>(
+    alloc: Global,
+    lines: Split<R>,
+    out: &mut W,
+    setup: &mut Setup,
+) -> io::Result<()> {
+    let mut number = 0u64;
+    for line in lines {
+        number = number.wrapping_add(1);
+        answer(alloc, out, setup, &line?, number)?;
+    }
+    Ok(())
 }
 
 fn main(rt: HostRuntime) -> io::Result<()> {
     let mut setup = Setup::new(rt.alloc())?;
     let mut out = BufWriter::new(rt.alloc(), io::writer(&rt))?;
     let lines = BufReader::new(rt.alloc(), rt.reader())?.split(rt.alloc(), b'\n');
-    for (number, line) in (1u64..).zip(lines) {
-        let line = line?;
-        answer(rt.alloc(), &mut out, &mut setup, &line, number)?;
-        // A peer at a pipe may wait for this line before it writes the next.
-        out.flush()?;
-    }
-    Ok(())
+    answer_lines(rt.alloc(), lines, &mut out, &mut setup)
 }

@@ -2,99 +2,178 @@
 
 use crate::setup::Setup;
 use gb_effects::flags::flags_byte;
-use gb_ops::machine::{Event, Faults};
+use gb_ops::machine::{CodePlace, Event, Faults};
 use gb_ops::registers::Ime;
 use gb_plain::faults::faults;
 use gb_plain::places::places;
 use gb_plain::state::MachineState;
 use std::io::{self, Write};
 
-fn ime_number(ime: Ime) -> u8 {
-    match ime {
+/// A field of a state's line, with so many hexadecimal digits.
+#[derive(Clone, Copy)]
+struct Field {
+    value: u16,
+    digits: usize,
+}
+
+fn word(value: u16) -> Field {
+    Field { value, digits: 4 }
+}
+
+fn byte(value: u8) -> Field {
+    Field {
+        value: u16::from(value),
+        digits: 2,
+    }
+}
+
+fn flag(value: bool) -> Field {
+    Field {
+        value: u16::from(value),
+        digits: 1,
+    }
+}
+
+fn ime(ime: Ime) -> Field {
+    let value = match ime {
         Ime::Off => 0,
         Ime::Pending => 1,
         Ime::On => 2,
-    }
+    };
+    Field { value, digits: 1 }
 }
 
-/// The fields of a state but for its memories.
-fn write_state<W: Write>(out: &mut W, state: &MachineState) -> io::Result<()> {
+/// The fields of a state but for its memories, in the order of the line.
+fn state_fields(state: &MachineState) -> [Field; 20] {
     let p = state.processor();
     let r = p.registers;
-    let f = flags_byte(p.flags);
-    write!(out, "state {:02X} {:02X}", r.a, f)?;
-    write!(
-        out,
-        " {:02X} {:02X} {:02X} {:02X} {:02X} {:02X}",
-        r.b, r.c, r.d, r.e, r.h, r.l
-    )?;
-    write!(out, " {:04X} {:04X}", p.sp, p.pc)?;
-    write!(out, " {} {}", ime_number(p.ime), u8::from(p.halt_mark))?;
     let banks = state.banks();
-    write!(out, " {:03X} {:02X}", banks.bank, banks.second)?;
-    write!(out, " {} {}", u8::from(banks.gate), u8::from(banks.mode))?;
-    write!(out, " {:02X} {:02X}", state.ie(), state.count())?;
-    write!(out, " {} {}", u8::from(p.locked), u8::from(p.stopped))
+    let bank = Field {
+        value: banks.bank,
+        digits: 3,
+    };
+    [
+        byte(r.a),
+        byte(flags_byte(p.flags)),
+        byte(r.b),
+        byte(r.c),
+        byte(r.d),
+        byte(r.e),
+        byte(r.h),
+        byte(r.l),
+        word(p.sp),
+        word(p.pc),
+        ime(p.ime),
+        flag(p.halt_mark),
+        bank,
+        byte(banks.second),
+        flag(banks.gate),
+        flag(banks.mode),
+        byte(state.ie()),
+        byte(state.count()),
+        flag(p.locked),
+        flag(p.stopped),
+    ]
+}
+
+fn write_state<W: Write>(out: &mut W, state: &MachineState) -> io::Result<()> {
+    write!(out, "state")?;
+    for field in &state_fields(state) {
+        write!(out, " {:01$X}", field.value, field.digits)?;
+    }
+    Ok(())
+}
+
+/// The text where it is so, else none.
+fn text_if(is_so: bool, text: &'static str) -> &'static str {
+    if is_so { text } else { "" }
 }
 
 fn write_faults<W: Write>(out: &mut W, faults: Faults) -> io::Result<()> {
-    let numbered = [
-        (1u8, faults.undefined_opcode),
-        (2, faults.fetched_outside),
-        (3, faults.stack_outside),
-        (4, faults.ram_closed),
-        (5, faults.transfer_met),
-    ];
-    write!(out, " faults")?;
-    let mut has_any = false;
-    for (number, is_met) in numbered {
-        if is_met {
-            write!(out, " F{number}")?;
-            has_any = true;
-        }
-    }
-    if has_any { Ok(()) } else { write!(out, " -") }
+    let has_any = faults.undefined_opcode
+        | faults.fetched_outside
+        | faults.stack_outside
+        | faults.ram_closed
+        | faults.transfer_met;
+    write!(
+        out,
+        " faults{}{}{}{}{}{}",
+        text_if(faults.undefined_opcode, " F1"),
+        text_if(faults.fetched_outside, " F2"),
+        text_if(faults.stack_outside, " F3"),
+        text_if(faults.ram_closed, " F4"),
+        text_if(faults.transfer_met, " F5"),
+        text_if(!has_any, " -")
+    )
 }
 
-/// The bytes of a memory that differ from those last reported, which they become.
+/// A byte that differs from the one last reported, which it becomes.
+fn write_change<W: Write>(out: &mut W, address: u16, old: &mut u8, new: u8) -> io::Result<()> {
+    if *old == new {
+        return Ok(());
+    }
+    *old = new;
+    write!(out, " {:04X}={:02X}", address, new)
+}
+
+/// The bytes of a memory, from an address on, that differ from those last reported.
 fn write_changes<W: Write>(
     out: &mut W,
     first: u16,
     before: &mut [u8],
     after: &[u8],
-) -> io::Result<bool> {
-    let mut has_any = false;
-    for (address, (old, new)) in (first..=0xFFFF).zip(before.iter_mut().zip(after)) {
-        if *old != *new {
-            write!(out, " {:04X}={:02X}", address, *new)?;
-            *old = *new;
-            has_any = true;
-        }
+) -> io::Result<()> {
+    let mut address = first;
+    for (old, new) in before.iter_mut().zip(after) {
+        write_change(out, address, old, *new)?;
+        address = address.wrapping_add(1);
     }
-    Ok(has_any)
+    Ok(())
+}
+
+fn write_places<W: Write>(out: &mut W, places: &[CodePlace]) -> io::Result<()> {
+    write!(out, " places{}", text_if(places.is_empty(), " -"))?;
+    for place in places {
+        write!(out, " {:04X}:{:03X}", place.address, place.bank)?;
+    }
+    Ok(())
+}
+
+/// The memories' changes, or that there is none.
+fn write_memory<W: Write>(
+    out: &mut W,
+    work: &mut [u8],
+    high: &mut [u8],
+    state: &MachineState,
+) -> io::Result<()> {
+    let is_same = *work == *state.work() && *high == *state.high();
+    write!(out, " ram{}", text_if(is_same, " -"))?;
+    write_changes(out, 0xC000, work, state.work())?;
+    write_changes(out, 0xFF80, high, state.high())
+}
+
+/// The line of an event that was applied.
+fn write_event<W: Write>(
+    out: &mut W,
+    setup: &mut Setup,
+    faults: Faults,
+    places: &[CodePlace],
+    cycles: u64,
+) -> io::Result<()> {
+    let state = &setup.machine.state;
+    write_state(out, state)?;
+    write_faults(out, faults)?;
+    write_places(out, places)?;
+    write!(out, " cycles {:X}", cycles)?;
+    write_memory(out, &mut setup.work, &mut setup.high, state)?;
+    writeln!(out)
 }
 
 /// Applies an event, and prints its line.
 pub fn report<W: Write>(out: &mut W, setup: &mut Setup, event: Event) -> io::Result<()> {
-    let machine = &setup.machine;
-    let faults = faults(setup.region, &machine.state, event);
-    let fetched = places(&machine.state, event);
+    let state = &setup.machine.state;
+    let faults = faults(setup.region, state, event);
+    let fetched = places(state, event);
     let cycles = setup.machine.apply(event);
-    write_state(out, &setup.machine.state)?;
-    write_faults(out, faults)?;
-    write!(out, " places")?;
-    for place in fetched.as_slice() {
-        write!(out, " {:04X}:{:03X}", place.address, place.bank)?;
-    }
-    if fetched.as_slice().is_empty() {
-        write!(out, " -")?;
-    }
-    write!(out, " cycles {:X} ram", cycles)?;
-    let in_work = write_changes(out, 0xC000, &mut setup.work, setup.machine.state.work())?;
-    let in_high = write_changes(out, 0xFF80, &mut setup.high, setup.machine.state.high())?;
-    if in_work || in_high {
-        writeln!(out)
-    } else {
-        writeln!(out, " -")
-    }
+    write_event(out, setup, faults, fetched.as_slice(), cycles)
 }

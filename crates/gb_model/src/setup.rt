@@ -2,21 +2,21 @@
 
 ghost use Rattle.std.specs.Prelude.{◌≡◌, ◌<◌, ◌≤◌};
 
-use crate::fields::{address, byte, byte_of, bytes, flag, number};
+use crate::fields::{Fields, byte_of};
 use gb_effects::flags::flags_of;
 use gb_ops::machine::{Banks, Event, Region};
-use gb_ops::registers::{Ime, Processor, Registers};
+use gb_ops::registers::{Flags, Ime, Processor, Registers};
 use gb_plain::cartridge::Cartridge;
 use gb_plain::machine::PlainMachine;
 use gb_plain::state::{HIGH_SIZE, MachineState, WORK_SIZE, longest_transfer};
 use std::alloc::{AllocError, Global};
-use std::str::{self, SplitWhitespace};
+use std::str;
 
 /// The bytes of the smallest cartridge.
 const SMALLEST_ROM: usize = 0x8000;
 
 /// What a line asks for.
-#[derive(Clone, Copy, Debug)]
+#[derive(Clone, Copy)]
 pub enum Line {
     /// It changed the setup, or was empty.
     Nothing,
@@ -54,57 +54,71 @@ fn cartridge_of(
     Ok(rom)
 }
 
-fn ime_of(number: u64) -> Option<Ime> {
-    match number {
-        0 => Some(Ime::Off),
-        1 => Some(Ime::Pending),
-        2 => Some(Ime::On),
-        _ => None,
-    }
-}
-
 /// The event that a line's first word names.
-fn event(word: &str, words: &mut SplitWhitespace<'_>) -> Option<Event> {
-    match word {
-        "run" => {
-            let fetch = bytes::<3>(words)?;
-            let reads = bytes::<2>(words)?;
-            Some(Event::Run { fetch, reads })
-        }
-        "haltstay" => Some(Event::HaltStay),
-        "haltbug" => Some(Event::HaltBug),
-        "irq" => Some(Event::Irq(byte(words)?)),
-        "wait" => Some(Event::Wait(number(words, u64::MAX)?)),
-        _ => None,
+fn event(word: &str, fields: &mut Fields<'_>) -> Line {
+    let event = match word {
+        "run" => Event::Run {
+            fetch: fields.bytes::<3>(),
+            reads: fields.bytes::<2>(),
+        },
+        "haltstay" => Event::HaltStay,
+        "haltbug" => Event::HaltBug,
+        "irq" => Event::Irq(fields.byte()),
+        "wait" => Event::Wait(fields.number(u64::MAX)),
+        _ => return Line::Wrong,
+    };
+    Line::Happens(event)
+}
+
+fn flags(fields: &mut Fields<'_>) -> Flags {
+    let f = fields.byte();
+    if f % 16 != 0 {
+        fields.refuse();
+    }
+    flags_of(f)
+}
+
+fn ime(fields: &mut Fields<'_>) -> Ime {
+    match fields.number(2) {
+        0 => Ime::Off,
+        1 => Ime::Pending,
+        _ => Ime::On,
     }
 }
 
-/// The processor's fields behind A and F.
-fn processor(words: &mut SplitWhitespace<'_>) -> Option<Processor> {
-    let a = byte(words)?;
-    let f = byte(words)?;
-    if f % 16 != 0 {
-        return None;
-    }
+/// The processor's fields, but for those at the line's end.
+fn processor(fields: &mut Fields<'_>) -> Processor {
+    let a = fields.byte();
+    let flags = flags(fields);
     let registers = Registers {
         a,
-        b: byte(words)?,
-        c: byte(words)?,
-        d: byte(words)?,
-        e: byte(words)?,
-        h: byte(words)?,
-        l: byte(words)?,
+        b: fields.byte(),
+        c: fields.byte(),
+        d: fields.byte(),
+        e: fields.byte(),
+        h: fields.byte(),
+        l: fields.byte(),
     };
-    Some(Processor {
+    Processor {
         registers,
-        flags: flags_of(f),
-        sp: address(words)?,
-        pc: address(words)?,
-        ime: ime_of(number(words, 2)?)?,
-        halt_mark: flag(words)?,
+        flags,
+        sp: fields.address(),
+        pc: fields.address(),
+        ime: ime(fields),
+        halt_mark: fields.flag(),
         locked: false,
         stopped: false,
-    })
+    }
+}
+
+fn banks(fields: &mut Fields<'_>) -> Banks {
+    let bank = fields.number(0x1FF);
+    Banks {
+        bank: bank as u16,
+        second: fields.byte(),
+        gate: fields.flag(),
+        mode: fields.flag(),
+    }
 }
 
 impl Setup {
@@ -124,24 +138,36 @@ impl Setup {
 
     /// Does what a line asks for; a wrong line changes nothing but the part that was read.
     pub fn apply(&mut self, alloc: Global, line: &[u8]) -> Result<Line, AllocError> {
-        let text = match str::from_utf8(line) {
-            Ok(text) => text,
-            Err(_) => return Ok(Line::Wrong),
+        let Ok(text) = str::from_utf8(line) else {
+            return Ok(Line::Wrong);
         };
-        let mut words = text.split_whitespace();
-        let done = match words.next() {
-            None => Some(Line::Nothing),
-            Some("cartridge") => self.set_cartridge(alloc, &mut words)?,
-            Some("rom") => self.patch_rom(&mut words),
-            Some("region") => self.set_region(&mut words),
-            Some("state") => self.set_state(&mut words),
-            Some("ram") => self.patch_ram(&mut words),
-            Some(word) => event(word, &mut words).map(Line::Happens),
-        };
-        match (done, words.next()) {
-            (Some(line), None) => Ok(line),
-            _ => Ok(Line::Wrong),
+        let mut fields = Fields::new(text);
+        let asked = self.apply_fields(alloc, &mut fields)?;
+        if fields.is_read() {
+            Ok(asked)
+        } else {
+            Ok(Line::Wrong)
         }
+    }
+
+    fn apply_fields(&mut self, alloc: Global, fields: &mut Fields<'_>) -> Result<Line, AllocError> {
+        match fields.word() {
+            None => Ok(Line::Nothing),
+            Some("cartridge") => self.set_cartridge(alloc, fields),
+            Some(word) => Ok(self.change(word, fields)),
+        }
+    }
+
+    /// What takes no memory.
+    fn change(&mut self, word: &str, fields: &mut Fields<'_>) -> Line {
+        match word {
+            "rom" => self.patch_rom(fields),
+            "region" => self.set_region(fields),
+            "state" => self.set_state(fields),
+            "ram" => self.patch_ram(fields),
+            _ => return event(word, fields),
+        }
+        Line::Nothing
     }
 
     /// A cartridge of zeros, of a type, a ROM size and a RAM size. Its controller takes the registers as its
@@ -149,64 +175,65 @@ impl Setup {
     fn set_cartridge(
         &mut self,
         alloc: Global,
-        words: &mut SplitWhitespace<'_>,
-    ) -> Result<Option<Line>, AllocError> {
-        let (Some(type_byte), Some(rom_size), Some(ram_size)) = (
-            byte(words),
-            byte(words),
-            byte(words),
-        ) else {
-            return Ok(None);
-        };
-        if rom_size > 8 {
-            return Ok(None);
+        fields: &mut Fields<'_>,
+    ) -> Result<Line, AllocError> {
+        let type_byte = fields.byte();
+        let rom_size = fields.number(8);
+        let ram_size = fields.byte();
+        if fields.is_wrong() {
+            return Ok(Line::Wrong);
         }
-        let rom = cartridge_of(alloc, type_byte, rom_size, ram_size)?;
+        let rom = cartridge_of(alloc, type_byte, rom_size as u8, ram_size)?;
         let Some(cartridge) = Cartridge::new(alloc, rom)? else {
-            return Ok(None);
+            return Ok(Line::Wrong);
         };
+        self.put_in(cartridge);
+        Ok(Line::Nothing)
+    }
+
+    fn put_in(&mut self, cartridge: Cartridge) {
         let banks = self.machine.state.banks();
         self.machine.state.set_cartridge(cartridge);
         self.machine.state.set_banks(banks);
-        Ok(Some(Line::Nothing))
     }
 
     /// Bytes of the cartridge from an offset on; the bytes that its controller rests on stay.
-    fn patch_rom(&mut self, words: &mut SplitWhitespace<'_>) -> Option<Line> {
-        let mut at = number(words, 0x7F_FFFF)? as usize;
-        for digits in words.next()?.as_bytes().chunks(2) {
-            if !self.machine.state.set_rom_byte(at, byte_of(digits)?) {
-                return None;
+    fn patch_rom(&mut self, fields: &mut Fields<'_>) {
+        let mut at = fields.number(0x7F_FFFF) as usize;
+        for digits in fields.digits().chunks(2) {
+            if !self.set_rom(at, digits) {
+                return fields.refuse();
             }
             at = at.wrapping_add(1);
         }
-        Some(Line::Nothing)
     }
 
-    fn set_region(&mut self, words: &mut SplitWhitespace<'_>) -> Option<Line> {
-        self.region = Region {
-            first: address(words)?,
-            last: address(words)?,
-        };
-        Some(Line::Nothing)
+    /// Whether the digits are a byte that the cartridge can have there; then it has.
+    fn set_rom(&mut self, at: usize, digits: &[u8]) -> bool {
+        match byte_of(digits) {
+            Some(value) => self.machine.state.set_rom_byte(at, value),
+            None => false,
+        }
+    }
+
+    fn set_region(&mut self, fields: &mut Fields<'_>) {
+        let first = fields.address();
+        let last = fields.address();
+        if !fields.is_wrong() {
+            self.region = Region { first, last };
+        }
     }
 
     /// The state but for its memories.
-    fn set_state(&mut self, words: &mut SplitWhitespace<'_>) -> Option<Line> {
-        let processor = processor(words)?;
-        let bank = number(words, 0x1FF)?;
-        let banks = Banks {
-            bank: bank as u16,
-            second: byte(words)?,
-            gate: flag(words)?,
-            mode: flag(words)?,
-        };
-        let ie = byte(words)?;
-        let count = number(words, u64::from(longest_transfer()))?;
-        let locked = flag(words)?;
-        let stopped = flag(words)?;
-        if !self.machine.state.set_banks(banks) {
-            return None;
+    fn set_state(&mut self, fields: &mut Fields<'_>) {
+        let processor = processor(fields);
+        let banks = banks(fields);
+        let ie = fields.byte();
+        let count = fields.number(u64::from(longest_transfer()));
+        let locked = fields.flag();
+        let stopped = fields.flag();
+        if fields.is_wrong() || !self.machine.state.set_banks(banks) {
+            return fields.refuse();
         }
         self.machine.state.set_processor(Processor {
             locked,
@@ -215,22 +242,30 @@ impl Setup {
         });
         self.machine.state.set_ie(ie);
         self.machine.state.set_count(count as u8);
-        Some(Line::Nothing)
     }
 
     /// Bytes of work RAM or high RAM from an address on.
-    fn patch_ram(&mut self, words: &mut SplitWhitespace<'_>) -> Option<Line> {
-        let mut at = address(words)?;
-        for digits in words.next()?.as_bytes().chunks(2) {
-            let value = byte_of(digits)?;
-            match at {
-                0xC000..=0xDFFF => self.set_work(at - 0xC000, value),
-                0xFF80..=0xFFFE => self.set_high(at - 0xFF80, value),
-                _ => return None,
+    fn patch_ram(&mut self, fields: &mut Fields<'_>) {
+        let mut at = fields.address();
+        for digits in fields.digits().chunks(2) {
+            if !self.set_ram(at, digits) {
+                return fields.refuse();
             }
             at = at.wrapping_add(1);
         }
-        Some(Line::Nothing)
+    }
+
+    /// Whether the digits are a byte and the address lies in work RAM or high RAM; then it has that byte.
+    fn set_ram(&mut self, at: u16, digits: &[u8]) -> bool {
+        let Some(value) = byte_of(digits) else {
+            return false;
+        };
+        match at {
+            0xC000..=0xDFFF => self.set_work(at - 0xC000, value),
+            0xFF80..=0xFFFE => self.set_high(at - 0xFF80, value),
+            _ => return false,
+        }
+        true
     }
 
     fn set_work(&mut self, i: u16, value: u8)

@@ -3,7 +3,7 @@
 use crate::topic::Topic;
 
 /// A rule in a sentence, and what usually mends code that breaks it.
-#[derive(Clone, Copy, Debug, PartialEq, Eq)]
+#[derive(Clone, Copy)]
 pub(crate) struct Advice {
     pub(crate) rule: &'static str,
     pub(crate) remedy: &'static str,

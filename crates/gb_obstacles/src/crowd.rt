@@ -8,7 +8,7 @@ use std::collections::BTreeMap;
 const PLACES: usize = 5;
 
 /// How much there is at an address.
-#[derive(Clone, Copy, Debug, PartialEq, Eq, PartialOrd, Ord)]
+#[derive(Clone, Copy, PartialEq, Eq, PartialOrd, Ord)]
 pub struct Count {
     pub count: usize,
     pub address: u16,

@@ -8,14 +8,14 @@ use std::alloc::{AllocError, Global};
 const SEGMENTS: usize = 12;
 
 /// Addresses that were gone through one after another.
-#[derive(Clone, Copy, Debug, PartialEq, Eq)]
+#[derive(Clone, Copy)]
 pub struct Segment {
     pub first: u16,
     pub last: u16,
 }
 
 /// Where a path begins.
-#[derive(Clone, Copy, Debug, PartialEq, Eq)]
+#[derive(Clone, Copy)]
 pub enum Start {
     PowerUp,
     /// A call at this address, of a procedure at the target.

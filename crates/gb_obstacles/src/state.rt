@@ -4,7 +4,7 @@ use gb_cert::types::{Abs, Cell, Ctl, Flg, ImeSet, May, Val};
 use std::fmt;
 
 /// A value, or an interval of values.
-#[derive(Clone, Copy, Debug, PartialEq, Eq)]
+#[derive(Clone, Copy)]
 pub(crate) struct ShownVal(pub(crate) Val);
 
 impl fmt::Display for ShownVal {
@@ -31,7 +31,7 @@ fn flag_text(may: May) -> &'static str {
 }
 
 /// The flags.
-#[derive(Clone, Copy, Debug, PartialEq, Eq)]
+#[derive(Clone, Copy)]
 pub(crate) struct ShownFlags(pub(crate) Flg);
 
 impl fmt::Display for ShownFlags {
@@ -62,7 +62,7 @@ pub(crate) fn gate_text(gate: May) -> &'static str {
 }
 
 /// What the controller's registers may be.
-#[derive(Clone, Copy, Debug, PartialEq, Eq)]
+#[derive(Clone, Copy)]
 pub(crate) struct ShownController(pub(crate) Ctl);
 
 impl fmt::Display for ShownController {
@@ -97,7 +97,7 @@ impl fmt::Display for ShownRegisters<'_> {
 }
 
 /// A cell.
-#[derive(Clone, Copy, Debug, PartialEq, Eq)]
+#[derive(Clone, Copy)]
 pub(crate) struct ShownCell(pub(crate) Cell);
 
 impl fmt::Display for ShownCell {

@@ -6,7 +6,7 @@ use gb_ops::op::{Op, Pair};
 use gb_partition::cause::{Cause, StackMisuse, TransferMisuse};
 
 /// What an obstacle is about: a rule, and a usual way to break it.
-#[derive(Clone, Copy, Debug, PartialEq, Eq)]
+#[derive(Clone, Copy)]
 pub(crate) enum Topic {
     Area,
     Bank,

@@ -5,7 +5,7 @@ use gb_abs::reason::Reason;
 use gb_abs::span::Span;
 
 /// What an instruction does to the stack that no rule allows.
-#[derive(Clone, Copy, Debug, PartialEq, Eq)]
+#[derive(Clone, Copy, PartialEq, Eq)]
 pub enum StackMisuse {
     /// A word is pushed, or popped, before LD SP,n16.
     NotSet,
@@ -20,7 +20,7 @@ pub enum StackMisuse {
 }
 
 /// What happens while an OAM transfer may run, or how one would start unseen.
-#[derive(Clone, Copy, Debug, PartialEq, Eq)]
+#[derive(Clone, Copy, PartialEq, Eq)]
 pub enum TransferMisuse {
     /// The instruction lies outside high RAM.
     Code,
@@ -35,7 +35,7 @@ pub enum TransferMisuse {
 }
 
 /// Why a node has no successor states.
-#[derive(Clone, Copy, Debug, PartialEq, Eq)]
+#[derive(Clone, Copy, PartialEq, Eq)]
 pub enum Cause {
     /// The instruction lies outside the areas for code, or leaves its area.
     Area,
@@ -70,7 +70,7 @@ pub enum Cause {
 }
 
 /// Why a run stopped, and at which node.
-#[derive(Clone, Copy, Debug, PartialEq, Eq)]
+#[derive(Clone, Copy, PartialEq, Eq)]
 pub struct Failure {
     /// The number of the node.
     pub node: usize,
@@ -80,7 +80,7 @@ pub struct Failure {
 }
 
 /// What a run came to.
-#[derive(Clone, Copy, Debug, PartialEq, Eq)]
+#[derive(Clone, Copy, PartialEq, Eq)]
 pub enum Outcome {
     /// All nodes are covered.
     Finished,

@@ -9,7 +9,7 @@ use std::collections::{BTreeSet, HashMap, HashSet};
 pub const NODES: usize = 400_000;
 
 /// An address in the procedures that begin at another one.
-#[derive(Clone, Copy, Debug, PartialEq, Eq, PartialOrd, Ord, Hash)]
+#[derive(Clone, Copy, PartialEq, Eq, PartialOrd, Ord, Hash)]
 pub struct Place {
     /// The address where the procedure begins.
     pub target: u16,

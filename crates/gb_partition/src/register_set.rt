@@ -15,7 +15,7 @@ pub const REGISTERS: [Register; 7] = [
 ];
 
 /// A set of registers.
-#[derive(Clone, Copy, Debug, PartialEq, Eq)]
+#[derive(Clone, Copy, PartialEq, Eq)]
 pub struct RegisterSet {
     members: Registers<bool>,
 }

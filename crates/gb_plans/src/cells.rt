@@ -14,7 +14,7 @@ use std::collections::{BTreeMap, BTreeSet};
 const SPOTS: usize = 3000;
 
 /// A spot with the registers whose source is sought.
-#[derive(Clone, Copy, Debug, PartialEq, Eq)]
+#[derive(Clone, Copy, PartialEq, Eq)]
 struct Question {
     spot: Spot,
     wanted: RegisterSet,

@@ -26,7 +26,7 @@ const VALUES: usize = 24;
 const KINDS: usize = 40;
 
 /// What is too wide, and where.
-#[derive(Clone, Copy, Debug, PartialEq, Eq)]
+#[derive(Clone, Copy, PartialEq, Eq)]
 struct Trouble {
     wanted: RegisterSet,
     /// The failure is JP HL's: then only values from a table may be told apart.

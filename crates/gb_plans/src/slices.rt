@@ -18,7 +18,7 @@ const LENGTH: u32 = 40;
 const PAIRS: u32 = 1024;
 
 /// What is sought.
-#[derive(Clone, Copy, Debug, PartialEq, Eq)]
+#[derive(Clone, Copy, PartialEq, Eq)]
 pub(crate) struct Sought {
     /// The registers that are to be known.
     pub(crate) wanted: RegisterSet,
@@ -29,7 +29,7 @@ pub(crate) struct Sought {
 }
 
 /// A register that may be split at an address, and how many addresses from there on are to be keyed.
-#[derive(Clone, Copy, Debug, PartialEq, Eq)]
+#[derive(Clone, Copy, PartialEq, Eq)]
 struct Cut {
     width: u32,
     keyed: usize,

@@ -8,7 +8,7 @@ use std::collections::BTreeSet;
 const NESTING: usize = 32;
 
 /// A way on from an address to the next.
-#[derive(Clone, Copy, Debug, PartialEq, Eq)]
+#[derive(Clone, Copy, PartialEq, Eq)]
 struct Way {
     from: u16,
     to: u16,
@@ -25,7 +25,7 @@ impl Way {
 }
 
 /// Along the ways, or against them.
-#[derive(Clone, Copy, Debug, PartialEq, Eq)]
+#[derive(Clone, Copy, PartialEq, Eq)]
 enum Direction {
     Onwards,
     Back,

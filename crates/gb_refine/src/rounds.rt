@@ -37,7 +37,7 @@ pub trait Progress {
 }
 
 /// What the maker may use.
-#[derive(Clone, Copy, Debug, PartialEq, Eq)]
+#[derive(Clone, Copy, PartialEq, Eq)]
 pub struct Limits {
     /// The most nodes of a run.
     pub nodes: usize,
@@ -65,7 +65,7 @@ struct Before {
 }
 
 /// A place and a reason, by whose number edits are counted.
-#[derive(Clone, Copy, Debug, PartialEq, Eq, PartialOrd, Ord)]
+#[derive(Clone, Copy, PartialEq, Eq, PartialOrd, Ord)]
 struct Tried {
     place: Place,
     reason: u8,

@@ -20,7 +20,7 @@ const STEPS: u64 = 3_000_000;
 const ATTEMPTS: u64 = 60;
 
 /// What is taken back by halves.
-#[derive(Clone, Copy, Debug, PartialEq, Eq)]
+#[derive(Clone, Copy, PartialEq, Eq)]
 enum Kind {
     /// The procedures at an address needn't be parted by the bank.
     Flat,

@@ -20,7 +20,7 @@ pub(crate) struct Cells {
 }
 
 /// How much a cell matters; the greatest goes first where there are too many.
-#[derive(Clone, Copy, Debug, PartialEq, Eq, PartialOrd, Ord)]
+#[derive(Clone, Copy, PartialEq, Eq, PartialOrd, Ord)]
 struct Rank {
     /// 0 for code and keys, 1 for cells that instructions name, 2 for others.
     class: u8,

@@ -6,7 +6,5 @@
 
 mod names;
 mod spelling;
-#[cfg(test)]
-mod tests;
 
 pub use spelling::Spelling;

@@ -1,8 +1,12 @@
 //! The spelling of an instruction.
 
 use crate::names;
+use Part::{
+    Added, Bit, By, Byte, Condition, Indirect, Operand, Operation, Pair, Shift, StackPair, Text,
+    Word,
+};
 use gb_effects::arithmetic::displaced;
-use gb_ops::op::{Op, Row};
+use gb_ops::op::{self, Op, Row};
 use std::fmt;
 
 /// An instruction at its address. It prints as assemblers spell it (RGBDS; Pan Docs: CPU Instruction Set): upper case,
@@ -27,81 +31,140 @@ impl Spelling {
 
 impl fmt::Display for Spelling {
     fn fmt<W: fmt::Write>(&self, f: &mut fmt::Formatter<W>) -> fmt::Result {
-        fmt_way(self.op, self.behind, f)
+        for part in &parts(self.op, self.behind) {
+            write!(f, "{part}")?;
+        }
+        Ok(())
     }
 }
 
+/// A part of a spelling.
+#[derive(Clone, Copy)]
+enum Part {
+    Text(&'static str),
+    Operand(op::Operand),
+    Pair(op::Pair),
+    StackPair(op::StackPair),
+    Indirect(op::Indirect),
+    Condition(op::Condition),
+    Operation(op::AluOp),
+    Shift(op::Shift),
+    /// A byte or an address behind `$`.
+    Byte(u8),
+    Word(u16),
+    /// The number of a bit.
+    Bit(u8),
+    /// A displacement from SP: of a positive one `By` has no sign, and `Added` has.
+    By(u8),
+    Added(u8),
+}
+
+impl Part {
+    /// The text of a part that isn't a number.
+    fn text(self) -> &'static str {
+        match self {
+            Text(text) => text,
+            Operand(operand) => names::operand(operand),
+            Pair(pair) => names::pair(pair),
+            StackPair(pair) => names::stack_pair(pair),
+            Indirect(at) => names::indirect(at),
+            Condition(when) => names::condition(when),
+            Operation(operation) => names::operation(operation),
+            Shift(shift) => names::shift(shift),
+            _ => "",
+        }
+    }
+}
+
+impl fmt::Display for Part {
+    fn fmt<W: fmt::Write>(&self, f: &mut fmt::Formatter<W>) -> fmt::Result {
+        match *self {
+            Byte(byte) => write!(f, "${byte:02X}"),
+            Word(word) => write!(f, "${word:04X}"),
+            Bit(n) => write!(f, "{n}"),
+            By(by) => write!(f, "{}", by.cast_signed()),
+            Added(by) => write!(f, "{:+}", by.cast_signed()),
+            named => f.write_str(named.text()),
+        }
+    }
+}
+
+/// The parts of a spelling; behind the last they are empty.
+type Parts = [Part; 4];
+
+fn one(part: Part) -> Parts {
+    two(part, Text(""))
+}
+
+fn two(first: Part, second: Part) -> Parts {
+    three(first, second, Text(""))
+}
+
+fn three(first: Part, second: Part, third: Part) -> Parts {
+    four(first, second, third, Text(""))
+}
+
+fn four(first: Part, second: Part, third: Part, fourth: Part) -> Parts {
+    [first, second, third, fourth]
+}
+
 /// Jumps, calls and returns; else the instruction goes to the loads.
-fn fmt_way<W: fmt::Write>(op: Op, behind: u16, f: &mut fmt::Formatter<W>) -> fmt::Result {
+fn parts(op: Op, behind: u16) -> Parts {
     match op {
-        Op::JumpRelative(to) => write!(f, "JR ${:04X}", displaced(behind, to)),
-        Op::JumpRelativeIf(when, to) => write!(
-            f,
-            "JR {},${:04X}",
-            names::condition(when),
-            displaced(behind, to)
+        Op::JumpRelative(to) => two(Text("JR "), Word(displaced(behind, to))),
+        Op::JumpRelativeIf(when, to) => four(
+            Text("JR "),
+            Condition(when),
+            Text(","),
+            Word(displaced(behind, to)),
         ),
-        Op::JumpIf(when, to) => write!(f, "JP {},${to:04X}", names::condition(when)),
-        Op::Jump(to) => write!(f, "JP ${to:04X}"),
-        Op::CallIf(when, to) => write!(f, "CALL {},${to:04X}", names::condition(when)),
-        Op::Call(to) => write!(f, "CALL ${to:04X}"),
-        Op::Restart(to) => write!(f, "RST ${to:02X}"),
-        Op::ReturnIf(when) => write!(f, "RET {}", names::condition(when)),
-        _ => fmt_load(op, f),
+        Op::JumpIf(when, to) => four(Text("JP "), Condition(when), Text(","), Word(to)),
+        Op::Jump(to) => two(Text("JP "), Word(to)),
+        Op::CallIf(when, to) => four(Text("CALL "), Condition(when), Text(","), Word(to)),
+        Op::Call(to) => two(Text("CALL "), Word(to)),
+        Op::Restart(to) => two(Text("RST "), Byte(to)),
+        Op::ReturnIf(when) => two(Text("RET "), Condition(when)),
+        _ => load(op),
     }
 }
 
 /// Loads, pushes and pops; else the instruction goes to arithmetic.
-fn fmt_load<W: fmt::Write>(op: Op, f: &mut fmt::Formatter<W>) -> fmt::Result {
+fn load(op: Op) -> Parts {
     match op {
-        Op::Load(to, from) => write!(f, "LD {},{}", names::operand(to), names::operand(from)),
-        Op::LoadImmediate(to, byte) => write!(f, "LD {},${byte:02X}", names::operand(to)),
-        Op::LoadPair(to, word) => write!(f, "LD {},${word:04X}", names::pair(to)),
-        Op::StoreA(at) => write!(f, "LD {},A", names::indirect(at)),
-        Op::LoadA(at) => write!(f, "LD A,{}", names::indirect(at)),
-        Op::StoreAbsolute(at) => write!(f, "LD (${at:04X}),A"),
-        Op::LoadAbsolute(at) => write!(f, "LD A,(${at:04X})"),
-        Op::StoreHigh(at) => write!(f, "LDH ($FF00+${at:02X}),A"),
-        Op::LoadHigh(at) => write!(f, "LDH A,($FF00+${at:02X})"),
-        Op::StoreSp(at) => write!(f, "LD (${at:04X}),SP"),
-        Op::LoadHlSp(by) => write!(f, "LD HL,SP{:+}", by.cast_signed()),
-        Op::Pop(pair) => write!(f, "POP {}", names::stack_pair(pair)),
-        Op::Push(pair) => write!(f, "PUSH {}", names::stack_pair(pair)),
-        _ => fmt_arithmetic(op, f),
+        Op::Load(to, from) => four(Text("LD "), Operand(to), Text(","), Operand(from)),
+        Op::LoadImmediate(to, byte) => four(Text("LD "), Operand(to), Text(","), Byte(byte)),
+        Op::LoadPair(to, word) => four(Text("LD "), Pair(to), Text(","), Word(word)),
+        Op::StoreA(at) => three(Text("LD "), Indirect(at), Text(",A")),
+        Op::LoadA(at) => two(Text("LD A,"), Indirect(at)),
+        Op::StoreAbsolute(at) => three(Text("LD ("), Word(at), Text("),A")),
+        Op::LoadAbsolute(at) => three(Text("LD A,("), Word(at), Text(")")),
+        Op::StoreHigh(at) => three(Text("LDH ($FF00+"), Byte(at), Text("),A")),
+        Op::LoadHigh(at) => three(Text("LDH A,($FF00+"), Byte(at), Text(")")),
+        Op::StoreSp(at) => three(Text("LD ("), Word(at), Text("),SP")),
+        Op::LoadHlSp(by) => two(Text("LD HL,SP"), Added(by)),
+        Op::Pop(pair) => two(Text("POP "), StackPair(pair)),
+        Op::Push(pair) => two(Text("PUSH "), StackPair(pair)),
+        _ => arithmetic(op),
     }
 }
 
 /// Arithmetic and bits; else the instruction has no operand to print.
-fn fmt_arithmetic<W: fmt::Write>(op: Op, f: &mut fmt::Formatter<W>) -> fmt::Result {
+fn arithmetic(op: Op) -> Parts {
     match op {
-        Op::Alu(operation, from) => write!(
-            f,
-            "{}{}",
-            names::operation(operation),
-            names::operand(from)
-        ),
-        Op::AluImmediate(operation, byte) => write!(
-            f,
-            "{}${byte:02X}",
-            names::operation(operation)
-        ),
-        Op::Increment(operand) => write!(f, "INC {}", names::operand(operand)),
-        Op::Decrement(operand) => write!(f, "DEC {}", names::operand(operand)),
-        Op::IncrementPair(pair) => write!(f, "INC {}", names::pair(pair)),
-        Op::DecrementPair(pair) => write!(f, "DEC {}", names::pair(pair)),
-        Op::AddHl(pair) => write!(f, "ADD HL,{}", names::pair(pair)),
-        Op::AddSp(by) => write!(f, "ADD SP,{}", by.cast_signed()),
-        Op::RotateA(shift) => write!(f, "{}A", names::shift(shift)),
-        Op::Shift(shift, operand) => write!(
-            f,
-            "{} {}",
-            names::shift(shift),
-            names::operand(operand)
-        ),
-        Op::Bit(n, operand) => write!(f, "BIT {n},{}", names::operand(operand)),
-        Op::Reset(n, operand) => write!(f, "RES {n},{}", names::operand(operand)),
-        Op::Set(n, operand) => write!(f, "SET {n},{}", names::operand(operand)),
-        _ => write!(f, "{}", bare(op)),
+        Op::Alu(operation, from) => two(Operation(operation), Operand(from)),
+        Op::AluImmediate(operation, byte) => two(Operation(operation), Byte(byte)),
+        Op::Increment(operand) => two(Text("INC "), Operand(operand)),
+        Op::Decrement(operand) => two(Text("DEC "), Operand(operand)),
+        Op::IncrementPair(pair) => two(Text("INC "), Pair(pair)),
+        Op::DecrementPair(pair) => two(Text("DEC "), Pair(pair)),
+        Op::AddHl(pair) => two(Text("ADD HL,"), Pair(pair)),
+        Op::AddSp(by) => two(Text("ADD SP,"), By(by)),
+        Op::RotateA(shift) => two(Shift(shift), Text("A")),
+        Op::Shift(shift, operand) => three(Shift(shift), Text(" "), Operand(operand)),
+        Op::Bit(n, operand) => four(Text("BIT "), Bit(n), Text(","), Operand(operand)),
+        Op::Reset(n, operand) => four(Text("RES "), Bit(n), Text(","), Operand(operand)),
+        Op::Set(n, operand) => four(Text("SET "), Bit(n), Text(","), Operand(operand)),
+        _ => one(Text(bare(op))),
     }
 }
 

@@ -1,12 +1,12 @@
 //! Changes that an example names: bytes of its certificate, lengths of its files, and frames behind its end.
 
-use crate::example::Example;
 use crate::random::Random;
 use bitflags::Flags;
 use gb_cert::types::Cert;
 use gb_console::{Console, Ending};
 use gb_header::Rom;
 use gb_samples::cartridges::put;
+use gb_samples::spelled::Example;
 use gb_text::kept_bytes::KeptBytes;
 use gb_timer::irqs::Keys;
 use gb_verify::check::check;

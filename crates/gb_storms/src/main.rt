@@ -2,7 +2,7 @@
 //! keys. Of each file the calls that read it have to say the same; a certificate that can be read is written again byte for
 //! byte, and a fault's place lies in the file; where the checker accepts, each frame is whole.
 //!
-//! Examples come from standard input, as lines: `about` with a sentence; `sizes`, `rom` and `cert` (example.rt); then `storm`
+//! Examples come from standard input, as lines: `about` with a sentence; `sizes`, `rom` and `cert` (gb_samples); then `storm`
 //! with how many certificates, cartridges and frames. `words` reads so many lists of words, and `seen` says which faults were
 //! met. `cuts` cuts both files off at each of their lengths; `check` with offsets and bytes, as 117=05, gives the verdict on the
 //! certificate with these bytes; `stays` with a number runs a frame, and then so many more, which change nothing where the
@@ -12,13 +12,12 @@
 mod cartridges;
 mod certificates;
 mod changes;
-mod example;
 mod random;
 mod tally;
 mod words;
 
-use example::Example;
 use gb_header::Rom;
+use gb_samples::spelled::{Example, word_of};
 use gb_text::kept_bytes::KeptBytes;
 use gb_verify::verify::{Outcome, verify_bytes};
 use random::Random;
@@ -165,15 +164,15 @@ fn take<W: Write>(
     example: &mut Example,
     line: &str,
 ) -> io::Result<()> {
-    let (word, rest) = line.split_once(' ').unwrap_or((line, ""));
+    let (word, rest) = word_of(line);
     match word {
         "about" => {
             *example = Example::new(alloc);
             writeln!(out, "{rest}")?;
         }
         "storm" => {
-            let (certificates, rest) = rest.split_once(' ').unwrap_or((rest, ""));
-            let (cartridges, frames) = rest.split_once(' ').unwrap_or((rest, ""));
+            let (certificates, rest) = word_of(rest);
+            let (cartridges, frames) = word_of(rest);
             let counts = (
                 number_of(certificates, weather.factor),
                 number_of(cartridges, weather.factor),

@@ -100,7 +100,7 @@ small_word v entry n is h =
     omega arith
 
 -- a byte that is kept isn't one of the word's
-not_pushed : (region : Region) (base sp words a b : ℕ) → AreInRegion region base (words + 1) → sp + 2 * words ≡ base → (a ≡ sp - 1) ⊎ (a ≡ sp - 2) → (meets region b b ≡ true → base ≤ b) → (b == a) ≡ false
+pub not_pushed : (region : Region) (base sp words a b : ℕ) → AreInRegion region base (words + 1) → sp + 2 * words ≡ base → (a ≡ sp - 1) ⊎ (a ≡ sp - 2) → (meets region b b ≡ true → base ≤ b) → (b == a) ≡ false
 not_pushed region base sp words a b room stack at above = choose (b == a) refl
   where
     inside : (a b : ℕ) → b ≡ a → region.first + 2 ≤ sp → sp ≤ region.last + 1 → (a ≡ sp - 1) ⊎ (a ≡ sp - 2) → (meets region b b ≡ true) × (b < sp)

@@ -19,6 +19,10 @@ use Rattle.gb_abs_effects.specs.Targets.{target_of, is_push, is_pop, is_call, is
 use Rattle.gb_abs_effects.specs.Transfer.{transfer}
 use Rattle.gb_successors.specs.Behind.{with_stack_of, pushed_if_room}
 
+-- an instruction of another class
+no_other : false ≡ true → ⊥
+no_other h = cc
+
 -- PUSH
 pub record IsPush (o : Op) (next : ℕ) (c : Core) (low high : Val) : Type 0 where
   pub first : Val
@@ -31,7 +35,7 @@ pub record IsPush (o : Op) (next : ℕ) (c : Core) (low high : Val) : Type 0 whe
 pub IsPush-is_push : (o : Op) (next : ℕ) (c : Core) (low high : Val) → is_push o ≡ true → IsPush o next c low high
 unfolding transfer read_of target_of with_stack_of
 IsPush-is_push (op.Push from) next c low high h = record { first = _; second = _; write_is = refl; read_is = refl; target_is = refl; leaves = λ s. refl }
-IsPush-is_push o next c low high h = cc
+IsPush-is_push o next c low high h = absurd (no_other h)
 
 -- a call
 pub record IsCall (o : Op) (next : ℕ) (c : Core) (low high : Val) : Type 0 where
@@ -46,7 +50,7 @@ unfolding transfer read_of target_of with_stack_of
 IsCall-is_call (op.CallIf k a) next c low high h = record { address = a; write_is = refl; read_is = refl; target_is = refl; leaves = λ w s. refl }
 IsCall-is_call (op.Call a) next c low high h = record { address = a; write_is = refl; read_is = refl; target_is = refl; leaves = λ w s. refl }
 IsCall-is_call (op.Restart a) next c low high h = record { address = a; write_is = refl; read_is = refl; target_is = refl; leaves = λ w s. refl }
-IsCall-is_call o next c low high h = cc
+IsCall-is_call o next c low high h = absurd (no_other h)
 
 -- POP
 pub record IsPop (o : Op) (next : ℕ) (c : Core) (low high : Val) : Type 0 where
@@ -58,7 +62,7 @@ pub record IsPop (o : Op) (next : ℕ) (c : Core) (low high : Val) : Type 0 wher
 pub IsPop-is_pop : (o : Op) (next : ℕ) (c : Core) (low high : Val) → is_pop o ≡ true → IsPop o next c low high
 unfolding transfer read_of target_of with_stack_of
 IsPop-is_pop (op.Pop to) next c low high h = record { write_is = refl; read_is = refl; target_is = refl; leaves = λ w s. refl }
-IsPop-is_pop o next c low high h = cc
+IsPop-is_pop o next c low high h = absurd (no_other h)
 
 -- a return
 pub record IsReturn (o : Op) (next : ℕ) (c : Core) (low high : Val) : Type 0 where
@@ -72,7 +76,7 @@ unfolding transfer read_of target_of with_stack_of
 IsReturn-is_return (op.ReturnIf k) next c low high h = record { write_is = refl; read_is = refl; target_is = refl; leaves = λ w s. refl }
 IsReturn-is_return op.Return next c low high h = record { write_is = refl; read_is = refl; target_is = refl; leaves = λ w s. refl }
 IsReturn-is_return op.ReturnFromInterrupt next c low high h = record { write_is = refl; read_is = refl; target_is = refl; leaves = λ w s. refl }
-IsReturn-is_return o next c low high h = cc
+IsReturn-is_return o next c low high h = absurd (no_other h)
 
 -- where there is room, the word is pushed
 pub pushed-if_room : (i : Item) (s : AbsState) → (length s.items == 16) ≡ false → pushed_if_room i s ≡ pushed i s

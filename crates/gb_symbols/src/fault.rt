@@ -4,7 +4,7 @@ use std::alloc::{AllocError, AllocFailed};
 use std::fmt;
 
 /// What is wrong with a line.
-#[derive(Clone, Copy, Debug, PartialEq, Eq)]
+#[derive(Clone, Copy, PartialEq, Eq)]
 pub enum SymbolFaultKind {
     /// The file isn't text.
     NotText,
@@ -16,7 +16,7 @@ pub enum SymbolFaultKind {
 }
 
 /// What is wrong with a file of symbols, and in which line, counted from 1.
-#[derive(Clone, Copy, Debug, PartialEq, Eq)]
+#[derive(Clone, Copy, PartialEq, Eq)]
 pub struct SymbolFault {
     pub kind: SymbolFaultKind,
     pub line: usize,

@@ -3,7 +3,7 @@
 use std::str::SplitWhitespace;
 
 /// Who wrote a file of symbols.
-#[derive(Clone, Copy, Debug, PartialEq, Eq)]
+#[derive(Clone, Copy, PartialEq, Eq)]
 pub enum Format {
     /// `rgblink -n`: lines `BB:AAAA NAME`.
     RgbdsSym,
@@ -14,7 +14,7 @@ pub enum Format {
 }
 
 /// A name at a bank and an address, as a line says.
-#[derive(Clone, Copy, Debug, PartialEq, Eq)]
+#[derive(Clone, Copy, PartialEq, Eq)]
 pub(crate) struct Named<'a> {
     pub(crate) bank: u16,
     pub(crate) address: u16,
@@ -22,7 +22,7 @@ pub(crate) struct Named<'a> {
 }
 
 /// What a line is.
-#[derive(Clone, Copy, Debug, PartialEq, Eq)]
+#[derive(Clone, Copy, PartialEq, Eq)]
 pub(crate) enum Line<'a> {
     Symbol(Named<'a>),
     /// Nothing of interest: a comment, an empty line, or a directive of another kind.

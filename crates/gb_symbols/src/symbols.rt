@@ -6,7 +6,7 @@ use std::alloc::Global;
 use std::{fmt, str};
 
 /// A name at a bank and an address.
-#[derive(Clone, Copy, Debug, PartialEq, Eq)]
+#[derive(Clone, Copy, PartialEq, Eq)]
 pub struct Symbol<'a> {
     pub bank: u16,
     pub address: u16,
@@ -14,7 +14,7 @@ pub struct Symbol<'a> {
 }
 
 /// An address told by a symbol: its name, and how far behind it the address lies.
-#[derive(Clone, Copy, Debug, PartialEq, Eq)]
+#[derive(Clone, Copy, PartialEq, Eq)]
 pub struct Place<'a> {
     pub name: &'a str,
     pub offset: u16,

@@ -12,53 +12,19 @@ use bitflags::Flags;
 use gb_console::console::Console;
 use gb_console::frame::Ending;
 use gb_header::Rom;
-use gb_samples::cartridges::{SMALLEST, file, put};
+use gb_samples::cartridges::put;
+use gb_samples::spelled::{Example, number_of, word_of};
 use gb_text::kept_bytes::KeptBytes;
 use gb_timer::irqs::Keys;
 use gb_verify::verify::verify_bytes;
 use std::alloc::Global;
 use std::io::{self, BufRead, BufReader, BufWriter, Write};
 
-/// The bytes of a cartridge and a certificate.
-#[derive(Drop)]
-struct Example {
-    rom: Vec<u8>,
-    cert: Vec<u8>,
-}
-
-impl Example {
-    fn new(alloc: Global) -> Example {
-        Example {
-            rom: Vec::new(alloc),
-            cert: Vec::new(alloc),
-        }
-    }
-}
-
-/// The bytes of hexadecimal digits; none where they spell none.
-fn bytes_of(alloc: Global, digits: &str) -> Vec<u8> {
-    hex::decode(alloc, digits).unwrap_or(Vec::new(alloc))
-}
-
-/// A cartridge with these bytes at 0147 to 0149, as long as they say.
-fn cartridge(alloc: Global, digits: &str) -> io::Result<Vec<u8>> {
-    let bytes = bytes_of(alloc, digits);
-    let [kind, size, ram] = bytes.as_slice() else {
-        return Ok(Vec::new(alloc));
-    };
-    Ok(file(alloc, SMALLEST << (*size % 9), [*kind, *size, *ram], &[])?)
-}
-
 /// The bytes, cut off or followed by zeros, so that they are so many.
 fn resized(alloc: Global, bytes: &[u8], length: usize) -> io::Result<Vec<u8>> {
     let mut resized = vec![in alloc; 0; length]?;
     put(resized.as_mut_slice(), 0, bytes);
     Ok(resized)
-}
-
-/// The number of hexadecimal digits; 0 where they spell none.
-fn number_of(digits: &str) -> usize {
-    usize::from_str_radix(digits, 16).unwrap_or(0)
 }
 
 /// Prints the verdict's line.
@@ -73,28 +39,41 @@ fn judge<W: Write>(alloc: Global, out: &mut W, example: &Example) -> io::Result<
     out.write_all(line.kept())
 }
 
-/// Runs the cartridge from power-up for so many frames, frame k with the keys of the byte k modulo 256, as long as they are
-/// whole, and says how it ends.
+/// Says how a run ended: in which frame, if one was cut off, and where.
+fn tell_run<W: Write>(
+    out: &mut W,
+    frames: usize,
+    cut: Option<(usize, Ending)>,
+    pc: u16,
+) -> io::Result<()> {
+    match cut {
+        Some((k, Ending::Locked)) => writeln!(out, "locked in frame {k} at {pc:04X}"),
+        Some((k, Ending::Stopped)) => writeln!(out, "stopped in frame {k} at {pc:04X}"),
+        _ => writeln!(out, "{frames} frames are whole"),
+    }
+}
+
+/// Runs frames, frame k with the keys of the byte k modulo 256, as long as they are whole; answers the first that isn't.
+fn first_cut(console: &mut Console<'_>, frames: usize) -> Option<(usize, Ending)> {
+    for k in 0..frames {
+        let ending = console.frame(Keys::from_bits_retain((k % 256) as u8), 0);
+        if ending != Ending::Whole {
+            return Some((k, ending));
+        }
+    }
+    None
+}
+
+/// Runs the cartridge from power-up for so many frames, and says how it ends.
 fn run<W: Write>(alloc: Global, out: &mut W, example: &Example, frames: usize) -> io::Result<()> {
     let Ok(rom) = Rom::parse(example.rom.as_slice()) else {
         return writeln!(out, "no cartridge");
     };
     let mut console = Console::new(alloc, &rom)?;
-    for k in 0..frames {
-        match console.frame(Keys::from_bits_retain((k % 256) as u8), 0) {
-            Ending::Whole => {}
-            Ending::Locked => return writeln!(out, "locked in frame {k} at {:04X}", console.pc()),
-            Ending::Stopped => return writeln!(out, "stopped in frame {k} at {:04X}", console.pc()),
-        }
-    }
-    writeln!(out, "{frames} frames are whole")
-}
-
-/// Puts bytes at an offset of the cartridge.
-fn place(alloc: Global, rom: &mut [u8], rest: &str) {
-    let (offset, digits) = rest.split_once(' ').unwrap_or((rest, ""));
-    let piece = bytes_of(alloc, digits);
-    put(rom, number_of(offset), piece.as_slice());
+    let cut = first_cut(&mut console, frames);
+    let pc = console.pc();
+    drop(console);
+    tell_run(out, frames, cut, pc)
 }
 
 fn fill(rom: &mut [u8], value: u8) {
@@ -105,22 +84,17 @@ fn fill(rom: &mut [u8], value: u8) {
 
 /// Takes a line of an example.
 fn take<W: Write>(alloc: Global, out: &mut W, example: &mut Example, line: &str) -> io::Result<()> {
-    let (word, rest) = line.split_once(' ').unwrap_or((line, ""));
+    let (word, rest) = word_of(line);
     match word {
         "about" => {
             *example = Example::new(alloc);
             writeln!(out, "{rest}")?;
         }
-        "sizes" => example.rom = cartridge(alloc, rest)?,
         "fill" => fill(example.rom.as_mut_slice(), (number_of(rest) % 256) as u8),
         "length" => example.rom = resized(alloc, example.rom.as_slice(), number_of(rest))?,
-        "rom" => place(alloc, example.rom.as_mut_slice(), rest),
-        "cert" => example
-            .cert
-            .extend_from_slice(bytes_of(alloc, rest).as_slice())?,
         "verdict" => judge(alloc, out, example)?,
         "frames" => run(alloc, out, example, number_of(rest))?,
-        _ => {}
+        _ => example.take(alloc, word, rest)?,
     }
     Ok(())
 }

@@ -1,6 +1,6 @@
-//! Lines of each format, as their tools write them, and the places that they give.
+//! Lines of each format of symbols, as their tools write them, and the places that they give.
 
-use crate::{Format, Place, SymbolFault, SymbolFaultKind, Symbols};
+use gb_symbols::{Format, Place, SymbolFault, SymbolFaultKind, Symbols};
 use std::process::Abort;
 use std::test::Fail;
 

@@ -2,7 +2,7 @@
 
 ghost use Rattle.std.specs.Prelude.{◌≡◌, true};
 ghost use Rattle.gb_abs.specs.Covering as Covering;
-ghost use Rattle.gb_explain.specs.Noted.{IsNoted};
+ghost use Rattle.gb_differences.specs.Noted.{IsNoted};
 
 use crate::difference::{Difference, Known, Part};
 use gb_abs::covering::{cell_at, covers_ime, covers_may, covers_origin, covers_test, covers_val};
@@ -12,7 +12,7 @@ use gb_ops::registers::Registers;
 
 /// The parts of a state that another doesn't stand for. It prints a line for each of the first of them, behind an end of
 /// line.
-#[derive(Clone, Copy, Debug, PartialEq, Eq)]
+#[derive(Clone, Copy)]
 pub struct Differences {
     /// The first parts, as many as are told.
     pub first: [Option<Difference>; 9],

@@ -5,7 +5,7 @@ use gb_ops::op::Register;
 use std::fmt;
 
 /// A part of a state.
-#[derive(Clone, Copy, Debug, PartialEq, Eq)]
+#[derive(Clone, Copy)]
 pub enum Part {
     Register(Register),
     InterruptEnable,
@@ -37,7 +37,7 @@ pub enum Part {
 }
 
 /// What is known of a part.
-#[derive(Clone, Copy, Debug, PartialEq, Eq)]
+#[derive(Clone, Copy)]
 pub enum Known {
     /// The least and the greatest byte.
     Bytes(u8, u8),
@@ -57,7 +57,7 @@ pub enum Known {
 
 /// A part of a state that another doesn't stand for. What is left there is the first state's, what is
 /// claimed the other's.
-#[derive(Clone, Copy, Debug, PartialEq, Eq)]
+#[derive(Clone, Copy)]
 pub struct Difference {
     pub part: Part,
     pub left: Known,

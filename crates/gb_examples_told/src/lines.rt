@@ -1,8 +1,7 @@
-//! The printed lines.
+//! The printed lines of a refused node.
 
-use crate::code::Code;
-use crate::explanation::Explanation;
 use gb_abs::reason::Reason;
+use gb_explain::{Code, Explanation};
 use gb_ops::decode::decode;
 use gb_spelling::Spelling;
 use std::test::Fail;

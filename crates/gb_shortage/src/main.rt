@@ -1,0 +1,253 @@
+//! Want of memory: calls that take memory, with no more of it than a hole of a given size. The answer has to be want of
+//! memory or the right one, with each hole, and nothing else.
+//!
+//! The program first uses a MiB of its stack, which can't grow later, makes each call with all memory, and then takes all
+//! addresses that it may have, in blocks that are never written (hoard.rt), so that each further growth is refused. Then it
+//! gives one block back, takes all of it again but a hole, makes the call (calls.rt), and takes the addresses again. The
+//! holes of a call grow from nothing to more than it needs, by 16 to 64 bytes. A line for each call says what it answered
+//! with no hole, with the largest, and whether it ever answered anything but want of memory and what is right.
+#![tactic(auto)]
+
+mod calls;
+mod hoard;
+
+use calls::{Answer, Call, Files, NODES};
+use gb_cert::types::Cert;
+use gb_header::Rom;
+use gb_samples::cartridges::{PLAIN, put, small};
+use gb_samples::certificates::write_nodes;
+use gb_samples::programs::LOOP;
+use gb_words::Task;
+use hoard::{Hoard, use_stack};
+use std::alloc::{AllocError, Global};
+use std::io;
+
+/// A call with its name, how many holes it is made with, and by how much each is larger than the one before.
+struct Row {
+    name: &'static str,
+    call: Call,
+    holes: usize,
+    step: usize,
+}
+
+/// The bytes of the certificate: head and main, and 47 a node.
+const LENGTH: usize = 18 + 47 * NODES;
+
+const VERIFY: Task<'static> = Task::Verify {
+    rom: "A",
+    cert: "B",
+};
+
+const RUN: Task<'static> = Task::Run {
+    rom: "A",
+    script: "B",
+    frames: 60,
+};
+
+const ROWS: &[Row] = &[
+    Row {
+        name: "Cert::parse",
+        call: Call::Parse,
+        holes: 96,
+        step: 16,
+    },
+    Row {
+        name: "Cert::parse with a byte left over",
+        call: Call::ParseLonger,
+        holes: 96,
+        step: 16,
+    },
+    Row {
+        name: "encode",
+        call: Call::Encode,
+        holes: 96,
+        step: 64,
+    },
+    Row {
+        name: "upgrade_bytes",
+        call: Call::Upgrade,
+        holes: 96,
+        step: 16,
+    },
+    Row {
+        name: "verify_bytes",
+        call: Call::Verify,
+        holes: 96,
+        step: 16,
+    },
+    Row {
+        name: "verify_bytes with no cartridge",
+        call: Call::VerifyNoCartridge,
+        holes: 4,
+        step: 16,
+    },
+    Row {
+        name: "Memory::new",
+        call: Call::Memory,
+        holes: 704,
+        step: 64,
+    },
+    Row {
+        name: "Console::new and a frame",
+        call: Call::Console,
+        holes: 704,
+        step: 64,
+    },
+    Row {
+        name: "read_words of `verify A B`",
+        call: Call::Words(&["verify", "A", "B"], Some(VERIFY)),
+        holes: 512,
+        step: 64,
+    },
+    Row {
+        name: "read_words of `run A B 60`",
+        call: Call::Words(&["run", "A", "B", "60"], Some(RUN)),
+        holes: 512,
+        step: 64,
+    },
+    Row {
+        name: "read_words of `turn A`",
+        call: Call::Words(&["turn", "A"], None),
+        holes: 512,
+        step: 64,
+    },
+];
+
+/// What the holes of a call met.
+#[derive(Drop)]
+struct Met {
+    /// Whether nothing was left beside each hole.
+    is_complete: bool,
+    /// Whether one of them had another answer than want of memory and the right one.
+    other: bool,
+    first: Answer,
+    last: Answer,
+}
+
+/// What is taken again of a block that is given back; the rest of it is the hole.
+const TAKEN_AGAIN: usize = 2_048;
+
+/// The blocks that the holes are made in, the largest first.
+fn blocks(alloc: Global, row: &Row) -> Result<Vec<Vec<u8>>, AllocError> {
+    let count = row.holes;
+    let mut blocks = Vec::with_capacity(alloc, count)?;
+    for number in 0..count {
+        let hole = row.step.wrapping_mul(count - 1 - number);
+        blocks.push(Vec::with_capacity(alloc, TAKEN_AGAIN.wrapping_add(hole))?)?;
+    }
+    Ok(blocks)
+}
+
+/// Makes a call with each of its holes, the smallest first.
+fn sweep(alloc: Global, row: &Row, files: &Files<'_>) -> Result<Met, AllocError> {
+    let mut hoard = Hoard::new(alloc)?;
+    let mut blocks = blocks(alloc, row)?;
+    let mut met = Met {
+        is_complete: true,
+        other: false,
+        first: Answer::Other,
+        last: Answer::Other,
+    };
+    for number in 0..row.holes {
+        hoard.take_all();
+        let is_complete = hoard.is_complete();
+        drop(blocks.pop());
+        let taken = Vec::<u8>::with_capacity(alloc, TAKEN_AGAIN);
+        met.last = row.call.answer(alloc, files);
+        met.is_complete = met.is_complete && is_complete && taken.is_ok();
+        met.other = met.other || met.last == Answer::Other;
+        if number == 0 {
+            met.first = met.last;
+        }
+        drop(taken);
+    }
+    Ok(met)
+}
+
+/// An answer in a word.
+fn text(answer: Answer) -> &'static str {
+    match answer {
+        Answer::Refused => "refused",
+        Answer::Right => "right",
+        Answer::Other => "wrong",
+    }
+}
+
+/// Says what the holes of a call met.
+fn write_met<W: io::Write>(out: &mut W, row: &Row, met: &Met) -> io::Result<()> {
+    let name = row.name;
+    let first = text(met.first);
+    let last = text(met.last);
+    let between = if met.other {
+        "something else"
+    } else {
+        "one of both"
+    };
+    let complete = if met.is_complete {
+        ""
+    } else {
+        "; but memory couldn't be used up"
+    };
+    writeln!(
+        out,
+        "{name}: {first} with no memory, {last} with enough, {between} in between{complete}"
+    )
+}
+
+/// Writes the certificate of a cartridge whose program is 97 times NOP and then a loop: `NODES` nodes in a row.
+fn write_certificate(bytes: &mut [u8]) {
+    let mut addresses = [0x0100; NODES];
+    for (i, address) in addresses.iter_mut().enumerate() {
+        *address = match i {
+            0 => 0x0100,
+            1 => 0x0101,
+            _ => 0x014E + i as u16,
+        };
+    }
+    write_nodes(bytes, &addresses);
+}
+
+/// Writes the same certificate in version 2: the number of nodes and main's entry take four bytes.
+fn write_upgraded(bytes: &mut [u8], cert: &[u8]) {
+    put(bytes, 4, cert.get(4..).unwrap_or(&[]));
+    put(bytes, 0, &[0x47, 0x42, 0x42, 0x43, 0x02]);
+    put(bytes, 10, &[NODES as u8, 0, 0, 0, 0, 0, 0, 0]);
+    put(bytes, 18, cert.get(14..).unwrap_or(&[]));
+}
+
+fn main(rt: HostRuntime) -> io::Result<()> {
+    let mut program = [0; 99];
+    put(&mut program, 97, LOOP);
+    let bytes = small(PLAIN, &program);
+    let mut longer = [0; LENGTH + 1];
+    write_certificate(&mut longer);
+    let mut upgraded = [0; LENGTH + 4];
+    write_upgraded(&mut upgraded, &longer[..LENGTH]);
+    let (Ok(rom), Ok(cert)) = (
+        Rom::parse(&bytes),
+        Cert::parse(rt.alloc(), &longer[..LENGTH]),
+    ) else {
+        return println!(rt; "the files can't be read");
+    };
+    let files = Files {
+        rom: &rom,
+        cert: &cert,
+        longer: &longer,
+        upgraded: &upgraded,
+    };
+    if use_stack(cert.nodes() as usize, cert.procedures() as usize) != 0 {
+        return println!(rt; "the stack can't be used");
+    }
+    for row in ROWS {
+        if row.call.answer(rt.alloc(), &files) != Answer::Right {
+            let name = row.name;
+            return println!(rt; "{name}: wrong with all memory");
+        }
+    }
+    let mut out = io::writer(&rt);
+    for row in ROWS {
+        let met = sweep(rt.alloc(), row, &files)?;
+        write_met(&mut out, row, &met)?;
+    }
+    Ok(())
+}
