@@ -6,7 +6,7 @@ ghost use Rattle.gb_abs.specs.Span.{one, pair_span, is_one, is_inside, may_meet}
 use gb_cert::types::Val;
 
 /// Addresses, the last one included.
-#[derive(Clone, Copy, Debug, PartialEq, Eq)]
+#[derive(Clone, Copy, PartialEq, Eq)]
 pub struct Span {
     pub first: u16,
     pub last: u16,

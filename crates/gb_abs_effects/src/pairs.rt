@@ -11,7 +11,7 @@ use gb_vals::flags::{either, flags_of_val, flags_val, greatest_flags, known, kno
 use gb_vals::vals::{any, between, is_single, single};
 
 /// A word, each byte an interval.
-#[derive(Clone, Copy, Debug, PartialEq, Eq)]
+#[derive(Clone, Copy, PartialEq, Eq)]
 pub struct Halves {
     pub high: Val,
     pub low: Val,

@@ -11,7 +11,7 @@ use gb_ops::op::{Indirect, Op, Operand};
 use gb_vals::vals::single;
 
 /// What an instruction may read besides its own bytes.
-#[derive(Clone, Copy, Debug, PartialEq, Eq)]
+#[derive(Clone, Copy, PartialEq, Eq)]
 pub enum AbsRead {
     Nothing,
     /// One byte at one of these addresses.

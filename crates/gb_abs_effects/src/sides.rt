@@ -10,7 +10,7 @@ use gb_ops::op::{Condition, Op, Register};
 use gb_vals::branch::side;
 
 /// The core on each side of an instruction, where that side is possible.
-#[derive(Clone, Copy, Debug, PartialEq, Eq)]
+#[derive(Clone, Copy, PartialEq, Eq)]
 pub struct Sides {
     pub taken: Option<Core>,
     pub not_taken: Option<Core>,

@@ -11,7 +11,7 @@ use gb_effects::arithmetic::displaced;
 use gb_ops::op::{Op, Pair};
 
 /// Where an instruction goes on.
-#[derive(Clone, Copy, Debug, PartialEq, Eq)]
+#[derive(Clone, Copy, PartialEq, Eq)]
 pub enum Target {
     /// At this address.
     At(u16),

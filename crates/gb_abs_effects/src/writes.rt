@@ -12,7 +12,7 @@ use gb_ops::op::Operand;
 use gb_vals::outcome::Outcome;
 
 /// What an instruction writes.
-#[derive(Clone, Copy, Debug, PartialEq, Eq)]
+#[derive(Clone, Copy, PartialEq, Eq)]
 pub enum AbsWrite {
     Nothing,
     /// One byte at one of these addresses.
@@ -24,7 +24,7 @@ pub enum AbsWrite {
 }
 
 /// The effect of an instruction on a core: what is left of it, and what is written.
-#[derive(Clone, Copy, Debug, PartialEq, Eq)]
+#[derive(Clone, Copy, PartialEq, Eq)]
 pub struct AbsEffect {
     pub core: Core,
     pub write: AbsWrite,

@@ -15,7 +15,7 @@ use gb_header::Rom;
 use gb_ops::machine::{Kind, Region};
 
 /// Where a store may lie.
-#[derive(Clone, Copy, Debug, PartialEq, Eq)]
+#[derive(Clone, Copy, PartialEq, Eq)]
 pub enum Area {
     /// A window of the controller's, and the register that is written there.
     Controller(Option<ControllerRegister>),

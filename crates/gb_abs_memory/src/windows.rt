@@ -9,7 +9,7 @@ use gb_cert::types::{Ctl, May, Val};
 use gb_ops::machine::Kind;
 
 /// The registers of controllers that a store reaches. MBC5's bank has two windows.
-#[derive(Clone, Copy, Debug, PartialEq, Eq)]
+#[derive(Clone, Copy, PartialEq, Eq)]
 pub enum ControllerRegister {
     Gate,
     /// The whole bank of MBC1 and MBC3.
@@ -23,7 +23,7 @@ pub enum ControllerRegister {
 }
 
 /// Addresses where all stores reach one register, or none.
-#[derive(Clone, Copy, Debug, PartialEq, Eq)]
+#[derive(Clone, Copy, PartialEq, Eq)]
 pub struct Window {
     pub first: u16,
     pub last: u16,

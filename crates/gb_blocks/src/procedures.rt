@@ -59,7 +59,7 @@ pub fn exit_of(cert: &Cert<'_>, procedure: u8) -> Option<Abs>
 // ---- callees
 
 /// The procedures that the successors of an instruction call. Each is looked up once.
-#[derive(Clone, Copy, Debug, PartialEq, Eq)]
+#[derive(Clone, Copy, PartialEq, Eq)]
 pub(crate) struct Callees {
     pub taken: Option<u8>,
     pub not_taken: Option<u8>,

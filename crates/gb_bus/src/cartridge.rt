@@ -9,7 +9,7 @@ use crate::memory::Memory;
 use gb_mbc::{ClockRegister, Mapper};
 
 /// What the gate and the controller's registers show at A000-BFFF.
-#[derive(Clone, Copy, Debug, PartialEq, Eq)]
+#[derive(Clone, Copy, PartialEq, Eq)]
 pub enum Behind {
     /// A bank of the cartridge's RAM.
     Ram(u8),

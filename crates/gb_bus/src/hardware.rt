@@ -7,7 +7,7 @@ use gb_ppu::registers::LcdRegister;
 
 /// The I/O registers that the console has, but for the picture's and for FF46, which the memory map
 /// has apart.
-#[derive(Clone, Copy, Debug, PartialEq, Eq)]
+#[derive(Clone, Copy, PartialEq, Eq)]
 pub enum IoRegister {
     /// FF00, JOYP.
     Joypad,
@@ -24,7 +24,7 @@ pub enum IoRegister {
 }
 
 /// What stands at an address from 8000 to 9FFF or from FE00 to FF7F.
-#[derive(Clone, Copy, Debug, PartialEq, Eq)]
+#[derive(Clone, Copy, PartialEq, Eq)]
 pub enum Hardware {
     /// A byte of video RAM, by its index.
     VideoRam(u16),

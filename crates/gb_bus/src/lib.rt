@@ -27,7 +27,7 @@ use gb_ops::machine::Place;
 pub use memory::Memory;
 
 /// A byte that was read, and whether it was free: whether the bus may give any byte there.
-#[derive(Clone, Copy, Debug, PartialEq, Eq)]
+#[derive(Clone, Copy, PartialEq, Eq)]
 pub struct Taken {
     pub byte: u8,
     pub is_free: bool,

@@ -18,7 +18,7 @@ pub const ITEMS: usize = 16;
 pub const RANGES: usize = 8;
 
 /// What a value may be a copy of: what one of these held as the procedure was entered.
-#[derive(Clone, Copy, Debug, PartialEq, Eq)]
+#[derive(Clone, Copy, PartialEq, Eq)]
 pub enum Origin {
     Register(Register),
     F,
@@ -26,7 +26,7 @@ pub enum Origin {
 }
 
 /// An interval of bytes, both ends included, and what its value is a copy of.
-#[derive(Clone, Copy, Debug, PartialEq, Eq)]
+#[derive(Clone, Copy, PartialEq, Eq)]
 pub struct Val {
     pub lo: u8,
     pub hi: u8,
@@ -34,14 +34,14 @@ pub struct Val {
 }
 
 /// What a bit may be.
-#[derive(Clone, Copy, Debug, PartialEq, Eq)]
+#[derive(Clone, Copy, PartialEq, Eq)]
 pub struct May {
     pub clear: bool,
     pub set: bool,
 }
 
 /// What each flag may be, and whether F is what it was as the procedure was entered.
-#[derive(Clone, Copy, Debug, PartialEq, Eq)]
+#[derive(Clone, Copy, PartialEq, Eq)]
 pub struct Flg {
     pub zero: May,
     pub subtract: May,
@@ -51,7 +51,7 @@ pub struct Flg {
 }
 
 /// What the interrupt master enable may be.
-#[derive(Clone, Copy, Debug, PartialEq, Eq)]
+#[derive(Clone, Copy, PartialEq, Eq)]
 pub struct ImeSet {
     pub off: bool,
     pub pending: bool,
@@ -60,7 +60,7 @@ pub struct ImeSet {
 
 /// What the controller's registers may be, and whether they are what they were as the procedure
 /// was entered.
-#[derive(Clone, Copy, Debug, PartialEq, Eq)]
+#[derive(Clone, Copy, PartialEq, Eq)]
 pub struct Ctl {
     pub bank_lo: u16,
     pub bank_hi: u16,
@@ -72,14 +72,14 @@ pub struct Ctl {
 }
 
 /// A word that was pushed.
-#[derive(Clone, Copy, Debug, PartialEq, Eq)]
+#[derive(Clone, Copy, PartialEq, Eq)]
 pub struct Item {
     pub high: Val,
     pub low: Val,
 }
 
 /// What a byte of work RAM or high RAM may be.
-#[derive(Clone, Copy, Debug, PartialEq, Eq)]
+#[derive(Clone, Copy, PartialEq, Eq)]
 pub struct Cell {
     pub address: u16,
     pub val: Val,
@@ -119,7 +119,7 @@ impl Default for Cell {
 }
 
 /// The parts of an abstract state but for its stack items and memory cells.
-#[derive(Clone, Copy, Debug, PartialEq, Eq)]
+#[derive(Clone, Copy, PartialEq, Eq)]
 pub struct Core {
     pub ime: ImeSet,
     /// The most that the transfer count may be: 0 to 161.
@@ -135,7 +135,7 @@ pub struct Core {
 }
 
 /// A range of addresses that a procedure may write, its last address included.
-#[derive(Clone, Copy, Debug, PartialEq, Eq)]
+#[derive(Clone, Copy, PartialEq, Eq)]
 pub struct Range {
     pub first: u16,
     pub last: u16,

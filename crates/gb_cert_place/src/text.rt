@@ -76,8 +76,13 @@ fn field_name(field: Field) -> &'static str {
         Field::CellCount => "number of cells",
         Field::Entries => "entry nodes of all procedures",
         Field::LeftOver => "left-over bytes",
-        // All others are printed with their numbers.
-        _ => "?",
+        // These are printed with their numbers.
+        Field::RangeFirst(_)
+        | Field::RangeLast(_)
+        | Field::ValueLeast(_)
+        | Field::ValueGreatest(_)
+        | Field::ValueOrigin(_)
+        | Field::CellAddress(_) => "",
     }
 }
 

@@ -13,7 +13,7 @@ use gb_ppu::picture::FRAME_CYCLES;
 use gb_timer::irqs::Keys;
 
 /// How a frame ended.
-#[derive(Clone, Copy, Debug, PartialEq, Eq)]
+#[derive(Clone, Copy, PartialEq, Eq)]
 pub enum Ending {
     /// The M-cycles since power-up reached or passed a multiple of 17,556.
     Whole,

@@ -6,7 +6,7 @@ use crate::console::Console;
 use gb_timer::irqs::Keys;
 
 /// What one step takes.
-#[derive(Clone, Copy, Debug, PartialEq, Eq)]
+#[derive(Clone, Copy, PartialEq, Eq)]
 pub struct Input {
     /// The keys that are held from now on.
     pub keys: Keys,

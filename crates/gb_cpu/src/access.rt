@@ -70,7 +70,7 @@ fn queue_two(taken: Taken, free: [u8; 2]) -> [u8; 2]
 }
 
 /// The bytes of an instruction, and those of them that were free, in order.
-#[derive(Clone, Copy, Debug)]
+#[derive(Clone, Copy)]
 pub struct Fetched {
     pub bytes: [u8; 3],
     pub free: [u8; 3],
@@ -97,7 +97,7 @@ pub fn fetch<B: Bus>(bus: &mut B, processor: Processor) -> Fetched
 }
 
 /// What an instruction read, and the bytes of it that were free, in order.
-#[derive(Clone, Copy, Debug)]
+#[derive(Clone, Copy)]
 pub struct Answer {
     pub loaded: Loaded,
     pub free: [u8; 2],

@@ -20,7 +20,7 @@ use gb_ops::op::Row;
 use gb_ops::registers::{Ime, Processor};
 
 /// The free bytes that an instruction read, and its M-cycles.
-#[derive(Clone, Copy, Debug)]
+#[derive(Clone, Copy)]
 pub(crate) struct Executed {
     pub(crate) reads: [u8; 2],
     pub(crate) cycles: u8,
@@ -47,7 +47,7 @@ fn execute<B: Bus>(processor: &mut Processor, bus: &mut B, row: Row) -> Executed
 }
 
 /// An event that happened, and its M-cycles.
-#[derive(Clone, Copy, Debug)]
+#[derive(Clone, Copy)]
 pub struct Stepped {
     pub event: Event,
     pub cycles: u8,
@@ -60,7 +60,7 @@ fn answer(event: Event, cycles: u8) -> Stepped
 }
 
 /// The processor.
-#[derive(Clone, Copy, Debug)]
+#[derive(Clone, Copy)]
 pub struct Cpu {
     pub processor: Processor,
     /// A HALT was executed, and no interrupt has ended it.
@@ -134,7 +134,7 @@ fn leave_mark<B: Bus>(processor: Processor, bus: &mut B) -> Processor
 }
 
 /// Which special case of HALT it is where an enabled interrupt is requested.
-#[derive(Clone, Copy, Debug)]
+#[derive(Clone, Copy)]
 enum Special {
     Stay,
     Bug,

@@ -11,7 +11,7 @@ use std::marker::Model;
 const STARTED: u8 = 161;
 
 /// The M-cycles that an OAM transfer still limits the processor (Pan Docs: OAM DMA Transfer; the count itself is this project's own).
-#[derive(Debug, Drop)]
+#[derive(Drop)]
 pub struct Transfer {
     left: u8,
 }

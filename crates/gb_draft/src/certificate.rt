@@ -25,22 +25,68 @@ struct Standing {
 /// has more than 65,535 nodes.
 pub fn certificate_of(alloc: Global, run: &Run<'_>) -> Result<Vec<u8>, AllocError> {
     let procedures = order(alloc, run)?;
-    let nodes = standings(alloc, run, procedures.as_slice())?;
+    certificate_in_order(alloc, run, procedures.as_slice())
+}
+
+fn certificate_in_order(
+    alloc: Global,
+    run: &Run<'_>,
+    procedures: &[usize],
+) -> Result<Vec<u8>, AllocError> {
+    let nodes = standings(alloc, run, procedures)?;
     let places = places(alloc, run, nodes.as_slice())?;
-    let version = if nodes.len() > VERSION_1 { 2 } else { 1 };
-    let mut writing = Writing::new(alloc, version);
-    writing.head(run.configuration.region, procedures.len(), nodes.len())?;
-    for number in &procedures {
-        if let Some(procedure) = run.procedures.get(*number) {
-            write_procedure(&mut writing, procedure, places.as_slice())?;
-        }
+    let parts = Parts {
+        run,
+        procedures,
+        nodes: nodes.as_slice(),
+        places: places.as_slice(),
+    };
+    parts.bytes(alloc)
+}
+
+/// What a certificate is written from.
+#[derive(Drop)]
+struct Parts<'a, 'r> {
+    run: &'a Run<'r>,
+    /// The numbers of the procedures, in its order.
+    procedures: &'a [usize],
+    nodes: &'a [Standing],
+    /// For each node of the run its number in the certificate.
+    places: &'a [usize],
+}
+
+impl Parts<'_, '_> {
+    fn bytes(&self, alloc: Global) -> Result<Vec<u8>, AllocError> {
+        let version = if self.nodes.len() > VERSION_1 { 2 } else { 1 };
+        let mut writing = Writing::new(alloc, version);
+        self.write(&mut writing)?;
+        Ok(writing.into_bytes())
     }
-    for standing in &nodes {
-        if let Some(node) = run.nodes.get(standing.node) {
-            write_node(run, &mut writing, standing.procedure, node)?;
-        }
+
+    fn write(&self, writing: &mut Writing) -> Result<(), AllocError> {
+        let region = self.run.configuration.region;
+        writing.head(region, self.procedures.len(), self.nodes.len())?;
+        self.write_procedures(writing)?;
+        self.write_nodes(writing)
     }
-    Ok(writing.into_bytes())
+
+    fn write_procedures(&self, writing: &mut Writing) -> Result<(), AllocError> {
+        for number in self.procedures {
+            if let Some(procedure) = self.run.procedures.get(*number) {
+                write_procedure(writing, procedure, self.places)?;
+            }
+        }
+        Ok(())
+    }
+
+    fn write_nodes(&self, writing: &mut Writing) -> Result<(), AllocError> {
+        for standing in self.nodes {
+            if let Some(node) = self.run.nodes.get(standing.node) {
+                write_node(self.run, writing, standing.procedure, node)?;
+            }
+        }
+        Ok(())
+    }
 }
 
 /// The nodes that a certificate needs, in its order, by the order of procedures.
@@ -48,6 +94,18 @@ fn standings(alloc: Global, run: &Run<'_>, order: &[usize]) -> Result<Vec<Standi
     let numbers = numbers(alloc, run, order)?;
     let spare = spare_nodes(alloc, run)?;
     let mut standings = Vec::new(alloc);
+    add_standings(run, numbers.as_slice(), spare.as_slice(), &mut standings)?;
+    standings.sort()?;
+    Ok(standings)
+}
+
+/// Adds the nodes that aren't spare, by the numbers of their procedures in a certificate.
+fn add_standings(
+    run: &Run<'_>,
+    numbers: &[usize],
+    spare: &[bool],
+    standings: &mut Vec<Standing>,
+) -> Result<(), AllocError> {
     for (number, node) in run.nodes.iter().enumerate() {
         if spare.get(number) == Some(&true) {
             continue;
@@ -60,8 +118,7 @@ fn standings(alloc: Global, run: &Run<'_>, order: &[usize]) -> Result<Vec<Standi
             })?;
         }
     }
-    standings.sort()?;
-    Ok(standings)
+    Ok(())
 }
 
 /// For each procedure its number in a certificate.
@@ -91,15 +148,20 @@ fn spare_nodes(alloc: Global, run: &Run<'_>) -> Result<Vec<bool>, AllocError> {
     let mut spare = vec![in alloc; false; run.nodes.len()]?;
     for nodes in run.at.values() {
         if nodes.len() > 1 && nodes.len() <= COMPARED {
-            for number in nodes {
-                let is_spare = is_spare(run, *number, nodes.as_slice(), spare.as_slice());
-                if let Some(mark) = spare.get_mut(*number) {
-                    *mark = is_spare;
-                }
-            }
+            mark_spare(run, nodes.as_slice(), spare.as_mut_slice());
         }
     }
     Ok(spare)
+}
+
+/// Marks the nodes of an address that are spare.
+fn mark_spare(run: &Run<'_>, nodes: &[usize], spare: &mut [bool]) {
+    for number in nodes {
+        let is_spare = is_spare(run, *number, nodes, spare);
+        if let Some(mark) = spare.get_mut(*number) {
+            *mark = is_spare;
+        }
+    }
 }
 
 /// Whether one of the nodes of its address stands for all that a node does. Of two that stand for the same the
@@ -111,12 +173,16 @@ fn is_spare(run: &Run<'_>, number: usize, nodes: &[usize], spare: &[bool]) -> bo
     if node.key.is_entry {
         return false;
     }
-    nodes.iter().any(|other| {
-        *other != number
+    for other in nodes {
+        if *other != number
             && spare.get(*other) != Some(&true)
             && stands_for(run, *other, node)
             && (*other < number || !is_above(run, node, *other))
-    })
+        {
+            return true;
+        }
+    }
+    false
 }
 
 /// Whether a node stands for all that another one does.

@@ -2,7 +2,7 @@
 
 use gb_fixpoint::types::{Call, Run};
 use std::alloc::{AllocError, Global};
-use std::collections::BTreeMap;
+use std::collections::{BTreeMap, BTreeSet};
 
 /// The most procedures of a certificate.
 const PROCEDURES: usize = 255;
@@ -26,16 +26,27 @@ pub fn find_needs(alloc: Global, run: &mut Run<'_>) -> Result<Option<usize>, All
 fn held_at_calls(alloc: Global, run: &Run<'_>) -> Result<Held, AllocError> {
     let mut held = BTreeMap::new(alloc);
     for (callee, procedure) in run.procedures.iter().enumerate() {
-        for site in &procedure.sites {
-            if let Some(node) = run.nodes.get(*site) {
-                let caller = node.key.procedure;
-                let words = node.state.items().len();
-                let most = held.entry(Call { caller, callee })?.or_insert(0);
-                *most = words.max(*most);
-            }
-        }
+        add_held(run, callee, &procedure.sites, &mut held)?;
     }
     Ok(held)
+}
+
+/// The words that the sites of a procedure hold.
+fn add_held(
+    run: &Run<'_>,
+    callee: usize,
+    sites: &BTreeSet<usize>,
+    held: &mut Held,
+) -> Result<(), AllocError> {
+    for site in sites {
+        if let Some(node) = run.nodes.get(*site) {
+            let caller = node.key.procedure;
+            let words = node.state.items().len();
+            let most = held.entry(Call { caller, callee })?.or_insert(0);
+            *most = words.max(*most);
+        }
+    }
+    Ok(())
 }
 
 /// Each procedure needs the words that its own nodes hold.

@@ -2,7 +2,7 @@
 //! each call must find its own one before others.
 
 use gb_abs::covering::covers;
-use gb_cert::types::{Abs, Core, ImeSet, Val};
+use gb_cert::types::{Abs, CELLS, Core, ImeSet, Val};
 use gb_fixpoint::entries::Entered;
 use gb_fixpoint::types::Run;
 use gb_partition::register_set::REGISTERS;
@@ -15,6 +15,16 @@ struct Precedence {
     before: usize,
     after: usize,
 }
+
+/// A procedure, and how much its first node leaves open.
+#[derive(Clone, Copy, PartialEq, Eq, PartialOrd, Ord)]
+struct Ranked {
+    width: usize,
+    number: usize,
+}
+
+/// By target, the numbers of the procedures that begin there.
+type Entries = BTreeMap<u16, Vec<usize>>;
 
 /// How many values there are beside the first.
 fn width(val: &Val) -> usize {
@@ -46,90 +56,148 @@ fn core_width(core: &Core) -> usize {
     sum
 }
 
+/// How much a state leaves open, memory cells last.
+fn state_width(state: &Abs) -> usize {
+    let unknown = CELLS.saturating_sub(state.cells().len());
+    core_width(state.core())
+        .saturating_mul(64)
+        .saturating_add(unknown)
+}
+
 /// The numbers of the procedures in the order of a certificate: main, then narrow ones first, but none before one
 /// that has to precede it.
 pub(crate) fn order(alloc: Global, run: &Run<'_>) -> Result<Vec<usize>, AllocError> {
     let mut open = by_width(alloc, run)?;
     let mut precedences = precedences(alloc, run)?;
     let mut order = vec![in alloc; 0]?;
-    for _ in 1..run.procedures.len() {
-        let Some(next) = next_of(open.as_slice(), &precedences) else {
-            return Ok(order);
+    add_in_order(
+        run.procedures.len(),
+        &mut open,
+        &mut precedences,
+        &mut order,
+    )?;
+    Ok(order)
+}
+
+/// Takes open procedures one after another, until there are as many as the run has.
+fn add_in_order(
+    count: usize,
+    open: &mut Vec<usize>,
+    precedences: &mut BTreeSet<Precedence>,
+    order: &mut Vec<usize>,
+) -> Result<(), AllocError> {
+    for _ in 1..count {
+        let Some(next) = next_of(open.as_slice(), precedences) else {
+            return Ok(());
         };
         open.retain(|procedure| *procedure != next);
         precedences.retain(|precedence| precedence.before != next);
         order.push(next)?;
     }
-    Ok(order)
+    Ok(())
 }
 
 /// All procedures but main, narrow ones first.
 fn by_width(alloc: Global, run: &Run<'_>) -> Result<Vec<usize>, AllocError> {
-    let mut widths = Vec::new(alloc);
+    let mut entered = Vec::new(alloc);
+    add_widths(run, &mut entered)?;
+    entered.sort()?;
+    entered
+        .iter()
+        .map(|procedure| procedure.number)
+        .collect(alloc)
+}
+
+fn add_widths(run: &Run<'_>, entered: &mut Vec<Ranked>) -> Result<(), AllocError> {
     for (number, procedure) in run.procedures.iter().enumerate() {
-        if number == 0 {
-            continue;
-        }
-        let Some(entry) = procedure.entry else {
-            continue;
-        };
-        if let Some(node) = run.nodes.get(entry) {
-            let unknown = 32usize.saturating_sub(node.state.cells().len());
-            let all = core_width(node.state.core()).saturating_mul(64);
-            widths.push((all.saturating_add(unknown), number))?;
+        if number != 0
+            && let Some(entry) = procedure.entry
+            && let Some(node) = run.nodes.get(entry)
+        {
+            entered.push(Ranked {
+                width: state_width(&node.state),
+                number,
+            })?;
         }
     }
-    widths.sort()?;
-    widths.iter().map(|pair| pair.1).collect(alloc)
+    Ok(())
 }
 
 /// Which procedures have to come before which others.
 fn precedences(alloc: Global, run: &Run<'_>) -> Result<BTreeSet<Precedence>, AllocError> {
     let entries = entries(alloc, run)?;
+    let sites = sites(alloc, run)?;
     let mut precedences = BTreeSet::new(alloc);
+    for site in &sites {
+        add_at_site(run, &entries, *site, &mut precedences)?;
+    }
+    Ok(precedences)
+}
+
+/// The nodes that enter procedures.
+fn sites(alloc: Global, run: &Run<'_>) -> Result<BTreeSet<usize>, AllocError> {
     let mut sites = BTreeSet::new(alloc);
     for procedure in &run.procedures {
         for site in &procedure.sites {
             sites.insert(*site)?;
         }
     }
-    for site in &sites {
-        for entered in &run.entered_from(*site)? {
-            add_precedences(run, &entries, entered, &mut precedences)?;
-        }
-    }
-    Ok(precedences)
+    Ok(sites)
 }
 
 /// By target, the procedures that begin there.
-fn entries(alloc: Global, run: &Run<'_>) -> Result<BTreeMap<u16, Vec<usize>>, AllocError> {
-    let mut entries: BTreeMap<u16, Vec<usize>> = BTreeMap::new(alloc);
+fn entries(alloc: Global, run: &Run<'_>) -> Result<Entries, AllocError> {
+    let mut entries = BTreeMap::new(alloc);
     for (number, procedure) in run.procedures.iter().enumerate() {
         if number != 0 {
-            entries
-                .entry(procedure.key.target)?
-                .or_default()
-                .push(number)?;
+            add_entry(&mut entries, procedure.key.target, number)?;
         }
     }
     Ok(entries)
 }
 
-/// The other procedures of the target that cover what is entered have to come behind its own.
-fn add_precedences(
+fn add_entry(entries: &mut Entries, target: u16, number: usize) -> Result<(), AllocError> {
+    entries.entry(target)?.or_default().push(number)?;
+    Ok(())
+}
+
+/// What comes before what, by all that a node enters.
+fn add_at_site(
     run: &Run<'_>,
-    entries: &BTreeMap<u16, Vec<usize>>,
-    entered: &Entered,
+    entries: &Entries,
+    site: usize,
     precedences: &mut BTreeSet<Precedence>,
 ) -> Result<(), AllocError> {
-    let Some(before) = run.own_procedure(entered) else {
-        return Ok(());
-    };
-    let Some(others) = entries.get(&entered.target) else {
-        return Ok(());
-    };
+    let all = run.entered_from(site)?;
+    add_of_all(run, entries, all.as_slice(), precedences)
+}
+
+fn add_of_all(
+    run: &Run<'_>,
+    entries: &Entries,
+    all: &[Entered],
+    precedences: &mut BTreeSet<Precedence>,
+) -> Result<(), AllocError> {
+    for entered in all {
+        if let Some(before) = run.own_procedure(entered)
+            && let Some(others) = entries.get(&entered.target)
+        {
+            add_others(run, before, others.as_slice(), &entered.state, precedences)?;
+        }
+    }
+    Ok(())
+}
+
+/// The other procedures of a target that cover what is entered have to come behind its own.
+fn add_others(
+    run: &Run<'_>,
+    before: usize,
+    others: &[usize],
+    state: &Abs,
+    precedences: &mut BTreeSet<Precedence>,
+) -> Result<(), AllocError> {
     for after in others {
-        if *after != before && covers_entry(run, *after, &entered.state) {
+        if *after != before && covers_entry(run, *after, state) {
             precedences.insert(Precedence {
                 before,
                 after: *after,
@@ -156,12 +224,19 @@ fn covers_entry(run: &Run<'_>, procedure: usize, state: &Abs) -> bool {
 /// The first procedure that none of the others has to precede; where each has one, the first.
 fn next_of(open: &[usize], precedences: &BTreeSet<Precedence>) -> Option<usize> {
     for procedure in open {
-        if !precedences
-            .iter()
-            .any(|precedence| precedence.after == *procedure)
-        {
+        if !has_to_wait(*procedure, precedences) {
             return Some(*procedure);
         }
     }
     open.first().copied()
+}
+
+/// Whether another procedure has to precede one.
+fn has_to_wait(procedure: usize, precedences: &BTreeSet<Precedence>) -> bool {
+    for precedence in precedences {
+        if precedence.after == procedure {
+            return true;
+        }
+    }
+    false
 }

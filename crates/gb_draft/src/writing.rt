@@ -3,6 +3,8 @@
 use gb_cert::types::{Abs, Cell, Core, Ctl, Flg, ImeSet, Item, May, Origin, Range, Val};
 use gb_ops::machine::Region;
 use gb_ops::op::Register;
+use gb_ops::registers::Registers;
+use gb_partition::register_set::REGISTERS;
 use std::alloc::{AllocError, Global};
 
 /// The beginning of a certificate's bytes.
@@ -47,6 +49,13 @@ fn flag_bits(flags: &Flg) -> u8 {
         + 4 * u8::from(flags.subtract.clear)
         + 2 * u8::from(flags.half_carry.clear)
         + u8::from(flags.carry.clear)
+}
+
+fn test_bytes(test: Option<u8>) -> [u8; 2] {
+    match test {
+        None => [0, 0],
+        Some(value) => [1, value],
+    }
 }
 
 impl Writing {
@@ -97,8 +106,7 @@ impl Writing {
     ) -> Result<(), AllocError> {
         self.bytes.extend_from_slice(b"GBBC")?;
         self.byte(self.version)?;
-        self.word(region.first)?;
-        self.word(region.last)?;
+        self.ends(region.first, region.last)?;
         self.count(procedures)?;
         self.node_number(nodes)
     }
@@ -106,10 +114,15 @@ impl Writing {
     pub fn ranges(&mut self, ranges: &[Range]) -> Result<(), AllocError> {
         self.count(ranges.len())?;
         for range in ranges {
-            self.word(range.first)?;
-            self.word(range.last)?;
+            self.ends(range.first, range.last)?;
         }
         Ok(())
+    }
+
+    /// The first and the last of some addresses.
+    fn ends(&mut self, first: u16, last: u16) -> Result<(), AllocError> {
+        self.word(first)?;
+        self.word(last)
     }
 
     /// In what state a procedure returns, if it does.
@@ -134,41 +147,36 @@ impl Writing {
             .extend_from_slice(&[val.lo, val.hi, origin_number(val.origin)])
     }
 
-    fn test(&mut self, test: Option<u8>) -> Result<(), AllocError> {
-        let bytes = match test {
-            None => [0, 0],
-            Some(value) => [1, value],
-        };
-        self.bytes.extend_from_slice(&bytes)
+    fn controller(&mut self, ctl: &Ctl) -> Result<(), AllocError> {
+        self.ends(ctl.bank_lo, ctl.bank_hi)?;
+        self.bytes.extend_from_slice(&[
+            ctl.second_lo,
+            ctl.second_hi,
+            may_bits(ctl.gate),
+            may_bits(ctl.mode),
+            u8::from(ctl.is_kept),
+        ])
     }
 
-    fn controller(&mut self, ctl: &Ctl) -> Result<(), AllocError> {
-        self.word(ctl.bank_lo)?;
-        self.word(ctl.bank_hi)?;
-        self.byte(ctl.second_lo)?;
-        self.byte(ctl.second_hi)?;
-        self.byte(may_bits(ctl.gate))?;
-        self.byte(may_bits(ctl.mode))?;
-        self.byte(u8::from(ctl.is_kept))
+    fn flags(&mut self, flags: &Flg) -> Result<(), AllocError> {
+        let own = if flags.is_own { 2 } else { 0 };
+        self.bytes.extend_from_slice(&[flag_bits(flags), own])
+    }
+
+    fn registers(&mut self, registers: &Registers<Val>) -> Result<(), AllocError> {
+        for register in &REGISTERS {
+            self.val(&registers.get(*register))?;
+        }
+        Ok(())
     }
 
     fn core(&mut self, core: &Core) -> Result<(), AllocError> {
-        self.byte(ime_bits(core.ime))?;
-        self.byte(core.bound)?;
-        self.byte(u8::from(core.stack_set))?;
-        self.test(core.test)?;
+        self.bytes.extend_from_slice(&[ime_bits(core.ime), core.bound, u8::from(core.stack_set)])?;
+        self.bytes.extend_from_slice(&test_bytes(core.test))?;
         self.controller(&core.ctl)?;
-        self.byte(flag_bits(&core.flags))?;
-        self.byte(if core.flags.is_own { 2 } else { 0 })?;
+        self.flags(&core.flags)?;
         self.val(&core.ie)?;
-        let registers = &core.registers;
-        self.val(&registers.a)?;
-        self.val(&registers.b)?;
-        self.val(&registers.c)?;
-        self.val(&registers.d)?;
-        self.val(&registers.e)?;
-        self.val(&registers.h)?;
-        self.val(&registers.l)
+        self.registers(&core.registers)
     }
 
     fn items(&mut self, items: &[Item]) -> Result<(), AllocError> {

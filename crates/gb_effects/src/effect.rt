@@ -94,7 +94,7 @@ pub fn read_of(op: Op, processor: Processor) -> Read
 }
 
 /// What an instruction leaves to be done, as it has changed the processor.
-#[derive(Clone, Copy, Debug, PartialEq, Eq)]
+#[derive(Clone, Copy, PartialEq, Eq)]
 pub struct Outcome {
     pub write: Write,
     /// Whether its condition is met; an instruction without one is taken.

@@ -47,28 +47,33 @@ fn lines_of_both_versions(rt: HostRuntime) -> Result<(), Fail> {
     Ok(())
 }
 
+/// Whether these bytes come out as those, so many with each put.
+fn upgrades(alloc: Global, bytes: &[u8], whole: &[u8], at_once: usize) -> bool {
+    let mut out = KeptBytes::new(at_once, 1_000);
+    upgrade_bytes(alloc, bytes, &mut out) == Ok(Upgraded::Written) && out.kept() == whole
+}
+
 /// Numbers of nodes take four bytes, and all else stays; a certificate of version 2 comes out as it is.
 #[test]
 fn is_written_in_version_2(rt: HostRuntime) {
     let second = least_in_version_2();
-    let mut out = KeptBytes::new(7, 1_000);
-    let upgraded = upgrade_bytes(rt.alloc(), &least(), &mut out);
-    assert_eq!(rt; upgraded, Ok(Upgraded::Written));
-    assert_eq!(rt; out.kept(), second.as_slice());
-    let mut out = KeptBytes::new(1_000, 1_000);
-    let upgraded = upgrade_bytes(rt.alloc(), &second, &mut out);
-    assert_eq!(rt; upgraded, Ok(Upgraded::Written));
-    assert_eq!(rt; out.kept(), second.as_slice());
-    let mut out = KeptBytes::new(1_000, 1_000);
+    assert!(rt; upgrades(rt.alloc(), &least(), &second, 7));
+    assert!(rt; upgrades(rt.alloc(), &second, &second, 1_000));
+}
+
+/// A certificate of two procedures: its front in version 2.
+const FRONT: &[u8] = &[
+    0x47, 0x42, 0x42, 0x43, 0x02, 0x00, 0xDF, 0xFF, 0xDF, 0x02, 0x02, 0x00, 0x00, 0x00, 0x00, 0x00,
+    0x00, 0x00, 0x80, 0x00, 0x00, 0x00, 0x01, 0x00, 0x00, 0x00,
+];
+
+#[test]
+fn each_procedure_has_longer_numbers(rt: HostRuntime) {
     let two = two_procedures();
-    let upgraded = upgrade_bytes(rt.alloc(), &two, &mut out);
-    assert_eq!(rt; upgraded, Ok(Upgraded::Written));
-    let front = [
-        0x47, 0x42, 0x42, 0x43, 0x02, 0x00, 0xDF, 0xFF, 0xDF, 0x02, 0x02, 0x00, 0x00, 0x00, 0x00,
-        0x00, 0x00, 0x00, 0x80, 0x00, 0x00, 0x00, 0x01, 0x00, 0x00, 0x00,
-    ];
-    assert_eq!(rt; out.kept().get(..26), Some(front.as_slice()));
-    assert_eq!(rt; out.kept().get(26..), Some(&two[20..]));
+    let mut out = KeptBytes::new(1_000, 1_000);
+    assert!(rt; upgrade_bytes(rt.alloc(), &two, &mut out) == Ok(Upgraded::Written));
+    assert!(rt; out.kept().get(..26) == Some(FRONT));
+    assert!(rt; out.kept().get(26..) == Some(&two[20..]));
 }
 
 /// Whether the fault of these bytes is what `verify`, `show` and `upgrade` write, and what they answer.
@@ -90,8 +95,8 @@ fn version_2_is_accepted(rt: HostRuntime) {
     let mut out = KeptBytes::new(96, 96);
     let rom = small(PLAIN, LOOP);
     let outcome = verify_bytes(rt.alloc(), &rom, &least_in_version_2(), &mut out);
-    assert_eq!(rt; outcome, Ok(Outcome::Accepted));
-    assert_eq!(rt; out.kept(), b"ACCEPTED nodes 3 procedures 1\n".as_slice());
+    assert!(rt; outcome == Ok(Outcome::Accepted));
+    assert!(rt; out.kept() == b"ACCEPTED nodes 3 procedures 1\n".as_slice());
 }
 
 #[test]
@@ -127,50 +132,70 @@ fn faults_of_version_2(rt: HostRuntime) {
     assert!(rt; has_fault(rt.alloc(), &head, CertFault::CutShort, b"CERTIFICATE C1\n"));
 }
 
+/// Whether a sink that takes so many bytes has the beginning of what `show` writes, and both know of its fault.
+fn shows_beginning(alloc: Global, bytes: &[u8], whole: &[u8], most: usize) -> bool {
+    let mut out = KeptBytes::new(7, most);
+    let shown = show_bytes(alloc, bytes, &mut out);
+    shown == Err(OutFault) && Some(out.kept()) == whole.get(..most) && out.failed()
+}
+
+/// The same of `upgrade`.
+fn upgrades_beginning(alloc: Global, bytes: &[u8], whole: &[u8], most: usize) -> bool {
+    let mut out = KeptBytes::new(7, most);
+    let upgraded = upgrade_bytes(alloc, bytes, &mut out);
+    upgraded == Err(OutFault) && Some(out.kept()) == whole.get(..most) && out.failed()
+}
+
 #[test]
 fn a_sink_that_fails_has_a_beginning(rt: HostRuntime) {
     let first = least();
     let second = least_in_version_2();
     for most in 0..LEAST.len() {
-        let mut out = KeptBytes::new(7, most);
-        let shown = show_bytes(rt.alloc(), &first, &mut out);
-        assert_eq!(rt; shown, Err(OutFault), "at {most}");
-        assert_eq!(rt; Some(out.kept()), LEAST.get(..most), "at {most}");
-        assert!(rt; out.failed());
+        assert!(rt;
+            shows_beginning(rt.alloc(), &first, LEAST, most),
+            "at {most}"
+        );
     }
     for most in 0..163 {
-        let mut out = KeptBytes::new(7, most);
-        let upgraded = upgrade_bytes(rt.alloc(), &first, &mut out);
-        assert_eq!(rt; upgraded, Err(OutFault), "at {most}");
-        assert_eq!(rt; Some(out.kept()), second.get(..most), "at {most}");
-        assert!(rt; out.failed());
+        assert!(rt;
+            upgrades_beginning(rt.alloc(), &first, &second, most),
+            "at {most}"
+        );
     }
+}
+
+/// The line of no certificate.
+const CUT_SHORT: &[u8] = b"CERTIFICATE C1\n";
+
+#[test]
+fn a_sink_that_fails_has_a_faults_beginning(rt: HostRuntime) {
     for most in 0..15 {
-        let mut out = KeptBytes::new(96, most);
-        assert_eq!(rt; show_bytes(rt.alloc(), &[], &mut out), Err(OutFault));
-        let mut out = KeptBytes::new(96, most);
-        assert_eq!(rt; upgrade_bytes(rt.alloc(), &[], &mut out), Err(OutFault));
-        assert_eq!(rt; Some(out.kept()), b"CERTIFICATE C1\n".get(..most));
+        assert!(rt;
+            shows_beginning(rt.alloc(), &[], CUT_SHORT, most),
+            "at {most}"
+        );
+        assert!(rt;
+            upgrades_beginning(rt.alloc(), &[], CUT_SHORT, most),
+            "at {most}"
+        );
     }
+}
+
+/// Whether a call wrote all, or wanted memory and said so.
+fn is_whole_or_refused(is_whole: bool, is_refused: bool, kept: &[u8], whole: &[u8]) -> bool {
+    is_whole && kept == whole || is_refused && kept == b"CERTIFICATE C9\n".as_slice()
 }
 
 /// Where an allocation is refused, the line says so and the answer too, and no other.
 #[test]
 fn is_written_or_wants_memory(rt: HostRuntime) {
     let mut out = KeptBytes::new(1_000, 1_000);
-    match show_bytes(rt.alloc(), &least(), &mut out) {
-        Ok(Some(CertFault::Memory)) => assert_eq!(rt; out.kept(), b"CERTIFICATE C9\n".as_slice()),
-        shown => {
-            assert_eq!(rt; shown, Ok(None));
-            assert_eq!(rt; out.kept(), LEAST);
-        }
-    }
+    let shown = show_bytes(rt.alloc(), &least(), &mut out);
+    let is_refused = shown == Ok(Some(CertFault::Memory));
+    assert!(rt; is_whole_or_refused(shown == Ok(None), is_refused, out.kept(), LEAST));
     let mut out = KeptBytes::new(1_000, 1_000);
-    match upgrade_bytes(rt.alloc(), &least(), &mut out) {
-        Ok(Upgraded::NoMemory) => assert_eq!(rt; out.kept(), b"CERTIFICATE C9\n".as_slice()),
-        upgraded => {
-            assert_eq!(rt; upgraded, Ok(Upgraded::Written));
-            assert_eq!(rt; out.kept(), least_in_version_2().as_slice());
-        }
-    }
+    let upgraded = upgrade_bytes(rt.alloc(), &least(), &mut out);
+    let is_whole = upgraded == Ok(Upgraded::Written);
+    let is_refused = upgraded == Ok(Upgraded::NoMemory);
+    assert!(rt; is_whole_or_refused(is_whole, is_refused, out.kept(), &least_in_version_2()));
 }

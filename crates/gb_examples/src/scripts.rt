@@ -133,10 +133,8 @@ fn a_sink_that_fails_has_a_beginning(rt: HostRuntime) -> Result<(), Fail> {
         assert!(rt; out.kept() == &whole[..most]);
     }
     let mut out = KeptBytes::new(7, 11_687);
-    assert_eq!(rt;
-        run(rt.alloc(), &bytes, &[], 1, &mut out)?,
-        Ok(Ending::Locked)
-    );
+    let ended = run(rt.alloc(), &bytes, &[], 1, &mut out)?;
+    assert!(rt; ended == Ok(Ending::Locked));
     assert!(rt; out.kept() == whole.as_slice());
     Ok(())
 }
@@ -184,32 +182,60 @@ fn progress_is_heard_of_each_frame(rt: HostRuntime) -> Result<(), Fail> {
     Ok(())
 }
 
-/// A checksum, a program, and what becomes of the file.
-const FILES: [(u8, &[u8], RunOutcome); 3] = [
-    (0xE7, LOOP, RunOutcome::Ended(Ending::Whole)),
-    (0xE7, &[0x10], RunOutcome::Ended(Ending::Stopped)),
-    (0xE6, LOOP, RunOutcome::NoCartridge(HeaderFault::Checksum)),
+/// A checksum, a program, what becomes of the file, and its line.
+type File = (u8, &'static [u8], RunOutcome, &'static [u8]);
+
+const FILES: [File; 3] = [
+    (
+        0xE7,
+        LOOP,
+        RunOutcome::Ended(Ending::Whole),
+        b"WHOLE frames 3\n",
+    ),
+    (
+        0xE7,
+        &[0x10],
+        RunOutcome::Ended(Ending::Stopped),
+        b"STOPPED frame 0 pc 0150\n",
+    ),
+    (
+        0xE6,
+        LOOP,
+        RunOutcome::NoCartridge(HeaderFault::Checksum),
+        b"CARTRIDGE H7\n",
+    ),
 ];
+
+/// What is written of a file: a screen and the line, or the line alone where nothing was run.
+fn text_of(alloc: Global, file: &File) -> Result<Vec<u8>, AllocError> {
+    let (_, _, outcome, line) = *file;
+    match outcome {
+        RunOutcome::Ended(_) => text(alloc, 0, b"", line),
+        _ => Vec::from_slice(alloc, line),
+    }
+}
+
+/// Whether a run of this file is this, and writes the beginning of its text, as much as there is room for.
+fn runs(
+    alloc: Global,
+    file: &File,
+    became: Result<RunOutcome, OutFault>,
+    most: usize,
+) -> Result<bool, Fail> {
+    let (checksum, program, _, _) = *file;
+    let mut bytes = small(PLAIN, program);
+    put(&mut bytes, 0x14D, &[checksum]);
+    let text = text_of(alloc, file)?;
+    let mut out = KeptBytes::new(4_000, most);
+    let ended = run_bytes(alloc, &bytes, &[], 3, &mut out, &mut at_rest());
+    Ok(ended == became && Some(out.kept()) == text.get(..most.min(text.len())))
+}
 
 #[test]
 fn a_file_is_run_or_its_fault_is_written(rt: HostRuntime) -> Result<(), Fail> {
-    for (checksum, program, outcome) in FILES {
-        let mut bytes = small(PLAIN, program);
-        put(&mut bytes, 0x14D, &[checksum]);
-        let mut out = room();
-        let became = run_bytes(rt.alloc(), &bytes, &[], 3, &mut out, &mut at_rest());
-        assert!(rt; became == Ok(outcome));
-        let expected = match outcome {
-            RunOutcome::Ended(Ending::Whole) => text(rt.alloc(), 0, b"", b"WHOLE frames 3\n")?,
-            RunOutcome::Ended(_) => text(rt.alloc(), 0, b"", b"STOPPED frame 0 pc 0150\n")?,
-            _ => Vec::from_slice(rt.alloc(), b"CARTRIDGE H7\n")?,
-        };
-        assert!(rt; out.kept() == expected.as_slice());
-        let mut out = KeptBytes::new(4_000, 10);
-        let became = run_bytes(rt.alloc(), &bytes, &[], 3, &mut out, &mut at_rest());
-        assert!(rt; became == Err(OutFault));
-        assert!(rt; 10 < expected.len());
-        assert!(rt; out.kept() == &expected[..10]);
+    for file in FILES {
+        assert!(rt; runs(rt.alloc(), &file, Ok(file.2), 12_000)?);
+        assert!(rt; runs(rt.alloc(), &file, Err(OutFault), 10)?);
     }
     Ok(())
 }

@@ -94,6 +94,18 @@ const FAULTS: [(usize, u8, u8, Option<HeaderFault>, &[u8]); 4] = [
     ),
 ];
 
+/// Whether a file's line is written, and this is answered.
+fn gives(file: &[u8], fault: Option<HeaderFault>, line: &[u8]) -> bool {
+    let mut out = KeptBytes::new(96, 96);
+    header_bytes(file, &mut out) == Ok(fault) && out.kept() == line
+}
+
+/// Whether a sink that takes so many bytes has the beginning of a file's line.
+fn gives_beginning(file: &[u8], line: &[u8], most: usize) -> bool {
+    let mut out = KeptBytes::new(5, most);
+    header_bytes(file, &mut out) == Err(OutFault) && Some(out.kept()) == line.get(..most)
+}
+
 #[test]
 fn a_file_gives_its_header_or_its_fault(rt: HostRuntime) {
     for (size, kind, checksum, fault, line) in FAULTS {
@@ -101,13 +113,9 @@ fn a_file_gives_its_header_or_its_fault(rt: HostRuntime) {
         put(&mut bytes, 0x147, &[kind]);
         put(&mut bytes, 0x14D, &[checksum]);
         let file = bytes.get(..size).unwrap_or(&[]);
-        let mut out = KeptBytes::new(96, 96);
-        assert!(rt; header_bytes(file, &mut out) == Ok(fault));
-        assert!(rt; out.kept() == line);
+        assert!(rt; gives(file, fault, line));
         for most in 0..line.len() {
-            let mut out = KeptBytes::new(5, most);
-            assert!(rt; header_bytes(file, &mut out) == Err(OutFault));
-            assert!(rt; out.kept() == &line[..most]);
+            assert!(rt; gives_beginning(file, line, most), "at {most}");
         }
     }
 }

@@ -34,7 +34,7 @@ fn seen(may: May, bit: bool) -> May {
 }
 
 /// What the machine makes of each of several operands.
-#[derive(Clone, Copy, Debug)]
+#[derive(Clone, Copy)]
 struct Tried {
     least: u8,
     most: u8,
@@ -103,7 +103,14 @@ fn check_sum(rt: &impl Abort, op: AluOp, a: Val, operand: Val, carry: May) {
     };
     let outcome = alu(op, a, operand, with_carry(carry));
     let want = Outcome { val, flags };
-    assert!(rt; outcome == want, "{op:?} {a:?} {operand:?} {carry:?}");
+    assert!(rt;
+        outcome == want,
+        "{}..{}, {}..{}",
+        a.lo,
+        a.hi,
+        operand.lo,
+        operand.hi
+    );
 }
 
 const INTERVALS: [(u8, u8); 6] = [
@@ -165,7 +172,7 @@ fn check_count(rt: &impl Abort, val: Val, carry: May, is_up: bool) {
         val: counted,
         flags,
     };
-    assert!(rt; outcome == want, "{val:?} {is_up}");
+    assert!(rt; outcome == want, "{}..{} {is_up}", val.lo, val.hi);
 }
 
 #[test]
@@ -247,10 +254,10 @@ const WITH_ITSELF: [(AluOp, Val, Val, bool, bool, bool); 8] = [
 /// With itself any A is 0 after SUB and XOR, and stays after AND, OR and CP.
 #[test]
 fn operations_with_a_itself(rt: HostRuntime) {
-    for (op, of, val, zero, subtract, half_carry) in WITH_ITSELF {
+    for (i, (op, of, val, zero, subtract, half_carry)) in WITH_ITSELF.into_iter().enumerate() {
         let outcome = alu_itself(op, of, with_carry(SET));
         let flags = flags(zero, subtract, half_carry, false);
-        assert!(rt; outcome == Outcome { val, flags }, "{op:?} {of:?}");
+        assert!(rt; outcome == Outcome { val, flags }, "row {i}");
     }
     assert!(rt; alu_itself(AluOp::Add, A, with_carry(SET)).val == from_to(6, 18));
     assert!(rt; alu_itself(AluOp::Adc, A, with_carry(SET)).val == from_to(7, 19));
@@ -272,10 +279,10 @@ fn left(carry: May) -> Flg {
 /// SCF and CCF leave Z, clear N and H, and set C or turn it round.
 #[test]
 fn carries_are_set_and_turned(rt: HostRuntime) {
-    for (before, after) in CARRIES {
+    for (i, (before, after)) in CARRIES.into_iter().enumerate() {
         let set = with_carry(before);
-        assert!(rt; complement_carry(set) == left(after), "{before:?}");
-        assert!(rt; set_carry(set) == left(SET), "{before:?}");
+        assert!(rt; complement_carry(set) == left(after), "row {i}");
+        assert!(rt; set_carry(set) == left(SET), "row {i}");
     }
 }
 

@@ -21,9 +21,9 @@ const LEFT: [(AluOp, Option<u8>, Option<u8>); 5] = [
 /// CP with a byte leaves it as the test; AND and OR of A with itself leave 0.
 #[test]
 fn tests_are_left(rt: HostRuntime) {
-    for (op, of_byte, of_itself) in LEFT {
-        assert!(rt; test_of_immediate(op, 7) == of_byte, "{op:?}");
-        assert!(rt; test_of_itself(op) == of_itself, "{op:?}");
+    for (i, (op, of_byte, of_itself)) in LEFT.into_iter().enumerate() {
+        assert!(rt; test_of_immediate(op, 7) == of_byte, "row {i}");
+        assert!(rt; test_of_itself(op) == of_itself, "row {i}");
     }
 }
 
@@ -55,12 +55,12 @@ const ROWS: [Row; 20] = [
 
 #[test]
 fn tests_narrow_a(rt: HostRuntime) {
-    for (n, condition, lo, hi, want) in ROWS {
+    for (i, (n, condition, lo, hi, want)) in ROWS.into_iter().enumerate() {
         let a = copy_of(Register::A, lo, hi);
         let got = side(Some(n), condition, a, with_carry(EITHER));
         let narrowed = got.map(|branch| branch.a);
         let want = want.map(|(lo, hi)| copy_of(Register::A, lo, hi));
-        assert!(rt; narrowed == want, "{n} {condition:?} {lo} {hi}");
+        assert!(rt; narrowed == want, "row {i}");
     }
 }
 
@@ -95,7 +95,7 @@ fn narrowed(core: Core, lo: u8, hi: u8, flags: Flg) -> Option<Core> {
 
 /// An instruction's two sides.
 fn has_sides(rt: &impl Abort, op: Op, core: &Core, taken: Option<Core>, not_taken: Option<Core>) {
-    assert!(rt; sides_of(op, core) == Sides { taken, not_taken }, "{op:?}");
+    assert!(rt; sides_of(op, core) == Sides { taken, not_taken });
 }
 
 #[test]

@@ -60,13 +60,13 @@ fn leaves(rt: &impl Abort, op: Op, before: &Core, core: Core) {
         core,
         write: AbsWrite::Nothing,
     };
-    assert!(rt; after(op, before) == want, "{op:?}");
+    assert!(rt; after(op, before) == want);
 }
 
 /// The instruction leaves the core, and writes this.
 fn writes(rt: &impl Abort, op: Op, core: &Core, write: AbsWrite) {
     let want = AbsEffect { core: *core, write };
-    assert!(rt; after(op, core) == want, "{op:?}");
+    assert!(rt; after(op, core) == want);
 }
 
 /// The bounds of a byte.
@@ -286,7 +286,7 @@ fn pops_af(rt: &impl Abort, core: &Core, low: Val, flags: Flg) {
     want.flags = flags;
     want.test = None;
     let popped = transfer(Op::Pop(StackPair::Af), NEXT, core, low, single(0x12));
-    assert!(rt; popped.core == want, "{low:?}");
+    assert!(rt; popped.core == want, "{} to {}", low.lo, low.hi);
 }
 
 /// What was pushed decides what is popped is a copy of.
@@ -357,8 +357,8 @@ const TESTS: [(Op, Option<u8>); 37] = [
 
 #[test]
 fn a_test_is_left_and_lost(rt: HostRuntime) {
-    for (op, test) in TESTS {
-        assert!(rt; after(op, &entered()).core.test == test, "{op:?}");
+    for (i, (op, test)) in TESTS.into_iter().enumerate() {
+        assert!(rt; after(op, &entered()).core.test == test, "row {i}");
     }
 }
 
@@ -403,8 +403,8 @@ fn is_read(read: AbsRead, want: Reads) -> bool {
 fn reads_are_where_the_machine_may_read(rt: HostRuntime) {
     let mut core = with_hl(from_to(0xC0, 0xC1), from_to(0x10, 0x20));
     core.registers.c = from_to(0x80, 0x90);
-    for (op, want) in READS {
-        assert!(rt; is_read(read_of(op, &core), want), "{op:?}");
+    for (i, (op, want)) in READS.into_iter().enumerate() {
+        assert!(rt; is_read(read_of(op, &core), want), "row {i}");
     }
     let at = Span {
         first: 0xFF80,
@@ -512,11 +512,11 @@ const ANY_IME: ImeSet = ImeSet {
 
 #[test]
 fn interrupts_are_set(rt: HostRuntime) {
-    for (op, before, want) in INTERRUPTS {
+    for (i, (op, before, want)) in INTERRUPTS.into_iter().enumerate() {
         let core = Core {
             ime: before,
             ..entered()
         };
-        assert!(rt; after(op, &core).core.ime == want, "{op:?} {before:?}");
+        assert!(rt; after(op, &core).core.ime == want, "row {i}");
     }
 }

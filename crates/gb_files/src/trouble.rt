@@ -10,7 +10,7 @@ use std::alloc::{AllocError, AllocFailed};
 use std::io;
 
 /// Why a file couldn't be read or written.
-#[derive(Clone, Copy, Debug, PartialEq, Eq)]
+#[derive(Clone, Copy, PartialEq, Eq)]
 pub enum Trouble {
     Memory,
     Device,

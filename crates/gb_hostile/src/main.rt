@@ -1,4 +1,4 @@
-//! The whole program on a stage in place of the system: files and a standard input that are missing, refused, cut off, slow,
+//! The whole programs, `gulmyrek` and `certify`, on a stage in place of the system: files and a standard input that are missing, refused, cut off, slow,
 //! interrupted, failing or without an end, an output that takes so many bytes and no more, and a standard error that takes
 //! nothing.
 //!
@@ -16,7 +16,7 @@ mod stage;
 
 use gb_samples::cartridges::{PLAIN, put, small};
 use gb_samples::certificates::{least, least_in_version_2};
-use gb_samples::programs::LOOP;
+use gb_samples::programs::{LOOP, UNDEFINED};
 use play::{Contents, Plays, play, play_cuts};
 use rows::{CUTS, FAULTY, READ};
 use std::io::{self, Write};
@@ -32,6 +32,7 @@ fn main(rt: HostRuntime) -> io::Result<()> {
     put(&mut longer, 0, &least());
     let contents = Contents {
         cartridge: &small(PLAIN, LOOP),
+        undefined: &small(PLAIN, UNDEFINED),
         longer: &longer,
         upgraded: &least_in_version_2(),
     };

@@ -1,10 +1,9 @@
-//! Plays the program on a stage.
+//! Plays a program on a stage.
 
 use crate::device::{Device, Ending, Pace};
-use crate::rows::{Content, Given, Place, Row, Written};
+use crate::rows::{Content, Given, Place, Program, Row, Written};
 use crate::said::Said;
 use crate::stage::{Entry, Names, Stage};
-use gb_program::run;
 use std::alloc::Global;
 use std::io::ErrorKind;
 use std::process::ExitCode;
@@ -13,13 +12,15 @@ use std::process::ExitCode;
 #[derive(Drop)]
 pub struct Contents<'a> {
     pub cartridge: &'a [u8],
+    /// The cartridge with an undefined opcode.
+    pub undefined: &'a [u8],
     /// The certificate, with a byte left over.
     pub longer: &'a [u8],
     /// The certificate in version 2.
     pub upgraded: &'a [u8],
 }
 
-/// How often the program was played, and how often it did otherwise than it has to.
+/// How often a program was played, and how often it did otherwise than it has to.
 #[derive(Clone, Copy, PartialEq, Eq)]
 pub struct Plays {
     pub played: usize,
@@ -48,6 +49,7 @@ impl<'a> Contents<'a> {
         match content {
             Content::Empty => &[],
             Content::Cartridge => self.cartridge,
+            Content::Undefined => self.undefined,
             Content::Certificate => &self.longer[..self.longer.len().saturating_sub(1)],
             Content::Longer => self.longer,
         }
@@ -100,17 +102,21 @@ impl<'a> Contents<'a> {
     }
 }
 
-/// Whether the program ends with this status on a stage, and does there what it has to.
-fn is_right(stage: &Stage<'_>, status: u8) -> bool {
-    run(stage, false) == ExitCode::from(status) && stage.is_as_wanted()
+/// Whether a program ends with this status on a stage, and does there what it has to.
+fn is_right(program: Program, stage: &Stage<'_>, status: u8) -> bool {
+    let ended = match program {
+        Program::Gulmyrek => gb_program::run(stage, false),
+        Program::Certify => gb_certify::run(stage, false),
+    };
+    ended == ExitCode::from(status) && stage.is_as_wanted()
 }
 
 /// Plays an example as it is, and with a standard error that takes nothing.
 fn play_whole(alloc: Global, contents: &Contents<'_>, row: &Row, plays: &mut Plays) {
     let stage = contents.stage(alloc, row, row.told);
-    plays.count(is_right(&stage, row.status));
+    plays.count(is_right(row.program, &stage, row.status));
     let silent = contents.stage(alloc, row, row.told).in_silence();
-    plays.count(is_right(&silent, row.status));
+    plays.count(is_right(row.program, &silent, row.status));
 }
 
 /// Plays an example with an output that takes fewer bytes than there are: each number of them, or of a screen a few.
@@ -124,7 +130,7 @@ fn play_short(alloc: Global, contents: &Contents<'_>, row: &Row, plays: &mut Pla
     };
     for room in (0..length).step_by(step) {
         let stage = contents.stage(alloc, row, told).with_room(room);
-        plays.count(is_right(&stage, 3));
+        plays.count(is_right(row.program, &stage, 3));
     }
 }
 

@@ -3,13 +3,22 @@
 use crate::device::{Ending, Pace};
 use std::io::ErrorKind;
 
+/// Which program is played.
+#[derive(Clone, Copy)]
+pub enum Program {
+    Gulmyrek,
+    Certify,
+}
+
 /// A file's bytes.
 #[derive(Clone, Copy)]
 pub enum Content {
     Empty,
     /// The least cartridge.
     Cartridge,
-    /// Its certificate.
+    /// The same with an undefined opcode at 0150.
+    Undefined,
+    /// The least cartridge's certificate.
     Certificate,
     /// The same with a byte left over.
     Longer,
@@ -38,6 +47,7 @@ pub enum Written {
 #[derive(Clone, Copy)]
 pub struct Row {
     pub about: &'static str,
+    pub program: Program,
     pub words: &'static [&'static [u8]],
     pub game: Given,
     pub cert: Given,
@@ -70,6 +80,8 @@ const ALL: usize = usize::MAX;
 
 const CARTRIDGE: Given = Given::Read(Content::Cartridge, ALL, Pace::Whole, Ending::End);
 
+const UNDEFINED: Given = Given::Read(Content::Undefined, ALL, Pace::Whole, Ending::End);
+
 const CERTIFICATE: Given = Given::Read(Content::Certificate, ALL, Pace::Whole, Ending::End);
 
 const MISSING: Given = Given::Refused(ErrorKind::NotFound);
@@ -84,6 +96,8 @@ const FAILING: Ending = Ending::Failing(ErrorKind::Other);
 const NO_ROOM: Ending = Ending::Failing(ErrorKind::OutOfMemory);
 
 const ACCEPTED: Written = Written::Text("ACCEPTED nodes 3 procedures 1\n");
+
+const REFUSED: Written = Written::Text("REFUSED node 2 reason 5\n");
 
 const DEVICE: Written = Written::Text("FAULT device\n");
 
@@ -104,9 +118,23 @@ node 1 procedure 0 address 0101 bank 000\n\
 node 2 procedure 0 address 0150 bank 000\n",
 );
 
+const LISTED: Written = Written::Text(
+    "\
+stack DF00-DFFF, procedures 1, nodes 3\n\
+\n\
+procedure 0: 0 words of stack, does not return, writes no RAM\n    \
+    00:0100  NOP\n        \
+        A=01 B=00 C=13 D=00 E=D8 H=01 L=4D Z=1 C=1; interrupts off, IE=00, bank 01, cartridge RAM closed, words 0\n    \
+    00:0101  JP $0150\n        \
+        A=01 B=00 C=13 D=00 E=D8 H=01 L=4D Z=1 C=1; interrupts off, IE=00, bank 01, cartridge RAM closed, words 0\n    \
+    00:0150  JR $0150\n        \
+        A=01 B=00 C=13 D=00 E=D8 H=01 L=4D Z=1 C=1; interrupts off, IE=00, bank 01, cartridge RAM closed, words 0\n",
+);
+
 /// Both files are read, and the verdict is written.
 const VERIFY: Row = Row {
     about: "verify",
+    program: Program::Gulmyrek,
     words: &[b"gulmyrek", b"verify", b"game.gb", b"game.cert"],
     game: CARTRIDGE,
     cert: CERTIFICATE,
@@ -159,6 +187,27 @@ const VERIFY_INPUT: Row = Row {
     ..VERIFY
 };
 
+/// No certificate can be made of the cartridge, and none is written.
+const CERTIFY: Row = Row {
+    about: "certify: an undefined opcode",
+    program: Program::Certify,
+    words: &[b"certify", b"game.gb", b"game.cert"],
+    game: UNDEFINED,
+    cert: MISSING,
+    written: Written::Text("NO CERTIFICATE obstacles 1\n"),
+    status: 1,
+    told: "00:0150",
+    ..VERIFY
+};
+
+const LIST: Row = Row {
+    about: "certify --list",
+    program: Program::Certify,
+    words: &[b"certify", b"--list", b"game.gb", b"game.cert"],
+    written: LISTED,
+    ..VERIFY
+};
+
 pub const READ: &[Row] = &[
     Row {
         about: "no words",
@@ -205,9 +254,25 @@ pub const READ: &[Row] = &[
         written: VERSION,
         ..VERIFY
     },
+    LIST,
 ];
 
 pub const FAULTY: &[Row] = &[
+    Row {
+        about: "a certificate that is refused",
+        game: UNDEFINED,
+        written: REFUSED,
+        status: 1,
+        told: "game.cert",
+        ..VERIFY
+    },
+    Row {
+        about: "a run that locks",
+        game: UNDEFINED,
+        written: Written::Screen("LOCKED frame 0 pc 0150\n"),
+        status: 1,
+        ..RUN
+    },
     Row {
         about: "no cartridge",
         game: MISSING,
@@ -324,6 +389,14 @@ pub const FAULTY: &[Row] = &[
         ..VERIFY
     },
     Row {
+        about: "a cartridge and a script on standard input",
+        words: &[b"gulmyrek", b"run", b"-", b"-", b"2"],
+        written: NOTHING,
+        status: 2,
+        told: "standard input",
+        ..VERIFY
+    },
+    Row {
         about: "a word that isn't UTF-8",
         words: &[b"gulmyrek", b"header", b"\xFF.gb"],
         written: NOTHING,
@@ -340,6 +413,78 @@ pub const FAULTY: &[Row] = &[
         status: 2,
         told: "36001",
         ..VERIFY
+    },
+    CERTIFY,
+    Row {
+        about: "certify --explain: a certificate that is refused",
+        words: &[b"certify", b"--explain", b"game.gb", b"game.cert"],
+        cert: CERTIFICATE,
+        written: REFUSED,
+        told: "no certificate can be made either",
+        ..CERTIFY
+    },
+    Row {
+        about: "certify: a certificate that may not be written",
+        game: CARTRIDGE,
+        cert: Given::Refused(ErrorKind::PermissionDenied),
+        written: DEVICE,
+        status: 3,
+        told: "game.cert",
+        ..CERTIFY
+    },
+    Row {
+        about: "certify: no cartridge",
+        game: MISSING,
+        written: DEVICE,
+        status: 3,
+        told: "game.gb",
+        ..CERTIFY
+    },
+    Row {
+        about: "certify: an empty cartridge",
+        game: EMPTY,
+        written: Written::Text("CARTRIDGE H1\n"),
+        status: 2,
+        told: "",
+        ..CERTIFY
+    },
+    Row {
+        about: "certify: no symbols",
+        words: &[b"certify", b"game.gb", b"game.cert", b"--sym", b"game.keys"],
+        written: DEVICE,
+        status: 3,
+        told: "game.keys",
+        ..CERTIFY
+    },
+    Row {
+        about: "certify --list: a certificate with a byte left over",
+        cert: Given::Read(Content::Longer, ALL, Pace::Whole, Ending::End),
+        written: Written::Text("CERTIFICATE C8\n"),
+        status: 2,
+        told: "game.cert",
+        ..LIST
+    },
+    Row {
+        about: "certify: a certificate written to standard input",
+        words: &[b"certify", b"game.gb", b"-"],
+        written: NOTHING,
+        status: 2,
+        told: "CERT is written",
+        ..CERTIFY
+    },
+    Row {
+        about: "certify: a stack outside of RAM",
+        words: &[
+            b"certify",
+            b"game.gb",
+            b"game.cert",
+            b"--stack",
+            b"8000..80FF",
+        ],
+        written: NOTHING,
+        status: 2,
+        told: "--stack wants",
+        ..CERTIFY
     },
 ];
 

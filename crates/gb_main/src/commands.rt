@@ -23,7 +23,7 @@ use gb_verify::verify::certificate_line;
 use std::alloc::Global;
 
 /// What became of a run.
-#[derive(Clone, Copy, Debug, PartialEq, Eq)]
+#[derive(Clone, Copy, PartialEq, Eq)]
 pub enum RunOutcome {
     /// It ended so.
     Ended(Ending),

@@ -7,7 +7,7 @@ ghost use Rattle.gb_mbc.specs.Counting as Counting;
 use std::marker::Model;
 
 /// A register of the clock: 08 to 0C.
-#[derive(Clone, Copy, Debug, PartialEq, Eq)]
+#[derive(Clone, Copy, PartialEq, Eq)]
 pub enum ClockRegister {
     Seconds,
     Minutes,
@@ -17,7 +17,7 @@ pub enum ClockRegister {
 }
 
 /// What the clock's registers hold.
-#[derive(Clone, Copy, Debug, PartialEq, Eq)]
+#[derive(Clone, Copy, PartialEq, Eq)]
 pub struct Time {
     pub seconds: u8,
     pub minutes: u8,
@@ -30,7 +30,7 @@ pub struct Time {
 }
 
 /// A field after many counts, and how often it carried.
-#[derive(Clone, Copy, Debug, PartialEq, Eq)]
+#[derive(Clone, Copy, PartialEq, Eq)]
 struct Counted {
     value: u8,
     carries: u32,

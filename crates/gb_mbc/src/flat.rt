@@ -6,7 +6,7 @@ use crate::mapper::Mapper;
 use gb_ops::machine::Banks;
 
 /// A cartridge without a controller: two ROM banks, no registers, no gate.
-#[derive(Clone, Copy, Debug, PartialEq, Eq)]
+#[derive(Clone, Copy, PartialEq, Eq)]
 pub struct Flat;
 
 impl Mapper for Flat {

@@ -1,6 +1,6 @@
 //! Where a run that was too large has its nodes and procedures.
 
-use gb_fixpoint::types::Run;
+use gb_fixpoint::types::{Node, Procedure, Run};
 use std::alloc::{AllocError, Global};
 use std::collections::BTreeMap;
 
@@ -25,44 +25,79 @@ pub struct Crowd {
     pub entered: Vec<Count>,
 }
 
-/// The greatest counts, the greatest first.
-fn greatest(alloc: Global, counts: &BTreeMap<u16, usize>) -> Result<Vec<Count>, AllocError> {
-    let mut greatest = Vec::new(alloc);
-    for (address, count) in counts.iter() {
-        greatest.push(Count {
-            count: *count,
-            address: *address,
-        })?;
-    }
-    greatest.sort()?;
-    greatest.reverse();
-    greatest.truncate(PLACES);
-    Ok(greatest)
+/// How much there is at each address.
+#[derive(Drop)]
+struct Counts {
+    alloc: Global,
+    counts: BTreeMap<u16, usize>,
 }
 
-/// One more at an address.
-fn add(counts: &mut BTreeMap<u16, usize>, address: u16) -> Result<(), AllocError> {
-    let count = counts.entry(address)?.or_insert(0usize);
-    *count = count.saturating_add(1);
-    Ok(())
+impl Counts {
+    /// Nothing was counted yet.
+    fn new(alloc: Global) -> Counts {
+        Counts {
+            alloc,
+            counts: BTreeMap::new(alloc),
+        }
+    }
+
+    /// One more at an address.
+    fn add(&mut self, address: u16) -> Result<(), AllocError> {
+        let count = self.counts.entry(address)?.or_insert(0usize);
+        *count = count.saturating_add(1);
+        Ok(())
+    }
+
+    /// Adds all counts to a list.
+    fn gather(&self, list: &mut Vec<Count>) -> Result<(), AllocError> {
+        for (address, count) in self.counts.iter() {
+            list.push(Count {
+                count: *count,
+                address: *address,
+            })?;
+        }
+        Ok(())
+    }
+
+    /// The greatest counts, the greatest first.
+    fn greatest(&self) -> Result<Vec<Count>, AllocError> {
+        let mut greatest = Vec::new(self.alloc);
+        self.gather(&mut greatest)?;
+        greatest.sort()?;
+        greatest.reverse();
+        greatest.truncate(PLACES);
+        Ok(greatest)
+    }
+}
+
+/// The addresses with most nodes.
+fn crowded(alloc: Global, nodes: &[Node]) -> Result<Vec<Count>, AllocError> {
+    let mut counts = Counts::new(alloc);
+    for node in nodes {
+        counts.add(node.key.address)?;
+    }
+    counts.greatest()
+}
+
+/// The addresses at which most procedures begin.
+fn entered(alloc: Global, procedures: &[Procedure]) -> Result<Vec<Count>, AllocError> {
+    let mut counts = Counts::new(alloc);
+    for procedure in procedures {
+        counts.add(procedure.key.target)?;
+    }
+    counts.greatest()
 }
 
 impl Crowd {
     /// Where a run has its nodes and procedures.
     pub fn of(alloc: Global, run: &Run<'_>) -> Result<Crowd, AllocError> {
-        let mut crowded = BTreeMap::new(alloc);
-        for node in &run.nodes {
-            add(&mut crowded, node.key.address)?;
-        }
-        let mut entered = BTreeMap::new(alloc);
-        for procedure in &run.procedures {
-            add(&mut entered, procedure.key.target)?;
-        }
+        let crowded = crowded(alloc, &run.nodes)?;
+        let entered = entered(alloc, &run.procedures)?;
         Ok(Crowd {
             nodes: run.nodes.len(),
             procedures: run.procedures.len(),
-            crowded: greatest(alloc, &crowded)?,
-            entered: greatest(alloc, &entered)?,
+            crowded,
+            entered,
         })
     }
 }

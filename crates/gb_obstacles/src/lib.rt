@@ -2,14 +2,16 @@
 //! reached, and what usually mends it. And a certificate as a listing.
 //!
 //! Read `obstacle`, which takes what is to be told from a run, then `topic` and `advice` (all texts of rules and of what
-//! mends them stand there), `told` (lines for a person), `json` and `listing`. Of the texts nothing is promised.
+//! mends them stand there), `happening` and `told` (lines for a person), `object` and `json`, and `listing`. Of the texts nothing is promised.
 #![tactic(auto)]
 
 mod advice;
 mod crowd;
 mod handlers;
+mod happening;
 mod json;
 mod listing;
+mod object;
 mod obstacle;
 mod path;
 mod state;

@@ -3,7 +3,8 @@
 
 use crate::state::{ShownCell, ShownController, ShownFlags, ShownRegisters, ShownVal, ime_text};
 use crate::told::Named;
-use gb_cert::types::{Abs, Cert};
+use gb_cert::NodeRef;
+use gb_cert::types::{Abs, Cell, Cert, Range};
 use gb_explain::Code;
 use gb_header::Rom;
 use gb_symbols::Symbols;
@@ -15,6 +16,19 @@ pub struct Listing<'a, 'r, 'c, 's> {
     pub rom: &'a Rom<'r>,
     pub cert: &'a Cert<'c>,
     pub symbols: &'a Symbols<'s>,
+}
+
+/// The RAM that a procedure writes, to the end of the line.
+fn fmt_ranges<W: fmt::Write>(ranges: &[Range], f: &mut fmt::Formatter<W>) -> fmt::Result {
+    if ranges.is_empty() {
+        return write!(f, " no RAM\n");
+    }
+    for range in ranges {
+        let first = range.first;
+        let last = range.last;
+        write!(f, " {first:04X}-{last:04X}")?;
+    }
+    write!(f, "\n")
 }
 
 /// What a procedure says of itself.
@@ -37,39 +51,68 @@ fn fmt_procedure<W: fmt::Write>(
         f,
         "\nprocedure {number}: {need} words of stack, {returns}, writes"
     )?;
-    let ranges = procedure.ranges();
-    if ranges.is_empty() {
-        write!(f, " no RAM")?;
+    fmt_ranges(procedure.ranges().as_slice(), f)
+}
+
+/// A node's registers and flags.
+fn fmt_registers<W: fmt::Write>(state: &Abs, f: &mut fmt::Formatter<W>) -> fmt::Result {
+    let registers = ShownRegisters(state);
+    let flags = ShownFlags(state.core().flags);
+    write!(f, "        {registers} {flags}; ")
+}
+
+/// What else a node's state has.
+fn fmt_core<W: fmt::Write>(state: &Abs, f: &mut fmt::Formatter<W>) -> fmt::Result {
+    let core = state.core();
+    let ime = ime_text(core.ime);
+    let ie = ShownVal(core.ie);
+    let controller = ShownController(core.ctl);
+    let words = state.items().len();
+    write!(f, "{ime}, IE={ie}, {controller}, words {words}\n")
+}
+
+/// Cells one after another.
+fn fmt_cells<W: fmt::Write>(cells: &[Cell], f: &mut fmt::Formatter<W>) -> fmt::Result {
+    for cell in cells {
+        let cell = ShownCell(*cell);
+        write!(f, " {cell}")?;
     }
-    for range in ranges.as_slice() {
-        let first = range.first;
-        let last = range.last;
-        write!(f, " {first:04X}-{last:04X}")?;
+    Ok(())
+}
+
+/// A node's state in a line, and its cells in another one, if it has some.
+fn fmt_state<W: fmt::Write>(state: &Abs, f: &mut fmt::Formatter<W>) -> fmt::Result {
+    fmt_registers(state, f)?;
+    fmt_core(state, f)?;
+    if state.cells().is_empty() {
+        return Ok(());
     }
+    write!(f, "       ")?;
+    fmt_cells(state.cells(), f)?;
     write!(f, "\n")
 }
 
-/// A node's state in one line.
-fn fmt_state<W: fmt::Write>(state: &Abs, f: &mut fmt::Formatter<W>) -> fmt::Result {
-    let registers = ShownRegisters(state);
-    let flags = ShownFlags(state.core().flags);
-    let ime = ime_text(state.core().ime);
-    let controller = ShownController(state.core().ctl);
-    let ie = ShownVal(state.core().ie);
-    let words = state.items().len();
-    write!(
-        f,
-        "        {registers} {flags}; {ime}, IE={ie}, {controller}, words {words}\n"
-    )?;
-    if !state.cells().is_empty() {
-        write!(f, "       ")?;
-        for cell in state.cells() {
-            let cell = ShownCell(*cell);
-            write!(f, " {cell}")?;
-        }
-        write!(f, "\n")?;
-    }
-    Ok(())
+/// A node's place with the instruction there, and its state.
+fn fmt_at<W: fmt::Write>(
+    listing: &Listing<'_, '_, '_, '_>,
+    node: &NodeRef<'_>,
+    state: &Abs,
+    f: &mut fmt::Formatter<W>,
+) -> fmt::Result {
+    let address = node.address();
+    let code = Code::at(listing.rom, state, address);
+    let bank = if address < 0x8000 {
+        Some(node.bank())
+    } else {
+        None
+    };
+    let place = Named {
+        symbols: listing.symbols,
+        bank,
+        address,
+    };
+    write!(f, "    {place}  {code}\n")?;
+    fmt_state(state, f)
 }
 
 /// The procedure, if it is a new one, and a node.
@@ -88,35 +131,28 @@ fn fmt_node<W: fmt::Write>(
         fmt_procedure(listing, procedure, f)?;
     }
     let state = node.state();
-    let address = node.address();
-    let code = Code::at(listing.rom, &state, address);
-    let place = Named {
-        symbols: listing.symbols,
-        bank: if address < 0x8000 {
-            Some(node.bank())
-        } else {
-            None
-        },
-        address,
-    };
-    write!(f, "    {place}  {code}\n")?;
-    fmt_state(&state, f)?;
+    fmt_at(listing, &node, &state, f)?;
     Ok(Some(procedure))
+}
+
+/// The stack region, and how many procedures and nodes there are.
+fn fmt_head<W: fmt::Write>(cert: &Cert<'_>, f: &mut fmt::Formatter<W>) -> fmt::Result {
+    let region = cert.region();
+    let first = region.first;
+    let last = region.last;
+    let nodes = cert.nodes();
+    let procedures = cert.procedures();
+    write!(
+        f,
+        "stack {first:04X}-{last:04X}, procedures {procedures}, nodes {nodes}\n"
+    )
 }
 
 impl fmt::Display for Listing<'_, '_, '_, '_> {
     fn fmt<W: fmt::Write>(&self, f: &mut fmt::Formatter<W>) -> fmt::Result {
-        let region = self.cert.region();
-        let first = region.first;
-        let last = region.last;
-        let nodes = self.cert.nodes();
-        let procedures = self.cert.procedures();
-        write!(
-            f,
-            "stack {first:04X}-{last:04X}, procedures {procedures}, nodes {nodes}\n"
-        )?;
+        fmt_head(self.cert, f)?;
         let mut before = None;
-        for number in 0..nodes {
+        for number in 0..self.cert.nodes() {
             before = fmt_node(self, number, before, f)?;
         }
         Ok(())

@@ -76,6 +76,8 @@ impl Standing {
         let Some(node) = run.nodes.get(failure.node) else {
             return Ok(None);
         };
+        let switching = switching_handlers(alloc, run, failure.cause)?;
+        let path = Path::to(alloc, run, failure.node)?;
         let address = node.key.address;
         let place = Place {
             target: run.target(node.key.procedure),
@@ -85,7 +87,7 @@ impl Standing {
             cause: failure.cause,
             registers: failure.registers,
             kept_in: Vec::new(alloc),
-            switching: switching_handlers(alloc, run, failure.cause)?,
+            switching,
             place,
             address,
             bank: bank_of(run, node),
@@ -93,7 +95,7 @@ impl Standing {
             op: op_of(run, node),
             state: node.state.copied(),
             region: run.configuration.region,
-            path: Path::to(alloc, run, failure.node)?,
+            path,
             is_too_large: false,
         }))
     }

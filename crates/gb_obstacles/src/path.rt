@@ -43,16 +43,30 @@ pub(crate) fn bank_of(run: &Run<'_>, node: &Node) -> Option<u16> {
     }
 }
 
+/// Whether a procedure handles an interrupt.
+fn is_handler(run: &Run<'_>, number: usize) -> bool {
+    match run.procedures.get(number) {
+        Some(procedure) => procedure.key.is_handler,
+        None => false,
+    }
+}
+
+/// A node, if there is one by that number.
+fn node_at<'a>(run: &'a Run<'_>, number: Option<usize>) -> Option<&'a Node> {
+    run.nodes.get(number?)
+}
+
 /// Where the procedure of a first node was entered from.
 fn start_of(run: &Run<'_>, entry: &Node) -> Start {
     let target = entry.key.address;
-    let Some(from) = entry.via.and_then(|number| run.nodes.get(number)) else {
+    let Some(from) = node_at(run, entry.via) else {
         return Start::PowerUp;
     };
     let from = from.key.address;
-    match run.procedures.get(entry.key.procedure) {
-        Some(procedure) if procedure.key.is_handler => Start::Interrupt { from, target },
-        _ => Start::Call { from, target },
+    if is_handler(run, entry.key.procedure) {
+        Start::Interrupt { from, target }
+    } else {
+        Start::Call { from, target }
     }
 }
 
@@ -71,23 +85,25 @@ fn add_before(segments: &mut Vec<Segment>, address: u16) -> Result<(), AllocErro
     Ok(())
 }
 
+/// Adds the segments of the path to a node, backwards, and answers where it begins.
+fn gather(run: &Run<'_>, number: usize, segments: &mut Vec<Segment>) -> Result<Start, AllocError> {
+    let mut at = Some(number);
+    for _ in 0..=run.nodes.len() {
+        let Some(node) = node_at(run, at) else { break };
+        add_before(segments, node.key.address)?;
+        if node.key.is_entry {
+            return Ok(start_of(run, node));
+        }
+        at = node.via;
+    }
+    Ok(Start::PowerUp)
+}
+
 impl Path {
     /// The path to a node.
     pub(crate) fn to(alloc: Global, run: &Run<'_>, number: usize) -> Result<Path, AllocError> {
         let mut segments = Vec::new(alloc);
-        let mut start = Start::PowerUp;
-        let mut at = Some(number);
-        for _ in 0..=run.nodes.len() {
-            let Some(node) = at.and_then(|number| run.nodes.get(number)) else {
-                break;
-            };
-            add_before(&mut segments, node.key.address)?;
-            if node.key.is_entry {
-                start = start_of(run, node);
-                break;
-            }
-            at = node.via;
-        }
+        let start = gather(run, number, &mut segments)?;
         let is_cut = segments.len() > SEGMENTS;
         segments.truncate(SEGMENTS);
         segments.reverse();

@@ -65,16 +65,22 @@ pub(crate) fn gate_text(gate: May) -> &'static str {
 #[derive(Clone, Copy)]
 pub(crate) struct ShownController(pub(crate) Ctl);
 
+/// The banks that may be shown.
+fn fmt_banks<W: fmt::Write>(ctl: Ctl, f: &mut fmt::Formatter<W>) -> fmt::Result {
+    let lo = ctl.bank_lo;
+    let hi = ctl.bank_hi;
+    if lo == hi {
+        write!(f, "bank {lo:02X}")
+    } else {
+        write!(f, "bank {lo:02X}..{hi:02X}")
+    }
+}
+
 impl fmt::Display for ShownController {
     fn fmt<W: fmt::Write>(&self, f: &mut fmt::Formatter<W>) -> fmt::Result {
-        let lo = self.0.bank_lo;
-        let hi = self.0.bank_hi;
         let gate = gate_text(self.0.gate);
-        if lo == hi {
-            write!(f, "bank {lo:02X}, cartridge RAM {gate}")
-        } else {
-            write!(f, "bank {lo:02X}..{hi:02X}, cartridge RAM {gate}")
-        }
+        fmt_banks(self.0, f)?;
+        write!(f, ", cartridge RAM {gate}")
     }
 }
 
@@ -108,6 +114,37 @@ impl fmt::Display for ShownCell {
     }
 }
 
+/// Interrupts, banks and pushed words, in a line without its end.
+fn fmt_core<W: fmt::Write>(state: &Abs, f: &mut fmt::Formatter<W>) -> fmt::Result {
+    let core = state.core();
+    let ime = ime_text(core.ime);
+    let ie = ShownVal(core.ie);
+    let controller = ShownController(core.ctl);
+    let words = state.items().len();
+    write!(f, "    {ime}, IE={ie}, {controller}, pushed words: {words}")
+}
+
+/// How long an OAM transfer may still run, if one may.
+fn fmt_bound<W: fmt::Write>(bound: u8, f: &mut fmt::Formatter<W>) -> fmt::Result {
+    if bound == 0 {
+        Ok(())
+    } else {
+        write!(f, ", up to {bound} cycles of an OAM transfer left")
+    }
+}
+
+/// Cells, eight in a line.
+fn fmt_cells<W: fmt::Write>(cells: &[Cell], f: &mut fmt::Formatter<W>) -> fmt::Result {
+    for (number, cell) in cells.iter().enumerate() {
+        let cell = ShownCell(*cell);
+        if number % 8 == 0 {
+            write!(f, "\n   ")?;
+        }
+        write!(f, " {cell}")?;
+    }
+    Ok(())
+}
+
 /// A whole state in some lines, each behind a margin, the last without its end.
 #[derive(Clone, Copy)]
 pub(crate) struct ShownState<'a>(pub(crate) &'a Abs);
@@ -117,25 +154,9 @@ impl fmt::Display for ShownState<'_> {
         let state = self.0;
         let registers = ShownRegisters(state);
         let flags = ShownFlags(state.core().flags);
-        let ime = ime_text(state.core().ime);
-        let controller = ShownController(state.core().ctl);
-        let ie = ShownVal(state.core().ie);
-        let words = state.items().len();
-        let bound = state.core().bound;
-        write!(
-            f,
-            "    {registers} {flags}\n    {ime}, IE={ie}, {controller}, pushed words: {words}"
-        )?;
-        if bound != 0 {
-            write!(f, ", up to {bound} cycles of an OAM transfer left")?;
-        }
-        for (number, cell) in state.cells().iter().enumerate() {
-            let cell = ShownCell(*cell);
-            if number % 8 == 0 {
-                write!(f, "\n   ")?;
-            }
-            write!(f, " {cell}")?;
-        }
-        Ok(())
+        write!(f, "    {registers} {flags}\n")?;
+        fmt_core(state, f)?;
+        fmt_bound(state.core().bound, f)?;
+        fmt_cells(state.cells(), f)
     }
 }

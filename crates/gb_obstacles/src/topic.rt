@@ -1,145 +1,99 @@
-//! Which text an obstacle gets.
+//! Which texts an obstacle gets.
 
+use crate::advice::{self, Advice};
 use crate::obstacle::{Obstacle, Standing};
 use gb_abs::span::Span;
 use gb_ops::op::{Op, Pair};
 use gb_partition::cause::{Cause, StackMisuse, TransferMisuse};
 
-/// What an obstacle is about: a rule, and a usual way to break it.
-#[derive(Clone, Copy)]
-pub(crate) enum Topic {
-    Area,
-    Bank,
-    PatchedCode,
-    UndefinedOpcode,
-    Stop,
-    Halt,
-    StackNotSet,
-    PopsReturnWord,
-    StackMoved,
-    /// LD SP,n16 of another address than the stack's: for a copy by POP or PUSH.
-    StackBorrowed,
-    StackSetInCallee,
-    StackSetAgain,
-    PushesTooMany,
-    Recursion,
-    /// FF, with which unused ROM is filled, is run: RST 38, at 0038 too.
-    Padding,
-    /// A store that runs over work RAM and the stack in it.
-    ClearsStack,
-    /// A store by a pointer that is kept in RAM.
-    KeptPointer,
-    /// A store by another pointer.
-    Pointer,
-    Store,
-    /// A read or a store by a pointer that may reach cartridge RAM.
-    PointerToCartridgeRam,
-    GateClosed,
-    CopiesCartridgeRam,
-    TransferCode,
-    TransferAccess,
-    TransferStack,
-    TransferInterrupt,
-    TransferStart,
-    JumpHl,
-    ReturnInMain,
-    ReturnWithWords,
-    InterruptWithoutStack,
-    TooLarge,
-    NoStack,
-    StackTooDeep,
-    Rounds,
-    Refused,
-}
-
 /// LD SP,n16 outside main: of the stack's own address, or of another one.
-fn set_topic(standing: &Standing) -> Topic {
+fn set_advice(standing: &Standing) -> Advice {
     match standing.op {
         Some(Op::LoadPair(Pair::Sp, sp)) if sp != standing.region.last.wrapping_add(1) => {
-            Topic::StackBorrowed
+            advice::STACK_BORROWED
         }
-        _ => Topic::StackSetInCallee,
+        _ => advice::STACK_SET_IN_CALLEE,
     }
 }
 
 /// A misuse of the stack.
-fn stack_topic(standing: &Standing, misuse: StackMisuse) -> Topic {
+fn stack_advice(standing: &Standing, misuse: StackMisuse) -> Advice {
     match misuse {
-        StackMisuse::NotSet => Topic::StackNotSet,
-        StackMisuse::PopsReturnWord => Topic::PopsReturnWord,
-        StackMisuse::Moved => Topic::StackMoved,
-        StackMisuse::SetInCallee => set_topic(standing),
-        StackMisuse::SetAgain(_) => Topic::StackSetAgain,
+        StackMisuse::NotSet => advice::STACK_NOT_SET,
+        StackMisuse::PopsReturnWord => advice::POPS_RETURN_WORD,
+        StackMisuse::Moved => advice::STACK_MOVED,
+        StackMisuse::SetInCallee => set_advice(standing),
+        StackMisuse::SetAgain(_) => advice::STACK_SET_AGAIN,
     }
 }
 
 /// Something during an OAM transfer.
-fn transfer_topic(misuse: TransferMisuse) -> Topic {
+fn transfer_advice(misuse: TransferMisuse) -> Advice {
     match misuse {
-        TransferMisuse::Code => Topic::TransferCode,
-        TransferMisuse::Access(_) => Topic::TransferAccess,
-        TransferMisuse::Stack => Topic::TransferStack,
-        TransferMisuse::Interrupt => Topic::TransferInterrupt,
-        TransferMisuse::Start(_) => Topic::TransferStart,
+        TransferMisuse::Code => advice::TRANSFER_CODE,
+        TransferMisuse::Access(_) => advice::TRANSFER_ACCESS,
+        TransferMisuse::Stack => advice::TRANSFER_STACK,
+        TransferMisuse::Interrupt => advice::TRANSFER_INTERRUPT,
+        TransferMisuse::Start(_) => advice::TRANSFER_START,
     }
 }
 
 /// A store: by a pointer that is kept in RAM, over the stack, by another pointer, or to an address that is named.
-fn store_topic(standing: &Standing, span: Span) -> Topic {
+fn store_advice(standing: &Standing, span: Span) -> Advice {
     let region = standing.region;
     if !standing.kept_in.is_empty() {
-        Topic::KeptPointer
+        advice::KEPT_POINTER
     } else if 0xC000 <= span.first && span.may_meet(region.first, region.last) {
-        Topic::ClearsStack
+        advice::CLEARS_STACK
     } else if !standing.registers.is_empty() {
-        Topic::Pointer
+        advice::POINTER
     } else {
-        Topic::Store
+        advice::STORE
     }
 }
 
 /// An access to cartridge RAM: by a pointer, or by an address that is named.
-fn cartridge_topic(standing: &Standing) -> Topic {
+fn cartridge_advice(standing: &Standing) -> Advice {
     if standing.registers.is_empty() {
-        Topic::GateClosed
+        advice::GATE_CLOSED
     } else {
-        Topic::PointerToCartridgeRam
+        advice::POINTER_TO_CARTRIDGE_RAM
     }
 }
 
 /// A failure at an instruction.
-pub(crate) fn standing_topic(standing: &Standing) -> Topic {
+pub(crate) fn standing_advice(standing: &Standing) -> Advice {
     match standing.cause {
-        Cause::Area => Topic::Area,
-        Cause::Bank => Topic::Bank,
-        Cause::Unreadable { .. } => Topic::PatchedCode,
-        Cause::UndefinedOpcode { .. } => Topic::UndefinedOpcode,
-        Cause::Stop => Topic::Stop,
-        Cause::Halt => Topic::Halt,
-        Cause::Stack(misuse) => stack_topic(standing, misuse),
-        Cause::PushesTooMany => Topic::PushesTooMany,
-        Cause::Recursion { target: 0x38 } => Topic::Padding,
-        Cause::Recursion { .. } => Topic::Recursion,
-        Cause::Store { span } => store_topic(standing, span),
-        Cause::CartridgeRam { .. } => cartridge_topic(standing),
-        Cause::CopiesCartridgeRam { .. } => Topic::CopiesCartridgeRam,
-        Cause::OamTransfer(misuse) => transfer_topic(misuse),
-        Cause::JumpHl => Topic::JumpHl,
-        Cause::ReturnInMain => Topic::ReturnInMain,
-        Cause::ReturnWithWords { .. } => Topic::ReturnWithWords,
-        Cause::InterruptWithoutStack { .. } => Topic::InterruptWithoutStack,
+        Cause::Area => advice::AREA,
+        Cause::Bank => advice::BANK,
+        Cause::Unreadable { .. } => advice::PATCHED_CODE,
+        Cause::UndefinedOpcode { .. } => advice::UNDEFINED_OPCODE,
+        Cause::Stop => advice::STOP,
+        Cause::Halt => advice::HALT,
+        Cause::Stack(misuse) => stack_advice(standing, misuse),
+        Cause::PushesTooMany => advice::PUSHES_TOO_MANY,
+        Cause::Recursion { target: 0x38 } => advice::PADDING,
+        Cause::Recursion { .. } => advice::RECURSION,
+        Cause::Store { span } => store_advice(standing, span),
+        Cause::CartridgeRam { .. } => cartridge_advice(standing),
+        Cause::CopiesCartridgeRam { .. } => advice::COPIES_CARTRIDGE_RAM,
+        Cause::OamTransfer(misuse) => transfer_advice(misuse),
+        Cause::JumpHl => advice::JUMP_HL,
+        Cause::ReturnInMain => advice::RETURN_IN_MAIN,
+        Cause::ReturnWithWords { .. } => advice::RETURN_WITH_WORDS,
+        Cause::InterruptWithoutStack { .. } => advice::INTERRUPT_WITHOUT_STACK,
     }
 }
 
-/// What an obstacle is about.
-pub(crate) fn topic_of(obstacle: &Obstacle) -> Topic {
+/// The texts of an obstacle.
+pub(crate) fn advice_on(obstacle: &Obstacle) -> Advice {
     match obstacle {
-        Obstacle::Standing(standing) => standing_topic(standing),
-        Obstacle::TooLarge(_) => Topic::TooLarge,
-        Obstacle::NoStack { .. } => Topic::NoStack,
-        Obstacle::StackTooDeep { .. } => Topic::StackTooDeep,
-        Obstacle::Recursion { .. } => Topic::Recursion,
-        Obstacle::Rounds { .. } => Topic::Rounds,
-        Obstacle::Refused => Topic::Refused,
+        Obstacle::Standing(standing) => standing_advice(standing),
+        Obstacle::TooLarge(_) => advice::TOO_LARGE,
+        Obstacle::NoStack { .. } => advice::NO_STACK,
+        Obstacle::StackTooDeep { .. } => advice::STACK_TOO_DEEP,
+        Obstacle::Recursion { .. } => advice::RECURSION,
+        Obstacle::Rounds { .. } => advice::ROUNDS,
+        Obstacle::Refused => advice::REFUSED,
     }
 }

@@ -3,7 +3,7 @@
 use crate::registers::{Flags, Processor};
 
 /// What an instruction reads besides its own bytes.
-#[derive(Clone, Copy, Debug, PartialEq, Eq)]
+#[derive(Clone, Copy, PartialEq, Eq)]
 pub enum Read {
     Nothing,
     Byte(u16),
@@ -12,7 +12,7 @@ pub enum Read {
 }
 
 /// What an instruction writes.
-#[derive(Clone, Copy, Debug, PartialEq, Eq)]
+#[derive(Clone, Copy, PartialEq, Eq)]
 pub enum Write {
     Nothing,
     Byte(u16, u8),
@@ -23,21 +23,21 @@ pub enum Write {
 }
 
 /// What the reads of an instruction gave.
-#[derive(Clone, Copy, Debug, PartialEq, Eq)]
+#[derive(Clone, Copy, PartialEq, Eq)]
 pub struct Loaded {
     pub low: u8,
     pub high: u8,
 }
 
 /// A byte and the flags that computing it leaves.
-#[derive(Clone, Copy, Debug, PartialEq, Eq)]
+#[derive(Clone, Copy, PartialEq, Eq)]
 pub struct Computed {
     pub value: u8,
     pub flags: Flags,
 }
 
 /// What an instruction does, once its reads are answered.
-#[derive(Clone, Copy, Debug, PartialEq, Eq)]
+#[derive(Clone, Copy, PartialEq, Eq)]
 pub struct Effect {
     pub processor: Processor,
     pub write: Write,
@@ -46,7 +46,7 @@ pub struct Effect {
 }
 
 /// One atomic action of the machine, at an instruction boundary.
-#[derive(Clone, Copy, Debug, PartialEq, Eq)]
+#[derive(Clone, Copy, PartialEq, Eq)]
 pub enum Event {
     /// One instruction, with the bytes that free reads give: of its own bytes, and of its data.
     Run { fetch: [u8; 3], reads: [u8; 2] },
@@ -61,7 +61,7 @@ pub enum Event {
 }
 
 /// What the memory map has at an address.
-#[derive(Clone, Copy, Debug, PartialEq, Eq)]
+#[derive(Clone, Copy, PartialEq, Eq)]
 pub enum Mapped {
     Rom,
     CartridgeRam,
@@ -77,7 +77,7 @@ pub enum Mapped {
 }
 
 /// What answers a read at an address.
-#[derive(Clone, Copy, Debug, PartialEq, Eq)]
+#[derive(Clone, Copy, PartialEq, Eq)]
 pub enum Place {
     /// A ROM bank.
     Rom(u16),
@@ -88,7 +88,7 @@ pub enum Place {
 }
 
 /// The registers of a cartridge's controller, as they were written.
-#[derive(Clone, Copy, Debug, PartialEq, Eq)]
+#[derive(Clone, Copy, PartialEq, Eq)]
 pub struct Banks {
     pub bank: u16,
     pub second: u8,
@@ -98,14 +98,14 @@ pub struct Banks {
 }
 
 /// The declared stack region, its last address included.
-#[derive(Clone, Copy, Debug, PartialEq, Eq)]
+#[derive(Clone, Copy, PartialEq, Eq)]
 pub struct Region {
     pub first: u16,
     pub last: u16,
 }
 
 /// Which faults an event has.
-#[derive(Clone, Copy, Debug, PartialEq, Eq)]
+#[derive(Clone, Copy, PartialEq, Eq)]
 pub struct Faults {
     /// An undefined opcode was executed.
     pub undefined_opcode: bool,
@@ -120,14 +120,14 @@ pub struct Faults {
 }
 
 /// Where a byte of an instruction was fetched: the address, and the ROM bank shown there.
-#[derive(Clone, Copy, Debug, PartialEq, Eq)]
+#[derive(Clone, Copy, PartialEq, Eq)]
 pub struct CodePlace {
     pub address: u16,
     pub bank: u16,
 }
 
 /// The kinds of cartridge controllers.
-#[derive(Clone, Copy, Debug, PartialEq, Eq)]
+#[derive(Clone, Copy, PartialEq, Eq)]
 pub enum Kind {
     Rom,
     Mbc1,

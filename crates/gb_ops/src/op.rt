@@ -1,7 +1,7 @@
 //! The instructions of the opcode table, decoded.
 
 /// An eight-bit register, in the order of the opcodes' register field.
-#[derive(Clone, Copy, Debug, PartialEq, Eq)]
+#[derive(Clone, Copy, PartialEq, Eq)]
 pub enum Register {
     B,
     C,
@@ -13,7 +13,7 @@ pub enum Register {
 }
 
 /// What an instruction on one byte works on.
-#[derive(Clone, Copy, Debug, PartialEq, Eq)]
+#[derive(Clone, Copy, PartialEq, Eq)]
 pub enum Operand {
     Register(Register),
     /// The byte at the address in HL.
@@ -21,7 +21,7 @@ pub enum Operand {
 }
 
 /// A register pair.
-#[derive(Clone, Copy, Debug, PartialEq, Eq)]
+#[derive(Clone, Copy, PartialEq, Eq)]
 pub enum Pair {
     Bc,
     De,
@@ -30,7 +30,7 @@ pub enum Pair {
 }
 
 /// A register pair of PUSH and POP.
-#[derive(Clone, Copy, Debug, PartialEq, Eq)]
+#[derive(Clone, Copy, PartialEq, Eq)]
 pub enum StackPair {
     Bc,
     De,
@@ -39,7 +39,7 @@ pub enum StackPair {
 }
 
 /// Where `LD A,(..)` and `LD (..),A` through a pair find their address.
-#[derive(Clone, Copy, Debug, PartialEq, Eq)]
+#[derive(Clone, Copy, PartialEq, Eq)]
 pub enum Indirect {
     Bc,
     De,
@@ -50,7 +50,7 @@ pub enum Indirect {
 }
 
 /// The condition of a jump, a call or a return.
-#[derive(Clone, Copy, Debug, PartialEq, Eq)]
+#[derive(Clone, Copy, PartialEq, Eq)]
 pub enum Condition {
     NotZero,
     Zero,
@@ -59,7 +59,7 @@ pub enum Condition {
 }
 
 /// An eight-bit operation of A with an operand.
-#[derive(Clone, Copy, Debug, PartialEq, Eq)]
+#[derive(Clone, Copy, PartialEq, Eq)]
 pub enum AluOp {
     Add,
     Adc,
@@ -72,7 +72,7 @@ pub enum AluOp {
 }
 
 /// A rotation or a shift of a byte.
-#[derive(Clone, Copy, Debug, PartialEq, Eq)]
+#[derive(Clone, Copy, PartialEq, Eq)]
 pub enum Shift {
     Rlc,
     Rrc,
@@ -85,7 +85,7 @@ pub enum Shift {
 }
 
 /// An instruction with its operands.
-#[derive(Clone, Copy, Debug, PartialEq, Eq)]
+#[derive(Clone, Copy, PartialEq, Eq)]
 pub enum Op {
     Nop,
     Stop,
@@ -159,7 +159,7 @@ pub enum Op {
 }
 
 /// A row of the opcode table: an instruction, its length in bytes and its M-cycles.
-#[derive(Clone, Copy, Debug, PartialEq, Eq)]
+#[derive(Clone, Copy)]
 pub struct Row {
     pub op: Op,
     pub length: u8,

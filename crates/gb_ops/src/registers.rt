@@ -6,7 +6,7 @@ ghost use Rattle.gb_ops.specs.Registers.{get, set};
 use crate::op::Register;
 
 /// One value for each eight-bit register but F.
-#[derive(Clone, Copy, Debug, PartialEq, Eq)]
+#[derive(Clone, Copy, PartialEq, Eq)]
 pub struct Registers<T> {
     pub a: T,
     pub b: T,
@@ -52,7 +52,7 @@ impl<T: Copy> Registers<T> {
 }
 
 /// The flags of F: bits 7 to 4; its other bits are always 0.
-#[derive(Clone, Copy, Debug, PartialEq, Eq)]
+#[derive(Clone, Copy, PartialEq, Eq)]
 pub struct Flags {
     pub zero: bool,
     pub subtract: bool,
@@ -61,7 +61,7 @@ pub struct Flags {
 }
 
 /// Whether interrupts are dispatched. Pending becomes on after the next instruction.
-#[derive(Clone, Copy, Debug, PartialEq, Eq)]
+#[derive(Clone, Copy, PartialEq, Eq)]
 pub enum Ime {
     Off,
     Pending,
@@ -69,7 +69,7 @@ pub enum Ime {
 }
 
 /// The processor's part of a machine state.
-#[derive(Clone, Copy, Debug, PartialEq, Eq)]
+#[derive(Clone, Copy, PartialEq, Eq)]
 pub struct Processor {
     pub registers: Registers<u8>,
     pub flags: Flags,

@@ -23,7 +23,7 @@ use gb_ops::registers::Processor;
 
 /// What the limits of accesses rest on besides the cartridge: its controller, and the M-cycles
 /// left of a transfer.
-#[derive(Clone, Copy, Debug)]
+#[derive(Clone, Copy)]
 struct Limits {
     banks: Banks,
     count: u8,

@@ -10,7 +10,7 @@ use gb_effects::advance::{length_of, second_address, third_address};
 use gb_ops::machine::{Loaded, Read};
 
 /// A byte that was read, and the free bytes that are left.
-#[derive(Clone, Copy, Debug)]
+#[derive(Clone, Copy)]
 struct Reading<'f> {
     value: u8,
     rest: &'f [u8],

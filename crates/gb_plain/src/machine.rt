@@ -18,7 +18,7 @@ use gb_ops::machine::{Event, Place};
 const HALT: u8 = 0x76;
 
 /// What an event hands in: the bytes that free reads give, in order, and the interrupts that are pending.
-#[derive(Clone, Copy, Debug)]
+#[derive(Clone, Copy)]
 struct Handed {
     free: [u8; 5],
     /// How many of them were taken.

@@ -1,7 +1,7 @@
 //! The modes of the picture (Pan Docs: Rendering).
 
 /// What the picture does in an M-cycle.
-#[derive(Clone, Copy, PartialEq, Eq, Debug)]
+#[derive(Clone, Copy, PartialEq, Eq)]
 pub enum Mode {
     /// Mode 0, at the end of a line, or with the LCD off.
     HBlank,

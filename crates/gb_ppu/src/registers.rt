@@ -8,7 +8,7 @@ use crate::mode::Mode;
 use crate::picture::Picture;
 
 /// A register of the picture, FF40 to FF4B without FF46 (Pan Docs: Hardware Registers).
-#[derive(Clone, Copy, PartialEq, Eq, Debug)]
+#[derive(Clone, Copy, PartialEq, Eq)]
 pub enum LcdRegister {
     Lcdc,
     Stat,

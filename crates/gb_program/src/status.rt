@@ -12,7 +12,7 @@ use gb_verify::upgrade::Upgraded;
 use gb_verify::verify::Outcome;
 
 /// The statuses that the program ends with.
-#[derive(Clone, Copy, Debug, PartialEq, Eq)]
+#[derive(Clone, Copy, PartialEq, Eq)]
 pub enum Status {
     /// Accepted, run whole, or printed.
     Done = 0,

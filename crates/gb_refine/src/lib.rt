@@ -28,13 +28,17 @@ pub fn make<P: Progress>(
     progress: &mut P,
 ) -> Result<Made, AllocError> {
     let mut refinement = Refinement::new(alloc, rom, limits)?;
-    let made = refinement.make(progress)?;
-    let made = match made {
-        Made::Certificate(bytes) => Made::Certificate(shrink::shrink(
-            &refinement,
-            bytes,
-            progress,
-        )?),
+    make_by(&mut refinement, progress)
+}
+
+fn make_by<P: Progress>(
+    refinement: &mut Refinement<'_>,
+    progress: &mut P,
+) -> Result<Made, AllocError> {
+    let made = match refinement.make(progress)? {
+        Made::Certificate(bytes) => {
+            Made::Certificate(shrink::shrink(refinement, bytes, progress)?)
+        }
         Made::Obstacles(obstacles) => Made::Obstacles(obstacles),
     };
     progress.done();

@@ -71,29 +71,40 @@ struct Tried {
     reason: u8,
 }
 
-/// What a run teaches.
+/// Cells that aren't tracked yet, and values at which widening doesn't stop yet.
 #[derive(Drop)]
-enum Lesson {
+struct News {
+    cells: Vec<u16>,
+    points: Vec<u8>,
+}
+
+/// Something is to be refined; the failure stands otherwise.
+#[derive(Drop)]
+struct Mending {
+    place: Place,
+    reason: u8,
+    plan: Plan,
+    obstacle: Standing,
+}
+
+/// What is to be done otherwise in the next round.
+#[derive(Drop)]
+enum Change {
     /// The stack region is this one.
     Region(Region),
     /// More cells and more values at which widening stops.
-    Track {
-        cells: Vec<u16>,
-        points: Vec<u8>,
-    },
-    /// Something is to be refined; the failure stands otherwise.
-    Refine {
-        place: Place,
-        reason: u8,
-        plan: Plan,
-        obstacle: Standing,
-    },
+    Track(News),
+    Mend(Mending),
     /// The failure stands; runs go on elsewhere.
-    GiveUp {
-        place: Place,
-    },
+    GiveUp(Place),
     /// The last edit led into what is no code, so it was none that helps.
     TakeBack,
+}
+
+/// What a run teaches.
+#[derive(Drop)]
+enum Lesson {
+    Change(Change),
     /// The run was too large.
     TooLarge(Crowd),
     /// What stands in the way for good.
@@ -138,10 +149,20 @@ fn first_configuration(alloc: Global, limits: &Limits) -> Result<Configuration, 
 }
 
 /// One obstacle alone.
-fn alone(alloc: Global, obstacle: Obstacle) -> Result<Lesson, AllocError> {
+fn alone(alloc: Global, obstacle: Obstacle) -> Result<Vec<Obstacle>, AllocError> {
     let mut obstacles = Vec::new(alloc);
     obstacles.push(obstacle)?;
-    Ok(Lesson::End(obstacles))
+    Ok(obstacles)
+}
+
+/// What stands in the way for good, and nothing else.
+fn end_by(alloc: Global, obstacle: Obstacle) -> Result<Lesson, AllocError> {
+    Ok(Lesson::End(alone(alloc, obstacle)?))
+}
+
+/// One obstacle is told at the end.
+fn end_alone(alloc: Global, obstacle: Obstacle) -> Result<Made, AllocError> {
+    Ok(Made::Obstacles(alone(alloc, obstacle)?))
 }
 
 impl<'a> Refinement<'a> {
@@ -174,16 +195,24 @@ impl<'a> Refinement<'a> {
         let first = sp.wrapping_sub(2);
         let region = Region { first, last };
         if is_in_ram(region) {
-            Ok(Lesson::Region(region))
+            Ok(Lesson::Change(Change::Region(region)))
         } else {
-            alone(self.alloc, Obstacle::NoStack { sp })
+            end_by(self.alloc, Obstacle::NoStack { sp })
         }
     }
 
+    /// What a run wants to know besides what is known.
+    fn news(&self, run: &Run<'_>) -> Result<News, AllocError> {
+        let tracked = &self.configuration.tracked;
+        let cells = self.cells.missing(self.alloc, &run.wanted, tracked)?;
+        let points = self.new_points(&run.points)?;
+        Ok(News { cells, points })
+    }
+
     /// The values at which widening had better stop, and that aren't known yet.
-    fn new_points(&self, run: &Run<'_>) -> Result<Vec<u8>, AllocError> {
+    fn new_points(&self, wanted: &BTreeSet<u8>) -> Result<Vec<u8>, AllocError> {
         let mut points = Vec::new(self.alloc);
-        for point in run.points.iter() {
+        for point in wanted {
             if !self.configuration.points.contains(point) {
                 points.push(*point)?;
             }
@@ -202,23 +231,25 @@ impl<'a> Refinement<'a> {
     /// The failures of a run at places that were given up, in the order in which they were met, and one more.
     fn standing(&self, run: &Run<'_>, last: Option<&Failure>) -> Result<Vec<Obstacle>, AllocError> {
         let mut obstacles = Vec::new(self.alloc);
-        for place in &self.given_up {
-            for failure in &run.failures {
-                if run.place_of(failure.node) == Some(*place) {
-                    if let Some(mut standing) = self.told(run, failure)? {
-                        standing.is_too_large = self.too_large.contains(place);
-                        obstacles.push(Obstacle::Standing(standing))?;
-                    }
-                }
-            }
-        }
-        if let Some(failure) = last {
-            if let Some(standing) = self.told(run, failure)? {
-                obstacles.push(Obstacle::Standing(standing))?;
-            }
-        }
+        self.add_standing(run, last, &mut obstacles)?;
         obstacles.truncate(OBSTACLES);
         Ok(obstacles)
+    }
+
+    fn add_standing(
+        &self,
+        run: &Run<'_>,
+        last: Option<&Failure>,
+        obstacles: &mut Vec<Obstacle>,
+    ) -> Result<(), AllocError> {
+        for place in &self.given_up {
+            let is_too_large = self.too_large.contains(place);
+            add_failures(self.alloc, run, *place, is_too_large, obstacles)?;
+        }
+        match last {
+            Some(failure) => add_failure(self.alloc, run, failure, false, obstacles),
+            None => Ok(()),
+        }
     }
 
     /// Nothing more helps against a failure.
@@ -230,29 +261,10 @@ impl<'a> Refinement<'a> {
     ) -> Result<Lesson, AllocError> {
         let is_last = self.given_up.len() + 1 >= OBSTACLES;
         if is_last || self.configuration.given_up.contains(&place) {
-            return Ok(Lesson::End(self.standing(run, Some(failure))?));
+            Ok(Lesson::End(self.standing(run, Some(failure))?))
+        } else {
+            Ok(Lesson::Change(Change::GiveUp(place)))
         }
-        Ok(Lesson::GiveUp { place })
-    }
-
-    /// What there is to tell of a failure, and the cells in which its pointer is kept.
-    fn told(&self, run: &Run<'_>, failure: &Failure) -> Result<Option<Standing>, AllocError> {
-        let Some(mut standing) = Standing::of(self.alloc, run, failure)? else {
-            return Ok(None);
-        };
-        let Some(node) = run.nodes.get(failure.node) else {
-            return Ok(None);
-        };
-        if failure.cause != Cause::JumpHl {
-            let spot = Spot {
-                procedure: node.key.procedure,
-                address: node.key.address,
-            };
-            for cell in pointer_cells(self.alloc, run, spot, &failure.registers)?.iter() {
-                standing.kept_in.push(*cell)?;
-            }
-        }
-        Ok(Some(standing))
     }
 
     /// Whether a place's pointer is kept in RAM, as its failure was first met.
@@ -285,25 +297,47 @@ impl<'a> Refinement<'a> {
             return Ok(Lesson::End(self.standing(run, None)?));
         };
         if self.leads_nowhere(run, failure) {
-            return Ok(Lesson::TakeBack);
+            return Ok(Lesson::Change(Change::TakeBack));
         }
-        let reason = failure.cause.reason().number();
-        let Some(obstacle) = self.told(run, failure)? else {
-            return self.give_up(run, failure, place);
-        };
-        let is_kept = !obstacle.kept_in.is_empty() || self.is_kept_in_ram(place);
-        let most = if is_kept { EDITS_OF_KEPT } else { EDITS };
-        if self.edits_at(place, reason) >= most {
-            return self.give_up(run, failure, place);
-        }
-        match plan_for(self.alloc, run, failure, is_kept)? {
+        match told(self.alloc, run, failure)? {
+            Some(obstacle) => self.mend(run, failure, place, obstacle),
             None => self.give_up(run, failure, place),
-            Some(plan) => Ok(Lesson::Refine {
+        }
+    }
+
+    /// A failure that there is something to tell of.
+    fn mend(
+        &self,
+        run: &Run<'_>,
+        failure: &Failure,
+        place: Place,
+        obstacle: Standing,
+    ) -> Result<Lesson, AllocError> {
+        let is_kept = !obstacle.kept_in.is_empty() || self.is_kept_in_ram(place);
+        match self.plan_at(run, failure, place, is_kept)? {
+            Some(plan) => Ok(Lesson::Change(Change::Mend(Mending {
                 place,
-                reason,
+                reason: failure.cause.reason().number(),
                 plan,
                 obstacle,
-            }),
+            }))),
+            None => self.give_up(run, failure, place),
+        }
+    }
+
+    /// What may help against a failure, unless its place was refined too often.
+    fn plan_at(
+        &self,
+        run: &Run<'_>,
+        failure: &Failure,
+        place: Place,
+        is_kept: bool,
+    ) -> Result<Option<Plan>, AllocError> {
+        let most = if is_kept { EDITS_OF_KEPT } else { EDITS };
+        if self.edits_at(place, failure.cause.reason().number()) >= most {
+            Ok(None)
+        } else {
+            plan_for(self.alloc, run, failure, is_kept)
         }
     }
 
@@ -312,50 +346,59 @@ impl<'a> Refinement<'a> {
         if !run.failures.is_empty() {
             return Ok(Lesson::End(self.standing(run, None)?));
         }
-        if let Some(procedure) = find_needs(self.alloc, run)? {
-            let target = run.target(procedure);
-            return alone(self.alloc, Obstacle::Recursion { target });
+        match find_needs(self.alloc, run)? {
+            Some(procedure) => {
+                let target = run.target(procedure);
+                end_by(self.alloc, Obstacle::Recursion { target })
+            }
+            None => self.learn_needs(run),
         }
+    }
+
+    /// Whether the stack region is large enough for main, or can be made so.
+    fn learn_needs(&self, run: &Run<'_>) -> Result<Lesson, AllocError> {
         let words = match run.procedures.first() {
             Some(main) => main.need.max(1),
             None => 1,
         };
         let region = self.configuration.region;
-        let bytes = words.saturating_mul(2).saturating_sub(1);
-        let first = u16::try_from(bytes)
-            .ok()
-            .and_then(|bytes| region.last.checked_sub(bytes));
-        match first {
-            Some(first) if region.first <= first => Ok(Lesson::Certificate(certificate_of(
-                self.alloc, run,
-            )?)),
-            Some(first)
-                if self.limits.region.is_none()
-                    && is_in_ram(Region {
-                        first,
-                        last: region.last,
-                    }) => {
-                Ok(Lesson::Region(Region {
-                    first,
-                    last: region.last,
-                }))
+        match region_of(words, region.last) {
+            Some(needed) if region.first <= needed.first => {
+                Ok(Lesson::Certificate(certificate_of(self.alloc, run)?))
             }
-            _ => alone(self.alloc, Obstacle::StackTooDeep { words, region }),
+            Some(needed) if self.limits.region.is_none() && is_in_ram(needed) => {
+                Ok(Lesson::Change(Change::Region(needed)))
+            }
+            _ => end_by(self.alloc, Obstacle::StackTooDeep { words, region }),
         }
     }
 
     /// What a run teaches.
     fn learn(&self, run: &mut Run<'_>, outcome: Outcome) -> Result<Lesson, AllocError> {
-        let cells = self.cells.missing(self.alloc, run)?;
-        let points = self.new_points(run)?;
         match outcome {
             Outcome::TooLarge => Ok(Lesson::TooLarge(Crowd::of(self.alloc, run)?)),
             Outcome::StackSet { sp } => self.learn_stack(sp),
-            Outcome::Failed(failure) if cells.is_empty() && points.is_empty() => {
-                self.learn_failure(run, &failure)
-            }
-            Outcome::Finished if cells.is_empty() => self.learn_end(run),
-            Outcome::Failed(_) | Outcome::Finished => Ok(Lesson::Track { cells, points }),
+            Outcome::Failed(failure) => self.learn_failed(run, &failure),
+            Outcome::Finished => self.learn_finished(run),
+        }
+    }
+
+    /// A failure is looked into only where no more can be known of cells and widening.
+    fn learn_failed(&self, run: &Run<'_>, failure: &Failure) -> Result<Lesson, AllocError> {
+        let news = self.news(run)?;
+        if news.cells.is_empty() && news.points.is_empty() {
+            self.learn_failure(run, failure)
+        } else {
+            Ok(Lesson::Change(Change::Track(news)))
+        }
+    }
+
+    fn learn_finished(&self, run: &mut Run<'_>) -> Result<Lesson, AllocError> {
+        let news = self.news(run)?;
+        if news.cells.is_empty() {
+            self.learn_end(run)
+        } else {
+            Ok(Lesson::Change(Change::Track(news)))
         }
     }
 
@@ -364,39 +407,70 @@ impl<'a> Refinement<'a> {
         &mut self,
         progress: &mut P,
     ) -> Result<Option<Made>, AllocError> {
-        // A copy, since the run is still asked while what it teaches is written down.
-        let configuration = self.configuration.clone()?;
-        let mut run = Run::new(self.alloc, self.rom, &configuration)?;
-        let outcome = run.run()?;
-        progress.ran(run.nodes.len(), run.procedures.len());
-        self.cells.learn(&run)?;
-        self.steps = run.steps;
-        self.targets = targets_of(self.alloc, &run)?;
-        let lesson = self.learn(&mut run, outcome)?;
-        drop(run);
+        let lesson = self.lesson(progress)?;
         self.apply(lesson)
     }
 
-    /// Something is refined; what was before is kept.
-    fn refine(
+    fn lesson<P: Progress>(&mut self, progress: &mut P) -> Result<Lesson, AllocError> {
+        // A copy, since the run is still asked while what it teaches is written down.
+        let configuration = self.configuration.clone()?;
+        self.lesson_under(&configuration, progress)
+    }
+
+    fn lesson_under<P: Progress>(
         &mut self,
-        place: Place,
-        reason: u8,
-        plan: &Plan,
-        obstacle: Standing,
-    ) -> Result<(), AllocError> {
+        configuration: &Configuration,
+        progress: &mut P,
+    ) -> Result<Lesson, AllocError> {
+        let mut run = Run::new(self.alloc, self.rom, configuration)?;
+        self.lesson_of(&mut run, progress)
+    }
+
+    /// Runs, and learns from where it stops.
+    fn lesson_of<P: Progress>(
+        &mut self,
+        run: &mut Run<'_>,
+        progress: &mut P,
+    ) -> Result<Lesson, AllocError> {
+        let outcome = run.run()?;
+        progress.ran(run.nodes.len(), run.procedures.len());
+        self.cells.learn(run)?;
+        self.steps = run.steps;
+        self.targets = targets_of(self.alloc, run)?;
+        self.learn(run, outcome)
+    }
+
+    /// Something is refined; what was before is kept.
+    fn refine(&mut self, mending: Mending) -> Result<(), AllocError> {
+        self.count_edit(mending.place, mending.reason)?;
+        self.keep_before(mending.place, mending.obstacle.cause)?;
+        self.make_edit(&mending.plan)?;
+        let Mending {
+            place,
+            obstacle,
+            ..
+        } = mending;
+        self.keep_first(place, obstacle)
+    }
+
+    fn count_edit(&mut self, place: Place, reason: u8) -> Result<(), AllocError> {
         let count = self.edits_at(place, reason);
         self.tried
             .insert(Tried { place, reason }, count.saturating_add(1))?;
+        Ok(())
+    }
+
+    fn keep_before(&mut self, place: Place, cause: Cause) -> Result<(), AllocError> {
         let configuration = self.configuration.clone()?;
         self.before = Some(Before {
             configuration,
             place,
-            cause: obstacle.cause,
+            cause,
         });
-        if !self.first.contains_key(&place) {
-            self.first.insert(place, obstacle)?;
-        }
+        Ok(())
+    }
+
+    fn make_edit(&mut self, plan: &Plan) -> Result<(), AllocError> {
         let keys = plan.loose_keys()?;
         if !keys.is_empty() {
             self.keyed_loops.push(keys)?;
@@ -404,20 +478,35 @@ impl<'a> Refinement<'a> {
         plan.apply(&mut self.configuration)
     }
 
+    /// A failure is kept as it was first met.
+    fn keep_first(&mut self, place: Place, obstacle: Standing) -> Result<(), AllocError> {
+        if !self.first.contains_key(&place) {
+            self.first.insert(place, obstacle)?;
+        }
+        Ok(())
+    }
+
     /// The last edit is taken back, and the failure that it was to mend stands. Without an edit nothing is changed.
     fn take_back(&mut self) -> Result<Option<Place>, AllocError> {
-        let Some(before) = self.before.take() else {
-            return Ok(None);
-        };
+        match self.before.take() {
+            Some(before) => {
+                let place = before.place;
+                self.go_back(before)?;
+                self.stand(place)?;
+                Ok(Some(place))
+            }
+            None => Ok(None),
+        }
+    }
+
+    fn go_back(&mut self, before: Before) -> Result<(), AllocError> {
         let Before {
             mut configuration,
-            place,
             ..
         } = before;
         self.keep_learnt(&mut configuration)?;
         self.configuration = configuration;
-        self.stand(place)?;
-        Ok(Some(place))
+        Ok(())
     }
 
     /// A run was too large: the last edit was too much, or there was none.
@@ -427,23 +516,21 @@ impl<'a> Refinement<'a> {
                 self.too_large.insert(place)?;
                 Ok(None)
             }
-            Some(place) => Ok(Some(self.first_alone(place, Obstacle::TooLarge(crowd))?)),
-            None => {
-                let mut obstacles = Vec::new(self.alloc);
-                obstacles.push(Obstacle::TooLarge(crowd))?;
-                Ok(Some(Made::Obstacles(obstacles)))
-            }
+            Some(place) => Ok(Some(self.end_at(place, Obstacle::TooLarge(crowd))?)),
+            None => Ok(Some(end_alone(self.alloc, Obstacle::TooLarge(crowd))?)),
         }
     }
 
-    /// The failure at a place, as it was first met, and another obstacle.
-    fn first_alone(&mut self, place: Place, other: Obstacle) -> Result<Made, AllocError> {
-        let mut obstacles = Vec::new(self.alloc);
-        if let Some(standing) = self.first.remove(&place) {
-            obstacles.push(Obstacle::Standing(standing))?;
+    /// The failure at a place is told, as it was first met, and another obstacle.
+    fn end_at(&mut self, place: Place, other: Obstacle) -> Result<Made, AllocError> {
+        match self.first.remove(&place) {
+            Some(standing) => {
+                let mut obstacles = alone(self.alloc, Obstacle::Standing(standing))?;
+                obstacles.push(other)?;
+                Ok(Made::Obstacles(obstacles))
+            }
+            None => end_alone(self.alloc, other),
         }
-        obstacles.push(other)?;
-        Ok(Made::Obstacles(obstacles))
     }
 
     /// An obstacle as it was first met, where its pointer is kept in RAM: later ones are told apart value by value.
@@ -463,13 +550,20 @@ impl<'a> Refinement<'a> {
     /// The obstacles that are told at the end.
     fn end(&mut self, obstacles: Vec<Obstacle>) -> Result<Made, AllocError> {
         let mut told = Vec::new(self.alloc);
-        for obstacle in obstacles {
-            let obstacle = self.as_first_met(obstacle);
-            if !is_consequence(&told, &obstacle) {
-                told.push(obstacle)?;
-            }
-        }
+        self.tell_all(obstacles, &mut told)?;
         Ok(Made::Obstacles(told))
+    }
+
+    fn tell_all(
+        &mut self,
+        obstacles: Vec<Obstacle>,
+        told: &mut Vec<Obstacle>,
+    ) -> Result<(), AllocError> {
+        for obstacle in obstacles {
+            let first = self.as_first_met(obstacle);
+            tell(first, told)?;
+        }
+        Ok(())
     }
 
     /// An older configuration gets what has been learnt since, but for what tells states apart.
@@ -477,9 +571,7 @@ impl<'a> Refinement<'a> {
         older.region = self.configuration.region;
         older.is_stack_seen = self.configuration.is_stack_seen;
         older.tracked = self.configuration.tracked.clone()?;
-        for point in self.configuration.points.iter() {
-            older.points.insert(*point)?;
-        }
+        add_points(&self.configuration.points, &mut older.points)?;
         for place in &self.given_up {
             older.given_up.insert(*place)?;
         }
@@ -496,32 +588,40 @@ impl<'a> Refinement<'a> {
     /// Does what a lesson says; something where there is no more to be done.
     fn apply(&mut self, lesson: Lesson) -> Result<Option<Made>, AllocError> {
         match lesson {
-            Lesson::Region(region) => {
-                self.configuration.is_stack_seen = true;
-                self.cells
-                    .set_region(self.alloc, &mut self.configuration, region)?;
+            Lesson::Change(change) => {
+                self.change(change)?;
+                Ok(None)
             }
-            Lesson::Track { cells, points } => {
-                for point in &points {
-                    self.configuration.points.insert(*point)?;
-                }
-                self.cells.track(&mut self.configuration, &cells)?;
-            }
-            Lesson::Refine {
-                place,
-                reason,
-                plan,
-                obstacle,
-            } => self.refine(place, reason, &plan, obstacle)?,
-            Lesson::GiveUp { place } => self.stand(place)?,
-            Lesson::TakeBack => {
-                self.take_back()?;
-            }
-            Lesson::TooLarge(crowd) => return self.shrink_back(crowd),
-            Lesson::End(obstacles) => return Ok(Some(self.end(obstacles)?)),
-            Lesson::Certificate(bytes) => return Ok(Some(Made::Certificate(bytes))),
+            Lesson::TooLarge(crowd) => self.shrink_back(crowd),
+            Lesson::End(obstacles) => Ok(Some(self.end(obstacles)?)),
+            Lesson::Certificate(bytes) => Ok(Some(Made::Certificate(bytes))),
         }
-        Ok(None)
+    }
+
+    fn change(&mut self, change: Change) -> Result<(), AllocError> {
+        match change {
+            Change::Region(region) => self.set_region(region),
+            Change::Track(news) => self.track(&news),
+            Change::Mend(mending) => self.refine(mending),
+            Change::GiveUp(place) => self.stand(place),
+            Change::TakeBack => {
+                self.take_back()?;
+                Ok(())
+            }
+        }
+    }
+
+    fn set_region(&mut self, region: Region) -> Result<(), AllocError> {
+        self.configuration.is_stack_seen = true;
+        self.cells
+            .set_region(self.alloc, &mut self.configuration, region)
+    }
+
+    fn track(&mut self, news: &News) -> Result<(), AllocError> {
+        for point in &news.points {
+            self.configuration.points.insert(*point)?;
+        }
+        self.cells.track(&mut self.configuration, &news.cells)
     }
 
     /// There were more rounds than allowed: the failure that was to be mended last is told.
@@ -530,12 +630,8 @@ impl<'a> Refinement<'a> {
             rounds: self.limits.rounds,
         };
         match self.before.take() {
-            Some(before) => self.first_alone(before.place, rounds),
-            None => {
-                let mut obstacles = Vec::new(self.alloc);
-                obstacles.push(rounds)?;
-                Ok(Made::Obstacles(obstacles))
-            }
+            Some(before) => self.end_at(before.place, rounds),
+            None => end_alone(self.alloc, rounds),
         }
     }
 
@@ -559,6 +655,90 @@ impl<'a> Refinement<'a> {
     }
 }
 
+fn add_points(more: &BTreeSet<u8>, points: &mut BTreeSet<u8>) -> Result<(), AllocError> {
+    for point in more {
+        points.insert(*point)?;
+    }
+    Ok(())
+}
+
+/// What there is to tell of a failure, and the cells in which its pointer is kept.
+fn told(alloc: Global, run: &Run<'_>, failure: &Failure) -> Result<Option<Standing>, AllocError> {
+    match Standing::of(alloc, run, failure)? {
+        Some(mut standing) => {
+            add_kept_in(alloc, run, failure, &mut standing.kept_in)?;
+            Ok(Some(standing))
+        }
+        None => Ok(None),
+    }
+}
+
+/// The cells in which the pointer of a failure is kept. Of a jump none are told.
+fn add_kept_in(
+    alloc: Global,
+    run: &Run<'_>,
+    failure: &Failure,
+    kept_in: &mut Vec<u16>,
+) -> Result<(), AllocError> {
+    let Some(node) = run.nodes.get(failure.node) else {
+        return Ok(());
+    };
+    if failure.cause == Cause::JumpHl {
+        return Ok(());
+    }
+    let spot = Spot {
+        procedure: node.key.procedure,
+        address: node.key.address,
+    };
+    let cells = pointer_cells(alloc, run, spot, &failure.registers)?;
+    add_cells(&cells, kept_in)
+}
+
+fn add_cells(cells: &BTreeSet<u16>, kept_in: &mut Vec<u16>) -> Result<(), AllocError> {
+    for cell in cells {
+        kept_in.push(*cell)?;
+    }
+    Ok(())
+}
+
+/// The failures of a run at a place.
+fn add_failures(
+    alloc: Global,
+    run: &Run<'_>,
+    place: Place,
+    is_too_large: bool,
+    obstacles: &mut Vec<Obstacle>,
+) -> Result<(), AllocError> {
+    for failure in &run.failures {
+        if run.place_of(failure.node) == Some(place) {
+            add_failure(alloc, run, failure, is_too_large, obstacles)?;
+        }
+    }
+    Ok(())
+}
+
+fn add_failure(
+    alloc: Global,
+    run: &Run<'_>,
+    failure: &Failure,
+    is_too_large: bool,
+    obstacles: &mut Vec<Obstacle>,
+) -> Result<(), AllocError> {
+    if let Some(mut standing) = told(alloc, run, failure)? {
+        standing.is_too_large = is_too_large;
+        obstacles.push(Obstacle::Standing(standing))?;
+    }
+    Ok(())
+}
+
+/// An obstacle is told, unless it follows from those before it.
+fn tell(obstacle: Obstacle, told: &mut Vec<Obstacle>) -> Result<(), AllocError> {
+    if !is_consequence(told, &obstacle) {
+        told.push(obstacle)?;
+    }
+    Ok(())
+}
+
 /// Whether an obstacle mostly follows from those before it: the same procedure is entered again elsewhere, or padding is run.
 fn is_consequence(told: &[Obstacle], obstacle: &Obstacle) -> bool {
     let Obstacle::Standing(standing) = obstacle else {
@@ -566,12 +746,30 @@ fn is_consequence(told: &[Obstacle], obstacle: &Obstacle) -> bool {
     };
     match standing.cause {
         Cause::Recursion { target: 0x38 } => !told.is_empty(),
-        Cause::Recursion { .. } => told.iter().any(|other| match other {
-            Obstacle::Standing(other) => other.cause == standing.cause,
-            _ => false,
-        }),
+        Cause::Recursion { .. } => has_cause(told, standing.cause),
         _ => false,
     }
+}
+
+/// Whether one of the obstacles is a failure with this cause.
+fn has_cause(told: &[Obstacle], cause: Cause) -> bool {
+    for obstacle in told {
+        if let Obstacle::Standing(standing) = obstacle
+            && standing.cause == cause
+        {
+            return true;
+        }
+    }
+    false
+}
+
+/// The stack region of so many words, at least one, up to an address.
+fn region_of(words: usize, last: u16) -> Option<Region> {
+    let Ok(bytes) = u16::try_from(words.saturating_mul(2).saturating_sub(1)) else {
+        return None;
+    };
+    let first = last.checked_sub(bytes)?;
+    Some(Region { first, last })
 }
 
 /// How many nodes are gone back to a jump.

@@ -5,6 +5,7 @@ use gb_cert::types::Cert;
 use gb_draft::{certificate_of, find_needs};
 use gb_fixpoint::types::Run;
 use gb_header::Rom;
+use gb_ops::op::Register;
 use gb_partition::cause::Outcome;
 use gb_partition::configuration::{Configuration, Place};
 use gb_partition::register_set::REGISTERS;
@@ -35,21 +36,37 @@ fn attempt(
     configuration: &Configuration,
 ) -> Result<Option<Vec<u8>>, AllocError> {
     let mut run = Run::new(alloc, rom, configuration)?;
-    if run.run()? != Outcome::Finished
-        || !run.failures.is_empty()
-        || find_needs(alloc, &mut run)?.is_some()
-    {
+    accepted(alloc, rom, &mut run)
+}
+
+fn accepted(
+    alloc: Global,
+    rom: &Rom<'_>,
+    run: &mut Run<'_>,
+) -> Result<Option<Vec<u8>>, AllocError> {
+    if !is_clean(alloc, run)? {
         return Ok(None);
     }
-    let bytes = certificate_of(alloc, &run)?;
-    let is_accepted = match Cert::parse(alloc, &bytes) {
-        Ok(cert) => matches!(check(rom, &cert), Verdict::Accepted { .. }),
-        Err(_) => false,
-    };
-    if is_accepted {
+    let bytes = certificate_of(alloc, run)?;
+    if is_accepted(alloc, rom, &bytes) {
         Ok(Some(bytes))
     } else {
         Ok(None)
+    }
+}
+
+/// Whether a run ends with no failure, and its procedures' needs are found.
+fn is_clean(alloc: Global, run: &mut Run<'_>) -> Result<bool, AllocError> {
+    if run.run()? != Outcome::Finished || !run.failures.is_empty() {
+        return Ok(false);
+    }
+    Ok(find_needs(alloc, run)?.is_none())
+}
+
+fn is_accepted(alloc: Global, rom: &Rom<'_>, bytes: &[u8]) -> bool {
+    match Cert::parse(alloc, bytes) {
+        Ok(cert) => matches!(check(rom, &cert), Verdict::Accepted { .. }),
+        Err(_) => false,
     }
 }
 
@@ -84,77 +101,136 @@ struct Shrinking<'a> {
 }
 
 impl Shrinking<'_> {
-    /// Takes a coarser configuration, if its certificate is smaller.
-    fn try_coarser(&mut self, coarser: Configuration) -> Result<bool, AllocError> {
-        if self.attempts == 0 {
-            return Ok(false);
-        }
-        self.attempts -= 1;
-        match attempt(self.alloc, self.rom, &coarser)? {
-            Some(bytes) if bytes.len() < self.best.len() => {
-                self.best = bytes;
-                self.configuration = coarser;
-                Ok(true)
-            }
-            _ => Ok(false),
-        }
+    /// Takes back all that can be, one kind after another.
+    fn shrink(&mut self, refinement: &Refinement<'_>) -> Result<(), AllocError> {
+        self.flatten(refinement)?;
+        self.untrack(refinement)?;
+        self.loops(&refinement.keyed_loops)?;
+        self.registers()
+    }
+
+    /// Procedures needn't be parted by the bank.
+    fn flatten(&mut self, refinement: &Refinement<'_>) -> Result<(), AllocError> {
+        let targets = crowded(refinement)?;
+        self.by_halves(Kind::Flat, &targets)
+    }
+
+    /// Cells needn't be tracked.
+    fn untrack(&mut self, refinement: &Refinement<'_>) -> Result<(), AllocError> {
+        let cells = loose_cells(refinement)?;
+        self.by_halves(Kind::Cell, &cells)
     }
 
     /// Takes something back at all addresses, else at each half of them, and so on.
-    fn by_halves(&mut self, kind: Kind, addresses: Vec<u16>) -> Result<(), AllocError> {
+    fn by_halves(&mut self, kind: Kind, addresses: &[u16]) -> Result<(), AllocError> {
         let mut left = Vec::new(self.alloc);
         left.push(addresses)?;
+        self.by_parts(kind, &mut left)
+    }
+
+    fn by_parts(&mut self, kind: Kind, left: &mut Vec<&[u16]>) -> Result<(), AllocError> {
         for _ in 0..2 * ATTEMPTS {
-            let Some(addresses) = left.pop() else { break };
-            if addresses.is_empty() || self.attempts == 0 {
+            let Some(part) = left.pop() else { break };
+            if part.is_empty() || self.attempts == 0 {
                 continue;
             }
-            let coarser = without_some(&self.configuration, kind, &addresses)?;
-            if !self.try_coarser(coarser)? && addresses.len() > 1 {
-                let (first, second) = addresses.split_at(addresses.len() / 2);
-                left.push(Vec::from_slice(self.alloc, first)?)?;
-                left.push(Vec::from_slice(self.alloc, second)?)?;
+            if !self.try_without(kind, part)? && part.len() > 1 {
+                push_halves(part, left)?;
             }
         }
         Ok(())
+    }
+
+    fn try_without(&mut self, kind: Kind, addresses: &[u16]) -> Result<bool, AllocError> {
+        let coarser = without_some(&self.configuration, kind, addresses)?;
+        self.try_coarser(coarser)
     }
 
     /// Loops that were keyed needn't be.
     fn loops(&mut self, loops: &[Vec<Place>]) -> Result<(), AllocError> {
         for places in loops {
-            if self.attempts == 0 {
-                break;
-            }
-            let mut coarser = self.configuration.clone()?;
-            for place in places {
-                coarser.keyed.remove(place);
-            }
-            self.try_coarser(coarser)?;
+            self.try_unkeyed(places)?;
         }
         Ok(())
     }
 
+    fn try_unkeyed(&mut self, places: &[Place]) -> Result<bool, AllocError> {
+        if self.attempts == 0 {
+            return Ok(false);
+        }
+        let mut coarser = self.configuration.clone()?;
+        for place in places {
+            coarser.keyed.remove(place);
+        }
+        self.try_coarser(coarser)
+    }
+
     /// Procedures needn't be parted by a register.
     fn registers(&mut self) -> Result<(), AllocError> {
-        let mut targets = Vec::new(self.alloc);
-        for target in self.configuration.parted.keys() {
-            targets.push(*target)?;
-        }
-        for target in &targets {
+        let targets = parted_targets(self.alloc, &self.configuration)?;
+        self.registers_at(&targets)
+    }
+
+    fn registers_at(&mut self, targets: &[u16]) -> Result<(), AllocError> {
+        for target in targets {
             for register in REGISTERS {
-                let registers = parted_by(&self.configuration, *target);
-                if self.attempts == 0 || !registers.contains(register) {
-                    continue;
-                }
-                let mut coarser = self.configuration.clone()?;
-                coarser
-                    .parted
-                    .insert(*target, without(&registers, register))?;
-                self.try_coarser(coarser)?;
+                self.try_unparted(*target, register)?;
             }
         }
         Ok(())
     }
+
+    fn try_unparted(&mut self, target: u16, register: Register) -> Result<bool, AllocError> {
+        let registers = parted_by(&self.configuration, target);
+        if self.attempts == 0 || !registers.contains(register) {
+            return Ok(false);
+        }
+        let mut coarser = self.configuration.clone()?;
+        coarser
+            .parted
+            .insert(target, without(&registers, register))?;
+        self.try_coarser(coarser)
+    }
+
+    /// Takes a coarser configuration, if its certificate is smaller.
+    fn try_coarser(&mut self, coarser: Configuration) -> Result<bool, AllocError> {
+        match self.smaller(&coarser)? {
+            Some(bytes) => {
+                self.best = bytes;
+                self.configuration = coarser;
+                Ok(true)
+            }
+            None => Ok(false),
+        }
+    }
+
+    /// The certificate under a configuration, if it is smaller. One attempt fewer is left.
+    fn smaller(&mut self, coarser: &Configuration) -> Result<Option<Vec<u8>>, AllocError> {
+        if self.attempts == 0 {
+            return Ok(None);
+        }
+        self.attempts -= 1;
+        match attempt(self.alloc, self.rom, coarser)? {
+            Some(bytes) if bytes.len() < self.best.len() => Ok(Some(bytes)),
+            _ => Ok(None),
+        }
+    }
+}
+
+fn push_halves<'p>(part: &'p [u16], left: &mut Vec<&'p [u16]>) -> Result<(), AllocError> {
+    let (first, second) = part.split_at(part.len() / 2);
+    left.push(first)?;
+    left.push(second)?;
+    Ok(())
+}
+
+/// The targets whose procedures are parted by registers.
+fn parted_targets(alloc: Global, configuration: &Configuration) -> Result<Vec<u16>, AllocError> {
+    let mut targets = Vec::new(alloc);
+    for target in configuration.parted.keys() {
+        targets.push(*target)?;
+    }
+    Ok(targets)
 }
 
 /// The addresses outside the switched bank at which several procedures begin.
@@ -185,22 +261,23 @@ pub(crate) fn shrink<P: Progress>(
     best: Vec<u8>,
     progress: &mut P,
 ) -> Result<Vec<u8>, AllocError> {
-    let attempts = match STEPS.checked_div(refinement.steps) {
-        Some(attempts) => attempts.min(ATTEMPTS),
-        None => ATTEMPTS,
-    };
     progress.shrinks();
     let mut shrinking = Shrinking {
         alloc: refinement.alloc(),
         rom: refinement.rom(),
         configuration: refinement.configuration.clone()?,
         best,
-        attempts,
+        attempts: attempts_of(refinement.steps),
     };
-    shrinking.by_halves(Kind::Flat, crowded(refinement)?)?;
-    shrinking.by_halves(Kind::Cell, loose_cells(refinement)?)?;
-    shrinking.loops(&refinement.keyed_loops)?;
-    shrinking.registers()?;
+    shrinking.shrink(refinement)?;
     let Shrinking { best, .. } = shrinking;
     Ok(best)
+}
+
+/// How many attempts there are, where each takes so many steps.
+fn attempts_of(steps: u64) -> u64 {
+    match STEPS.checked_div(steps) {
+        Some(attempts) => attempts.min(ATTEMPTS),
+        None => ATTEMPTS,
+    }
 }

@@ -40,20 +40,20 @@ impl Cells {
 
     /// Takes over what a run met.
     pub(crate) fn learn(&mut self, run: &Run<'_>) -> Result<(), AllocError> {
-        for cell in run.named.iter() {
-            self.named.insert(*cell)?;
-        }
-        for cell in run.fetched.iter() {
-            self.fetched.insert(*cell)?;
-        }
-        Ok(())
+        add_all(&run.named, &mut self.named)?;
+        add_all(&run.fetched, &mut self.fetched)
     }
 
     /// The cells that a run wants and that aren't tracked, but might be.
-    pub(crate) fn missing(&self, alloc: Global, run: &Run<'_>) -> Result<Vec<u16>, AllocError> {
+    pub(crate) fn missing(
+        &self,
+        alloc: Global,
+        wanted: &BTreeSet<u16>,
+        tracked: &BTreeSet<u16>,
+    ) -> Result<Vec<u16>, AllocError> {
         let mut missing = Vec::new(alloc);
-        for cell in run.wanted.iter() {
-            if !self.untracked.contains(cell) && !run.configuration.tracked.contains(cell) {
+        for cell in wanted {
+            if !self.untracked.contains(cell) && !tracked.contains(cell) {
                 missing.push(*cell)?;
             }
         }
@@ -138,18 +138,43 @@ impl Cells {
         region: Region,
     ) -> Result<(), AllocError> {
         configuration.region = region;
-        let mut inside = Vec::new(alloc);
-        for cell in configuration.tracked.iter() {
-            if meets(region, *cell) {
-                inside.push(*cell)?;
-            }
-        }
-        for cell in &inside {
+        let inside = cells_inside(alloc, region, &configuration.tracked)?;
+        self.drop_cells(configuration, &inside)
+    }
+
+    fn drop_cells(
+        &mut self,
+        configuration: &mut Configuration,
+        cells: &[u16],
+    ) -> Result<(), AllocError> {
+        for cell in cells {
             configuration.key_cells.remove(cell);
             self.drop_cell(configuration, *cell)?;
         }
         Ok(())
     }
+}
+
+fn add_all(more: &BTreeSet<u16>, cells: &mut BTreeSet<u16>) -> Result<(), AllocError> {
+    for cell in more {
+        cells.insert(*cell)?;
+    }
+    Ok(())
+}
+
+/// The cells that lie in the stack region.
+fn cells_inside(
+    alloc: Global,
+    region: Region,
+    cells: &BTreeSet<u16>,
+) -> Result<Vec<u16>, AllocError> {
+    let mut inside = Vec::new(alloc);
+    for cell in cells {
+        if meets(region, *cell) {
+            inside.push(*cell)?;
+        }
+    }
+    Ok(inside)
 }
 
 /// Whether a cell lies in the stack region.

@@ -28,7 +28,7 @@ pub trait Rows {
 
 /// The rows with a key: those from `first` to below `after`. Where there is none both are the
 /// number of the rows before.
-#[derive(Clone, Copy, Debug, PartialEq, Eq)]
+#[derive(Clone, Copy, PartialEq, Eq)]
 pub struct Found {
     pub first: u32,
     pub after: u32,

@@ -27,7 +27,7 @@ const ACCEPTED: &[u8] = b"ACCEPTED nodes 100 procedures 1\n";
 const TOO_SHORT: &[u8] = b"CARTRIDGE H1\n";
 
 /// What a call answered.
-#[derive(Clone, Copy, Debug, PartialEq, Eq)]
+#[derive(Clone, Copy, PartialEq, Eq)]
 pub enum Answer {
     /// Want of memory.
     Refused,
@@ -105,7 +105,7 @@ fn upgrade(alloc: Global, files: &Files<'_>) -> Answer {
 fn verify(alloc: Global, files: &Files<'_>) -> Answer {
     let mut out = KeptBytes::new(96, 96);
     match verify_bytes(alloc, files.rom.bytes(), files.cert.bytes(), &mut out) {
-        Ok(Outcome::Accepted) if out.kept() == ACCEPTED => { Answer::Right }
+        Ok(Outcome::Accepted) if out.kept() == ACCEPTED => Answer::Right,
         Ok(Outcome::NoMemory) if out.kept() == NO_MEMORY => Answer::Refused,
         _ => Answer::Other,
     }

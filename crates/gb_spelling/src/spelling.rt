@@ -12,7 +12,7 @@ use std::fmt;
 /// An instruction at its address. It prints as assemblers spell it (RGBDS; Pan Docs: CPU Instruction Set): upper case,
 /// numbers in hexadecimal behind `$`, displacements from SP in decimal, and a relative jump with the address that it
 /// leads to.
-#[derive(Clone, Copy, Debug, PartialEq, Eq)]
+#[derive(Clone, Copy)]
 pub struct Spelling {
     op: Op,
     /// The address behind the instruction.

@@ -33,7 +33,7 @@ pub struct Successor<'a> {
 }
 
 /// The instruction that changes words or cells, and the cartridge's kind.
-#[derive(Clone, Copy, Debug, PartialEq, Eq)]
+#[derive(Clone, Copy)]
 pub struct Moved {
     pub kind: Kind,
     pub op: Op,

@@ -6,11 +6,11 @@ ghost use Rattle.gb_text.specs.Sink.{Gains};
 use std::io::Write;
 
 /// A sink took nothing of what it was given.
-#[derive(Clone, Copy, Debug, PartialEq, Eq)]
+#[derive(Clone, Copy, PartialEq, Eq)]
 pub struct PutFault;
 
 /// A sink failed during the call; what went out is a beginning of the call's text.
-#[derive(Clone, Copy, Debug, PartialEq, Eq)]
+#[derive(Clone, Copy, PartialEq, Eq)]
 pub struct OutFault;
 
 /// Takes bytes in order.

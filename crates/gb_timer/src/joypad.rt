@@ -10,7 +10,7 @@ use bitflags::Flags;
 use std::marker::Model;
 
 /// The register FF00 and the keys that are held.
-#[derive(Clone, Copy, Debug)]
+#[derive(Clone, Copy)]
 pub struct Joypad {
     /// Bits 5 and 4 of FF00, as they were written.
     select: u8,

@@ -7,7 +7,7 @@ use crate::bits::is_set;
 use std::marker::Model;
 
 /// DIV, TIMA, TMA and TAC, with the counter of M-cycles behind DIV.
-#[derive(Clone, Copy, Debug)]
+#[derive(Clone, Copy)]
 pub struct Timer {
     /// M-cycles, modulo 16,384.
     counter: u16,

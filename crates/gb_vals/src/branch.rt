@@ -11,7 +11,7 @@ use gb_cert::types::{Flg, Val};
 use gb_ops::op::{AluOp, Condition};
 
 /// A and the flags where a condition is met.
-#[derive(Clone, Copy, Debug, PartialEq, Eq)]
+#[derive(Clone, Copy, PartialEq, Eq)]
 pub struct Branch {
     pub a: Val,
     pub flags: Flg,

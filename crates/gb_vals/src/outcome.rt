@@ -9,7 +9,7 @@ use gb_cert::types::{Flg, Val};
 use gb_ops::machine::Computed;
 
 /// What an operation may give: an interval of values, and the flags after it.
-#[derive(Clone, Copy, Debug, PartialEq, Eq)]
+#[derive(Clone, Copy, PartialEq, Eq)]
 pub struct Outcome {
     pub val: Val,
     pub flags: Flg,

@@ -16,7 +16,7 @@ use gb_text::sink::{OutFault, Sink};
 use std::alloc::Global;
 
 /// What was written of a certificate's bytes.
-#[derive(Clone, Copy, Debug, PartialEq, Eq)]
+#[derive(Clone, Copy, PartialEq, Eq)]
 pub enum Upgraded {
     /// The same certificate in version 2.
     Written,

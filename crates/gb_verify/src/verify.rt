@@ -16,7 +16,7 @@ use gb_text::sink::{OutFault, Sink};
 use std::alloc::Global;
 
 /// What there is to say of a cartridge and a certificate.
-#[derive(Clone, Copy, Debug, PartialEq, Eq)]
+#[derive(Clone, Copy, PartialEq, Eq)]
 pub enum Answer {
     Cartridge(HeaderFault),
     Certificate(CertFault),
@@ -24,7 +24,7 @@ pub enum Answer {
 }
 
 /// What kind of line was written.
-#[derive(Clone, Copy, Debug, PartialEq, Eq)]
+#[derive(Clone, Copy, PartialEq, Eq)]
 pub enum Outcome {
     Accepted,
     Refused,

@@ -14,7 +14,7 @@ use std::alloc::{AllocError, Global};
 const MOST_FRAMES: i64 = 36_000;
 
 /// What the program is asked to do.
-#[derive(Clone, Copy, Debug, PartialEq, Eq)]
+#[derive(Clone, Copy, PartialEq, Eq)]
 pub enum Task<'a> {
     /// The verdict on the cartridge and the certificate that the program brings along.
     Stored,

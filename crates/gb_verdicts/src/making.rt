@@ -1,0 +1,104 @@
+//! Certificates are made of cartridges, or it is told what is in the way.
+
+use crate::judging::judge_made;
+use gb_header::Rom;
+use gb_obstacles::{Obstacle, Standing, Told, obstacle_json};
+use gb_refine::{Limits, Made, Progress, make};
+use gb_symbols::Symbols;
+use std::alloc::Global;
+use std::io::{self, Write};
+
+/// What the maker may use.
+const LIMITS: Limits = Limits {
+    nodes: 4_000,
+    rounds: 400,
+    region: None,
+};
+
+/// A maker that tells nothing on its way.
+#[derive(Drop)]
+struct Silent;
+
+impl Progress for Silent {
+    fn round(&mut self, _number: u32) {}
+
+    fn ran(&mut self, _nodes: usize, _procedures: usize) {}
+
+    fn shrinks(&mut self) {}
+
+    fn done(&mut self) {}
+}
+
+/// Prints where a failure is and what happens there, in the maker's own words, and the rule's number.
+fn tell_standing<W: Write>(
+    alloc: Global,
+    out: &mut W,
+    told: &Told<'_>,
+    standing: &Standing,
+) -> io::Result<()> {
+    let text = format!(in alloc; "{told}")?;
+    for line in text.as_str().lines().take(2) {
+        writeln!(out, "{line}")?;
+    }
+    let reason = standing.cause.reason().number();
+    writeln!(out, "  Rule {reason}")
+}
+
+/// Prints what is in the way.
+fn tell<W: Write>(
+    alloc: Global,
+    out: &mut W,
+    obstacles: &[Obstacle],
+    symbols: &Symbols<'_>,
+) -> io::Result<()> {
+    let Some(obstacle) = obstacles.first() else {
+        return writeln!(out, "nothing is told");
+    };
+    let told = Told { obstacle, symbols };
+    match obstacle {
+        Obstacle::Standing(standing) => tell_standing(alloc, out, &told, standing),
+        _ => writeln!(out, "{told}"),
+    }
+}
+
+/// Makes a certificate and prints its verdict, or else what is in the way.
+pub fn certify<W: Write>(
+    alloc: Global,
+    out: &mut W,
+    cartridge: &[u8],
+    symbols: &[u8],
+) -> io::Result<()> {
+    let Ok(rom) = Rom::parse(cartridge) else {
+        return writeln!(out, "no cartridge");
+    };
+    let Ok(symbols) = Symbols::parse(alloc, symbols) else {
+        return writeln!(out, "no symbols");
+    };
+    match make(alloc, &rom, LIMITS, &mut Silent)? {
+        Made::Certificate(cert) => judge_made(alloc, out, cartridge, cert.as_slice()),
+        Made::Obstacles(obstacles) => tell(alloc, out, obstacles.as_slice(), &symbols),
+    }
+}
+
+/// Prints what is in the way first, as JSON.
+pub fn tell_json<W: Write>(
+    alloc: Global,
+    out: &mut W,
+    cartridge: &[u8],
+    symbols: &[u8],
+) -> io::Result<()> {
+    let Ok(rom) = Rom::parse(cartridge) else {
+        return writeln!(out, "no cartridge");
+    };
+    let Ok(symbols) = Symbols::parse(alloc, symbols) else {
+        return writeln!(out, "no symbols");
+    };
+    let Made::Obstacles(obstacles) = make(alloc, &rom, LIMITS, &mut Silent)? else {
+        return writeln!(out, "nothing is in the way");
+    };
+    for obstacle in obstacles.as_slice().iter().take(1) {
+        let text = obstacle_json(alloc, obstacle, &symbols)?;
+        writeln!(out, "{text}")?;
+    }
+    Ok(())
+}
