@@ -18,7 +18,7 @@ mod running;
 use gb_samples::cartridges::put;
 use gb_samples::spelled::{Example, bytes_of, number_of, word_of};
 use judging::judge;
-use making::{certify, tell_json};
+use making::{Telling, certify};
 use running::run;
 use std::alloc::Global;
 use std::io::{self, BufRead, BufReader, BufWriter, Write};
@@ -44,6 +44,11 @@ impl Played {
     fn rom(&self) -> &[u8] {
         self.files.rom.as_slice()
     }
+
+    /// Makes a certificate of the cartridge.
+    fn certify<W: Write>(&self, alloc: Global, out: &mut W, telling: Telling) -> io::Result<()> {
+        certify(alloc, out, self.rom(), self.symbols.as_bytes(), telling)
+    }
 }
 
 /// The bytes, cut off or followed by zeros, so that they are so many.
@@ -53,19 +58,13 @@ fn resized(alloc: Global, bytes: &[u8], length: usize) -> io::Result<Vec<u8>> {
     Ok(resized)
 }
 
-fn fill(rom: &mut [u8], value: u8) {
-    for byte in rom {
-        *byte = value;
-    }
-}
-
 /// Takes a line that says what the example is.
 fn take(alloc: Global, played: &mut Played, word: &str, rest: &str) -> io::Result<()> {
     match word {
-        "fill" => fill(
-            played.files.rom.as_mut_slice(),
-            (number_of(rest) % 256) as u8,
-        ),
+        "fill" => {
+            let value = (number_of(rest) % 256) as u8;
+            played.files.rom.as_mut_slice().fill(value);
+        }
         "length" => played.files.rom = resized(alloc, played.rom(), number_of(rest))?,
         "symbol" => {
             played.symbols.push_str(rest)?;
@@ -86,8 +85,8 @@ fn play<W: Write>(alloc: Global, out: &mut W, played: &mut Played, line: &str) -
             writeln!(out, "{rest}")
         }
         "verdict" => judge(alloc, out, played.rom(), played.files.cert.as_slice()),
-        "certify" => certify(alloc, out, played.rom(), played.symbols.as_bytes()),
-        "json" => tell_json(alloc, out, played.rom(), played.symbols.as_bytes()),
+        "certify" => played.certify(alloc, out, Telling::Words),
+        "json" => played.certify(alloc, out, Telling::Json),
         "frames" => run(
             alloc,
             out,

@@ -61,12 +61,34 @@ fn tell<W: Write>(
     }
 }
 
+/// Prints what is in the way first, as JSON.
+fn tell_json<W: Write>(
+    alloc: Global,
+    out: &mut W,
+    obstacles: &[Obstacle],
+    symbols: &Symbols<'_>,
+) -> io::Result<()> {
+    for obstacle in obstacles.iter().take(1) {
+        let text = obstacle_json(alloc, obstacle, symbols)?;
+        writeln!(out, "{text}")?;
+    }
+    Ok(())
+}
+
+/// How it is told what is in the way.
+#[derive(Clone, Copy)]
+pub enum Telling {
+    Words,
+    Json,
+}
+
 /// Makes a certificate and prints its verdict, or else what is in the way.
 pub fn certify<W: Write>(
     alloc: Global,
     out: &mut W,
     cartridge: &[u8],
     symbols: &[u8],
+    telling: Telling,
 ) -> io::Result<()> {
     let Ok(rom) = Rom::parse(cartridge) else {
         return writeln!(out, "no cartridge");
@@ -74,31 +96,13 @@ pub fn certify<W: Write>(
     let Ok(symbols) = Symbols::parse(alloc, symbols) else {
         return writeln!(out, "no symbols");
     };
-    match make(alloc, &rom, LIMITS, &mut Silent)? {
-        Made::Certificate(cert) => judge_made(alloc, out, cartridge, cert.as_slice()),
-        Made::Obstacles(obstacles) => tell(alloc, out, obstacles.as_slice(), &symbols),
+    match (make(alloc, &rom, LIMITS, &mut Silent)?, telling) {
+        (Made::Certificate(cert), _) => judge_made(alloc, out, cartridge, cert.as_slice()),
+        (Made::Obstacles(obstacles), Telling::Words) => {
+            tell(alloc, out, obstacles.as_slice(), &symbols)
+        }
+        (Made::Obstacles(obstacles), Telling::Json) => {
+            tell_json(alloc, out, obstacles.as_slice(), &symbols)
+        }
     }
-}
-
-/// Prints what is in the way first, as JSON.
-pub fn tell_json<W: Write>(
-    alloc: Global,
-    out: &mut W,
-    cartridge: &[u8],
-    symbols: &[u8],
-) -> io::Result<()> {
-    let Ok(rom) = Rom::parse(cartridge) else {
-        return writeln!(out, "no cartridge");
-    };
-    let Ok(symbols) = Symbols::parse(alloc, symbols) else {
-        return writeln!(out, "no symbols");
-    };
-    let Made::Obstacles(obstacles) = make(alloc, &rom, LIMITS, &mut Silent)? else {
-        return writeln!(out, "nothing is in the way");
-    };
-    for obstacle in obstacles.as_slice().iter().take(1) {
-        let text = obstacle_json(alloc, obstacle, &symbols)?;
-        writeln!(out, "{text}")?;
-    }
-    Ok(())
 }
