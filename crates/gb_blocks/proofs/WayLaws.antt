@@ -31,6 +31,9 @@ use Rattle.gb_blocks.proofs.CoveringLaws.{found_at}
 use Rattle.gb_blocks.proofs.NodeLaws.{Passes, ways_of, not_unknown, not_uncovered, not_uncallable, not_too_deep, not_unreturnable}
 use Rattle.gb_blocks.proofs.StandLaws.{OnNode}
 
+not_so : {X : Type 0} → true ≡ false → X
+not_so h = cc
+
 -- ---- the words that are held
 
 words_fit : (o : Op) (need held : ℕ) (n : Node) → length n.state.items ≡ held → held ≤ need → pushes_too_deep need n o ≡ false → words_behind o held ≤ need
@@ -88,7 +91,7 @@ calls_at rom cert n t a entry base y certificate c mark outside over uncovered =
   where
     by : (o : Option ℕ) → callee_of cert a t.state ≡ o → is_outside_of cert n.procedure o ≡ false → is_over cert (need_of cert n.procedure) (length t.state.items) o ≡ false
         → is_back_uncovered cert n.procedure t.next t.state o ≡ false → Calls cert n.procedure entry base y
-    by None e out deep back = cc
+    by None e out deep back = not_so out
     by (Some q) e out deep back =
         let callee = IsCallee-found cert a t.state q e in
         let begin = IsEntryNode-entry cert a (entered t.state) callee.procedure callee.begins in
@@ -122,7 +125,7 @@ returns_to cert n t entry base x y r mark h = by (exit_of cert n.procedure) refl
     not_zero m h = grind (arith, nat_tests)
 
     by : (o : Option AbsState) → exit_of cert n.procedure ≡ o → is_exit_missed t.state o ≡ false → Returns cert n.procedure entry base x y
-    by None e missed = cc
+    by None e missed = not_so missed
     by (Some exit) e missed = record {
       not_main = not_zero n.procedure (or_parts _ _ h).0;
       exit = exit;
@@ -178,4 +181,4 @@ Leads-way rom cert n entry base x k t is y leads held mark =
     by (target.At a) to known covered callable shallow returnable marked = inl (stays_at rom cert n entry base x k t a y to held (not-false _ covered) marked.harmless)
     by (target.Call a) to known covered callable shallow returnable marked = inr (inl (calls_at rom cert n t a entry base y k.certificate to (marked.clear tt) callable shallow covered))
     by target.Return to known covered callable shallow returnable marked = inr (inr (returns_to cert n t entry base x y to (marked.clear tt) returnable))
-    by target.Unknown to known covered callable shallow returnable marked = cc
+    by target.Unknown to known covered callable shallow returnable marked = not_so known

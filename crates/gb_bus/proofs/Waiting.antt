@@ -8,9 +8,10 @@ use Rattle.gb_ppu.proofs.Passing.{advanced-append}
 use Rattle.gb_bus.specs.Contents.{Contents}
 use Rattle.gb_bus.specs.Access.{shared, advanced, timed}
 use Rattle.gb_bus.specs.Screen.{pictured}
-use Rattle.gb_bus.specs.Devices.{IsStill, after}
+use Rattle.gb_devices.specs.Devices.{IsStill, after}
 use Rattle.gb_bus.specs.Waiting.{Waits}
-use Rattle.gb_bus.proofs.Stillness.{devices_of, passed_quietly, still_first, still_behind}
+use Rattle.gb_devices.proofs.Stillness.{still_first, still_behind}
+use Rattle.gb_bus.proofs.Stillness.{devices_of, passed_quietly}
 
 -- ---- the view
 

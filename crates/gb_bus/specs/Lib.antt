@@ -1,7 +1,6 @@
 pub mod Access
 pub mod CartridgeRam
 pub mod Contents
-pub mod Devices
 pub mod Hardware
 pub mod PowerUp
 pub mod ReadsBack

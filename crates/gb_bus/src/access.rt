@@ -244,7 +244,7 @@ impl Memory<'_> {
 
     /// The timer and the picture as M-cycles pass.
     #[inline]
-    #[tactic(auto, using(crate::proofs::Stillness::passed_quietly), unfolding(crate::specs::Devices::after))]
+    #[tactic(auto, using(crate::proofs::Stillness::passed_quietly), unfolding(gb_devices::specs::Devices::after))]
     fn pass_devices(&mut self, cycles: u8)
         ensures { self.new ≡ pictured cycles (Access.timed self.old cycles) }
     {
@@ -264,7 +264,7 @@ impl Memory<'_> {
     }
 
     /// Lets single M-cycles pass that leave the shared interrupts as they are: so many at most. Answers how many.
-    #[tactic(auto, using(crate::proofs::Waiting::waited), unfolding(crate::specs::Devices::after))]
+    #[tactic(auto, using(crate::proofs::Waiting::waited), unfolding(gb_devices::specs::Devices::after))]
     pub fn wait(&mut self, most: u8) -> u8
         requires { self.old.view.starting ≡ false }
         ensures few { result ≤ most }

@@ -3,8 +3,7 @@
 //! The trait `Bus` says what the processor's proof needs of any bus. `Memory` is the console's: after each
 //! call it is the record of `specs/Contents.antt` that `specs/Access.antt` gives, and plain storage reads
 //! back what was written last (`plain_storage_reads_back`). Read this file first, then `memory` (what it
-//! holds), `access` (reads and writes) with `cartridge`, `hardware`, `registers`, `transfer`, and
-//! `devices` and `picture` (time).
+//! holds), `access` (reads, writes, and time) with `cartridge`, `hardware`, `registers`, `transfer` and `picture`.
 #![tactic(auto)]
 
 ghost use Rattle.std.specs.Prelude.{◌≡◌, ◌<◌, ◌%◌, ℕ, bit_and};
@@ -15,7 +14,6 @@ ghost use Rattle.gb_ops.specs.Memory.{View, is_free, byte_at, place_of, wrote, p
 
 mod access;
 pub mod cartridge;
-mod devices;
 pub mod hardware;
 pub mod memory;
 mod picture;

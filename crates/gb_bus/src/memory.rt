@@ -3,8 +3,8 @@
 ghost use Rattle.std.specs.Prelude.{◌≡◌, ◌<◌, ◌≤◌, IfOk, vec_len};
 ghost use Rattle.gb_bus.specs.PowerUp.{at_power_up, zeros};
 
-use crate::devices::Devices;
 use crate::picture::dark;
+use gb_devices::Devices;
 use gb_dma::Transfer;
 use gb_header::Rom;
 use gb_mbc::{Clock, Controller, Mapper};

@@ -11,7 +11,7 @@ use Rattle.gb_ppu.specs.Picture.{frame_cycles}
 use Rattle.gb_bus.specs.Contents.{Contents}
 use Rattle.gb_bus.specs.Access.{IsAccessed}
 use Rattle.gb_cpu.specs.Step.{state}
-use Rattle.gb_cpu.specs.Access.{HasFreeBytes}
+use Rattle.gb_accesses.specs.Access.{HasFreeBytes}
 use Rattle.gb_cpu.specs.Choice.{is_idle, waits_after}
 use Rattle.gb_abs_memory.specs.Sound.{IsRom}
 use Rattle.gb_console.specs.Console.{ConsoleState, IsConsoleStep, IsChosen, IsReachable, interrupt, taken, told, shown}

@@ -20,7 +20,7 @@ use Rattle.gb_bus.specs.PowerUp as PowerUp
 use Rattle.gb_bus.specs.Access.{IsAccessed, shared}
 use Rattle.gb_cpu.specs.declared.step.Cpu.{Cpu}
 use Rattle.gb_cpu.specs.Step.{state}
-use Rattle.gb_cpu.specs.Access.{HasFreeBytes}
+use Rattle.gb_accesses.specs.Access.{HasFreeBytes}
 use Rattle.gb_cpu.specs.Choice.{IsChoice, is_idle, waits_after}
 
 -- the processor and whether it waits, the memory, and the M-cycles since power-up, modulo a frame's

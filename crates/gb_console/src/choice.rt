@@ -7,7 +7,7 @@ ghost use Rattle.gb_ops.specs.Play.{IsStep};
 ghost use Rattle.gb_ops.specs.declared.registers.Ime.TheVariants as ime;
 ghost use Rattle.gb_timer.specs.Interrupts.{next_irq};
 ghost use Rattle.gb_bus.specs.Access.{IsAccessed};
-ghost use Rattle.gb_cpu.specs.Access.{HasFreeBytes};
+ghost use Rattle.gb_accesses.specs.Access.{HasFreeBytes};
 ghost use Rattle.gb_cpu.specs.Choice.{waits_after, is_idle};
 ghost use Rattle.gb_cpu.specs.Step.{state, IsDispatchable};
 ghost use Rattle.gb_console.specs.Console.{IsChosen, interrupt, told};

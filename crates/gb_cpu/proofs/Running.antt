@@ -8,11 +8,11 @@ use Rattle.gb_ops.specs.Machine.{BusState, fetched, is_running, is_bytes, only, 
 use Rattle.gb_ops.specs.Memory.{View}
 use Rattle.gb_ops.specs.Table.{decoded}
 use Rattle.gb_cpu.specs.declared.step.Cpu.{Cpu}
-use Rattle.gb_cpu.specs.Access.{free_fetches}
+use Rattle.gb_accesses.specs.Access.{free_fetches}
 use Rattle.gb_cpu.specs.Choice.{is_idle}
 use Rattle.gb_cpu.specs.Run.{IsRowRun, IsSomeStep}
 use Rattle.gb_cpu.specs.Step.{state}
-use Rattle.gb_cpu.proofs.Joining.{joined_append}
+use Rattle.gb_accesses.proofs.Joining.{joined_append}
 use Rattle.gb_cpu.proofs.Kept.{step_is}
 
 running : (locked stopped : Bool) → (locked || stopped) ≡ false → (not locked && not stopped) ≡ true

@@ -8,7 +8,7 @@ use Rattle.gb_ops.specs.Machine as Machine
 use Rattle.gb_ops.specs.Memory.{View}
 use Rattle.gb_ops.specs.Play.{IsStep}
 use Rattle.gb_cpu.specs.declared.step.Cpu.{Cpu}
-use Rattle.gb_cpu.specs.Access.{row_free_reads, HasFreeBytes}
+use Rattle.gb_accesses.specs.Access.{row_free_reads, HasFreeBytes}
 use Rattle.gb_cpu.specs.Choice.{IsChoice, waits_after}
 use Rattle.gb_cpu.specs.Step.{state}
 

@@ -4,8 +4,8 @@ ghost use Rattle.std.specs.Prelude.{[], ◌∷◌, ◌≡◌, ◌≤◌, false};
 ghost use Rattle.gb_ops.specs.Table.{decoded};
 ghost use Rattle.gb_cpu.specs.Run.{IsRowRun};
 
-use crate::access::fetch;
 use crate::step::{Cpu, run_row};
+use gb_accesses::fetch;
 use gb_bus::Bus;
 use gb_ops::decode::decode;
 use gb_ops::registers::Processor;

@@ -7,10 +7,10 @@ ghost use Rattle.gb_ops.specs.Machine as Machine;
 ghost use Rattle.gb_ops.specs.Accesses.{Joined, execute_log, row_log, accesses_of, executed_cycles, row_cycles, event_cycles};
 ghost use Rattle.gb_ops.specs.Accesses as access;
 ghost use Rattle.gb_ops.specs.Play.{IsStep};
-ghost use Rattle.gb_cpu.specs.Access.{row_free_reads, HasFreeBytes};
+ghost use Rattle.gb_accesses.specs.Access.{row_free_reads, HasFreeBytes};
 ghost use Rattle.gb_cpu.specs.Step.{state, IsSpecial, IsDispatchable};
 
-use crate::access::{fetch, load, pending, store};
+use gb_accesses::{fetch, load, store};
 use gb_bus::Bus;
 use gb_effects::advance::{advance, cycles_of, mark_of, settled};
 use gb_effects::effect::{perform, read_of, with_pc, with_sp};
@@ -28,7 +28,7 @@ pub(crate) struct Executed {
 
 /// Executes an instruction of the table.
 #[inline(always)]
-#[tactic(auto, using(crate::proofs::Joining::joined_append), unfolding(gb_ops::specs::Machine::executed, gb_ops::specs::Accesses::execute_log, gb_ops::specs::Accesses::executed_cycles))]
+#[tactic(auto, using(gb_accesses::proofs::Joining::joined_append), unfolding(gb_ops::specs::Machine::executed, gb_ops::specs::Accesses::execute_log, gb_ops::specs::Accesses::executed_cycles))]
 fn execute<B: Bus>(processor: &mut Processor, bus: &mut B, row: Row) -> Executed
     ensures state { state processor.new (B.shows bus.new) ≡ Machine.executed (state processor.old (B.shows bus.old)) row result.reads }
     ensures joined { Joined B.does bus.old (execute_log (state processor.old (B.shows bus.old)) row result.reads) bus.new }
@@ -44,6 +44,17 @@ fn execute<B: Bus>(processor: &mut Processor, bus: &mut B, row: Row) -> Executed
     bus.pass(cycles);
     let reads = answer.free;
     Executed { reads, cycles }
+}
+
+/// The interrupts that are enabled and requested.
+#[inline(always)]
+#[tactic(auto, using(crate::proofs::Pending::enabled_is))]
+fn pending<B: Bus>(bus: &mut B) -> u8
+    ensures same { bus.new ≡ bus.old }
+    ensures value { result ≡ B.shared bus.old }
+    ensures enabled { result ≢ 0 → (B.shows bus.old).storage.ie % 32 ≢ 0 }
+{
+    bus.pending()
 }
 
 /// An event that happened, and its M-cycles.
@@ -159,7 +170,7 @@ impl Cpu {
 
     /// The next event but interrupts: its effect on the processor and the bus.
     #[inline(always)]
-    #[tactic(auto, using(crate::proofs::Joining::joined_append, crate::proofs::Halting::has_halt_is, crate::proofs::Halting::fetch_log_halt), unfolding(gb_ops::specs::Machine::next, gb_ops::specs::Machine::only, gb_ops::specs::Machine::is_possible, gb_ops::specs::Machine::happened, gb_ops::specs::Machine::run, gb_ops::specs::Accesses::accesses_of, gb_ops::specs::Accesses::event_cycles))]
+    #[tactic(auto, using(gb_accesses::proofs::Joining::joined_append, crate::proofs::Halting::has_halt_is, crate::proofs::Halting::fetch_log_halt), unfolding(gb_ops::specs::Machine::next, gb_ops::specs::Machine::only, gb_ops::specs::Machine::is_possible, gb_ops::specs::Machine::happened, gb_ops::specs::Machine::run, gb_ops::specs::Accesses::accesses_of, gb_ops::specs::Accesses::event_cycles))]
     fn act<B: Bus>(&mut self, bus: &mut B) -> Stepped
         ensures state { state self.new.processor (B.shows bus.new) ≡ Machine.next (state self.old.processor (B.shows bus.old)) result.event }
         ensures joined { Joined B.does bus.old (accesses_of (state self.old.processor (B.shows bus.old)) result.event) bus.new }
@@ -229,7 +240,7 @@ impl Cpu {
 
     /// The dispatch: its effect on the processor and the bus.
     #[inline(always)]
-    #[tactic(auto, using(crate::proofs::Joining::joined_append), unfolding(gb_ops::specs::Machine::next, gb_ops::specs::Machine::only, gb_ops::specs::Machine::is_possible, gb_ops::specs::Machine::happened, gb_ops::specs::Machine::dispatched, gb_ops::specs::Accesses::accesses_of, gb_ops::specs::Accesses::event_cycles))]
+    #[tactic(auto, using(gb_accesses::proofs::Joining::joined_append), unfolding(gb_ops::specs::Machine::next, gb_ops::specs::Machine::only, gb_ops::specs::Machine::is_possible, gb_ops::specs::Machine::happened, gb_ops::specs::Machine::dispatched, gb_ops::specs::Accesses::accesses_of, gb_ops::specs::Accesses::event_cycles))]
     fn interrupt<B: Bus>(&mut self, bus: &mut B, i: u8) -> Stepped
         requires { IsDispatchable (state self.old.processor (B.shows bus.old)) i }
         ensures state { state self.new.processor (B.shows bus.new) ≡ Machine.next (state self.old.processor (B.shows bus.old)) result.event }

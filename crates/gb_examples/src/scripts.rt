@@ -12,11 +12,14 @@ use gb_text::sink::OutFault;
 use std::alloc::{AllocError, Global};
 use std::test::Fail;
 
+/// More bytes than a run's text has.
+const ROOM: usize = 12_000;
+
 /// A sink with room for a run's text.
 fn room() -> KeptBytes
     ensures { result.has_failed ≡ false }
 {
-    KeptBytes::new(4_000, 12_000)
+    KeptBytes::new(4_000, ROOM)
 }
 
 /// A run from power-up.
@@ -79,16 +82,42 @@ const CASES: [Case<'static>; 12] = [
     (LOCKS_AT_A, &[0xFE, 0x80, 0x7E], 4, b"WHOLE frames 4\n"),
 ];
 
+/// Whether a run ends so, and writes the beginning of this text, as much as there is room for.
+fn ends(
+    alloc: Global,
+    bytes: &[u8],
+    script: &[u8],
+    frames: u32,
+    most: usize,
+    ending: Result<Ending, OutFault>,
+    text: &[u8],
+) -> Result<bool, Fail> {
+    let mut out = KeptBytes::new(7, most);
+    let ended = run(alloc, bytes, script, frames, &mut out)?;
+    Ok(ended == ending && Some(out.kept()) == text.get(..most.min(text.len())))
+}
+
+/// Whether a run ends with its line.
+fn agrees(alloc: Global, case: &Case<'_>) -> Result<bool, Fail> {
+    let (program, script, frames, line) = *case;
+    let mut bytes = small(PLAIN, program);
+    put(&mut bytes, 0x40, &[0xD9]);
+    let text = text(alloc, 0, b"", line)?;
+    ends(
+        alloc,
+        &bytes,
+        script,
+        frames,
+        ROOM,
+        Ok(ending_of(line)),
+        text.as_slice(),
+    )
+}
+
 #[test]
 fn runs_end_with_their_line(rt: HostRuntime) -> Result<(), Fail> {
-    for (program, script, frames, line) in CASES {
-        let mut bytes = small(PLAIN, program);
-        put(&mut bytes, 0x40, &[0xD9]);
-        let mut out = room();
-        let ended = run(rt.alloc(), &bytes, script, frames, &mut out)?;
-        assert!(rt; ended == Ok(ending_of(line)));
-        let expected = text(rt.alloc(), 0, b"", line)?;
-        assert!(rt; out.kept() == expected.as_slice());
+    for case in &CASES {
+        assert!(rt; agrees(rt.alloc(), case)?);
     }
     Ok(())
 }
@@ -97,11 +126,9 @@ fn runs_end_with_their_line(rt: HostRuntime) -> Result<(), Fail> {
 #[test]
 fn a_second_passes_with_each_sixtieth_frame(rt: HostRuntime) -> Result<(), Fail> {
     let bytes = small([0x0F, 0x00, 0x00], WAITS_A_SECOND);
-    let mut out = room();
-    let ended = run(rt.alloc(), &bytes, &[], 200, &mut out)?;
-    assert!(rt; ended == Ok(Ending::Locked));
-    let expected = text(rt.alloc(), 0, b"", b"LOCKED frame 59 pc 0168\n")?;
-    assert!(rt; out.kept() == expected.as_slice());
+    let text = text(rt.alloc(), 0, b"", b"LOCKED frame 59 pc 0168\n")?;
+    let ending = Ok(Ending::Locked);
+    assert!(rt; ends(rt.alloc(), &bytes, &[], 200, ROOM, ending, text.as_slice())?);
     Ok(())
 }
 
@@ -111,31 +138,26 @@ fn a_screen_is_drawn(rt: HostRuntime) -> Result<(), Fail> {
     let mut bytes = small(PLAIN, DRAWS);
     put(&mut bytes, 0x200, &tiles());
     put(&mut bytes, 0x230, &OBJECTS);
-    let mut out = room();
-    let ended = run(rt.alloc(), &bytes, &[], 2, &mut out)?;
-    assert!(rt; ended == Ok(Ending::Whole));
     let line = b"ffff0000aaaaffffffffffffffffffffffffffff0000000000000000000000000000000000000000";
-    let expected = text(rt.alloc(), 8, line, b"WHOLE frames 2\n")?;
-    assert!(rt; out.kept() == expected.as_slice());
+    let text = text(rt.alloc(), 8, line, b"WHOLE frames 2\n")?;
+    let ending = Ok(Ending::Whole);
+    assert!(rt; ends(rt.alloc(), &bytes, &[], 2, ROOM, ending, text.as_slice())?);
     Ok(())
 }
+
+/// Room within the first line, at its end, within the last, and just before its end.
+const FAILING: [usize; 7] = [0, 40, 80, 81, 11_664, 11_670, 11_686];
 
 #[test]
 fn a_sink_that_fails_has_a_beginning(rt: HostRuntime) -> Result<(), Fail> {
     let bytes = small(PLAIN, &[0xD3]);
-    let whole = text(rt.alloc(), 0, b"", b"LOCKED frame 0 pc 0150\n")?;
-    // Within the first line, at its end, within the last, and just before its end.
-    for most in [0, 40, 80, 81, 11_664, 11_670, 11_686] {
-        assert!(rt; most < whole.len());
-        let mut out = KeptBytes::new(7, most);
-        let ended = run(rt.alloc(), &bytes, &[], 1, &mut out)?;
-        assert!(rt; ended == Err(OutFault));
-        assert!(rt; out.kept() == &whole[..most]);
+    let text = text(rt.alloc(), 0, b"", b"LOCKED frame 0 pc 0150\n")?;
+    for most in FAILING {
+        let ending = Err(OutFault);
+        assert!(rt; ends(rt.alloc(), &bytes, &[], 1, most, ending, text.as_slice())?);
     }
-    let mut out = KeptBytes::new(7, 11_687);
-    let ended = run(rt.alloc(), &bytes, &[], 1, &mut out)?;
-    assert!(rt; ended == Ok(Ending::Locked));
-    assert!(rt; out.kept() == whole.as_slice());
+    let ending = Ok(Ending::Locked);
+    assert!(rt; ends(rt.alloc(), &bytes, &[], 1, 11_687, ending, text.as_slice())?);
     Ok(())
 }
 
@@ -168,17 +190,19 @@ impl Progress for Counter {
     }
 }
 
-#[test]
-fn progress_is_heard_of_each_frame(rt: HostRuntime) -> Result<(), Fail> {
+/// Whether each of the three frames is heard of, and the end.
+fn hears(alloc: Global) -> Result<bool, Fail> {
     let bytes = small(PLAIN, LOCKS_AT_A);
     let rom = Rom::parse(&bytes)?;
-    let mut console = Console::new(rt.alloc(), &rom)?;
-    let mut out = room();
-    let mut counter = at_rest();
+    let mut console = Console::new(alloc, &rom)?;
+    let (mut out, mut counter) = (room(), at_rest());
     let ended = run_script_shown(&mut console, &[0, 0, 1], 4, &mut out, &mut counter);
-    assert!(rt; ended == Ok(Ending::Locked));
-    assert!(rt; counter.heard == 3);
-    assert!(rt; counter.is_done);
+    Ok(ended == Ok(Ending::Locked) && counter.heard == 3 && counter.is_done)
+}
+
+#[test]
+fn progress_is_heard_of_each_frame(rt: HostRuntime) -> Result<(), Fail> {
+    assert!(rt; hears(rt.alloc())?);
     Ok(())
 }
 
@@ -234,7 +258,7 @@ fn runs(
 #[test]
 fn a_file_is_run_or_its_fault_is_written(rt: HostRuntime) -> Result<(), Fail> {
     for file in FILES {
-        assert!(rt; runs(rt.alloc(), &file, Ok(file.2), 12_000)?);
+        assert!(rt; runs(rt.alloc(), &file, Ok(file.2), ROOM)?);
         assert!(rt; runs(rt.alloc(), &file, Err(OutFault), 10)?);
     }
     Ok(())

@@ -106,9 +106,11 @@ fn gives(rom: &Rom<'_>, at: Span, val: Val, stays: bool) -> bool {
 fn loads(rt: HostRuntime) -> Result<(), Fail> {
     let bytes = cartridge(WITH_RAM);
     let rom = Rom::parse(&bytes)?;
-    for ((first, last), (lo, hi), stays) in LOADS {
-        let is_right = gives(&rom, span(first, last), from_to(lo, hi), stays);
-        assert!(rt; is_right, "{first:x} to {last:x}");
+    for (i, ((first, last), (lo, hi), stays)) in LOADS.iter().enumerate() {
+        assert!(rt;
+            gives(&rom, span(*first, *last), from_to(*lo, *hi), *stays),
+            "load {i}"
+        );
     }
     assert!(rt; val_at(&rom, &state_with(EITHER, 1), 0x4000) == from_to(77, 77));
     Ok(())
@@ -133,8 +135,8 @@ fn loads_of_cartridge_ram(rt: HostRuntime) -> Result<(), Fail> {
     let rom = Rom::parse(&bytes)?;
     let bytes = cartridge(PLAIN);
     let flat = Rom::parse(&bytes)?;
-    for (first, last) in CLOSED {
-        assert!(rt; meets_closed(&rom, &flat, span(first, last)), "{first:x}");
+    for (i, (first, last)) in CLOSED.iter().enumerate() {
+        assert!(rt; meets_closed(&rom, &flat, span(*first, *last)), "load {i}");
     }
     assert!(rt; !meets_closed_ram(&rom, &core_with(EITHER, 0), Span::one(0x9FFF)));
     assert!(rt; is_limited(&core_with(SET, 1), span(0xFF80, 0xFFFF)));

@@ -200,6 +200,18 @@ fn wider_states_cover_narrower_ones(rt: HostRuntime) {
     assert!(rt; covers(&few, &with_cell(&few, 0xC000, up_to(2))));
 }
 
+fn with_test(test: Option<u8>) -> Abs {
+    Abs::new(Core { test, ..entered() })
+}
+
+/// A state with a test stands for those with the same test alone, one without for any.
+#[test]
+fn a_test_is_asked_for(rt: HostRuntime) {
+    let (without, seven) = (with_test(None), with_test(Some(7)));
+    assert!(rt; covers(&seven, &seven) && covers(&seven, &without));
+    assert!(rt; !covers(&without, &seven) && !covers(&with_test(Some(8)), &seven));
+}
+
 #[test]
 fn spans_are_known_of_pairs(rt: HostRuntime) {
     let span = Span::of_pair(&from_to(0xC0, 0xC1), &from_to(0x10, 0x20));

@@ -1,11 +1,14 @@
 //! Worked examples of what is told to a person: of a refused certificate what is in the way, by hand from the rules, on small
-//! cartridges, each with a certificate that lacks something; how instructions are spelled; and the names of symbols.
+//! cartridges, each with a certificate that lacks something; how instructions are spelled; the names of symbols; and of a
+//! certificate that can't be read, where in the file its fault is.
 //!
 //! Read refusals.rt first; spelled.rt spells certificates.
 #![tactic(auto)]
 
 #[cfg(test)]
 mod lines;
+#[cfg(test)]
+mod places;
 #[cfg(test)]
 mod refusals;
 #[cfg(test)]

@@ -452,6 +452,32 @@ const EXAMPLES: &[Example] = &[
         reason: Reason::Uncovered,
         text: "It goes on at 0152, where node 3 comes nearest, but:\nB 00, node 3 has 03..05\nD 00, node 3 has 01\nL 4D, node 3 has 4E\nIE 00, node 3 has 01..FF\nIME off, node 3 has pending or on\nbank 001, node 3 has 002..003\nsecond register 00, node 3 has 01..02\ngate closed, node 3 has open\nmode 0, node 3 has 1\nand 1 part more",
     },
+    // LDH (46),A starts an OAM transfer, which has 161 M-cycles left behind it.
+    Example {
+        program: &[0xE0, 0x46, 0x18, 0xFE],
+        procedures: &[Procedure { need: 0, ..MAIN }],
+        nodes: &[
+            Node {
+                address: 0x0100,
+                ..MAIN_NODE
+            },
+            Node {
+                address: 0x0101,
+                ..MAIN_NODE
+            },
+            Node {
+                address: 0x0150,
+                ..MAIN_NODE
+            },
+            Node {
+                address: 0x0152,
+                ..MAIN_NODE
+            },
+        ],
+        node: 2,
+        reason: Reason::Uncovered,
+        text: "It goes on at 0152, where node 3 comes nearest, but:\ntransfer bound 161, node 3 has 0",
+    },
 ];
 
 /// Whether what is told of an example's files is what it says.

@@ -6,6 +6,7 @@
 //! and `shrink` takes back what a certificate doesn't need.
 #![tactic(auto)]
 
+mod failures;
 mod rounds;
 mod shrink;
 mod tracking;

@@ -4,6 +4,7 @@ use Rattle.std.proofs.lemmas.Bool.{eqb-true, not-false, or_parts, and_parts}
 use Rattle.gb_ops.specs.declared.machine.Region.{Region}
 use Rattle.std.specs.List.{All, Contains}
 use Rattle.std.proofs.lemmas.List.{get_or_past}
+use Rattle.std.proofs.lemmas.Option.{same_Some}
 use Rattle.gb_ops.specs.declared.op.Register.{Register}
 use Rattle.gb_ops.specs.declared.op.Register.TheVariants.{A, B, C, D, E, H, L}
 use Rattle.gb_ops.specs.declared.machine.Mapped.{Mapped}
@@ -33,9 +34,18 @@ use Rattle.gb_blocks.proofs.ProcedureLaws.{main_room}
 use Rattle.gb_verify.specs.PowerUp.{core_at_power_up, state_at_power_up}
 use Rattle.gb_verify.specs.Verdict.{is_bad_entry, is_bad_node, main_entry, entry_of}
 
+not_so : {X : Type 0} → true ≡ false → X
+not_so h = cc
+
+least : (x m : ℕ) → x ≡ m → m ≤ x
+least x m h = omega arith
+
+most : (x m : ℕ) → x ≡ m → x ≤ m
+most x m h = omega arith
+
 Holds-own : (v : Val) (entry : MState) (x : ℕ) (o : Origin) → v.lo ≡ x → v.hi ≡ x → v.origin ≡ Some o → x ≡ origin_value o entry → Holds v entry x
 Holds-own v entry x o l h e s =
-    record { least = omega arith; most = omega arith; origin = λ q i. let j : o ≡ q = cc in s ∙ ap (λ p. origin_value p entry) j }
+    record { least = omega arith; most = omega arith; origin = λ q i. let j : o ≡ q = same_Some _ _ (sym e ∙ i) in s ∙ ap (λ p. origin_value p entry) j }
 
 Holds-start : (rom : List ℕ) (cert : Certificate) (s : MState) (r : Register) → s.processor ≡ processor_at_power_up rom
     → Holds (get r (core_at_power_up rom cert.region).registers) s (get r s.processor.registers)
@@ -70,15 +80,15 @@ MeansCore-at_start rom cert s h =
       ie = Holds-own _ _ _ origin.Ie (sym h.ie) (sym h.ie) refl refl;
       ime = ap (λ p. ime_may_be (core_at_power_up rom cert.region).ime p.ime) h.processor;
       controller = record {
-        bank_least = let a : s.storage.banks.bank ≡ 1 = ap (λ c. c.bank) h.banks in omega arith;
-        bank_most = let a : s.storage.banks.bank ≡ 1 = ap (λ c. c.bank) h.banks in omega arith;
-        second_least = omega arith;
-        second_most = let a : s.storage.banks.second ≡ 0 = ap (λ c. c.second) h.banks in omega arith;
+        bank_least = least s.storage.banks.bank 1 (ap (λ c. c.bank) h.banks);
+        bank_most = most s.storage.banks.bank 1 (ap (λ c. c.bank) h.banks);
+        second_least = least s.storage.banks.second 0 (ap (λ c. c.second) h.banks);
+        second_most = most s.storage.banks.second 0 (ap (λ c. c.second) h.banks);
         gate = ap (λ c. may_be (known false) c.gate) h.banks;
         mode = ap (λ c. may_be (known false) c.mode) h.banks;
         kept = λ e. refl;
       };
-      count = let a = h.count in omega arith;
+      count = most s.storage.count 0 h.count;
       test = tt;
       locked = ap (λ p. p.locked) h.processor;
       stopped = ap (λ p. p.stopped) h.processor;
@@ -159,7 +169,7 @@ main_entry_node cert n c at = by cert.procedures c.some_procedure c.entries at
 
 IsMeant-entry : (rom : List ℕ) (cert : Certificate) (o : Option Node) (s : MState) → IsCertificate cert → ((n : Node) → o ≡ Some n → Contains cert.nodes n) → ((n : Node) → o ≡ Some n → n.procedure ≡ 0)
     → is_bad_node rom cert o ≡ false → IsStart rom s → IsMeant rom cert 0 s (main_base cert) s
-IsMeant-entry rom cert None s c f g h i = cc
+IsMeant-entry rom cert None s c f g h i = not_so h
 IsMeant-entry rom cert (Some n) s c f g h i =
     let p = or_parts _ _ h in
     let q = or_parts _ _ p.0 in

@@ -1,0 +1,169 @@
+//! What an instruction reads and writes, over any memory bus.
+//!
+//! `fetch`, `load` and `store` make the accesses of one instruction, in order, and nothing else. The key contract is
+//! `joined` of each: these accesses lead from the bus before them to the bus behind them. `specs/Access.antt` says which
+//! bytes were free.
+#![tactic(auto)]
+
+ghost use Rattle.std.specs.Prelude.{[], ◌∷◌, ◌≡◌, ◌&&◌, true};
+ghost use Rattle.gb_ops.specs.Memory.{is_free, stored};
+ghost use Rattle.gb_ops.specs.Machine.{fetched, loaded, is_bytes};
+ghost use Rattle.gb_ops.specs.Accesses.{Joined, where_wanted, fetch_log, load_log, store_log};
+ghost use Rattle.gb_ops.specs.Accesses as access;
+ghost use Rattle.gb_accesses.specs.Access.{Gave, queued, queued_two, free_fetches, free_reads};
+
+use gb_bus::{Bus, Taken};
+use gb_effects::advance::{length_of, second_address, third_address};
+use gb_ops::machine::{Loaded, Read, Write};
+use gb_ops::registers::Processor;
+
+/// Reads a byte.
+#[inline(always)]
+#[tactic(auto, using(crate::proofs::Fetching::gave))]
+fn take<B: Bus>(bus: &mut B, address: u16) -> Taken
+    ensures view { B.shows bus.new ≡ B.shows bus.old }
+    ensures gave { Gave true (B.shows bus.old) address result.is_free result.byte }
+    ensures free { result.is_free ≡ is_free (B.shows bus.old) address }
+    ensures joined { Joined B.does bus.old (access.Reads address result.byte ∷ []) bus.new }
+{
+    bus.take(address)
+}
+
+/// Reads a byte if it is wanted.
+#[inline(always)]
+#[tactic(auto, unfolding(gb_ops::specs::Machine::read_where))]
+fn take_where<B: Bus>(bus: &mut B, wanted: bool, address: u16) -> Taken
+    ensures view { B.shows bus.new ≡ B.shows bus.old }
+    ensures gave { Gave wanted (B.shows bus.old) address result.is_free result.byte }
+    ensures free { result.is_free ≡ (wanted && is_free (B.shows bus.old) address) }
+    ensures joined { Joined B.does bus.old (where_wanted wanted (access.Reads address result.byte)) bus.new }
+{
+    if wanted {
+        take(bus, address)
+    } else {
+        Taken {
+            byte: 0,
+            is_free: false,
+        }
+    }
+}
+
+/// The free bytes with one before them, if it was free.
+fn queue(taken: Taken, free: [u8; 3]) -> [u8; 3]
+    requires { is_bytes 3 free ≡ true }
+    ensures value { result ≡ queued taken.is_free taken.byte free }
+    ensures bytes { is_bytes 3 result ≡ true }
+{
+    if taken.is_free {
+        [taken.byte, free[0], free[1]]
+    } else {
+        free
+    }
+}
+
+/// Two free bytes with one before them, if it was free.
+fn queue_two(taken: Taken, free: [u8; 2]) -> [u8; 2]
+    requires { is_bytes 2 free ≡ true }
+    ensures value { result ≡ queued_two taken.is_free taken.byte free }
+    ensures bytes { is_bytes 2 result ≡ true }
+{
+    if taken.is_free {
+        [taken.byte, free[0]]
+    } else {
+        free
+    }
+}
+
+/// The bytes of an instruction, and those of them that were free, in order.
+#[derive(Clone, Copy)]
+pub struct Fetched {
+    pub bytes: [u8; 3],
+    pub free: [u8; 3],
+}
+
+/// Reads the bytes of the instruction at PC.
+#[inline(always)]
+#[tactic(auto, using(crate::proofs::Fetching::fetched_is, crate::proofs::Joining::joined_append), unfolding(gb_ops::specs::Accesses::fetch_log, crate::specs::Access::free_fetches))]
+pub fn fetch<B: Bus>(bus: &mut B, processor: Processor) -> Fetched
+    ensures view { B.shows bus.new ≡ B.shows bus.old }
+    ensures bytes { fetched (B.shows bus.old) processor result.free ≡ result.bytes }
+    ensures free { result.free ≡ free_fetches (B.shows bus.old) processor result.bytes }
+    ensures in_range { is_bytes 3 result.free ≡ true }
+    ensures joined { Joined B.does bus.old (fetch_log processor result.bytes) bus.new }
+{
+    let first = take(bus, processor.pc);
+    let length = length_of(first.byte);
+    let second = take_where(bus, length >= 2, second_address(processor));
+    let third = take_where(bus, length >= 3, third_address(processor));
+    Fetched {
+        bytes: [first.byte, second.byte, third.byte],
+        free: queue(first, queue(second, queue(third, [0, 0, 0]))),
+    }
+}
+
+/// What an instruction read, and the bytes of it that were free, in order.
+#[derive(Clone, Copy)]
+pub struct Answer {
+    pub loaded: Loaded,
+    pub free: [u8; 2],
+}
+
+/// Makes the reads of an instruction.
+#[inline(always)]
+#[tactic(auto, using(crate::proofs::Fetching::nothing_is, crate::proofs::Fetching::byte_is, crate::proofs::Fetching::word_is), unfolding(gb_ops::specs::Accesses::load_log, crate::specs::Access::free_reads))]
+pub fn load<B: Bus>(bus: &mut B, read: Read) -> Answer
+    ensures view { B.shows bus.new ≡ B.shows bus.old }
+    ensures values { loaded (B.shows bus.old) read result.free ≡ result.loaded }
+    ensures free { result.free ≡ free_reads (B.shows bus.old) read result.loaded }
+    ensures in_range { is_bytes 2 result.free ≡ true }
+    ensures joined { Joined B.does bus.old (load_log read result.loaded) bus.new }
+{
+    match read {
+        Read::Nothing => Answer {
+            loaded: Loaded { low: 0, high: 0 },
+            free: [0, 0],
+        },
+        Read::Byte(address) => {
+            let low = take(bus, address);
+            Answer {
+                loaded: Loaded {
+                    low: low.byte,
+                    high: 0,
+                },
+                free: queue_two(low, [0, 0]),
+            }
+        }
+        Read::Word(address) => {
+            let low = take(bus, address);
+            let high = take(bus, address.wrapping_add(1));
+            Answer {
+                loaded: Loaded {
+                    low: low.byte,
+                    high: high.byte,
+                },
+                free: queue_two(low, queue_two(high, [0, 0])),
+            }
+        }
+    }
+}
+
+/// Makes the writes of an instruction.
+#[inline(always)]
+#[tactic(auto, unfolding(gb_ops::specs::Memory::stored, gb_ops::specs::Accesses::store_log))]
+pub fn store<B: Bus>(bus: &mut B, write: Write)
+    ensures view { B.shows bus.new ≡ stored (B.shows bus.old) write }
+    ensures joined { Joined B.does bus.old (store_log write) bus.new }
+{
+    match write {
+        Write::Nothing => {}
+        Write::Byte(address, value) => bus.write(address, value),
+        Write::Word(address, word) => {
+            bus.write(address, (word % 256) as u8);
+            bus.write(address.wrapping_add(1), (word / 256) as u8);
+        }
+        Write::Push(sp, word) => {
+            bus.write(sp.wrapping_sub(1), (word / 256) as u8);
+            bus.write(sp.wrapping_sub(2), (word % 256) as u8);
+        }
+    }
+}

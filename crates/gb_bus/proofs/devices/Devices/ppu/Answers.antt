@@ -1,6 +1,0 @@
-use Rattle.gb_bus.specs.Devices.{after}
-use Rattle.gb_bus.proofs.devices.Devices.ppu.Goals as goal
-
-pub returns : goal.returns
-unfolding after
-returns c = rw (← c.self.view_is) c.advance.ensures.picture

@@ -1,5 +1,0 @@
-use Rattle.gb_bus.proofs.Stillness.{still_of}
-use Rattle.gb_bus.proofs.devices.quiet_of.Goals as goal
-
-pub returns : goal.returns
-returns c = still_of _ _ _ _ _ c.quiet.ensures.quiet c.quiet.ensures.range c.quiet-2.ensures.quiet c.quiet-2.ensures.formed c.least.ensures.first c.least.ensures.second
