@@ -6,9 +6,9 @@ ghost use Rattle.gb_abs.specs.Sound.{IsPartOf};
 ghost use Rattle.gb_abs.specs.Covering.{origin_number, register_number, implied, covers_origin, covers_val, covers_may, covers_flags, covers_ime, covers_controller, covers_registers, covers_test, covers_core, covers_item, covers_items, cell_at, covers_cells, covers};
 
 use gb_cert::NodeRef;
-use gb_cert::types::{Abs, Cell, Core, Ctl, Flg, ImeSet, Item, May, Origin, Val};
 use gb_ops::op::Register;
 use gb_ops::registers::Registers;
+use gb_states::types::{Abs, Cell, Core, Ctl, Flg, ImeSet, Item, May, Origin, Val};
 use gb_vals::vals::any;
 
 /// A register's number, by which two registers are compared.

@@ -7,9 +7,9 @@ use Rattle.gb_ops.specs.declared.machine.Banks.{Banks}
 use Rattle.gb_ops.specs.declared.machine.Kind.{Kind}
 use Rattle.gb_ops.specs.declared.machine.Kind.TheVariants as kind
 use Rattle.gb_ops.specs.Cartridge.{at_least_one, kind_after, mbc1_after, mbc3_after, mbc5_after, with_gate}
-use Rattle.gb_cert.specs.declared.types.Val.{Val}
-use Rattle.gb_cert.specs.declared.types.Ctl.{Ctl}
-use Rattle.gb_cert.specs.Rules.{IsVal, IsCtl}
+use Rattle.gb_states.specs.declared.types.Val.{Val}
+use Rattle.gb_states.specs.declared.types.Ctl.{Ctl}
+use Rattle.gb_states.specs.Rules.{IsVal, IsCtl}
 use Rattle.gb_vals.specs.Meaning.{In}
 use Rattle.gb_abs_memory.specs.declared.windows.ControllerRegister.{ControllerRegister}
 use Rattle.gb_abs_memory.specs.declared.windows.ControllerRegister.TheVariants as register

@@ -12,13 +12,13 @@ use Rattle.gb_ops.specs.Memory.{View, mapped_at, is_high, is_closed, place_by, p
 use Rattle.gb_ops.specs.Machine.{Reading, read_by, read_at}
 use Rattle.gb_ops.specs.Faults.{no_faults, is_ram_closed, access_faults}
 use Rattle.gb_ops.specs.Play.{MState, within}
-use Rattle.gb_cert.specs.declared.types.Val.{Val}
-use Rattle.gb_cert.specs.declared.types.May.{May}
-use Rattle.gb_cert.specs.declared.types.Ctl.{Ctl}
-use Rattle.gb_cert.specs.declared.types.Cell.{Cell}
-use Rattle.gb_cert.specs.declared.types.Core.{Core}
-use Rattle.gb_cert.specs.Types.{AbsState}
-use Rattle.gb_cert.specs.Rules.{IsVal}
+use Rattle.gb_states.specs.declared.types.Val.{Val}
+use Rattle.gb_states.specs.declared.types.May.{May}
+use Rattle.gb_states.specs.declared.types.Ctl.{Ctl}
+use Rattle.gb_states.specs.declared.types.Cell.{Cell}
+use Rattle.gb_states.specs.declared.types.Core.{Core}
+use Rattle.gb_states.specs.Types.{AbsState}
+use Rattle.gb_states.specs.Rules.{IsVal}
 use Rattle.gb_vals.specs.Vals.{any_val, single}
 use Rattle.gb_vals.specs.Meaning.{may_be}
 use Rattle.gb_abs.specs.declared.span.Span.{Span}

@@ -6,11 +6,11 @@ use Rattle.gb_ops.specs.declared.machine.Kind.{Kind}
 use Rattle.gb_ops.specs.declared.machine.Region.{Region}
 use Rattle.gb_ops.specs.Cartridge.{is_within, kind_of, has_ram_or_clock}
 use Rattle.gb_ops.specs.Memory.{rom_byte}
-use Rattle.gb_cert.specs.declared.types.Val.{Val}
-use Rattle.gb_cert.specs.declared.types.Core.{Core}
-use Rattle.gb_cert.specs.declared.types.Range.{Range}
-use Rattle.gb_cert.specs.Types.{AbsState}
-use Rattle.gb_cert.specs.Rules.{meets}
+use Rattle.gb_states.specs.declared.types.Val.{Val}
+use Rattle.gb_states.specs.declared.types.Core.{Core}
+use Rattle.gb_states.specs.declared.types.Range.{Range}
+use Rattle.gb_states.specs.Types.{AbsState}
+use Rattle.gb_states.specs.Rules.{meets}
 use Rattle.gb_vals.specs.Vals.{any_val, single}
 use Rattle.gb_abs.specs.declared.reason.Reason.{Reason}
 use Rattle.gb_abs.specs.declared.reason.Reason.TheVariants as reason

@@ -10,7 +10,7 @@ mod picture;
 mod processor;
 
 use certificates::Sample;
-use gb_cert::types::Cert;
+use gb_cert::Cert;
 use gb_header::Rom;
 use gb_verify::check::check;
 use gb_verify::verdict::Verdict;

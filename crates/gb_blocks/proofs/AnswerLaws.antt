@@ -1,8 +1,8 @@
 -- What an answer of check_node promises.
 use Rattle.std.proofs.Common.{◌≡◌, ℕ, List, Some, None, Result, Ok, Err}
 use Rattle.std.specs.Result.{MatchResult, OnOk}
-use Rattle.gb_cert.specs.Certificate.{Certificate}
-use Rattle.gb_cert.specs.Rules.{IsCertificate}
+use Rattle.gb_states.specs.Certificate.{Certificate}
+use Rattle.gb_states.specs.Rules.{IsCertificate}
 use Rattle.gb_abs.specs.declared.reason.Reason.{Reason}
 use Rattle.gb_abs_memory.specs.Sound.{IsRom}
 use Rattle.gb_blocks.specs.Rules.{reason_at}

@@ -15,10 +15,10 @@ use Rattle.gb_ops.specs.Machine as Machine
 use Rattle.gb_ops.specs.Machine.{is_possible, happened, is_ime, vector}
 use Rattle.gb_ops.specs.Faults.{no_faults, store_faults, event_faults, event_places}
 use Rattle.gb_ops.specs.Play.{MState, within, outside}
-use Rattle.gb_cert.specs.declared.types.Core.{Core}
-use Rattle.gb_cert.specs.Types.{AbsState, Node}
-use Rattle.gb_cert.specs.Certificate.{Certificate}
-use Rattle.gb_cert.specs.Rules.{IsCertificate}
+use Rattle.gb_states.specs.declared.types.Core.{Core}
+use Rattle.gb_states.specs.Types.{AbsState, Node}
+use Rattle.gb_states.specs.Certificate.{Certificate}
+use Rattle.gb_states.specs.Rules.{IsCertificate}
 use Rattle.gb_vals.specs.Vals.{single}
 use Rattle.gb_vals.specs.Bits.{has_bit, may_have_bit}
 use Rattle.gb_vals.proofs.BitLaws.{may_have_bit_sound}

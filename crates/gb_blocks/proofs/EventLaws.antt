@@ -25,9 +25,9 @@ use Rattle.gb_ops.specs.Machine as Machine
 use Rattle.gb_ops.specs.Machine.{BusState, fetched, length_of, mark_of, run, run_row, executed, happened, is_possible, only, has_halt, has_enabled, is_ime, is_running, is_bytes, halt_stay, halt_bug}
 use Rattle.gb_ops.specs.Faults.{no_faults, either_faults, fetch_faults, all_fetch_faults, fetch_addresses, row_faults, run_faults, event_faults, event_places, code_place}
 use Rattle.gb_ops.specs.Play.{MState, within, outside, next, faults, places, faults_where, places_where}
-use Rattle.gb_cert.specs.Types.{AbsState, Node}
-use Rattle.gb_cert.specs.Certificate.{Certificate}
-use Rattle.gb_cert.specs.Rules.{IsCertificate}
+use Rattle.gb_states.specs.Types.{AbsState, Node}
+use Rattle.gb_states.specs.Certificate.{Certificate}
+use Rattle.gb_states.specs.Rules.{IsCertificate}
 use Rattle.gb_abs.specs.Mark.{IsMarkHarmless}
 use Rattle.gb_ops.specs.declared.machine.Mapped.{Mapped}
 use Rattle.gb_ops.specs.declared.machine.Mapped.TheVariants as mapped
@@ -44,7 +44,7 @@ use Rattle.gb_code.specs.Code.{area_end, known_byte}
 use Rattle.gb_code.proofs.ByteLaws.{Reads-known}
 use Rattle.gb_code.proofs.CodeLaws.{IsInside, clear_byte, area_small, FetchesFirst-known, FetchesAll-known}
 use Rattle.gb_abs.specs.Operations.{core_settle}
-use Rattle.gb_cert.specs.declared.types.Core.{Core}
+use Rattle.gb_states.specs.declared.types.Core.{Core}
 use Rattle.gb_abs_effects.specs.declared.targets.Target.TheVariants as target
 use Rattle.gb_abs_effects.specs.Targets.{target_of}
 use Rattle.gb_abs_effects.specs.Sides.{sides_of}

@@ -3,9 +3,9 @@ use Rattle.std.proofs.Common.{◌≡◌, ℕ, ◌+◌, ◌*◌, ◌≤◌, ◌<�
 use Rattle.gb_ops.specs.declared.machine.Event.{Event}
 use Rattle.gb_ops.specs.Pairs.{word}
 use Rattle.gb_ops.specs.Play.{MState, next}
-use Rattle.gb_cert.specs.Types.{AbsState, Node}
-use Rattle.gb_cert.specs.Certificate.{Certificate}
-use Rattle.gb_cert.specs.Rules.{IsCertificate}
+use Rattle.gb_states.specs.Types.{AbsState, Node}
+use Rattle.gb_states.specs.Certificate.{Certificate}
+use Rattle.gb_states.specs.Rules.{IsCertificate}
 use Rattle.gb_abs.specs.Covering.{covers}
 use Rattle.gb_abs.specs.Meaning.{Means}
 use Rattle.gb_abs.specs.Stack.{AreInRegion}

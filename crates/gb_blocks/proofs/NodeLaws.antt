@@ -1,7 +1,7 @@
 -- What is known of a node of a certificate that no reason applies to.
 use Rattle.std.proofs.Common.{◌≡◌, ℕ, zero, suc, ◌+◌, ◌≤◌, ◌<◌, Bool, true, false, cond, not, ◌&&◌, ◌||◌, ◌==◌, nat_lt, ◌⊎◌, inl, inr, List, [], ◌∷◌, length, slice_index, slice_get, get_or, Option, Some, None, is_none, refl, sym, ◌∙◌, ap, subst, arith}
 use Rattle.std.proofs.lemmas.Bool.{or_parts, not-false, eqb-true}
-use Rattle.gb_cert.specs.declared.role.Role.TheVariants as role
+use Rattle.gb_states.specs.declared.role.Role.TheVariants as role
 use Rattle.std.proofs.lemmas.Bool.Decides.{nat_tests}
 use Rattle.std.proofs.lemmas.Option.{same_Some}
 use Rattle.std.specs.List.{AllByRecursion, Contains, find, list_any}
@@ -13,12 +13,12 @@ use Rattle.gb_ops.specs.declared.op.Op.TheVariants as op
 use Rattle.gb_ops.specs.declared.op.Row.{Row}
 use Rattle.gb_ops.specs.Table.{decoded}
 use Rattle.gb_ops.specs.Machine.{length_of}
-use Rattle.gb_cert.specs.declared.types.Val.{Val}
-use Rattle.gb_cert.specs.declared.types.Cell.{Cell}
-use Rattle.gb_cert.specs.declared.types.Item.{Item}
-use Rattle.gb_cert.specs.Types.{AbsState, Node}
-use Rattle.gb_cert.specs.Certificate.{Certificate}
-use Rattle.gb_cert.specs.Rules.{IsVal, IsCell, IsChain, IsNode, IsState, IsCore, IsItem, IsRegion, IsCertificate, after_cell, key, role_of, needs_stack}
+use Rattle.gb_states.specs.declared.types.Val.{Val}
+use Rattle.gb_states.specs.declared.types.Cell.{Cell}
+use Rattle.gb_states.specs.declared.types.Item.{Item}
+use Rattle.gb_states.specs.Types.{AbsState, Node}
+use Rattle.gb_states.specs.Certificate.{Certificate}
+use Rattle.gb_states.specs.Rules.{IsVal, IsCell, IsChain, IsNode, IsState, IsCore, IsItem, IsRegion, IsCertificate, after_cell, key, role_of, needs_stack}
 use Rattle.gb_abs.specs.Cells.{ArePlaced}
 use Rattle.gb_abs.specs.Stack.{AreInRegion}
 use Rattle.gb_abs_effects.specs.declared.targets.Target.{Target}

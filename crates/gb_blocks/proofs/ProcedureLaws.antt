@@ -6,12 +6,12 @@ use Rattle.std.proofs.lemmas.Option.{same_Some}
 use Rattle.std.specs.Prelude.{IfSome}
 use Rattle.std.specs.List.{AllByRecursion, list_any}
 use Rattle.gb_ops.specs.declared.machine.Region.{Region}
-use Rattle.gb_cert.specs.declared.types.Range.{Range}
-use Rattle.gb_cert.specs.declared.types.Item.{Item}
-use Rattle.gb_cert.specs.declared.role.Role.TheVariants as role
-use Rattle.gb_cert.specs.Types.{AbsState, ProcedureParts}
-use Rattle.gb_cert.specs.Certificate.{Certificate}
-use Rattle.gb_cert.specs.Rules.{IsChain, IsRange, IsProcedure, IsState, IsRegion, IsCertificate, after_range, is_after, meets, words}
+use Rattle.gb_states.specs.declared.types.Range.{Range}
+use Rattle.gb_states.specs.declared.types.Item.{Item}
+use Rattle.gb_states.specs.declared.role.Role.TheVariants as role
+use Rattle.gb_states.specs.Types.{AbsState, ProcedureParts}
+use Rattle.gb_states.specs.Certificate.{Certificate}
+use Rattle.gb_states.specs.Rules.{IsChain, IsRange, IsProcedure, IsState, IsRegion, IsCertificate, after_range, is_after, meets, words}
 use Rattle.gb_abs.specs.Span.{one}
 use Rattle.gb_abs.specs.Stack.{AreInRegion}
 use Rattle.gb_abs_memory.specs.Access.{is_range}

@@ -6,8 +6,8 @@ use Rattle.std.proofs.lemmas.Option.{slice_get_within, get_or_from_slice_get, sl
 use Rattle.std.specs.Prelude.{option_map}
 use Rattle.std.specs.List.{Contains, list_any}
 use Rattle.gb_rows.specs.Rows.{IsFound}
-use Rattle.gb_cert.specs.Types.{AbsState, Node}
-use Rattle.gb_cert.specs.Rules.{key}
+use Rattle.gb_states.specs.Types.{AbsState, Node}
+use Rattle.gb_states.specs.Rules.{key}
 use Rattle.gb_abs.specs.Covering.{covers}
 use Rattle.gb_blocks.specs.Covered.{is_cover, is_covered_by_one}
 

@@ -11,10 +11,10 @@ use Rattle.gb_ops.specs.declared.op.Op.TheVariants as op
 use Rattle.gb_ops.specs.declared.op.Row.{Row}
 use Rattle.gb_ops.specs.Registers.{get}
 use Rattle.gb_ops.specs.Play.{MState}
-use Rattle.gb_cert.specs.declared.types.Item.{Item}
-use Rattle.gb_cert.specs.declared.types.Core.{Core}
-use Rattle.gb_cert.specs.Types.{AbsState, Node}
-use Rattle.gb_cert.specs.Certificate.{Certificate}
+use Rattle.gb_states.specs.declared.types.Item.{Item}
+use Rattle.gb_states.specs.declared.types.Core.{Core}
+use Rattle.gb_states.specs.Types.{AbsState, Node}
+use Rattle.gb_states.specs.Certificate.{Certificate}
 use Rattle.gb_abs.specs.Covering.{covers, covers_items}
 use Rattle.gb_abs.specs.Mark.{IsMarkHarmless}
 use Rattle.gb_abs.specs.Meaning.{Holds, Means}
@@ -33,7 +33,7 @@ use Rattle.gb_successors.specs.Successors.{successors_of, taken_successor, untak
 use Rattle.gb_successors.specs.Refused.{is_unknown}
 use Rattle.gb_successors.specs.Sound.{IsOneOf, Stands, AreSoundSuccessors}
 use Rattle.gb_successors.proofs.WayLaws.{successors_of_sound}
-use Rattle.gb_cert.specs.Rules.{IsCertificate}
+use Rattle.gb_states.specs.Rules.{IsCertificate}
 use Rattle.gb_blocks.specs.Procedures.{ranges_of, need_of}
 use Rattle.gb_blocks.proofs.NodeLaws.{IsNodeState, Passes, ways_of, ruled, known_by, fewer_words}
 

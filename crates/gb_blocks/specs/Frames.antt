@@ -2,7 +2,7 @@
 -- procedure above it was entered (own; abstract interpretation: calls by summary).
 use Rattle.std.specs.Prelude.{◌≡◌, ℕ, ◌+◌, ◌≤◌, ◌<◌, List, [], ◌∷◌}
 use Rattle.gb_ops.specs.Play.{MState}
-use Rattle.gb_cert.specs.Certificate.{Certificate}
+use Rattle.gb_states.specs.Certificate.{Certificate}
 use Rattle.gb_abs.specs.Stack.{AreInRegion}
 use Rattle.gb_abs.specs.Storage.{peek}
 use Rattle.gb_abs_memory.specs.Kept.{IsKept}

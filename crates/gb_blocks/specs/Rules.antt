@@ -7,10 +7,10 @@ use Rattle.gb_ops.specs.declared.op.Op.TheVariants as op
 use Rattle.gb_ops.specs.declared.op.Row.{Row}
 use Rattle.gb_ops.specs.Cartridge.{kind_of}
 use Rattle.gb_ops.specs.Table.{decoded}
-use Rattle.gb_cert.specs.declared.types.Core.{Core}
-use Rattle.gb_cert.specs.declared.types.Range.{Range}
-use Rattle.gb_cert.specs.Types.{AbsState, Node}
-use Rattle.gb_cert.specs.Certificate.{Certificate}
+use Rattle.gb_states.specs.declared.types.Core.{Core}
+use Rattle.gb_states.specs.declared.types.Range.{Range}
+use Rattle.gb_states.specs.Types.{AbsState, Node}
+use Rattle.gb_states.specs.Certificate.{Certificate}
 use Rattle.gb_abs.specs.declared.reason.Reason.{Reason}
 use Rattle.gb_abs.specs.declared.reason.Reason.TheVariants as reason
 use Rattle.gb_abs.specs.Covering.{covers}

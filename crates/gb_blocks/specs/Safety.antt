@@ -6,8 +6,8 @@ use Rattle.gb_ops.specs.declared.machine.Event.TheVariants as event
 use Rattle.gb_ops.specs.Pairs.{word}
 use Rattle.gb_ops.specs.Faults.{no_faults}
 use Rattle.gb_ops.specs.Play.{MState, next, faults, places}
-use Rattle.gb_cert.specs.Types.{AbsState, Node}
-use Rattle.gb_cert.specs.Certificate.{Certificate}
+use Rattle.gb_states.specs.Types.{AbsState, Node}
+use Rattle.gb_states.specs.Certificate.{Certificate}
 use Rattle.gb_abs.specs.Cells.{ArePlaced}
 use Rattle.gb_abs.specs.Covering.{covers}
 use Rattle.gb_abs.specs.Mark.{IsMarkHarmless}

@@ -2,17 +2,17 @@
 
 ghost use Rattle.std.specs.Prelude.{◌≡◌, ◌<◌, ◌&&◌, ◌||◌, ℕ, false, nat_le, slice_index_or, IfSome, IfNone, map};
 ghost use Rattle.gb_rows.specs.Rows.{IsFound};
-ghost use Rattle.gb_cert.specs.Rules.{key};
+ghost use Rattle.gb_states.specs.Rules.{key};
 ghost use Rattle.gb_abs.specs.Covering.{covers};
 ghost use Rattle.gb_abs.specs.Operations.{with_core};
 ghost use Rattle.gb_blocks.specs.Covered as Covered;
 
 use gb_abs::covering::{covers_core, covers_lists, covers_parts};
 use gb_abs::operations::with_value;
-use gb_cert::NodeRef;
-use gb_cert::types::{Abs, Cert, Core, Val};
+use gb_cert::{Cert, NodeRef};
 use gb_ops::op::Register;
 use gb_rows::Found;
+use gb_states::types::{Abs, Core, Val};
 
 /// Whether one of the nodes that were found stands for these states.
 fn is_covered_by_one(

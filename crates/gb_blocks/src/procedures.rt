@@ -15,7 +15,8 @@ use gb_abs_effects::targets::Target;
 use gb_calls::callees::callee;
 use gb_calls::ranges::are_ranges_inside;
 use gb_calls::resuming::resume;
-use gb_cert::types::{Abs, Cert, Range};
+use gb_cert::Cert;
+use gb_states::types::{Abs, Range};
 use gb_successors::successor::Successor;
 use gb_successors::successors::Successors;
 

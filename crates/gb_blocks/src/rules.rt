@@ -15,8 +15,7 @@ use crate::procedures::{
 use gb_abs::reason::Reason;
 use gb_abs_memory::load::holds_bytes;
 use gb_abs_memory::shown::known_bank;
-use gb_cert::NodeRef;
-use gb_cert::types::{Abs, Cert, Core, ITEMS};
+use gb_cert::{Cert, NodeRef};
 use gb_code::code::{
     area_end, is_other_bank, known_byte, known_bytes, leaves_area, lies_in_high_ram,
 };
@@ -24,6 +23,7 @@ use gb_header::Rom;
 use gb_ops::decode::decode;
 use gb_ops::machine::Region;
 use gb_ops::op::{Op, Pair, Row};
+use gb_states::types::{Abs, Core, ITEMS};
 use gb_successors::successors::{Successors, successors_of};
 
 fn is_stop(op: Op) -> bool

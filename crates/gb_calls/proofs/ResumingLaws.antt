@@ -12,16 +12,16 @@ use Rattle.gb_ops.specs.declared.registers.Flags.{Flags}
 use Rattle.gb_ops.specs.Registers.{get}
 use Rattle.gb_ops.specs.Memory.{Storage}
 use Rattle.gb_ops.specs.Play.{MState}
-use Rattle.gb_cert.specs.declared.types.Origin.{Origin}
-use Rattle.gb_cert.specs.declared.types.Origin.TheVariants as origin
-use Rattle.gb_cert.specs.declared.types.Val.{Val}
-use Rattle.gb_cert.specs.declared.types.Flg.{Flg}
-use Rattle.gb_cert.specs.declared.types.Ctl.{Ctl}
-use Rattle.gb_cert.specs.declared.types.Cell.{Cell}
-use Rattle.gb_cert.specs.declared.types.Core.{Core}
-use Rattle.gb_cert.specs.declared.types.Range.{Range}
-use Rattle.gb_cert.specs.Types.{AbsState}
-use Rattle.gb_cert.specs.Rules.{IsRegion, meets}
+use Rattle.gb_states.specs.declared.types.Origin.{Origin}
+use Rattle.gb_states.specs.declared.types.Origin.TheVariants as origin
+use Rattle.gb_states.specs.declared.types.Val.{Val}
+use Rattle.gb_states.specs.declared.types.Flg.{Flg}
+use Rattle.gb_states.specs.declared.types.Ctl.{Ctl}
+use Rattle.gb_states.specs.declared.types.Cell.{Cell}
+use Rattle.gb_states.specs.declared.types.Core.{Core}
+use Rattle.gb_states.specs.declared.types.Range.{Range}
+use Rattle.gb_states.specs.Types.{AbsState}
+use Rattle.gb_states.specs.Rules.{IsRegion, meets}
 use Rattle.gb_vals.specs.Vals.{any_val}
 use Rattle.gb_vals.specs.Tests.{IsTested}
 use Rattle.gb_abs.specs.Span.{one}

@@ -5,7 +5,8 @@ ghost use Rattle.gb_calls.specs.Interrupts as Interrupts;
 
 use crate::callees::callee;
 use gb_abs::operations::end;
-use gb_cert::types::{Abs, Cert, Core, ImeSet};
+use gb_cert::Cert;
+use gb_states::types::{Abs, Core, ImeSet};
 use gb_vals::bits::may_have_bit;
 
 /// The M-cycles of a dispatch (Interrupts: interrupt handling).

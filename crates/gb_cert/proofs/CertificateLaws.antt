@@ -7,17 +7,17 @@ use Rattle.gb_fields.specs.declared.fault.CertFault.{CertFault}
 use Rattle.gb_fields.specs.declared.fault.CertFault.TheVariants as fault
 use Rattle.gb_fields.specs.declared.head.Head.{Head}
 use Rattle.gb_fields.specs.Limits.{procedure_limit, node_limit}
-use Rattle.gb_cert.specs.Types.{ProcedureParts, Node}
-use Rattle.gb_cert.specs.Certificate.{Certificate}
+use Rattle.gb_states.specs.Types.{ProcedureParts, Node}
+use Rattle.gb_states.specs.Certificate.{Certificate}
 use Rattle.gb_fields.specs.Format.{Read, go_on, both, checked, followed, ended, byte}
-use Rattle.gb_cert.specs.Rules.{IsRegion, IsProcedure, IsNode, IsCertificate, is_area, is_after, is_version, key}
+use Rattle.gb_states.specs.Rules.{IsRegion, IsProcedure, IsNode, IsCertificate, is_area, is_after, is_version, key}
 use Rattle.gb_fields.specs.Reading.{word, is_between, node_number, count_within, is_magic, magic_at, is_region, to_region, region_at, is_any, to_head, version_at, node_count_at, head_at}
-use Rattle.gb_cert.specs.Reading.{procedure_at, node_at, procedures_at, nodes_at, have_entries_in, to_certificate, certificate_at, read_certificate}
-use Rattle.gb_cert.specs.Spelling as spelled
-use Rattle.gb_cert.specs.Spelling.{Spells}
-use Rattle.gb_cert.proofs.Formats.{IsBytes, IsFormat, AreSoMany, ok_is, IsFormat-byte, IsFormat-both, IsFormat-followed, IsFormat-checked, IsFormat-mapped, IsFormat-as, IsFormat-several}
-use Rattle.gb_cert.proofs.FieldLaws.{and_both, both_and, within, is_within, spelled_byte, node_numbers, IsFormat-node_number, IsFormat-word, IsFormat-count_within}
-use Rattle.gb_cert.proofs.StateLaws.{area_small, lt_is, is_lt, number_small, IsFormat-procedure, IsFormat-node}
+use Rattle.gb_states.specs.Reading.{procedure_at, node_at, procedures_at, nodes_at, have_entries_in, to_certificate, certificate_at, read_certificate}
+use Rattle.gb_states.specs.Spelling as spelled
+use Rattle.gb_states.specs.Spelling.{Spells}
+use Rattle.gb_states.proofs.Formats.{IsBytes, IsFormat, AreSoMany, ok_is, IsFormat-byte, IsFormat-both, IsFormat-followed, IsFormat-checked, IsFormat-mapped, IsFormat-as, IsFormat-several}
+use Rattle.gb_states.proofs.FieldLaws.{and_both, both_and, within, is_within, spelled_byte, node_numbers, IsFormat-node_number, IsFormat-word, IsFormat-count_within}
+use Rattle.gb_states.proofs.StateLaws.{area_small, lt_is, is_lt, number_small, IsFormat-procedure, IsFormat-node}
 
 -- ---- the head
 

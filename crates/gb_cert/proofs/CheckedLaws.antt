@@ -3,24 +3,24 @@ use Rattle.std.proofs.Common.{◌≡◌, ℕ, suc, ◌+◌, ◌*◌, ◌/◌, �
 use Rattle.std.specs.List.{flat_map}
 use Rattle.std.proofs.lemmas.Bool.{eqb-true}
 use Rattle.gb_ops.specs.declared.machine.Region.{Region}
-use Rattle.gb_cert.specs.declared.types.Val.{Val}
+use Rattle.gb_states.specs.declared.types.Val.{Val}
 use Rattle.gb_ops.specs.declared.registers.Registers.{Registers}
-use Rattle.gb_cert.specs.declared.types.Origin.{Origin}
-use Rattle.gb_cert.specs.declared.types.May.{May}
-use Rattle.gb_cert.specs.declared.types.Flg.{Flg}
-use Rattle.gb_cert.specs.declared.types.ImeSet.{ImeSet}
-use Rattle.gb_cert.specs.declared.types.Ctl.{Ctl}
-use Rattle.gb_cert.specs.declared.types.Core.{Core}
-use Rattle.gb_cert.specs.declared.types.Item.{Item}
-use Rattle.gb_cert.specs.declared.types.Cell.{Cell}
-use Rattle.gb_cert.specs.declared.role.Role.{Role}
-use Rattle.gb_cert.specs.Types.{AbsState, state_of}
+use Rattle.gb_states.specs.declared.types.Origin.{Origin}
+use Rattle.gb_states.specs.declared.types.May.{May}
+use Rattle.gb_states.specs.declared.types.Flg.{Flg}
+use Rattle.gb_states.specs.declared.types.ImeSet.{ImeSet}
+use Rattle.gb_states.specs.declared.types.Ctl.{Ctl}
+use Rattle.gb_states.specs.declared.types.Core.{Core}
+use Rattle.gb_states.specs.declared.types.Item.{Item}
+use Rattle.gb_states.specs.declared.types.Cell.{Cell}
+use Rattle.gb_states.specs.declared.role.Role.{Role}
+use Rattle.gb_states.specs.Types.{AbsState, state_of}
 use Rattle.gb_fields.specs.Reading.{word_of, is_one}
-use Rattle.gb_cert.specs.Reading.{origin_of, to_may, to_flg}
-use Rattle.gb_cert.specs.Spelling as spelled
+use Rattle.gb_states.specs.Reading.{origin_of, to_may, to_flg}
+use Rattle.gb_states.specs.Spelling as spelled
 use Rattle.gb_cert.specs.Borrowed.{StateStands}
-use Rattle.gb_cert.specs.Checked.{flg_in, core_in, begins_with_zero, are_none}
-use Rattle.gb_cert.proofs.FieldLaws.{and_both, Flags, number_of, of-flag, origin_of-number, may-number, ime-number, flags-number, own-again}
+use Rattle.gb_states.specs.Checked.{flg_in, core_in, begins_with_zero, are_none}
+use Rattle.gb_states.proofs.FieldLaws.{and_both, Flags, number_of, of-flag, origin_of-number, may-number, ime-number, flags-number, own-again}
 use Rattle.gb_cert.proofs.Lending.{core-long, lists-behind}
 
 word-again : (w : ℕ) → w % 256 + 256 * (w / 256) ≡ w

@@ -6,13 +6,13 @@ use Rattle.std.proofs.lemmas.List.{drop_all}
 use Rattle.std.proofs.lemmas.List.Concat.{flat_map-cons}
 use Rattle.gb_fields.specs.Format.{byte}
 use Rattle.gb_fields.specs.Limits.{node_limit}
-use Rattle.gb_cert.specs.Types.{ProcedureParts, Node}
-use Rattle.gb_cert.specs.Rules.{have_entries, is_of}
+use Rattle.gb_states.specs.Types.{ProcedureParts, Node}
+use Rattle.gb_states.specs.Rules.{have_entries, is_of}
 use Rattle.gb_fields.specs.Reading.{node_number}
-use Rattle.gb_cert.specs.Spelling as spelled
+use Rattle.gb_states.specs.Spelling as spelled
 use Rattle.gb_cert.specs.Places.{AreAt, number_is, place_is_of, entry_is_of, has_entry_at, have_entries_at}
-use Rattle.gb_cert.proofs.FieldLaws.{IsFormat-node_number}
-use Rattle.gb_cert.proofs.StateLaws.{number_small}
+use Rattle.gb_states.proofs.FieldLaws.{IsFormat-node_number}
+use Rattle.gb_states.proofs.StateLaws.{number_small}
 
 -- the first of those that are left, and the others
 pub one_entry : (version number i : ℕ) (bytes ps nodes : List ℕ) → i < length ps

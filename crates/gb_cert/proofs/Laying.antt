@@ -7,15 +7,15 @@ use Rattle.gb_fields.specs.declared.fault.CertFault.{CertFault}
 use Rattle.gb_fields.specs.declared.fault.CertFault.TheVariants as fault
 use Rattle.gb_fields.specs.declared.head.Head.{Head}
 use Rattle.gb_fields.specs.Limits.{node_limit}
-use Rattle.gb_cert.specs.Types.{ProcedureParts, Node}
-use Rattle.gb_cert.specs.Certificate.{Certificate}
+use Rattle.gb_states.specs.Types.{ProcedureParts, Node}
+use Rattle.gb_states.specs.Certificate.{Certificate}
 use Rattle.gb_fields.specs.Format.{go_on, if_passes, ended}
-use Rattle.gb_cert.specs.Rules.{IsChain, IsProcedure, is_after, have_entries}
+use Rattle.gb_states.specs.Rules.{IsChain, IsProcedure, is_after, have_entries}
 use Rattle.gb_fields.specs.Reading.{head_at}
-use Rattle.gb_cert.specs.Reading.{procedures_at, nodes_at, to_certificate, certificate_at, read_certificate}
-use Rattle.gb_cert.specs.Spelling as spelled
+use Rattle.gb_states.specs.Reading.{procedures_at, nodes_at, to_certificate, certificate_at, read_certificate}
+use Rattle.gb_states.specs.Spelling as spelled
 use Rattle.gb_cert.specs.Places.{IsLeft, AreAt, ArePlaced, have_entries_at, ok_or, no_certificate, certificate_in, IsLaid}
-use Rattle.gb_cert.proofs.Formats.{IsBytes}
+use Rattle.gb_states.proofs.Formats.{IsBytes}
 use Rattle.gb_cert.proofs.Entries.{entries-of}
 use Rattle.gb_cert.proofs.Placing.{bytes-left}
 use Rattle.gb_cert.proofs.CertificateLaws.{spelled_head, IsFormat-head, IsFormat-procedures, IsFormat-nodes, found}

@@ -7,25 +7,25 @@ use Rattle.std.proofs.lemmas.List.Concat.{flat_map-cons}
 use Rattle.std.proofs.Math.Seq.{drop-append_seam}
 use Rattle.gb_ops.specs.declared.machine.Region.{Region}
 use Rattle.gb_fields.specs.declared.fault.CertFault.{CertFault}
-use Rattle.gb_cert.specs.declared.types.Core.{Core}
-use Rattle.gb_cert.specs.declared.types.Item.{Item}
-use Rattle.gb_cert.specs.declared.types.Cell.{Cell}
-use Rattle.gb_cert.specs.declared.role.Role.{Role}
-use Rattle.gb_cert.specs.declared.role.Role.TheVariants as role
-use Rattle.gb_cert.specs.Types.{AbsState, ProcedureParts, Node, state_of}
-use Rattle.gb_cert.specs.Certificate.{Certificate}
+use Rattle.gb_states.specs.declared.types.Core.{Core}
+use Rattle.gb_states.specs.declared.types.Item.{Item}
+use Rattle.gb_states.specs.declared.types.Cell.{Cell}
+use Rattle.gb_states.specs.declared.role.Role.{Role}
+use Rattle.gb_states.specs.declared.role.Role.TheVariants as role
+use Rattle.gb_states.specs.Types.{AbsState, ProcedureParts, Node, state_of}
+use Rattle.gb_states.specs.Certificate.{Certificate}
 use Rattle.gb_fields.specs.Format.{Read, go_on, both, byte}
 use Rattle.gb_fields.specs.Limits.{node_limit}
-use Rattle.gb_cert.specs.Rules.{IsChain, IsState, IsProcedure, IsNode, IsCertificate, is_after, is_from, key, role_of}
+use Rattle.gb_states.specs.Rules.{IsChain, IsState, IsProcedure, IsNode, IsCertificate, is_after, is_from, key, role_of}
 use Rattle.gb_rows.specs.Rows.{is_before, AreInOrder}
 use Rattle.gb_fields.specs.Reading.{word, node_number}
-use Rattle.gb_cert.specs.Reading.{core_at, ranges_at, exit_at}
-use Rattle.gb_cert.specs.Spelling as spelled
+use Rattle.gb_states.specs.Reading.{core_at, ranges_at, exit_at}
+use Rattle.gb_states.specs.Spelling as spelled
 use Rattle.gb_cert.specs.Places.{AreAt, IsLaid}
 use Rattle.gb_cert.specs.Borrowed.{read_or, any_core, state_in, StateStands, Body, body_at, procedure_of, procedure_in, BodyStands}
-use Rattle.gb_cert.proofs.Formats.{IsFormat-byte, IsFormat-both, went_on, same_pair}
-use Rattle.gb_cert.proofs.FieldLaws.{IsFormat-word, IsFormat-node_number, IsFormat-core}
-use Rattle.gb_cert.proofs.StateLaws.{IsFormat-state, AreRanges, IsFormat-ranges, IsFormat-exit, number_small, limit_bound}
+use Rattle.gb_states.proofs.Formats.{IsFormat-byte, IsFormat-both, went_on, same_pair}
+use Rattle.gb_states.proofs.FieldLaws.{IsFormat-word, IsFormat-node_number, IsFormat-core}
+use Rattle.gb_states.proofs.StateLaws.{IsFormat-state, AreRanges, IsFormat-ranges, IsFormat-exit, number_small, limit_bound}
 use Rattle.gb_cert.proofs.Placing.{at-each}
 
 pub some-at : {X : Type 0} (xs : List X) (i : ℕ) → i < length xs → (x : X) × (slice_get xs i ≡ Some x)

@@ -1,11 +1,7 @@
 pub mod CertificateLaws
 pub mod CheckedLaws
 pub mod Entries
-pub mod FieldLaws
-pub mod Formats
 pub mod Laying
 pub mod Lending
 pub mod Placing
-pub mod Several
 pub mod Skipping
-pub mod StateLaws

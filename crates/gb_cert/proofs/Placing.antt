@@ -8,8 +8,8 @@ use Rattle.gb_fields.specs.declared.fault.CertFault.{CertFault}
 use Rattle.gb_fields.specs.Format.{Read, go_on, mapped, several}
 use Rattle.gb_cert.specs.Places.{IsLeft, AreAt, StandsAt, ArePlaced}
 use Rattle.gb_cert.specs.Skipping.{skipped}
-use Rattle.gb_cert.proofs.Formats.{IsBytes, IsFormat, went_on, same_pair}
-use Rattle.gb_cert.proofs.Several.{with_front, goes_on, ends, is_done}
+use Rattle.gb_states.proofs.Formats.{IsBytes, IsFormat, went_on, same_pair}
+use Rattle.gb_states.proofs.Several.{with_front, goes_on, ends, is_done}
 
 -- ---- what is left
 

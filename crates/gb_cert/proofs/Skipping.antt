@@ -2,15 +2,15 @@
 use Rattle.std.proofs.Common.{◌≡◌, ℕ, suc, ◌-◌, ◌+◌, ◌≤◌, ◌<◌, Bool, true, false, List, ◌∷◌, Some, Result, Ok, Err, refl, sym, ◌∙◌, arith}
 use Rattle.gb_ops.specs.declared.machine.Region.{Region}
 use Rattle.gb_fields.specs.declared.fault.CertFault.{CertFault}
-use Rattle.gb_cert.specs.declared.types.Core.{Core}
-use Rattle.gb_cert.specs.declared.role.Role.{Role}
-use Rattle.gb_cert.specs.declared.role.Role.TheVariants as role
-use Rattle.gb_cert.specs.Types.{AbsState, Node}
+use Rattle.gb_states.specs.declared.types.Core.{Core}
+use Rattle.gb_states.specs.declared.role.Role.{Role}
+use Rattle.gb_states.specs.declared.role.Role.TheVariants as role
+use Rattle.gb_states.specs.Types.{AbsState, Node}
 use Rattle.gb_fields.specs.Format.{Read, go_on, followed, both, mapped, optional, several}
 use Rattle.gb_cert.specs.Skipping.{skipped, past}
-use Rattle.gb_cert.specs.Rules.{role_of, key}
+use Rattle.gb_states.specs.Rules.{role_of, key}
 use Rattle.gb_fields.specs.Reading.{word_between, returns_at, entry_at, need_at, key_at}
-use Rattle.gb_cert.specs.Reading.{core_at, items_at, cells_at, to_state, state_at, ranges_at, exit_at, to_procedure, procedure_at, to_node, node_at}
+use Rattle.gb_states.specs.Reading.{core_at, items_at, cells_at, to_state, state_at, ranges_at, exit_at, to_procedure, procedure_at, to_node, node_at}
 
 pub skipped-mapped : {X Y : Type 0} (f : X → Y) (r : Read X) (bytes : List ℕ) → skipped (mapped f r) bytes ≡ skipped r bytes
 skipped-mapped {X} f r bytes = by (r bytes)

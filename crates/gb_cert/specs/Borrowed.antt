@@ -2,15 +2,15 @@
 use Rattle.std.specs.Prelude.{◌≡◌, ℕ, true, false, List, [], ◌++◌, Option, None, Result, Ok, Err}
 use Rattle.gb_ops.specs.declared.machine.Region.{Region}
 use Rattle.gb_fields.specs.declared.fault.CertFault.{CertFault}
-use Rattle.gb_cert.specs.declared.types.Core.{Core}
-use Rattle.gb_cert.specs.declared.types.Range.{Range}
-use Rattle.gb_cert.specs.declared.role.Role.{Role}
-use Rattle.gb_cert.specs.Types.{AbsState, ProcedureParts, any_val, state_of}
+use Rattle.gb_states.specs.declared.types.Core.{Core}
+use Rattle.gb_states.specs.declared.types.Range.{Range}
+use Rattle.gb_states.specs.declared.role.Role.{Role}
+use Rattle.gb_states.specs.Types.{AbsState, ProcedureParts, any_val, state_of}
 use Rattle.gb_fields.specs.Format.{Read, both}
-use Rattle.gb_cert.specs.Rules.{IsState}
+use Rattle.gb_states.specs.Rules.{IsState}
 use Rattle.gb_fields.specs.Reading.{word}
-use Rattle.gb_cert.specs.Reading.{state_at, ranges_at, exit_at}
-use Rattle.gb_cert.specs.Spelling as spelled
+use Rattle.gb_states.specs.Reading.{state_at, ranges_at, exit_at}
+use Rattle.gb_states.specs.Spelling as spelled
 
 -- what a reader reads, where it reads something
 abbrev pub read_or : {X : Type 0} → X → Result (X × List ℕ) CertFault → X

@@ -1,9 +1,3 @@
 pub mod Borrowed
-pub mod Certificate
-pub mod Checked
 pub mod Places
-pub mod Reading
-pub mod Rules
 pub mod Skipping
-pub mod Spelling
-pub mod Types

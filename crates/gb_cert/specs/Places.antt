@@ -5,11 +5,11 @@ use Rattle.gb_ops.specs.declared.machine.Region.{Region}
 use Rattle.gb_fields.specs.declared.fault.CertFault.{CertFault}
 use Rattle.gb_fields.specs.declared.fault.CertFault.TheVariants as fault
 use Rattle.gb_fields.specs.Format.{byte}
-use Rattle.gb_cert.specs.Certificate.{Certificate}
+use Rattle.gb_states.specs.Certificate.{Certificate}
 use Rattle.gb_fields.specs.Reading.{node_number}
-use Rattle.gb_cert.specs.Reading.{read_certificate}
-use Rattle.gb_cert.specs.Spelling as spelled
-use Rattle.gb_cert.specs.Spelling.{Spells}
+use Rattle.gb_states.specs.Reading.{read_certificate}
+use Rattle.gb_states.specs.Spelling as spelled
+use Rattle.gb_states.specs.Spelling.{Spells}
 
 -- The second is what is left of the first behind some bytes.
 pub record IsLeft (bytes rest : List ℕ) : Type 0 where

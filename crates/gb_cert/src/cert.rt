@@ -2,8 +2,8 @@
 
 ghost use Rattle.std.specs.Prelude.{◌≡◌, ◌<◌, length, slice_get, Some, IfOk};
 ghost use Rattle.std.specs.List.{flat_map};
-ghost use Rattle.gb_cert.specs.Spelling as spelled;
-ghost use Rattle.gb_cert.specs.Spelling.{Spells};
+ghost use Rattle.gb_states.specs.Spelling as spelled;
+ghost use Rattle.gb_states.specs.Spelling.{Spells};
 
 use crate::node::NodeRef;
 use crate::procedure::ProcedureRef;
@@ -25,7 +25,7 @@ pub struct Cert<'a> {
 }
 
 impl<'a> Model for Cert<'a> {
-    ghost use Rattle.gb_cert.specs.Certificate.{Certificate};
+    ghost use Rattle.gb_states.specs.Certificate.{Certificate};
 
     ghost Value = { Certificate };
 
@@ -38,7 +38,7 @@ impl<'a> Model for Cert<'a> {
 
 impl<'a> Cert<'a> {
     ghost use Rattle.gb_cert.specs.Places.{certificate_in, IsLaid};
-    ghost use Rattle.gb_cert.specs.Rules.{IsCertificate};
+    ghost use Rattle.gb_states.specs.Rules.{IsCertificate};
 
     /// The certificate in these bytes, its procedures and nodes at these places.
     pub(crate) fn of_parts(
@@ -133,7 +133,7 @@ impl<'a> Cert<'a> {
 
     /// The head of the same certificate in version 2. Behind it stand, in version 2, for each
     /// procedure its entry in four bytes and its body, and then the bytes of all nodes.
-    #[tactic(auto, unfolding(crate::specs::Spelling::head, crate::specs::Spelling::node_number, crate::specs::Spelling::spelling))]
+    #[tactic(auto, unfolding(gb_states::specs::Spelling::head, gb_states::specs::Spelling::node_number, gb_states::specs::Spelling::spelling))]
     pub fn upgraded_head(&self) -> [u8; 14]
         ensures head { result ≡ spelled.head (record self.now { version = 2 }) }
         ensures certificate { IsCertificate (record self.now { version = 2 }) }

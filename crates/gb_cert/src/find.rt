@@ -1,7 +1,7 @@
 //! The nodes with a key.
 
 ghost use Rattle.std.specs.Prelude.{◌≡◌, ◌<◌, map, ℕ, List};
-ghost use Rattle.gb_cert.specs.Rules.{key};
+ghost use Rattle.gb_states.specs.Rules.{key};
 ghost use Rattle.gb_rows.specs.Rows.{IsFound};
 
 use crate::cert::Cert;

@@ -2,14 +2,14 @@
 
 ghost use Rattle.std.specs.Prelude.{◌≡◌, false, []};
 ghost use Rattle.std.specs.List.{flat_map};
-ghost use Rattle.gb_cert.specs.Spelling as spelled;
+ghost use Rattle.gb_states.specs.Spelling as spelled;
 
-use crate::fields::{are_none, core_in};
-use crate::role::Role;
-use crate::states::state_at;
-use crate::types::{Abs, Core};
 use gb_fields::numbers::{counted, from_place};
 use gb_ops::machine::Region;
+use gb_states::fields::{are_none, core_in};
+use gb_states::role::Role;
+use gb_states::states::state_at;
+use gb_states::types::{Abs, Core};
 use std::marker::Model;
 
 /// The bytes of a state before its items.
@@ -33,11 +33,11 @@ pub struct NodeRef<'a> {
 }
 
 impl<'a> Model for NodeRef<'a> {
-    ghost use Rattle.gb_cert.specs.Types.{Node};
+    ghost use Rattle.gb_states.specs.Types.{Node};
 
     ghost Value = { Node };
 
-    ghost use Rattle.gb_cert.specs.Rules.{role_of};
+    ghost use Rattle.gb_states.specs.Rules.{role_of};
     ghost use Rattle.gb_cert.specs.Borrowed.{state_in, StateStands};
 
     ghost view = { λ n. record { procedure = n.procedure; address = n.address; bank = n.bank; state = state_in (role_of n.procedure) n.region n.state.now } };
@@ -46,7 +46,7 @@ impl<'a> Model for NodeRef<'a> {
 }
 
 impl<'a> NodeRef<'a> {
-    ghost use Rattle.gb_cert.specs.Rules.{role_of};
+    ghost use Rattle.gb_states.specs.Rules.{role_of};
     ghost use Rattle.gb_cert.specs.Borrowed.{state_in, StateStands};
 
     /// The node of these parts, its state at the front of the bytes.

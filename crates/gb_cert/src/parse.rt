@@ -1,13 +1,13 @@
 //! Certificates from their bytes.
 
 ghost use Rattle.std.specs.Prelude.{◌≡◌, ◌≤◌, ℕ, List, IfOk, Ok};
-ghost use Rattle.gb_cert.specs.Certificate.{Certificate};
+ghost use Rattle.gb_states.specs.Certificate.{Certificate};
 ghost use Rattle.gb_fields.specs.Format.{GivesUnlessMemory};
 ghost use Rattle.gb_fields.specs.Limits.{node_limit};
 ghost use Rattle.gb_cert.specs.Places.{IsLeft, ArePlaced, FindsUnlessMemory, has_entry_at, have_entries_at};
-ghost use Rattle.gb_cert.specs.Reading.{procedures_at, nodes_at, read_certificate};
-ghost use Rattle.gb_cert.specs.Spelling as spelled;
-ghost use Rattle.gb_cert.specs.Spelling.{Spells};
+ghost use Rattle.gb_states.specs.Reading.{procedures_at, nodes_at, read_certificate};
+ghost use Rattle.gb_states.specs.Spelling as spelled;
+ghost use Rattle.gb_states.specs.Spelling.{Spells};
 
 use crate::cert::Cert;
 use crate::walk::{skip_node, skip_procedure};
@@ -20,7 +20,7 @@ use std::alloc::Global;
 const LEAST_NODE: usize = 47;
 
 /// Where in the bytes so many procedures begin, and the bytes behind them.
-#[tactic(auto, unfolding(crate::specs::Reading::procedures_at))]
+#[tactic(auto, unfolding(gb_states::specs::Reading::procedures_at))]
 fn place_procedures<'a>(
     alloc: Global,
     head: Head,
@@ -44,7 +44,7 @@ fn place_procedures<'a>(
 }
 
 /// Where in the bytes so many nodes begin, and the bytes behind them.
-#[tactic(auto, unfolding(crate::specs::Reading::nodes_at))]
+#[tactic(auto, unfolding(gb_states::specs::Reading::nodes_at))]
 fn place_nodes<'a>(
     alloc: Global,
     head: Head,

@@ -2,18 +2,18 @@
 
 ghost use Rattle.std.specs.Prelude.{◌≡◌, false};
 ghost use Rattle.gb_fields.specs.Format.{Gives};
-ghost use Rattle.gb_cert.specs.Reading.{exit_at};
-ghost use Rattle.gb_cert.specs.Spelling as spelled;
+ghost use Rattle.gb_states.specs.Reading.{exit_at};
+ghost use Rattle.gb_states.specs.Spelling as spelled;
 
-use crate::role::Role;
-use crate::states::{ranges_at, state_at};
-use crate::types::{Abs, Range};
 use crate::walk::{skip_exit, skip_ranges};
 use arrayvec::ArrayVec;
 use gb_fields::CertFault;
 use gb_fields::numbers::word;
 use gb_fields::parts::returns_at;
 use gb_ops::machine::Region;
+use gb_states::role::Role;
+use gb_states::states::{ranges_at, state_at};
+use gb_states::types::{Abs, Range};
 use std::marker::Model;
 
 /// A procedure: where it begins, how many words of stack it needs, what it may write, and in
@@ -26,7 +26,7 @@ pub struct ProcedureRef<'a> {
 }
 
 impl<'a> Model for ProcedureRef<'a> {
-    ghost use Rattle.gb_cert.specs.Types.{ProcedureParts};
+    ghost use Rattle.gb_states.specs.Types.{ProcedureParts};
 
     ghost Value = { ProcedureParts };
 
@@ -38,7 +38,7 @@ impl<'a> Model for ProcedureRef<'a> {
 }
 
 /// In what state a procedure returns, if it does.
-#[tactic(auto, unfolding(crate::specs::Reading::exit_at))]
+#[tactic(auto, unfolding(gb_states::specs::Reading::exit_at))]
 fn exit_at(region: Region, bytes: &[u8]) -> Result<(Option<Abs>, &[u8]), CertFault>
     ensures { Gives (λ x. (x.0, x.1.now)) result (exit_at region false bytes.now) }
 {

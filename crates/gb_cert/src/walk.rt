@@ -4,17 +4,17 @@ ghost use Rattle.std.specs.Prelude.{◌≡◌, ◌≤◌};
 ghost use Rattle.gb_fields.specs.Format.{Gives, mapped, several};
 ghost use Rattle.gb_fields.specs.Limits.{item_limit, cell_limit, range_limit};
 ghost use Rattle.gb_cert.specs.Skipping.{skipped};
-ghost use Rattle.gb_cert.specs.Rules.{after_cell, after_range, role_of, key};
-ghost use Rattle.gb_cert.specs.Reading.{item_at, items_at, cell_at, cells_at, state_at, range_at, ranges_at, exit_at, procedure_at, node_at};
+ghost use Rattle.gb_states.specs.Rules.{after_cell, after_range, role_of, key};
+ghost use Rattle.gb_states.specs.Reading.{item_at, items_at, cell_at, cells_at, state_at, range_at, ranges_at, exit_at, procedure_at, node_at};
 
-use crate::fields::core_at;
-use crate::role::Role;
-use crate::states::{cell_at, item_at, range_at};
 use gb_fields::CertFault;
 use gb_fields::limits::{CELL_LIMIT, ITEM_LIMIT, RANGE_LIMIT};
 use gb_fields::numbers::{count_within, word_between};
 use gb_fields::parts::{entry_at, key_at, need_at, returns_at};
 use gb_ops::machine::Region;
+use gb_states::fields::core_at;
+use gb_states::role::Role;
+use gb_states::states::{cell_at, item_at, range_at};
 
 /// Passes over as many items as the count says.
 #[inline(always)]
@@ -30,7 +30,7 @@ fn skip_some_items(count: u8, bytes: &[u8]) -> Result<&[u8], CertFault>
 }
 
 #[inline(always)]
-#[tactic(auto, unfolding(crate::specs::Reading::items_at))]
+#[tactic(auto, unfolding(gb_states::specs::Reading::items_at))]
 fn skip_items(role: Role, stack_set: bool, bytes: &[u8]) -> Result<&[u8], CertFault>
     ensures { Gives (λ x. x.now) result (skipped (items_at role stack_set) bytes.now) }
 {
@@ -57,7 +57,7 @@ fn skip_some_cells(region: Region, count: u8, bytes: &[u8]) -> Result<&[u8], Cer
 }
 
 #[inline(always)]
-#[tactic(auto, unfolding(crate::specs::Reading::cells_at))]
+#[tactic(auto, unfolding(gb_states::specs::Reading::cells_at))]
 fn skip_cells(region: Region, bytes: &[u8]) -> Result<&[u8], CertFault>
     ensures { Gives (λ x. x.now) result (skipped (cells_at region) bytes.now) }
 {
@@ -88,7 +88,7 @@ fn skip_some_ranges(region: Region, count: u8, bytes: &[u8]) -> Result<&[u8], Ce
     Ok(rest)
 }
 
-#[tactic(auto, unfolding(crate::specs::Reading::ranges_at))]
+#[tactic(auto, unfolding(gb_states::specs::Reading::ranges_at))]
 pub fn skip_ranges(region: Region, bytes: &[u8]) -> Result<&[u8], CertFault>
     ensures { Gives (λ x. x.now) result (skipped (ranges_at region) bytes.now) }
 {

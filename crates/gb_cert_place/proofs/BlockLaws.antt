@@ -3,8 +3,8 @@ use Rattle.std.proofs.Common.{◌≡◌, ℕ, Bool, List, Err, refl}
 use Rattle.gb_ops.specs.declared.machine.Region.{Region}
 use Rattle.gb_fields.specs.declared.fault.CertFault.{CertFault}
 use Rattle.gb_fields.specs.Reading.{head_at, entry_at, need_at, count_within, returns_at, key_at, word_between}
-use Rattle.gb_cert.specs.Reading.{range_at, core_at, item_at, cell_at}
-use Rattle.gb_cert.specs.declared.role.Role.{Role}
+use Rattle.gb_states.specs.Reading.{range_at, core_at, item_at, cell_at}
+use Rattle.gb_states.specs.declared.role.Role.{Role}
 use Rattle.gb_fields.specs.Limits.{range_limit, item_limit, cell_limit}
 use Rattle.gb_cert_place.specs.declared.block.Block.{Block}
 use Rattle.gb_cert_place.specs.declared.block.Block.TheVariants as block

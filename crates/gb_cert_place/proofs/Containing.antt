@@ -6,7 +6,7 @@ use Rattle.std.proofs.lemmas.Bool.Decides.{nat_tests}
 use Rattle.gb_ops.specs.declared.machine.Region.{Region}
 use Rattle.gb_fields.specs.declared.fault.CertFault.{CertFault}
 use Rattle.gb_fields.specs.declared.fault.CertFault.TheVariants as fault
-use Rattle.gb_cert.specs.declared.role.Role.{Role}
+use Rattle.gb_states.specs.declared.role.Role.{Role}
 use Rattle.gb_fields.specs.declared.head.Head.{Head}
 use Rattle.gb_fields.specs.Limits.{range_limit, cell_limit}
 use Rattle.gb_fields.specs.Format.{Read, mapped}

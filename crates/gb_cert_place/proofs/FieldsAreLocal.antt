@@ -1,13 +1,13 @@
 -- Each reader of a certificate's parts goes from left to right.
 use Rattle.std.proofs.Common.{ℕ, Bool, true, false, ◌==◌}
 use Rattle.gb_ops.specs.declared.machine.Region.{Region}
-use Rattle.gb_cert.specs.declared.role.Role.{Role}
-use Rattle.gb_cert.specs.declared.role.Role.TheVariants as role
+use Rattle.gb_states.specs.declared.role.Role.{Role}
+use Rattle.gb_states.specs.declared.role.Role.TheVariants as role
 use Rattle.gb_fields.specs.Limits.{procedure_limit, range_limit, cell_limit, item_limit}
 use Rattle.gb_fields.specs.Format.{byte}
-use Rattle.gb_cert.specs.Rules.{role_of}
+use Rattle.gb_states.specs.Rules.{role_of}
 use Rattle.gb_fields.specs.Reading.{word, quad, node_number_by, node_number, byte_between, word_between, count_within, yes_no, returns_at, entry_at, need_at, key_at, magic_at, version_at, region_at, node_count_at, head_at}
-use Rattle.gb_cert.specs.Reading.{origin_at, val_at, may_at, ime_at, test_at, flg_at, ctl_at, vals_at, core_at, item_at, items_at, cell_at, cells_at, state_at, range_at, ranges_at, exit_at, procedure_at, node_at, procedures_at, nodes_at, certificate_at}
+use Rattle.gb_states.specs.Reading.{origin_at, val_at, may_at, ime_at, test_at, flg_at, ctl_at, vals_at, core_at, item_at, items_at, cell_at, cells_at, state_at, range_at, ranges_at, exit_at, procedure_at, node_at, procedures_at, nodes_at, certificate_at}
 use Rattle.gb_cert_place.proofs.Locality.{IsLocal, IsLocal-byte, IsLocal-both, IsLocal-followed, IsLocal-mapped, IsLocal-checked, IsLocal-optional, IsLocal-several, IsLocal-counted}
 
 -- ---- numbers

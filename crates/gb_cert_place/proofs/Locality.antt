@@ -3,7 +3,7 @@ use Rattle.std.proofs.Common.{◌≡◌, ℕ, zero, suc, Bool, true, false, List
 use Rattle.gb_fields.specs.declared.fault.CertFault.{CertFault}
 use Rattle.gb_fields.specs.declared.fault.CertFault.TheVariants as fault
 use Rattle.gb_fields.specs.Format.{Read, go_on, followed, both, mapped, if_passes, checked, optional, several, counted, byte}
-use Rattle.gb_cert.proofs.Formats.{went_on, same_pair}
+use Rattle.gb_states.proofs.Formats.{went_on, same_pair}
 
 -- what a reader takes: a front of the bytes, which it reads alike before any others
 pub record Taken {X : Type 0} (r : Read X) (bytes : List ℕ) (x : X) (rest : List ℕ) : Type 0 where

@@ -5,12 +5,12 @@ use Rattle.std.proofs.Math.Seq.{take-append_seam}
 use Rattle.gb_fields.specs.declared.fault.CertFault.{CertFault}
 use Rattle.gb_fields.specs.declared.fault.CertFault.TheVariants as fault
 use Rattle.gb_fields.specs.declared.head.Head.{Head}
-use Rattle.gb_cert.specs.Types.{ProcedureParts, Node}
-use Rattle.gb_cert.specs.Certificate.{Certificate}
+use Rattle.gb_states.specs.Types.{ProcedureParts, Node}
+use Rattle.gb_states.specs.Certificate.{Certificate}
 use Rattle.gb_fields.specs.Format.{Read, go_on, both, if_passes, ended}
 use Rattle.gb_cert.specs.Skipping.{skipped, past}
 use Rattle.gb_fields.specs.Reading.{head_at}
-use Rattle.gb_cert.specs.Reading.{procedures_at, nodes_at, have_entries_in, to_certificate, certificate_at, read_certificate}
+use Rattle.gb_states.specs.Reading.{procedures_at, nodes_at, have_entries_in, to_certificate, certificate_at, read_certificate}
 use Rattle.gb_cert.proofs.Skipping.{skipped-mapped, skipped-both}
 use Rattle.gb_cert_place.specs.declared.block.Stop.{Stop}
 use Rattle.gb_cert_place.specs.declared.block.Block.TheVariants as block

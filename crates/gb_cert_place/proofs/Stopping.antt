@@ -7,7 +7,7 @@ use Rattle.gb_fields.specs.declared.fault.CertFault.{CertFault}
 use Rattle.gb_fields.specs.declared.fault.CertFault.TheVariants as fault
 use Rattle.gb_fields.specs.Format.{Read, go_on, followed, mapped, checked}
 use Rattle.gb_cert_place.specs.Stops.{StopsAt, is_missing}
-use Rattle.gb_cert.proofs.Formats.{same_pair}
+use Rattle.gb_states.proofs.Formats.{same_pair}
 use Rattle.gb_cert_place.proofs.Locality.{IsLocal, grown, failed, same_fault}
 
 -- a fault is that bytes are missing, or another

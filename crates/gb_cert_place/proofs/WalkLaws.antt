@@ -4,7 +4,7 @@ use Rattle.std.proofs.lemmas.List.{length-append}
 use Rattle.gb_fields.specs.declared.fault.CertFault.{CertFault}
 use Rattle.gb_fields.specs.Format.{Read, followed, both, mapped, several}
 use Rattle.gb_cert.specs.Skipping.{skipped}
-use Rattle.gb_cert.proofs.Formats.{went_on, same_pair}
+use Rattle.gb_states.proofs.Formats.{went_on, same_pair}
 use Rattle.gb_cert.proofs.Skipping.{skipped-mapped}
 use Rattle.gb_cert_place.specs.declared.block.Stop.{Stop}
 use Rattle.gb_cert_place.specs.Blocks.{forget}

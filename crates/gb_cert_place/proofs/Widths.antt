@@ -3,13 +3,13 @@ use Rattle.std.proofs.Common.{◌≡◌, ℕ, ◌+◌, ◌≤◌, ◌==◌, Bool
 use Rattle.gb_ops.specs.declared.machine.Region.{Region}
 use Rattle.gb_fields.specs.declared.fault.CertFault.{CertFault}
 use Rattle.gb_fields.specs.declared.fault.CertFault.TheVariants as fault
-use Rattle.gb_cert.specs.declared.role.Role.{Role}
+use Rattle.gb_states.specs.declared.role.Role.{Role}
 use Rattle.gb_fields.specs.Limits.{item_limit, procedure_limit}
 use Rattle.gb_fields.specs.Format.{Read, go_on, followed, both, mapped, if_passes, checked, byte}
 use Rattle.gb_fields.specs.Reading.{word, quad, node_number_by, node_number, byte_between, word_between, count_within, yes_no, returns_at, entry_at, need_at, key_at, region_at, is_any, node_count_at, is_magic, magic_at, version_at, to_head, head_at}
-use Rattle.gb_cert.specs.Reading.{origin_at, val_at, may_at, ime_at, test_at, flg_at, ctl_at, vals_at, core_at, item_at, cell_at, range_at}
-use Rattle.gb_cert.specs.Rules.{is_version}
-use Rattle.gb_cert.proofs.Formats.{went_on, same_pair}
+use Rattle.gb_states.specs.Reading.{origin_at, val_at, may_at, ime_at, test_at, flg_at, ctl_at, vals_at, core_at, item_at, cell_at, range_at}
+use Rattle.gb_states.specs.Rules.{is_version}
+use Rattle.gb_states.proofs.Formats.{went_on, same_pair}
 use Rattle.gb_cert_place.specs.Blocks.{item_count_at}
 use Rattle.gb_cert_place.specs.Layout.{number_width, number_width_by}
 use Rattle.gb_cert_place.proofs.Locality.{failed, same_fault}

@@ -1,12 +1,12 @@
 -- The blocks of a certificate: runs of fields, each of a fixed length by what stands before it.
 use Rattle.std.specs.Prelude.{ℕ, Bool}
 use Rattle.gb_fields.specs.declared.fault.CertFault.TheVariants as fault
-use Rattle.gb_cert.specs.declared.role.Role.{Role}
+use Rattle.gb_states.specs.declared.role.Role.{Role}
 use Rattle.gb_fields.specs.Limits.{range_limit, item_limit, cell_limit}
 use Rattle.gb_fields.specs.Format.{Read, mapped, checked}
-use Rattle.gb_cert.specs.Rules.{may_be_pushed}
+use Rattle.gb_states.specs.Rules.{may_be_pushed}
 use Rattle.gb_fields.specs.Reading.{head_at, entry_at, need_at, count_within, returns_at, key_at, word_between}
-use Rattle.gb_cert.specs.Reading.{range_at, core_at, item_at, cell_at}
+use Rattle.gb_states.specs.Reading.{range_at, core_at, item_at, cell_at}
 use Rattle.gb_cert_place.specs.declared.block.Block.{Block}
 use Rattle.gb_cert_place.specs.declared.block.Block.TheVariants as block
 

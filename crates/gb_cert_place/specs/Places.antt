@@ -2,10 +2,10 @@
 use Rattle.std.specs.Prelude.{ℕ, ◌+◌, ◌-◌, ◌≤◌, Bool, true, false, List, Option, Some, None, ◌≡◌, length, Ok, Err}
 use Rattle.gb_fields.specs.declared.fault.CertFault.{CertFault}
 use Rattle.gb_fields.specs.declared.fault.CertFault.TheVariants as fault
-use Rattle.gb_cert.specs.Certificate.{Certificate}
-use Rattle.gb_cert.specs.Reading.{read_certificate}
+use Rattle.gb_states.specs.Certificate.{Certificate}
+use Rattle.gb_states.specs.Reading.{read_certificate}
 use Rattle.gb_cert.specs.Skipping.{skipped}
-use Rattle.gb_cert.specs.Spelling.{Spells}
+use Rattle.gb_states.specs.Spelling.{Spells}
 use Rattle.gb_cert_place.specs.declared.block.Part.TheVariants as part
 use Rattle.gb_cert_place.specs.declared.field.Field.TheVariants as field
 use Rattle.gb_cert_place.specs.declared.place.Sought.{Sought}

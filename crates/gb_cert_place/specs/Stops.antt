@@ -3,11 +3,11 @@ use Rattle.std.specs.Prelude.{◌≡◌, ℕ, Bool, true, false, ◌-◌, ◌≤
 use Rattle.gb_fields.specs.declared.fault.CertFault.{CertFault}
 use Rattle.gb_fields.specs.declared.fault.CertFault.TheVariants as fault
 use Rattle.gb_fields.specs.declared.head.Head.{Head}
-use Rattle.gb_cert.specs.Types.{ProcedureParts, Node}
-use Rattle.gb_cert.specs.Certificate.{Certificate}
+use Rattle.gb_states.specs.Types.{ProcedureParts, Node}
+use Rattle.gb_states.specs.Certificate.{Certificate}
 use Rattle.gb_fields.specs.Format.{Read, followed, both}
 use Rattle.gb_fields.specs.Reading.{head_at}
-use Rattle.gb_cert.specs.Reading.{procedures_at, nodes_at, read_certificate}
+use Rattle.gb_states.specs.Reading.{procedures_at, nodes_at, read_certificate}
 use Rattle.gb_cert.specs.Skipping.{skipped}
 use Rattle.gb_cert_place.specs.declared.block.Block.{Block}
 use Rattle.gb_cert_place.specs.declared.block.Part.{Part}

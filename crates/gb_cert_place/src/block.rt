@@ -6,14 +6,14 @@ ghost use Rattle.gb_cert_place.specs.Blocks.{item_count_at, read_block};
 ghost use Rattle.gb_cert_place.specs.Stops.{is_missing, StopsAt, Stopped};
 
 use gb_cert::CertFault;
-use gb_cert::fields::core_at;
-use gb_cert::role::Role;
-use gb_cert::states::{cell_at, item_at, range_at};
 use gb_fields::head::head_at;
 use gb_fields::limits::{CELL_LIMIT, ITEM_LIMIT, RANGE_LIMIT};
 use gb_fields::numbers::{count_within, word_between};
 use gb_fields::parts::{entry_at, key_at, need_at, returns_at};
 use gb_ops::machine::Region;
+use gb_states::fields::core_at;
+use gb_states::role::Role;
+use gb_states::states::{cell_at, item_at, range_at};
 
 /// A run of fields that is read by one rule, with what the rule asks of the fields before it.
 #[derive(Clone, Copy)]

@@ -1,15 +1,14 @@
 //! Where in the file a certificate's fault is.
 
 ghost use Rattle.std.specs.Prelude.{◌≡◌, ◌≤◌, ◌-◌, length, Ok, Err, IfOk, IfSome};
-ghost use Rattle.gb_cert.specs.Reading.{read_certificate};
+ghost use Rattle.gb_states.specs.Reading.{read_certificate};
 ghost use Rattle.gb_cert_place.specs.Stops.{IsFaultAt, Stopped, parts_at};
 ghost use Rattle.gb_cert_place.specs.Places.{is_memory, place_of, behind, IsFaultOf, IsAnswer};
 
 use crate::block::{Part, Stop, is_missing};
 use crate::field::{Field, field_at};
 use crate::walk::walk_parts;
-use gb_cert::CertFault;
-use gb_cert::types::Cert;
+use gb_cert::{Cert, CertFault};
 use std::alloc::{AllocError, Global};
 
 /// Where in the file a certificate's fault is.

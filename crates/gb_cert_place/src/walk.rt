@@ -2,21 +2,21 @@
 
 ghost use Rattle.std.specs.Prelude.{◌≡◌, slice_index_or, IfErr};
 ghost use Rattle.gb_fields.specs.Format.{mapped, several};
-ghost use Rattle.gb_cert.specs.Rules.{after_cell, after_range, key};
-ghost use Rattle.gb_cert.specs.Reading.{item_at, items_at, cell_at, cells_at, state_at, range_at, ranges_at, exit_at, procedure_at, node_at, procedures_at, nodes_at};
+ghost use Rattle.gb_states.specs.Rules.{after_cell, after_range, key};
+ghost use Rattle.gb_states.specs.Reading.{item_at, items_at, cell_at, cells_at, state_at, range_at, ranges_at, exit_at, procedure_at, node_at, procedures_at, nodes_at};
 ghost use Rattle.gb_cert_place.specs.declared.block.Part.TheVariants as the_part;
 ghost use Rattle.gb_cert_place.specs.Standing.{Of, AmongItems, InItems, AmongCells, InCells, InState, AmongRanges, InRanges, InExit, InProcedure, InProcedures, InNode, InNodes, InCertificate};
 ghost use Rattle.gb_cert_place.specs.Stops.{Walks, Finds, StopsIn, parts_at};
 
 use crate::block::{Block, Part, Stop, item_count_at, stopped};
-use gb_cert::fields::core_at;
-use gb_cert::role::Role;
-use gb_cert::states::{cell_at, item_at, range_at};
 use gb_fields::head::{Head, head_at};
 use gb_fields::limits::{CELL_LIMIT, RANGE_LIMIT};
 use gb_fields::numbers::{count_within, word_between};
 use gb_fields::parts::{entry_at, key_at, need_at, returns_at};
 use gb_ops::machine::Region;
+use gb_states::fields::core_at;
+use gb_states::role::Role;
+use gb_states::states::{cell_at, item_at, range_at};
 
 /// Passes over as many items as the count says.
 fn walk_some_items(part: Part, count: u8, bytes: &[u8]) -> Result<&[u8], Stop>
@@ -217,7 +217,7 @@ fn walk_node(
 }
 
 /// Passes over the procedures behind the head.
-#[tactic(auto, unfolding(gb_cert::specs::Reading::procedures_at))]
+#[tactic(auto, unfolding(gb_states::specs::Reading::procedures_at))]
 fn walk_procedures(head: Head, bytes: &[u8]) -> Result<&[u8], Stop>
     ensures reads { Walks (λ x. x.now) result (procedures_at head.version head.region head.nodes head.procedures) bytes.now }
     ensures block { IfErr result (StopsIn (InProcedures head bytes.now)) }
@@ -232,7 +232,7 @@ fn walk_procedures(head: Head, bytes: &[u8]) -> Result<&[u8], Stop>
 }
 
 /// Passes over the nodes behind the procedures.
-#[tactic(auto, unfolding(gb_cert::specs::Reading::nodes_at))]
+#[tactic(auto, unfolding(gb_states::specs::Reading::nodes_at))]
 fn walk_nodes(head: Head, bytes: &[u8]) -> Result<&[u8], Stop>
     ensures reads { Walks (λ x. x.now) result (nodes_at head.region head.procedures head.nodes) bytes.now }
     ensures block { IfErr result (StopsIn (InNodes head bytes.now)) }

@@ -4,7 +4,7 @@ use crate::making::{made, tell_obstacles, verify};
 use crate::messages::{PROGRAM, tell_fault, tell_output};
 use crate::status::Status;
 use crate::words::Task;
-use gb_cert::types::Cert;
+use gb_cert::Cert;
 use gb_explain::explain;
 use gb_files::{Trouble, read_certificate, shown_name};
 use gb_header::Rom;

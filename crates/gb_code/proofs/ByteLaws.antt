@@ -7,10 +7,10 @@ use Rattle.gb_ops.specs.Memory.{is_free, byte_at}
 use Rattle.gb_ops.specs.Machine.{read_at, read_by}
 use Rattle.gb_ops.specs.Faults.{no_faults, fetch_faults, is_code_address}
 use Rattle.gb_ops.specs.Play.{MState, within}
-use Rattle.gb_cert.specs.declared.types.Core.{Core}
-use Rattle.gb_cert.specs.declared.types.Val.{Val}
-use Rattle.gb_cert.specs.Types.{AbsState}
-use Rattle.gb_cert.specs.Rules.{IsVal}
+use Rattle.gb_states.specs.declared.types.Core.{Core}
+use Rattle.gb_states.specs.declared.types.Val.{Val}
+use Rattle.gb_states.specs.Types.{AbsState}
+use Rattle.gb_states.specs.Rules.{IsVal}
 use Rattle.gb_abs.specs.Span.{one, is_one}
 use Rattle.gb_abs.specs.Meaning.{Holds, Means}
 use Rattle.gb_abs_memory.specs.Access.{val_at, loaded_val, meets_closed_ram, is_limited}

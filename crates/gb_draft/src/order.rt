@@ -2,10 +2,10 @@
 //! each call must find its own one before others.
 
 use gb_abs::covering::covers;
-use gb_cert::types::{Abs, CELLS, Core, ImeSet, Val};
 use gb_fixpoint::entries::Entered;
 use gb_fixpoint::types::Run;
 use gb_partition::register_set::REGISTERS;
+use gb_states::types::{Abs, CELLS, Core, ImeSet, Val};
 use std::alloc::{AllocError, Global};
 use std::collections::{BTreeMap, BTreeSet};
 

@@ -1,7 +1,6 @@
 //! What is written of certificates: their lines, and their bytes in version 2.
 
-use gb_cert::CertFault;
-use gb_cert::types::Cert;
+use gb_cert::{Cert, CertFault};
 use gb_main::{show_bytes, show_cert};
 use gb_samples::cartridges::{PLAIN, put, small};
 use gb_samples::certificates::{least, least_in_version_2, two_procedures};

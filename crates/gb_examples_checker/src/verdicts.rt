@@ -2,7 +2,7 @@
 
 use gb_abs::reason::Reason;
 use gb_blocks::rules::check_node;
-use gb_cert::types::Cert;
+use gb_cert::Cert;
 use gb_header::Rom;
 use gb_samples::cartridges::{PLAIN, SMALLEST, replace, small};
 use gb_samples::certificates::{least, write_nodes};

@@ -1,14 +1,14 @@
 //! What there is to say of a refused node.
 
 ghost use Rattle.std.specs.Prelude.{◌≡◌, ◌<◌, length, slice_get, Some};
-ghost use Rattle.gb_cert.specs.Types.{Node};
+ghost use Rattle.gb_states.specs.Types.{Node};
 
 use crate::advice::advice_on;
 use crate::code::Code;
 use crate::finding::finding_of;
 use crate::obstacle::Finding;
 use gb_abs::reason::Reason;
-use gb_cert::types::Cert;
+use gb_cert::Cert;
 use gb_header::Rom;
 use std::fmt;
 

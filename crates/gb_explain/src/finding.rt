@@ -11,13 +11,13 @@ use gb_blocks::procedures::{callee_at, exit_of, need_of, ranges_of};
 use gb_calls::entering::enter;
 use gb_calls::ranges::are_ranges_inside;
 use gb_calls::resuming::resume;
-use gb_cert::NodeRef;
-use gb_cert::types::{Abs, Cert, ITEMS, Range};
+use gb_cert::{Cert, NodeRef};
 use gb_code::code::known_bytes;
 use gb_differences::Differences;
 use gb_header::Rom;
 use gb_ops::decode::decode;
 use gb_ops::op::Op;
+use gb_states::types::{Abs, ITEMS, Range};
 use gb_successors::successor::Successor;
 use gb_successors::successors::successors_of;
 

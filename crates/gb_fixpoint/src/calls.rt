@@ -5,11 +5,11 @@ use crate::stop::Stop;
 use crate::types::{Call, Procedure, Run};
 use gb_calls::entering::enter;
 use gb_calls::resuming::resume;
-use gb_cert::types::{Abs, Core, Range};
 use gb_joins::tracking::keep_tracked;
 use gb_partition::cause::Cause;
 use gb_partition::keys::{ControllerKey, KnownRegisters, NodeKey, ProcedureKey};
 use gb_partition::register_set::RegisterSet;
+use gb_states::types::{Abs, Core, Range};
 use std::collections::BTreeSet;
 use std::mem;
 

@@ -5,13 +5,13 @@ use crate::types::{CellValue, Edge, Node, Run, Spot};
 use arrayvec::ArrayVec;
 use gb_abs::covering::{cell_at, covers};
 use gb_abs::operations::with_value;
-use gb_cert::types::{Abs, Cell, Core};
 use gb_joins::joining::join;
 use gb_joins::tracking::keep_tracked;
 use gb_ops::op::Register;
 use gb_partition::configuration::Place;
 use gb_partition::keys::NodeKey;
 use gb_partition::register_set::{REGISTERS, RegisterSet};
+use gb_states::types::{Abs, Cell, Core};
 
 /// How often a node grows by joins alone.
 const GROWTHS: u32 = 60;

@@ -3,7 +3,6 @@
 use crate::stop::Stop;
 use crate::types::Run;
 use gb_abs_memory::shown::known_bank;
-use gb_cert::types::Abs;
 use gb_code::code::{area_end, known_byte, known_bytes, leaves_area};
 use gb_effects::advance::length_of;
 use gb_header::Rom;
@@ -12,6 +11,7 @@ use gb_ops::decode::decode;
 use gb_ops::op::{AluOp, Op, Operand, Pair, Register, Row};
 use gb_partition::cause::{Cause, StackMisuse};
 use gb_partition::register_set::RegisterSet;
+use gb_states::types::Abs;
 
 /// The first byte of the instruction at an address that isn't known.
 fn unknown_byte(rom: &Rom<'_>, state: &Abs, address: u16) -> u16 {

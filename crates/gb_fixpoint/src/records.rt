@@ -6,8 +6,8 @@ use gb_abs::span::Span;
 use gb_abs::storage::is_ram;
 use gb_abs_effects::reads::AbsRead;
 use gb_abs_effects::writes::AbsWrite;
-use gb_cert::types::{Range, Val};
 use gb_ops::op::{Op, Operand, Register};
+use gb_states::types::{Range, Val};
 use gb_successors::successors::Successors;
 
 /// Where the byte at an address is kept: the echo of work RAM is the same byte.

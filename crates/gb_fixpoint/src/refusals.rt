@@ -5,13 +5,13 @@ use gb_abs_effects::reads::AbsRead;
 use gb_abs_effects::writes::AbsWrite;
 use gb_abs_memory::refusals::{is_limited, meets_closed_ram};
 use gb_calls::interrupts::may_come;
-use gb_cert::types::{Abs, Core, ITEMS, Range};
 use gb_code::code::lies_in_high_ram;
 use gb_header::Rom;
 use gb_ops::machine::Region;
 use gb_ops::op::{Indirect, Op, Operand, Register, Row};
 use gb_partition::cause::{Cause, TransferMisuse};
 use gb_partition::register_set::RegisterSet;
+use gb_states::types::{Abs, Core, ITEMS, Range};
 use gb_successors::refused::is_stack_limited;
 use gb_successors::successors::Successors;
 

@@ -2,7 +2,6 @@
 
 use crate::stop::Stop;
 use crate::types::{Procedure, Run, Spot, Turn};
-use gb_cert::types::Abs;
 use gb_code::code::known_bytes;
 use gb_header::Rom;
 use gb_joins::ranges::RangeSet;
@@ -12,6 +11,7 @@ use gb_partition::cause::{Cause, Failure, Outcome};
 use gb_partition::configuration::{Configuration, Place};
 use gb_partition::keys::{NodeKey, ProcedureKey};
 use gb_partition::register_set::RegisterSet;
+use gb_states::types::Abs;
 use gb_verify::check::core_at_power_up;
 use std::alloc::{AllocError, Global};
 use std::collections::{BTreeSet, HashMap, HashSet};

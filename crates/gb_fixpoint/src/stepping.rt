@@ -5,10 +5,10 @@ use crate::stop::Stop;
 use crate::types::Run;
 use gb_abs_effects::targets::Target;
 use gb_calls::interrupts::{dispatched, may_come};
-use gb_cert::types::Abs;
 use gb_joins::tracking::keep_tracked;
 use gb_partition::cause::Cause;
 use gb_partition::register_set::RegisterSet;
+use gb_states::types::Abs;
 use gb_successors::successor::Successor;
 use gb_successors::successors::successors_of;
 

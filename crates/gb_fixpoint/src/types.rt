@@ -1,12 +1,12 @@
 //! What a run is made of: nodes, procedures, and what refinement asks of them.
 
-use gb_cert::types::Abs;
 use gb_header::Rom;
 use gb_joins::ranges::RangeSet;
 use gb_joins::steps::Steps;
 use gb_partition::cause::Failure;
 use gb_partition::configuration::Configuration;
 use gb_partition::keys::{NodeKey, ProcedureKey};
+use gb_states::types::Abs;
 use std::alloc::Global;
 use std::collections::{BTreeSet, HashMap, HashSet};
 

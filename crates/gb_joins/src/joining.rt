@@ -1,8 +1,8 @@
 //! The least state above two others.
 
 use arrayvec::ArrayVec;
-use gb_cert::types::{Abs, Cell, Core, Ctl, Flg, ImeSet, Item, May, Origin, Val};
 use gb_ops::registers::Registers;
+use gb_states::types::{Abs, Cell, Core, Ctl, Flg, ImeSet, Item, May, Origin, Val};
 use gb_vals::vals::any;
 
 /// The origin of both, if it is one.

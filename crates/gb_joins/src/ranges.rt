@@ -1,8 +1,8 @@
 //! Sets of intervals of RAM, as procedures declare them.
 
 use arrayvec::ArrayVec;
-use gb_cert::types::{RANGES, Range};
 use gb_ops::machine::Region;
+use gb_states::types::{RANGES, Range};
 
 /// At most eight intervals of RAM outside the stack region, in order, with a gap between each and the next.
 #[derive(Drop)]

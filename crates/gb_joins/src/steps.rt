@@ -3,8 +3,8 @@
 use crate::joining::join;
 use arrayvec::ArrayVec;
 use gb_abs::covering::cell_at;
-use gb_cert::types::{Abs, Cell, Core, Item, Val};
 use gb_ops::registers::Registers;
+use gb_states::types::{Abs, Cell, Core, Item, Val};
 use gb_vals::vals::any;
 use std::collections::BTreeSet;
 

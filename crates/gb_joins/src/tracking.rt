@@ -1,7 +1,7 @@
 //! States that keep some memory cells alone.
 
 use arrayvec::ArrayVec;
-use gb_cert::types::{Abs, Cell};
+use gb_states::types::{Abs, Cell};
 use gb_vals::vals::any;
 
 /// The cells that say something and whose addresses are among these. Both are in order of address.

@@ -9,8 +9,8 @@ use Rattle.gb_text.specs.Cartridge.{cartridge_text}
 use Rattle.gb_text.specs.Text.{GainsBeginning}
 use Rattle.gb_fields.specs.declared.fault.CertFault.{CertFault}
 use Rattle.gb_fields.specs.declared.fault.CertFault.TheVariants.{Memory}
-use Rattle.gb_cert.specs.Certificate.{Certificate}
-use Rattle.gb_cert.specs.Reading.{read_certificate}
+use Rattle.gb_states.specs.Certificate.{Certificate}
+use Rattle.gb_states.specs.Reading.{read_certificate}
 use Rattle.gb_verify.specs.Text.{memory_line}
 use Rattle.gb_verify.specs.CertificateFile.{text_of}
 use Rattle.gb_main.specs.HeaderLine.{header_text}

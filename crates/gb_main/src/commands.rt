@@ -11,8 +11,7 @@ ghost use Rattle.gb_main.specs.Commands.{file_text, written_lines, IsCertificate
 use crate::header::text_of;
 use crate::script::{Progress, run_script_shown};
 use crate::show::show_cert;
-use gb_cert::CertFault;
-use gb_cert::types::Cert;
+use gb_cert::{Cert, CertFault};
 use gb_console::{Console, Ending};
 use gb_header::{HeaderFault, Rom};
 use gb_text::cartridge::cartridge_line;

@@ -3,10 +3,10 @@
 
 use crate::state::{ShownCell, ShownController, ShownFlags, ShownRegisters, ShownVal, ime_text};
 use crate::told::Named;
-use gb_cert::NodeRef;
-use gb_cert::types::{Abs, Cell, Cert, Range};
+use gb_cert::{Cert, NodeRef};
 use gb_explain::Code;
 use gb_header::Rom;
+use gb_states::types::{Abs, Cell, Range};
 use gb_symbols::Symbols;
 use std::fmt;
 

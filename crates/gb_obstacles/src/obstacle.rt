@@ -3,7 +3,6 @@
 use crate::crowd::Crowd;
 use crate::handlers::switching_handlers;
 use crate::path::{Path, bank_of};
-use gb_cert::types::Abs;
 use gb_code::code::known_bytes;
 use gb_explain::Code;
 use gb_fixpoint::types::{Node, Run};
@@ -13,6 +12,7 @@ use gb_ops::op::Op;
 use gb_partition::cause::{Cause, Failure};
 use gb_partition::configuration::Place;
 use gb_partition::register_set::RegisterSet;
+use gb_states::types::Abs;
 use std::alloc::{AllocError, Global};
 
 /// A failure at an instruction.

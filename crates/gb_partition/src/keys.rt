@@ -1,9 +1,9 @@
 //! What tells the nodes of an address apart, and the procedures of a target.
 
 use crate::register_set::RegisterSet;
-use gb_cert::types::{Core, Ctl, Val};
 use gb_ops::op::Register;
 use gb_ops::registers::Registers;
+use gb_states::types::{Core, Ctl, Val};
 
 /// The values of registers that have one alone, in the order of their letters.
 #[derive(Clone, Copy, PartialEq, Eq, Hash)]

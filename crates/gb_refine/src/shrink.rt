@@ -1,7 +1,7 @@
 //! Shrinking: what a certificate doesn't need is taken back while the checker accepts what is left.
 
 use crate::rounds::{Progress, Refinement};
-use gb_cert::types::Cert;
+use gb_cert::Cert;
 use gb_draft::{certificate_of, find_needs};
 use gb_fixpoint::types::Run;
 use gb_header::Rom;

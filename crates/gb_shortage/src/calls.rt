@@ -3,8 +3,7 @@
 use bitflags::Flags;
 use clap::error::ErrorKind;
 use gb_bus::memory::Memory;
-use gb_cert::types::Cert;
-use gb_cert::{CertFault, encode};
+use gb_cert::{Cert, CertFault, encode};
 use gb_console::{Console, Ending};
 use gb_header::Rom;
 use gb_text::kept_bytes::KeptBytes;

@@ -12,7 +12,7 @@ mod calls;
 mod hoard;
 
 use calls::{Answer, Call, Files, NODES};
-use gb_cert::types::Cert;
+use gb_cert::Cert;
 use gb_header::Rom;
 use gb_samples::cartridges::{PLAIN, put, small};
 use gb_samples::certificates::write_nodes;

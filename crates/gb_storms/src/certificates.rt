@@ -4,8 +4,7 @@ ghost use Rattle.std.specs.Prelude.{◌≡◌, false};
 
 use crate::random::Random;
 use crate::tally::Tally;
-use gb_cert::types::Cert;
-use gb_cert::{CertFault, encode};
+use gb_cert::{Cert, CertFault, encode};
 use gb_cert_place::place::{Sought, fault_place};
 use gb_main::show_bytes;
 use gb_text::kept_bytes::KeptBytes;

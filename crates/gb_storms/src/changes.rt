@@ -2,7 +2,7 @@
 
 use crate::random::Random;
 use bitflags::Flags;
-use gb_cert::types::Cert;
+use gb_cert::Cert;
 use gb_console::{Console, Ending};
 use gb_header::Rom;
 use gb_samples::cartridges::put;

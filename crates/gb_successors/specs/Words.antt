@@ -1,7 +1,7 @@
 -- Words on the stack as abstract states hold them (own).
 use Rattle.std.specs.Prelude.{ℕ, ◌/◌, ◌%◌, Option, Some, None}
-use Rattle.gb_cert.specs.declared.types.Item.{Item}
-use Rattle.gb_cert.specs.Types.{any_item}
+use Rattle.gb_states.specs.declared.types.Item.{Item}
+use Rattle.gb_states.specs.Types.{any_item}
 use Rattle.gb_vals.specs.Vals.{single}
 
 -- a word that is known

@@ -14,9 +14,9 @@ use gb_abs_memory::refusals::{
     is_limited, is_store_limited, meets_closed_ram, store_meets_closed_ram,
 };
 use gb_abs_memory::store::is_storable;
-use gb_cert::types::{Core, Range};
 use gb_header::Rom;
 use gb_ops::machine::{Kind, Region};
+use gb_states::types::{Core, Range};
 
 /// Whether a write may lie where no store is allowed. Both bytes of a word are asked for.
 #[tactic(auto, unfolding(crate::specs::Refused::is_unstorable))]

@@ -1,7 +1,7 @@
 //! How the successors of an instruction come about.
 
 ghost use Rattle.std.specs.Prelude.{◌≡◌};
-ghost use Rattle.gb_cert.specs.Types.{any_item};
+ghost use Rattle.gb_states.specs.Types.{any_item};
 ghost use Rattle.gb_abs.specs.Operations.{with_core};
 ghost use Rattle.gb_abs.specs.Stack.{youngest};
 ghost use Rattle.gb_successors.specs.Behind as Behind;
@@ -17,10 +17,10 @@ use gb_abs_effects::transfer::transfer;
 use gb_abs_effects::writes::AbsWrite;
 use gb_abs_memory::load::loaded_by;
 use gb_abs_memory::store::{Area, area_of, starts_oam_transfer, stored_core};
-use gb_cert::types::{Abs, Core, ImeSet, Item};
 use gb_header::Rom;
 use gb_ops::machine::Kind;
 use gb_ops::op::{Op, Pair, Row};
+use gb_states::types::{Abs, Core, ImeSet, Item};
 use gb_vals::vals::any;
 
 /// Any word.

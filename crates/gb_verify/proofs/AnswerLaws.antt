@@ -5,9 +5,9 @@ use Rattle.gb_header.specs.declared.fault.HeaderFault.{HeaderFault}
 use Rattle.gb_header.specs.Header as Header
 use Rattle.gb_fields.specs.declared.fault.CertFault.{CertFault}
 use Rattle.gb_fields.specs.declared.fault.CertFault.TheVariants as fault
-use Rattle.gb_cert.specs.Certificate.{Certificate}
-use Rattle.gb_cert.specs.Reading.{read_certificate}
-use Rattle.gb_cert.specs.Spelling.{Spells}
+use Rattle.gb_states.specs.Certificate.{Certificate}
+use Rattle.gb_states.specs.Reading.{read_certificate}
+use Rattle.gb_states.specs.Spelling.{Spells}
 use Rattle.gb_text.specs.Text.{GainsBeginning}
 use Rattle.gb_verify.specs.Verdict.{verdict_of, IsVerdict, IsRight}
 use Rattle.gb_verify.specs.Headline.{IsSafe, IfAccepted}

@@ -3,8 +3,8 @@ use Rattle.std.proofs.Common.{◌≡◌, ℕ, List, Option, Result, Ok, Err, ◌
 use Rattle.std.specs.Result.{OnErr}
 use Rattle.gb_fields.specs.declared.fault.CertFault.{CertFault}
 use Rattle.gb_fields.specs.declared.fault.CertFault.TheVariants as fault
-use Rattle.gb_cert.specs.Certificate.{Certificate}
-use Rattle.gb_cert.specs.Reading.{read_certificate}
+use Rattle.gb_states.specs.Certificate.{Certificate}
+use Rattle.gb_states.specs.Reading.{read_certificate}
 use Rattle.gb_text.specs.Sink.{Gains}
 use Rattle.gb_text.specs.Text.{GainsBeginning}
 use Rattle.gb_verify.specs.Text.{certificate_text}

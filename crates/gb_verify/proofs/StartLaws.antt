@@ -12,12 +12,12 @@ use Rattle.gb_ops.specs.declared.machine.Mapped.TheVariants as mapped
 use Rattle.gb_ops.specs.Registers.{get}
 use Rattle.gb_ops.specs.Memory.{mapped_at}
 use Rattle.gb_ops.specs.Play.{MState, IsStart, processor_at_power_up}
-use Rattle.gb_cert.specs.declared.types.Origin.{Origin}
-use Rattle.gb_cert.specs.declared.types.Origin.TheVariants as origin
-use Rattle.gb_cert.specs.declared.types.Val.{Val}
-use Rattle.gb_cert.specs.Types.{AbsState, ProcedureParts, Node}
-use Rattle.gb_cert.specs.Rules.{IsCertificate, is_of, have_entries}
-use Rattle.gb_cert.specs.Certificate.{Certificate}
+use Rattle.gb_states.specs.declared.types.Origin.{Origin}
+use Rattle.gb_states.specs.declared.types.Origin.TheVariants as origin
+use Rattle.gb_states.specs.declared.types.Val.{Val}
+use Rattle.gb_states.specs.Types.{AbsState, ProcedureParts, Node}
+use Rattle.gb_states.specs.Rules.{IsCertificate, is_of, have_entries}
+use Rattle.gb_states.specs.Certificate.{Certificate}
 use Rattle.gb_abs.specs.Storage.{peek, peek_by}
 use Rattle.gb_abs.specs.Meaning.{Holds, HoldsFlags, MeansCore, Means, IsMemory, origin_value, ime_may_be}
 use Rattle.gb_vals.specs.Flags.{known}

@@ -5,11 +5,11 @@ use Rattle.std.proofs.lemmas.List.{drop_more}
 use Rattle.std.proofs.lemmas.Option.{slice_get_within, get_or_from_slice_get}
 use Rattle.gb_fields.specs.declared.fault.CertFault.{CertFault}
 use Rattle.gb_fields.specs.declared.fault.CertFault.TheVariants as fault
-use Rattle.gb_cert.specs.Types.{ProcedureParts}
-use Rattle.gb_cert.specs.Certificate.{Certificate}
-use Rattle.gb_cert.specs.Reading.{read_certificate}
-use Rattle.gb_cert.specs.Spelling as spelled
-use Rattle.gb_cert.specs.Spelling.{Spells}
+use Rattle.gb_states.specs.Types.{ProcedureParts}
+use Rattle.gb_states.specs.Certificate.{Certificate}
+use Rattle.gb_states.specs.Reading.{read_certificate}
+use Rattle.gb_states.specs.Spelling as spelled
+use Rattle.gb_states.specs.Spelling.{Spells}
 use Rattle.gb_cert.proofs.Lending.{upgraded as is_upgraded}
 use Rattle.gb_text.specs.Sink.{Gains}
 use Rattle.gb_text.specs.Text.{GainsBeginning}

@@ -2,8 +2,8 @@
 use Rattle.std.proofs.Common.{◌≡◌, ℕ, zero, suc, ◌+◌, ◌≤◌, ◌<◌, Bool, true, false, cond, ◌&&◌, ◌||◌, ◌⊎◌, inl, inr, List, [], ◌∷◌, Option, Some, None, length, drop, slice_get, refl, sym, ◌∙◌, ap, subst, arith}
 use Rattle.std.specs.Prelude.{option_and_then}
 use Rattle.std.proofs.lemmas.Option.{slice_get-get_or}
-use Rattle.gb_cert.specs.Types.{AbsState, ProcedureParts, Node}
-use Rattle.gb_cert.specs.Certificate.{Certificate}
+use Rattle.gb_states.specs.Types.{AbsState, ProcedureParts, Node}
+use Rattle.gb_states.specs.Certificate.{Certificate}
 use Rattle.gb_abs.specs.declared.reason.Reason.{Reason}
 use Rattle.gb_abs.specs.declared.reason.Reason.TheVariants as reason
 use Rattle.std.specs.List.{find, list_any}
@@ -11,7 +11,7 @@ use Rattle.gb_ops.specs.Machine.{vector}
 use Rattle.gb_calls.specs.Interrupts.{dispatched, may_come, handler_of}
 use Rattle.gb_ops.specs.declared.op.Row.{Row}
 use Rattle.gb_ops.specs.Table.{decoded}
-use Rattle.gb_cert.specs.declared.types.Range.{Range}
+use Rattle.gb_states.specs.declared.types.Range.{Range}
 use Rattle.gb_abs_effects.specs.declared.targets.Target.{Target}
 use Rattle.gb_abs_effects.specs.declared.targets.Target.TheVariants as target
 use Rattle.gb_calls.specs.Calls.{entered, is_entry, or_later, entry_from, entry_behind_main, callee_of}

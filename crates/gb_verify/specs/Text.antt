@@ -5,9 +5,9 @@ use Rattle.gb_header.specs.Header as Header
 use Rattle.gb_fields.specs.declared.fault.CertFault.{CertFault}
 use Rattle.gb_fields.specs.declared.fault.CertFault.TheVariants.{Memory}
 use Rattle.gb_fields.specs.Fault as CertFaults
-use Rattle.gb_cert.specs.Certificate.{Certificate}
-use Rattle.gb_cert.specs.Reading.{read_certificate}
-use Rattle.gb_cert.specs.Spelling.{Spells}
+use Rattle.gb_states.specs.Certificate.{Certificate}
+use Rattle.gb_states.specs.Reading.{read_certificate}
+use Rattle.gb_states.specs.Spelling.{Spells}
 use Rattle.gb_abs.specs.Reason.{reason_number}
 use Rattle.gb_text.specs.Cartridge.{cartridge_text}
 use Rattle.gb_text.specs.Text.{line_feed, GainsBeginning}

@@ -2,9 +2,9 @@
 use Rattle.std.specs.Prelude.{◌≡◌, ℕ, List, Option, Result, Ok, Err}
 use Rattle.gb_fields.specs.declared.fault.CertFault.{CertFault}
 use Rattle.gb_fields.specs.declared.fault.CertFault.TheVariants.{Memory}
-use Rattle.gb_cert.specs.Certificate.{Certificate}
-use Rattle.gb_cert.specs.Reading.{read_certificate}
-use Rattle.gb_cert.specs.Spelling.{Spells, spelling}
+use Rattle.gb_states.specs.Certificate.{Certificate}
+use Rattle.gb_states.specs.Reading.{read_certificate}
+use Rattle.gb_states.specs.Spelling.{Spells, spelling}
 use Rattle.gb_text.specs.Sink.{Gains}
 use Rattle.gb_verify.specs.Text.{memory_line}
 use Rattle.gb_verify.specs.CertificateFile.{text_of}

@@ -1,8 +1,8 @@
 -- When a certificate is right for a cartridge, and the verdict (own rules).
 use Rattle.std.specs.Prelude.{◌≡◌, ℕ, ◌+◌, ◌<◌, Bool, true, false, not, ◌&&◌, ◌||◌, ◌==◌, if◌then◌else◌, List, [], ◌∷◌, length, ◌⊎◌, slice_get, Option, Some, None, option_and_then}
 use Rattle.std.specs.List.{All}
-use Rattle.gb_cert.specs.Types.{ProcedureParts, Node}
-use Rattle.gb_cert.specs.Certificate.{Certificate}
+use Rattle.gb_states.specs.Types.{ProcedureParts, Node}
+use Rattle.gb_states.specs.Certificate.{Certificate}
 use Rattle.gb_abs.specs.declared.reason.Reason.{Reason}
 use Rattle.gb_abs.specs.declared.reason.Reason.TheVariants as reason
 use Rattle.gb_abs.specs.Covering.{covers}

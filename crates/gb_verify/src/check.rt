@@ -12,11 +12,12 @@ use gb_abs::reason::Reason;
 use gb_abs_memory::load::holds_bytes;
 use gb_blocks::interrupts::lacks_handler;
 use gb_blocks::rules::reason_near;
-use gb_cert::types::{Abs, Cert, Core, Ctl, Flg, ImeSet, Origin, Val};
+use gb_cert::Cert;
 use gb_header::Rom;
 use gb_ops::machine::Region;
 use gb_ops::op::Register;
 use gb_ops::registers::Registers;
+use gb_states::types::{Abs, Core, Ctl, Flg, ImeSet, Origin, Val};
 use gb_vals::flags::known;
 
 /// A register's value at power-up, which is its own origin.

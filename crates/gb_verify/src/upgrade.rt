@@ -2,15 +2,14 @@
 
 ghost use Rattle.std.specs.Prelude.{◌≡◌, false, is_err, IfOk, OnOk, OnErr};
 ghost use Rattle.std.specs.List.{flat_map};
-ghost use Rattle.gb_cert.specs.Spelling as spelled;
+ghost use Rattle.gb_states.specs.Spelling as spelled;
 ghost use Rattle.gb_text.specs.Sink.{Gains};
 ghost use Rattle.gb_text.specs.Text.{GainsBeginning};
 ghost use Rattle.gb_verify.specs.CertificateFile.{HasBeginning};
 ghost use Rattle.gb_verify.specs.Upgrade.{upgraded_text, written, fault_outcome, IsOutcome, IfWritten, GainsUpgrade, GainsSame};
 
 use crate::verify::certificate_line;
-use gb_cert::types::Cert;
-use gb_cert::{CertFault, ProcedureRef};
+use gb_cert::{Cert, CertFault, ProcedureRef};
 use gb_text::put::put_all;
 use gb_text::sink::{OutFault, Sink};
 use std::alloc::Global;
@@ -27,7 +26,7 @@ pub enum Upgraded {
 }
 
 /// A node's number as version 2 spells it, the lowest byte first.
-#[tactic(auto, unfolding(gb_cert::specs::Spelling::node_number))]
+#[tactic(auto, unfolding(gb_states::specs::Spelling::node_number))]
 fn node_number(number: u32) -> [u8; 4]
     ensures { result ≡ spelled.node_number 2 number }
 {
@@ -42,7 +41,7 @@ fn node_number(number: u32) -> [u8; 4]
 }
 
 /// Writes a procedure as version 2 spells it.
-#[tactic(auto, using(gb_text::proofs::Gained::gains_both, gb_text::proofs::Gained::begins_first, gb_text::proofs::Gained::begins_second), unfolding(gb_cert::specs::Spelling::procedure))]
+#[tactic(auto, using(gb_text::proofs::Gained::gains_both, gb_text::proofs::Gained::begins_first, gb_text::proofs::Gained::begins_second), unfolding(gb_states::specs::Spelling::procedure))]
 fn put_procedure<W: Sink>(procedure: &ProcedureRef<'_>, out: &mut W) -> Result<(), OutFault>
     requires { W.has_failed out.old ≡ false }
     ensures whole { OnOk result (Gains (W.contents out.old) (spelled.procedure 2 procedure.now) (W.contents out.new)) }
@@ -68,7 +67,7 @@ fn put_procedures<W: Sink>(cert: &Cert<'_>, out: &mut W) -> Result<(), OutFault>
 }
 
 /// Writes a certificate in version 2.
-#[tactic(auto, using(gb_text::proofs::Gained::gains_both, gb_text::proofs::Gained::begins_first, gb_text::proofs::Gained::begins_second), unfolding(gb_cert::specs::Spelling::spelling))]
+#[tactic(auto, using(gb_text::proofs::Gained::gains_both, gb_text::proofs::Gained::begins_first, gb_text::proofs::Gained::begins_second), unfolding(gb_states::specs::Spelling::spelling))]
 fn put_upgraded<W: Sink>(cert: &Cert<'_>, out: &mut W) -> Result<(), OutFault>
     requires { W.has_failed out.old ≡ false }
     ensures whole { OnOk result (Gains (W.contents out.old) (upgraded_text cert.now) (W.contents out.new)) }

@@ -6,8 +6,7 @@ ghost use Rattle.gb_verify.specs.Text.{certificate_text, IsAnswer, IfAcceptedAns
 
 use crate::check::check;
 use crate::verdict::Verdict;
-use gb_cert::CertFault;
-use gb_cert::types::Cert;
+use gb_cert::{Cert, CertFault};
 use gb_header::{HeaderFault, Rom};
 use gb_text::cartridge::cartridge_line;
 use gb_text::line::Line;

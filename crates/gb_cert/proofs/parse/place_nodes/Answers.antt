@@ -1,10 +1,10 @@
 use Rattle.std.proofs.Common.{arith}
 use Rattle.std.proofs.lemmas.Result.{err_from_is_err_and}
-use Rattle.gb_cert.specs.Rules.{IsNode, key}
-use Rattle.gb_cert.specs.Reading.{node_at, nodes_at}
-use Rattle.gb_cert.specs.Spelling as spelled
+use Rattle.gb_states.specs.Rules.{IsNode, key}
+use Rattle.gb_states.specs.Reading.{node_at, nodes_at}
+use Rattle.gb_states.specs.Spelling as spelled
 use Rattle.gb_cert.proofs.Placing.{way-begins, way-on, way-ends, way-done}
-use Rattle.gb_cert.proofs.StateLaws.{IsFormat-node}
+use Rattle.gb_states.proofs.StateLaws.{IsFormat-node}
 use Rattle.gb_cert.proofs.parse.place_nodes.Goals as goal
 
 pub loop-init : goal.loop-init

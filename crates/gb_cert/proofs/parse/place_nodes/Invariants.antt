@@ -1,6 +1,6 @@
-use Rattle.gb_cert.specs.Rules.{key}
-use Rattle.gb_cert.specs.Reading.{node_at}
-use Rattle.gb_cert.specs.Spelling as spelled
+use Rattle.gb_states.specs.Rules.{key}
+use Rattle.gb_states.specs.Reading.{node_at}
+use Rattle.gb_states.specs.Spelling as spelled
 use Rattle.gb_cert.proofs.Placing.{UnderWay}
 use Rattle.gb_cert.proofs.parse.place_nodes.Given as goal
 

@@ -1,10 +1,10 @@
 use Rattle.std.proofs.Common.{true, false, refl, arith}
 use Rattle.std.proofs.lemmas.Result.{err_from_is_err_and}
-use Rattle.gb_cert.specs.Rules.{IsProcedure, is_after}
-use Rattle.gb_cert.specs.Reading.{procedure_at, procedures_at}
-use Rattle.gb_cert.specs.Spelling as spelled
+use Rattle.gb_states.specs.Rules.{IsProcedure, is_after}
+use Rattle.gb_states.specs.Reading.{procedure_at, procedures_at}
+use Rattle.gb_states.specs.Spelling as spelled
 use Rattle.gb_cert.proofs.Placing.{way-begins, way-on, way-ends, way-done, mapped_all, mapped_none}
-use Rattle.gb_cert.proofs.StateLaws.{IsFormat-procedure}
+use Rattle.gb_states.proofs.StateLaws.{IsFormat-procedure}
 use Rattle.gb_cert.proofs.parse.place_procedures.Goals as goal
 
 pub loop-init : goal.loop-init

@@ -1,7 +1,7 @@
 use Rattle.std.proofs.Common.{true}
-use Rattle.gb_cert.specs.Rules.{is_after}
-use Rattle.gb_cert.specs.Reading.{procedure_at}
-use Rattle.gb_cert.specs.Spelling as spelled
+use Rattle.gb_states.specs.Rules.{is_after}
+use Rattle.gb_states.specs.Reading.{procedure_at}
+use Rattle.gb_states.specs.Spelling as spelled
 use Rattle.gb_cert.proofs.Placing.{UnderWay}
 use Rattle.gb_cert.proofs.parse.place_procedures.Given as goal
 

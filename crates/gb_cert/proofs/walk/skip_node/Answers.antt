@@ -1,8 +1,8 @@
 use Rattle.std.proofs.Common.{◌≡◌, ◌∙◌, ap, subst, Ok, Err}
 use Rattle.std.proofs.lemmas.Result.{err_from_is_err_and}
-use Rattle.gb_cert.specs.declared.role.Role.{Role}
+use Rattle.gb_states.specs.declared.role.Role.{Role}
 use Rattle.gb_cert.specs.Skipping.{skipped, past}
-use Rattle.gb_cert.specs.Reading.{state_at}
+use Rattle.gb_states.specs.Reading.{state_at}
 use Rattle.gb_cert.proofs.Skipping.{bank_then, no_bank, no_key}
 use Rattle.gb_cert.proofs.walk.skip_node.Goals as goal
 

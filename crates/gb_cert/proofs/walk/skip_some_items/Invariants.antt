@@ -1,7 +1,7 @@
 use Rattle.std.proofs.Common.{◌≡◌, ◌-◌}
 use Rattle.gb_fields.specs.Format.{several}
 use Rattle.gb_cert.specs.Skipping.{skipped}
-use Rattle.gb_cert.specs.Reading.{item_at}
+use Rattle.gb_states.specs.Reading.{item_at}
 use Rattle.gb_cert.proofs.walk.skip_some_items.Given as goal
 
 abbrev pub invariant-loop : goal.invariant-loop

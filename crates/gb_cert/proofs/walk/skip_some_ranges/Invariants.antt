@@ -1,8 +1,8 @@
 use Rattle.std.proofs.Common.{◌≡◌, ◌-◌}
 use Rattle.gb_fields.specs.Format.{several}
 use Rattle.gb_cert.specs.Skipping.{skipped}
-use Rattle.gb_cert.specs.Rules.{after_range}
-use Rattle.gb_cert.specs.Reading.{range_at}
+use Rattle.gb_states.specs.Rules.{after_range}
+use Rattle.gb_states.specs.Reading.{range_at}
 use Rattle.gb_cert.proofs.walk.skip_some_ranges.Given as goal
 
 abbrev pub invariant-loop : goal.invariant-loop

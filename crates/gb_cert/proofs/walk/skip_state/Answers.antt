@@ -1,7 +1,7 @@
 use Rattle.std.proofs.Common.{◌∙◌, ap}
 use Rattle.std.proofs.lemmas.Result.{err_from_is_err_and}
 use Rattle.gb_cert.specs.Skipping.{skipped, past}
-use Rattle.gb_cert.specs.Reading.{cells_at}
+use Rattle.gb_states.specs.Reading.{cells_at}
 use Rattle.gb_cert.proofs.Skipping.{core_then, no_core}
 use Rattle.gb_cert.proofs.walk.skip_state.Goals as goal
 

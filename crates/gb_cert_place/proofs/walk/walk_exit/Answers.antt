@@ -1,7 +1,7 @@
 use Rattle.std.proofs.Common.{◌≡◌, subst, Ok}
 use Rattle.std.proofs.lemmas.Result.{err_from_is_err_and}
 use Rattle.gb_fields.specs.Reading.{returns_at}
-use Rattle.gb_cert.specs.declared.role.Role.TheVariants as role
+use Rattle.gb_states.specs.declared.role.Role.TheVariants as role
 use Rattle.gb_cert_place.specs.declared.block.Block.TheVariants as block
 use Rattle.gb_cert_place.specs.declared.block.Part.TheVariants as part
 use Rattle.gb_cert_place.specs.Standing.{InState, InExit, AtReturns, BehindReturns}

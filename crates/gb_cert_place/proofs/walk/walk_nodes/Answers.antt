@@ -1,7 +1,7 @@
 use Rattle.std.proofs.lemmas.Result.{err_from_is_err_and}
 use Rattle.gb_fields.specs.Format.{several}
-use Rattle.gb_cert.specs.Rules.{key}
-use Rattle.gb_cert.specs.Reading.{node_at, nodes_at}
+use Rattle.gb_states.specs.Rules.{key}
+use Rattle.gb_states.specs.Reading.{node_at, nodes_at}
 use Rattle.gb_cert_place.specs.declared.block.Part.TheVariants as part
 use Rattle.gb_cert_place.specs.Standing.{NonePassed, OneMorePassed, InNode, InNodes, AtNode}
 use Rattle.gb_cert_place.proofs.FieldsAreLocal.{IsLocal-node}

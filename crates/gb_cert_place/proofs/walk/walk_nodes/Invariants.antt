@@ -1,7 +1,7 @@
 use Rattle.std.proofs.Common.{◌-◌}
 use Rattle.gb_fields.specs.Format.{several}
-use Rattle.gb_cert.specs.Rules.{key}
-use Rattle.gb_cert.specs.Reading.{node_at}
+use Rattle.gb_states.specs.Rules.{key}
+use Rattle.gb_states.specs.Reading.{node_at}
 use Rattle.gb_cert_place.specs.Standing.{Passed}
 use Rattle.gb_cert_place.proofs.WalkLaws.{Leads}
 use Rattle.gb_cert_place.proofs.walk.walk_nodes.Given as goal

@@ -1,8 +1,8 @@
 use Rattle.std.proofs.Common.{true, false, refl}
 use Rattle.std.proofs.lemmas.Result.{err_from_is_err_and}
 use Rattle.gb_fields.specs.Format.{several}
-use Rattle.gb_cert.specs.Rules.{is_after}
-use Rattle.gb_cert.specs.Reading.{procedure_at, procedures_at}
+use Rattle.gb_states.specs.Rules.{is_after}
+use Rattle.gb_states.specs.Reading.{procedure_at, procedures_at}
 use Rattle.gb_cert_place.specs.Standing.{NonePassed, InProcedure, InProcedures, AtProcedure}
 use Rattle.gb_cert_place.proofs.FieldsAreLocal.{IsLocal-procedure}
 use Rattle.gb_cert_place.proofs.WalkLaws.{leads_start, leads_past, leads_end, leads_done}

@@ -1,7 +1,7 @@
 use Rattle.std.proofs.Common.{◌-◌, true}
 use Rattle.gb_fields.specs.Format.{several}
-use Rattle.gb_cert.specs.Rules.{is_after}
-use Rattle.gb_cert.specs.Reading.{procedure_at}
+use Rattle.gb_states.specs.Rules.{is_after}
+use Rattle.gb_states.specs.Reading.{procedure_at}
 use Rattle.gb_cert_place.specs.Standing.{Passed}
 use Rattle.gb_cert_place.proofs.WalkLaws.{Leads}
 use Rattle.gb_cert_place.proofs.walk.walk_procedures.Given as goal

@@ -1,7 +1,7 @@
 use Rattle.std.proofs.Common.{refl}
 use Rattle.gb_fields.specs.Format.{several}
-use Rattle.gb_cert.specs.Rules.{after_cell}
-use Rattle.gb_cert.specs.Reading.{cell_at}
+use Rattle.gb_states.specs.Rules.{after_cell}
+use Rattle.gb_states.specs.Reading.{cell_at}
 use Rattle.gb_cert_place.specs.declared.block.Block.TheVariants as block
 use Rattle.gb_cert_place.specs.Standing.{NonePassed, Of, AmongCells, AtCell}
 use Rattle.gb_cert_place.proofs.FieldsAreLocal.{IsLocal-cell}

@@ -1,7 +1,7 @@
 use Rattle.std.proofs.Common.{◌-◌}
 use Rattle.gb_fields.specs.Format.{several}
-use Rattle.gb_cert.specs.Rules.{after_cell}
-use Rattle.gb_cert.specs.Reading.{cell_at}
+use Rattle.gb_states.specs.Rules.{after_cell}
+use Rattle.gb_states.specs.Reading.{cell_at}
 use Rattle.gb_cert_place.specs.Standing.{Passed}
 use Rattle.gb_cert_place.proofs.WalkLaws.{Leads}
 use Rattle.gb_cert_place.proofs.walk.walk_some_cells.Given as goal

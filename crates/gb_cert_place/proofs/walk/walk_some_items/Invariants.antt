@@ -1,6 +1,6 @@
 use Rattle.std.proofs.Common.{◌-◌}
 use Rattle.gb_fields.specs.Format.{several}
-use Rattle.gb_cert.specs.Reading.{item_at}
+use Rattle.gb_states.specs.Reading.{item_at}
 use Rattle.gb_cert_place.specs.Standing.{Passed}
 use Rattle.gb_cert_place.proofs.WalkLaws.{Leads}
 use Rattle.gb_cert_place.proofs.walk.walk_some_items.Given as goal

@@ -1,7 +1,7 @@
 use Rattle.std.proofs.Common.{arith}
-use Rattle.gb_cert.specs.Spelling as spelled
+use Rattle.gb_states.specs.Spelling as spelled
 use Rattle.gb_cert.proofs.Placing.{at-length}
-use Rattle.gb_cert.proofs.StateLaws.{limit_bound}
+use Rattle.gb_states.proofs.StateLaws.{limit_bound}
 use Rattle.gb_cert.proofs.cert.Cert.nodes.Goals as goal
 
 pub overflow_cast-result : goal.overflow_cast-result

@@ -1,5 +1,5 @@
 use Rattle.std.proofs.Common.{◌∙◌}
-use Rattle.gb_cert.specs.Rules.{role_of}
+use Rattle.gb_states.specs.Rules.{role_of}
 use Rattle.gb_cert.specs.Borrowed.{state_in}
 use Rattle.gb_cert.proofs.CheckedLaws.{core-stands, core-fits}
 use Rattle.gb_cert.proofs.node.NodeRef.core.Goals as goal

@@ -1,7 +1,7 @@
 use Rattle.std.proofs.Common.{◌≡◌, ◌∙◌, ℕ, List, true, false, Bool, not, sym, ap, drop, refl}
-use Rattle.gb_cert.specs.Rules.{role_of}
+use Rattle.gb_states.specs.Rules.{role_of}
 use Rattle.gb_cert.specs.Borrowed.{state_in}
-use Rattle.gb_cert.specs.Checked.{are_none}
+use Rattle.gb_states.specs.Checked.{are_none}
 use Rattle.gb_cert.proofs.CheckedLaws.{no-lists}
 use Rattle.gb_cert.proofs.node.NodeRef.has_lists.Goals as goal
 

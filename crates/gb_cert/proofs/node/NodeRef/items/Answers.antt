@@ -1,5 +1,5 @@
 use Rattle.std.proofs.Common.{◌≡◌, ◌++◌, ◌∷◌, ◌*◌, ℕ, List, length, ◌∙◌, drop}
-use Rattle.gb_cert.specs.Rules.{role_of}
+use Rattle.gb_states.specs.Rules.{role_of}
 use Rattle.gb_cert.specs.Borrowed.{state_in}
 use Rattle.gb_cert.proofs.Lending.{items-lent}
 use Rattle.gb_cert.proofs.node.NodeRef.items.Goals as goal

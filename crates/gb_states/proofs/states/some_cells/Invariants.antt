@@ -1,10 +1,10 @@
 use Rattle.std.proofs.Common.{◌≡◌, ◌-◌}
 use Rattle.arrayvec.specs.ArrayVec.{array_vec_len}
 use Rattle.gb_fields.specs.Format.{several}
-use Rattle.gb_cert.specs.Rules.{after_cell}
-use Rattle.gb_cert.specs.Reading.{cell_at}
-use Rattle.gb_cert.proofs.Several.{with_front}
-use Rattle.gb_cert.proofs.states.some_cells.Given as goal
+use Rattle.gb_states.specs.Rules.{after_cell}
+use Rattle.gb_states.specs.Reading.{cell_at}
+use Rattle.gb_states.proofs.Several.{with_front}
+use Rattle.gb_states.proofs.states.some_cells.Given as goal
 
 abbrev pub invariant-loop : goal.invariant-loop
 invariant-loop l = record {

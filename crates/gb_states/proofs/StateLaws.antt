@@ -5,22 +5,22 @@ use Rattle.std.specs.List.{AllByRecursion}
 use Rattle.std.proofs.lemmas.Bool.Decides.{nat_tests}
 use Rattle.gb_ops.specs.declared.machine.Region.{Region}
 use Rattle.gb_fields.specs.declared.fault.CertFault.TheVariants as fault
-use Rattle.gb_cert.specs.declared.types.Val.{Val}
-use Rattle.gb_cert.specs.declared.types.Core.{Core}
-use Rattle.gb_cert.specs.declared.types.Item.{Item}
-use Rattle.gb_cert.specs.declared.types.Cell.{Cell}
-use Rattle.gb_cert.specs.declared.types.Range.{Range}
-use Rattle.gb_cert.specs.declared.role.Role.{Role}
-use Rattle.gb_cert.specs.declared.role.Role.TheVariants as role
+use Rattle.gb_states.specs.declared.types.Val.{Val}
+use Rattle.gb_states.specs.declared.types.Core.{Core}
+use Rattle.gb_states.specs.declared.types.Item.{Item}
+use Rattle.gb_states.specs.declared.types.Cell.{Cell}
+use Rattle.gb_states.specs.declared.types.Range.{Range}
+use Rattle.gb_states.specs.declared.role.Role.{Role}
+use Rattle.gb_states.specs.declared.role.Role.TheVariants as role
 use Rattle.gb_fields.specs.Limits.{node_limit_by, node_limit, range_limit, cell_limit, item_limit}
-use Rattle.gb_cert.specs.Types.{AbsState, ProcedureParts, Node}
+use Rattle.gb_states.specs.Types.{AbsState, ProcedureParts, Node}
 use Rattle.gb_fields.specs.Format.{both, checked, followed, optional, byte}
-use Rattle.gb_cert.specs.Rules.{IsChain, IsVal, IsItem, IsCell, IsRange, IsState, IsProcedure, IsNode, is_area, meets, after_cell, after_range, role_of, may_be_pushed, fits, key, is_from}
+use Rattle.gb_states.specs.Rules.{IsChain, IsVal, IsItem, IsCell, IsRange, IsState, IsProcedure, IsNode, is_area, meets, after_cell, after_range, role_of, may_be_pushed, fits, key, is_from}
 use Rattle.gb_fields.specs.Reading.{is_between, word, word_between, node_number, count_within, yes_no, may_return, returns_at, is_below, entry_at, need_at, key_at}
-use Rattle.gb_cert.specs.Reading.{core_at, to_item, item_at, items_at, is_free, is_free_byte, to_cell, cell_at, cells_at, to_state, state_at, to_range, range_at, ranges_at, exit_at, to_procedure, procedure_at, to_node, node_at}
-use Rattle.gb_cert.specs.Spelling as spelled
-use Rattle.gb_cert.proofs.Formats.{IsFormat, IsFormat-byte, IsFormat-both, IsFormat-followed, IsFormat-checked, IsFormat-mapped, IsFormat-as, IsFormat-spelled, IsFormat-optional, IsFormat-counted, spelled_option, is_there, all_of_chain, chain_of_all}
-use Rattle.gb_cert.proofs.FieldLaws.{le_is, is_le, and_both, both_and, within, is_within, spelled_byte, spelled_flag, node_numbers, IsFormat-node_number, IsFormat-word, IsFormat-word_between, IsFormat-count_within, IsFormat-yes_no, IsFormat-val, IsCoreFor, IsFormat-core}
+use Rattle.gb_states.specs.Reading.{core_at, to_item, item_at, items_at, is_free, is_free_byte, to_cell, cell_at, cells_at, to_state, state_at, to_range, range_at, ranges_at, exit_at, to_procedure, procedure_at, to_node, node_at}
+use Rattle.gb_states.specs.Spelling as spelled
+use Rattle.gb_states.proofs.Formats.{IsFormat, IsFormat-byte, IsFormat-both, IsFormat-followed, IsFormat-checked, IsFormat-mapped, IsFormat-as, IsFormat-spelled, IsFormat-optional, IsFormat-counted, spelled_option, is_there, all_of_chain, chain_of_all}
+use Rattle.gb_states.proofs.FieldLaws.{le_is, is_le, and_both, both_and, within, is_within, spelled_byte, spelled_flag, node_numbers, IsFormat-node_number, IsFormat-word, IsFormat-word_between, IsFormat-count_within, IsFormat-yes_no, IsFormat-val, IsCoreFor, IsFormat-core}
 
 not_is : (b : Bool) → not b ≡ true → b ≡ false
 not_is true h = cc

@@ -1,7 +1,7 @@
 //! What a state in a certificate is for.
 
 ghost use Rattle.std.specs.Prelude.{◌≡◌};
-ghost use Rattle.gb_cert.specs.Rules.{role_of, needs_stack, may_have_items};
+ghost use Rattle.gb_states.specs.Rules.{role_of, needs_stack, may_have_items};
 
 /// What a state is for: a node of main, a node of another procedure, or a procedure's exit.
 #[derive(Clone, Copy)]

@@ -4,21 +4,21 @@ use Rattle.std.specs.List.{AllByRecursion}
 use Rattle.gb_ops.specs.declared.machine.Region.{Region}
 use Rattle.gb_ops.specs.declared.op.Register.{Register}
 use Rattle.gb_ops.specs.Registers.{get}
-use Rattle.gb_cert.specs.declared.types.Val.{Val}
-use Rattle.gb_cert.specs.declared.types.May.{May}
-use Rattle.gb_cert.specs.declared.types.Flg.{Flg}
-use Rattle.gb_cert.specs.declared.types.ImeSet.{ImeSet}
-use Rattle.gb_cert.specs.declared.types.Ctl.{Ctl}
-use Rattle.gb_cert.specs.declared.types.Core.{Core}
-use Rattle.gb_cert.specs.declared.types.Item.{Item}
-use Rattle.gb_cert.specs.declared.types.Cell.{Cell}
-use Rattle.gb_cert.specs.declared.types.Range.{Range}
-use Rattle.gb_cert.specs.declared.role.Role.{Role}
-use Rattle.gb_cert.specs.declared.role.Role.TheVariants as role
+use Rattle.gb_states.specs.declared.types.Val.{Val}
+use Rattle.gb_states.specs.declared.types.May.{May}
+use Rattle.gb_states.specs.declared.types.Flg.{Flg}
+use Rattle.gb_states.specs.declared.types.ImeSet.{ImeSet}
+use Rattle.gb_states.specs.declared.types.Ctl.{Ctl}
+use Rattle.gb_states.specs.declared.types.Core.{Core}
+use Rattle.gb_states.specs.declared.types.Item.{Item}
+use Rattle.gb_states.specs.declared.types.Cell.{Cell}
+use Rattle.gb_states.specs.declared.types.Range.{Range}
+use Rattle.gb_states.specs.declared.role.Role.{Role}
+use Rattle.gb_states.specs.declared.role.Role.TheVariants as role
 pub use Rattle.gb_fields.specs.Rules.{are_in_ram, is_area, words, fits, is_from, is_version}
 use Rattle.gb_fields.specs.Limits.{procedure_limit, node_limit, range_limit, cell_limit, item_limit}
-use Rattle.gb_cert.specs.Types.{AbsState, ProcedureParts, Node}
-use Rattle.gb_cert.specs.Certificate.{Certificate}
+use Rattle.gb_states.specs.Types.{AbsState, ProcedureParts, Node}
+use Rattle.gb_states.specs.Certificate.{Certificate}
 
 -- Each element is right, by what the one before it leaves; s is what the first begins with.
 abbrev pub IsChain : {S X : Type 0} → (S → X → Type 0) → (X → S) → S → List X → Type 0

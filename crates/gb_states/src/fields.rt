@@ -2,9 +2,9 @@
 
 ghost use Rattle.std.specs.Prelude.{◌≡◌, ◌+◌, ◌≤◌, ◌&&◌, ◌||◌, nat_le, length};
 ghost use Rattle.gb_fields.specs.Format.{Gives};
-ghost use Rattle.gb_cert.specs.Rules.{has_value};
-ghost use Rattle.gb_cert.specs.Checked.{val_in, flg_in, ctl_in, vals_in, core_in, begins_with_zero, are_none};
-ghost use Rattle.gb_cert.specs.Reading.{to_may, origin_of, origin_at, val_at, may_at, ime_at, test_at, flg_at, ctl_at, vals_at, core_at};
+ghost use Rattle.gb_states.specs.Rules.{has_value};
+ghost use Rattle.gb_states.specs.Checked.{val_in, flg_in, ctl_in, vals_in, core_in, begins_with_zero, are_none};
+ghost use Rattle.gb_states.specs.Reading.{to_may, origin_of, origin_at, val_at, may_at, ime_at, test_at, flg_at, ctl_at, vals_at, core_at};
 
 use crate::role::Role;
 use crate::types::{Core, Ctl, Flg, ImeSet, May, Origin, Val};
@@ -310,7 +310,7 @@ fn vals_in(bytes: &[u8]) -> Registers<Val>
 
 /// The core at the front of bytes that have been checked: each field is read at its place, and not checked again.
 #[inline(always)]
-pub(crate) fn core_in(bytes: &[u8]) -> Core
+pub fn core_in(bytes: &[u8]) -> Core
     requires { 40 ≤ length bytes.now }
     ensures { result ≡ core_in bytes.now }
 {
@@ -343,7 +343,7 @@ fn begins_with_zero(bytes: &[u8]) -> bool
 
 /// Whether the numbers of items and of cells behind a core say that there is none.
 #[inline(always)]
-pub(crate) fn are_none(bytes: &[u8]) -> bool
+pub fn are_none(bytes: &[u8]) -> bool
     ensures { result ≡ are_none bytes.now }
 {
     match bytes {

@@ -1,10 +1,9 @@
 //! What a certificate is made of: values, the core of a state, items, cells and ranges.
 
 ghost use Rattle.std.specs.Prelude.{◌≡◌};
-ghost use Rattle.gb_cert.specs.Types.{any_item, any_cell, least_range};
+ghost use Rattle.gb_states.specs.Types.{any_item, any_cell, least_range};
 
 pub use crate::abs::Abs;
-pub use crate::cert::Cert;
 use gb_ops::op::Register;
 use gb_ops::registers::Registers;
 

@@ -1,9 +1,9 @@
 use Rattle.std.proofs.Common.{arith}
 use Rattle.std.proofs.lemmas.Result.{err_from_is_err_and}
 use Rattle.gb_fields.specs.Format.{several}
-use Rattle.gb_cert.specs.Reading.{item_at}
-use Rattle.gb_cert.proofs.Several.{goes_on, ends, is_done}
-use Rattle.gb_cert.proofs.states.some_items.Goals as goal
+use Rattle.gb_states.specs.Reading.{item_at}
+use Rattle.gb_states.proofs.Several.{goes_on, ends, is_done}
+use Rattle.gb_states.proofs.states.some_items.Goals as goal
 
 pub returns-in_err-item : goal.returns-in_err-item
 returns-in_err-item c =

@@ -3,8 +3,8 @@
 ghost use Rattle.std.specs.Prelude.{◌≡◌, ◌≤◌, ◌&&◌, ◌||◌, true, nat_le};
 ghost use Rattle.gb_fields.specs.Format.{Gives, several};
 ghost use Rattle.gb_fields.specs.Limits.{item_limit, cell_limit, range_limit};
-ghost use Rattle.gb_cert.specs.Rules.{is_area, meets, after_cell, after_range};
-ghost use Rattle.gb_cert.specs.Reading.{item_at, items_at, is_free, cell_at, cells_at, state_at, range_at, ranges_at};
+ghost use Rattle.gb_states.specs.Rules.{is_area, meets, after_cell, after_range};
+ghost use Rattle.gb_states.specs.Reading.{item_at, items_at, is_free, cell_at, cells_at, state_at, range_at, ranges_at};
 
 use crate::fields::{core_at, val_at};
 use crate::role::Role;

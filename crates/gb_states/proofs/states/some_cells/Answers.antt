@@ -1,10 +1,10 @@
 use Rattle.std.proofs.Common.{arith}
 use Rattle.std.proofs.lemmas.Result.{err_from_is_err_and}
 use Rattle.gb_fields.specs.Format.{several}
-use Rattle.gb_cert.specs.Rules.{after_cell}
-use Rattle.gb_cert.specs.Reading.{cell_at}
-use Rattle.gb_cert.proofs.Several.{goes_on, ends, is_done}
-use Rattle.gb_cert.proofs.states.some_cells.Goals as goal
+use Rattle.gb_states.specs.Rules.{after_cell}
+use Rattle.gb_states.specs.Reading.{cell_at}
+use Rattle.gb_states.proofs.Several.{goes_on, ends, is_done}
+use Rattle.gb_states.proofs.states.some_cells.Goals as goal
 
 pub returns-in_err-cell : goal.returns-in_err-cell
 returns-in_err-cell c =

@@ -1,0 +1,4 @@
+pub mod FieldLaws
+pub mod Formats
+pub mod Several
+pub mod StateLaws

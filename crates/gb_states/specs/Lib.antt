@@ -1,0 +1,6 @@
+pub mod Certificate
+pub mod Checked
+pub mod Reading
+pub mod Rules
+pub mod Spelling
+pub mod Types
