@@ -9,7 +9,7 @@ use gb_ops::registers::Flags;
 use gb_samples::states::{ANY, CLEAR, EITHER, NO_FLAGS, SET, copy_of, from_to, with_carry};
 use gb_states::types::{Flg, May, Origin, Val};
 use gb_vals::alu::{alu, alu_itself};
-use gb_vals::bits::{reset_bit, set_bit, test_bit};
+use gb_vals::bits::{may_have_bit, reset_bit, set_bit, test_bit};
 use gb_vals::carry::{complement_carry, set_carry};
 use gb_vals::daa::adjust;
 use gb_vals::flags::{flags_of_val, flags_val, known, known_flags};
@@ -217,6 +217,23 @@ fn known_bytes_are_computed(rt: HostRuntime) {
     assert!(rt; tested == flags(false, false, true, false));
     assert!(rt; reset_bit(7, single(0x8A)) == single(0x0A));
     assert!(rt; set_bit(3, single(0x80)) == single(0x88));
+}
+
+/// 07 and 10 lack bit 3, but 08 to 0F have it; 10 to 17 have bit 4, and none of them bit 3.
+#[test]
+fn a_byte_between_the_ends_may_have_a_bit(rt: HostRuntime) {
+    assert!(rt; may_have_bit(&from_to(0x07, 0x10), 3));
+    assert!(rt; may_have_bit(&from_to(0x10, 0x17), 4));
+    assert!(rt; !may_have_bit(&from_to(0x10, 0x17), 3));
+}
+
+/// RL and RR read the carry, the others don't.
+#[test]
+fn an_unknown_carry_is_rotated_in(rt: HostRuntime) {
+    let flags = with_carry(EITHER);
+    assert!(rt; shift(Shift::Rr, single(0x04), flags).val == ANY);
+    assert!(rt; shift(Shift::Rl, single(0x04), flags).val == ANY);
+    assert!(rt; shift(Shift::Rrc, single(0x04), flags).val == single(0x02));
 }
 
 const A: Val = Val {

@@ -1,7 +1,7 @@
 //! A certificate as a listing: for each procedure its nodes by address, with the instruction, registers and cells. Two
 //! listings can be compared line by line.
 
-use crate::state::{ShownCell, ShownController, ShownFlags, ShownRegisters, ShownVal, ime_text};
+use crate::state::{ShownCell, ShownFlags, ShownRegisters, fmt_core};
 use crate::told::Named;
 use gb_cert::{Cert, NodeRef};
 use gb_explain::Code;
@@ -61,14 +61,10 @@ fn fmt_registers<W: fmt::Write>(state: &Abs, f: &mut fmt::Formatter<W>) -> fmt::
     write!(f, "        {registers} {flags}; ")
 }
 
-/// What else a node's state has.
-fn fmt_core<W: fmt::Write>(state: &Abs, f: &mut fmt::Formatter<W>) -> fmt::Result {
-    let core = state.core();
-    let ime = ime_text(core.ime);
-    let ie = ShownVal(core.ie);
-    let controller = ShownController(core.ctl);
+/// How many words were pushed, to the end of the line.
+fn fmt_words<W: fmt::Write>(state: &Abs, f: &mut fmt::Formatter<W>) -> fmt::Result {
     let words = state.items().len();
-    write!(f, "{ime}, IE={ie}, {controller}, words {words}\n")
+    write!(f, ", words {words}\n")
 }
 
 /// Cells one after another.
@@ -83,7 +79,8 @@ fn fmt_cells<W: fmt::Write>(cells: &[Cell], f: &mut fmt::Formatter<W>) -> fmt::R
 /// A node's state in a line, and its cells in another one, if it has some.
 fn fmt_state<W: fmt::Write>(state: &Abs, f: &mut fmt::Formatter<W>) -> fmt::Result {
     fmt_registers(state, f)?;
-    fmt_core(state, f)?;
+    fmt_core(state.core(), f)?;
+    fmt_words(state, f)?;
     if state.cells().is_empty() {
         return Ok(());
     }

@@ -1,11 +1,11 @@
 //! A state as a person reads it: registers, flags, banks, the stack and cells.
 
-use gb_states::types::{Abs, Cell, Ctl, Flg, ImeSet, May, Val};
+use gb_states::types::{Abs, Cell, Core, Ctl, Flg, ImeSet, May, Val};
 use std::fmt;
 
 /// A value, or an interval of values.
 #[derive(Clone, Copy)]
-pub(crate) struct ShownVal(pub(crate) Val);
+struct ShownVal(Val);
 
 impl fmt::Display for ShownVal {
     fn fmt<W: fmt::Write>(&self, f: &mut fmt::Formatter<W>) -> fmt::Result {
@@ -63,7 +63,7 @@ pub(crate) fn gate_text(gate: May) -> &'static str {
 
 /// What the controller's registers may be.
 #[derive(Clone, Copy)]
-pub(crate) struct ShownController(pub(crate) Ctl);
+struct ShownController(Ctl);
 
 /// The banks that may be shown.
 fn fmt_banks<W: fmt::Write>(ctl: Ctl, f: &mut fmt::Formatter<W>) -> fmt::Result {
@@ -114,14 +114,18 @@ impl fmt::Display for ShownCell {
     }
 }
 
-/// Interrupts, banks and pushed words, in a line without its end.
-fn fmt_core<W: fmt::Write>(state: &Abs, f: &mut fmt::Formatter<W>) -> fmt::Result {
-    let core = state.core();
+/// Interrupts and banks.
+pub(crate) fn fmt_core<W: fmt::Write>(core: &Core, f: &mut fmt::Formatter<W>) -> fmt::Result {
     let ime = ime_text(core.ime);
     let ie = ShownVal(core.ie);
     let controller = ShownController(core.ctl);
+    write!(f, "{ime}, IE={ie}, {controller}")
+}
+
+/// How many words were pushed.
+fn fmt_words<W: fmt::Write>(state: &Abs, f: &mut fmt::Formatter<W>) -> fmt::Result {
     let words = state.items().len();
-    write!(f, "    {ime}, IE={ie}, {controller}, pushed words: {words}")
+    write!(f, ", pushed words: {words}")
 }
 
 /// How long an OAM transfer may still run, if one may.
@@ -154,8 +158,9 @@ impl fmt::Display for ShownState<'_> {
         let state = self.0;
         let registers = ShownRegisters(state);
         let flags = ShownFlags(state.core().flags);
-        write!(f, "    {registers} {flags}\n")?;
-        fmt_core(state, f)?;
+        write!(f, "    {registers} {flags}\n    ")?;
+        fmt_core(state.core(), f)?;
+        fmt_words(state, f)?;
         fmt_bound(state.core().bound, f)?;
         fmt_cells(state.cells(), f)
     }
