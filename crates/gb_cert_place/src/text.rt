@@ -3,7 +3,6 @@
 use crate::block::Part;
 use crate::field::{Field, Owner};
 use crate::place::FaultPlace;
-use gb_ops::op::Register;
 use std::fmt;
 
 impl fmt::Display for Part {
@@ -18,23 +17,11 @@ impl fmt::Display for Part {
     }
 }
 
-fn register_name(register: Register) -> &'static str {
-    match register {
-        Register::A => "A",
-        Register::B => "B",
-        Register::C => "C",
-        Register::D => "D",
-        Register::E => "E",
-        Register::H => "H",
-        Register::L => "L",
-    }
-}
-
 impl fmt::Display for Owner {
     fn fmt<W: fmt::Write>(&self, f: &mut fmt::Formatter<W>) -> fmt::Result {
         match self {
             Owner::Ie => f.write_str("IE"),
-            Owner::Register(register) => f.write_str(register_name(*register)),
+            Owner::Register(register) => f.write_str(register.name()),
             Owner::ItemHigh(index) => write!(f, "the high byte of item {index}"),
             Owner::ItemLow(index) => write!(f, "the low byte of item {index}"),
             Owner::Cell(index) => write!(f, "cell {index}"),

@@ -8,7 +8,7 @@ use gb_cert::Cert;
 use gb_explain::explain;
 use gb_files::{Trouble, read_certificate, shown_name};
 use gb_header::Rom;
-use gb_obstacles::Listing;
+use gb_listing::Listing;
 use gb_refine::Made;
 use gb_symbols::Symbols;
 use std::io::Input;

@@ -64,18 +64,6 @@ pub struct Difference {
     pub claimed: Known,
 }
 
-fn register_name(register: Register) -> &'static str {
-    match register {
-        Register::A => "A",
-        Register::B => "B",
-        Register::C => "C",
-        Register::D => "D",
-        Register::E => "E",
-        Register::H => "H",
-        Register::L => "L",
-    }
-}
-
 /// What a value is a copy of.
 fn origin_text(origin: Option<Origin>) -> &'static str {
     match origin {
@@ -96,7 +84,7 @@ impl Part {
     /// Its name; of what has a number the name before it.
     fn name(self) -> &'static str {
         match self {
-            Part::Register(register) => register_name(register),
+            Part::Register(register) => register.name(),
             Part::InterruptEnable => "IE",
             Part::Zero => "flag Z",
             Part::Subtract => "flag N",

@@ -12,6 +12,21 @@ pub enum Register {
     A,
 }
 
+impl Register {
+    /// What it is called (Pan Docs: CPU Registers and Flags).
+    pub fn name(self) -> &'static str {
+        match self {
+            Register::A => "A",
+            Register::B => "B",
+            Register::C => "C",
+            Register::D => "D",
+            Register::E => "E",
+            Register::H => "H",
+            Register::L => "L",
+        }
+    }
+}
+
 /// What an instruction on one byte works on.
 #[derive(Clone, Copy, PartialEq, Eq)]
 pub enum Operand {

@@ -1,8 +1,7 @@
 //! What certificates' maker refines after a failure: which states are to be told apart, and where.
 //!
-//! `plan_for` answers a plan for a run's failure, if anything may help. Read `plans`, then `slices`, `loops` and `cells`; `ways`
-//! has the graph of a procedure, `sources` what instructions make registers from, `spots` what a run knows at an address.
-//! Nothing here is trusted: a plan that doesn't help costs time alone.
+//! `plan_for` answers a plan for a run's failure, if anything may help. Read `plans`, then `slices`, `loops` and `cells`, all over
+//! `gb_dataflow`. Nothing here is trusted: a plan that doesn't help costs time alone.
 #![tactic(auto)]
 
 mod cells;
@@ -10,11 +9,7 @@ mod loops;
 mod plan;
 mod plans;
 mod slices;
-mod sources;
-mod spots;
-mod ways;
 
 pub use cells::pointer_cells;
 pub use plan::{Edit, Plan, parted_by};
 pub use plans::plan_for;
-pub use sources::without;

@@ -1,8 +1,8 @@
 //! Loops: paged, then keyed, and their counters split.
 
 use crate::plan::{Edit, Plan, split_at};
-use crate::spots::{op_at, place_of, value_of};
-use crate::ways::{Loop, Ways};
+use gb_dataflow::spots::{op_at, place_of, value_of};
+use gb_dataflow::ways::{Loop, Ways};
 use gb_fixpoint::types::{Run, Spot};
 use gb_ops::op::{Op, Operand, Register};
 use gb_partition::configuration::Place;

@@ -2,9 +2,9 @@
 //! value.
 
 use crate::plan::{Edit, Plan, split_at};
-use crate::sources::{count, first, pointer_of, sources};
-use crate::spots::{has_entry, narrower, op_at, open_at, place_of, points_to_rom, width_at};
-use crate::ways::Ways;
+use gb_dataflow::sources::{count, first, pointer_of, sources};
+use gb_dataflow::spots::{has_entry, narrower, op_at, open_at, place_of, points_to_rom, width_at};
+use gb_dataflow::ways::Ways;
 use gb_fixpoint::types::{Run, Spot};
 use gb_ops::op::Register;
 use gb_partition::configuration::Place;

@@ -2,6 +2,7 @@
 
 use crate::rounds::{Progress, Refinement};
 use gb_cert::Cert;
+use gb_dataflow::sources::without;
 use gb_draft::{certificate_of, find_needs};
 use gb_fixpoint::types::Run;
 use gb_header::Rom;
@@ -9,7 +10,7 @@ use gb_ops::op::Register;
 use gb_partition::cause::Outcome;
 use gb_partition::configuration::{Configuration, Place};
 use gb_partition::register_set::REGISTERS;
-use gb_plans::{parted_by, without};
+use gb_plans::parted_by;
 use gb_verify::check::check;
 use gb_verify::verdict::Verdict;
 use std::alloc::{AllocError, Global};

@@ -1,22 +1,10 @@
 //! What registers, conditions and operations are called (Pan Docs: CPU Instruction Set).
 
-use gb_ops::op::{AluOp, Condition, Indirect, Operand, Pair, Register, Shift, StackPair};
-
-fn register(register: Register) -> &'static str {
-    match register {
-        Register::A => "A",
-        Register::B => "B",
-        Register::C => "C",
-        Register::D => "D",
-        Register::E => "E",
-        Register::H => "H",
-        Register::L => "L",
-    }
-}
+use gb_ops::op::{AluOp, Condition, Indirect, Operand, Pair, Shift, StackPair};
 
 pub fn operand(operand: Operand) -> &'static str {
     match operand {
-        Operand::Register(name) => register(name),
+        Operand::Register(register) => register.name(),
         Operand::AtHl => "(HL)",
     }
 }

@@ -9,12 +9,12 @@ use gb_partition::register_set::{REGISTERS, RegisterSet};
 use gb_states::types::Val;
 
 /// The value of a register at a node.
-pub(crate) fn value_of(node: &Node, register: Register) -> Val {
+pub fn value_of(node: &Node, register: Register) -> Val {
     node.state.core().registers.get(register)
 }
 
 /// Whether a register has one value alone at a node.
-pub(crate) fn is_known(node: &Node, register: Register) -> bool {
+pub fn is_known(node: &Node, register: Register) -> bool {
     let val = value_of(node, register);
     val.lo == val.hi
 }
@@ -25,7 +25,7 @@ fn size_of_val(val: Val) -> u32 {
 }
 
 /// The place of a spot.
-pub(crate) fn place_of(run: &Run<'_>, spot: Spot) -> Place {
+pub fn place_of(run: &Run<'_>, spot: Spot) -> Place {
     Place {
         target: run.target(spot.procedure),
         address: spot.address,
@@ -33,14 +33,14 @@ pub(crate) fn place_of(run: &Run<'_>, spot: Spot) -> Place {
 }
 
 /// The instruction at a spot, where it is known.
-pub(crate) fn op_at(run: &Run<'_>, spot: Spot) -> Option<Op> {
+pub fn op_at(run: &Run<'_>, spot: Spot) -> Option<Op> {
     let bytes = run.bytes_at(spot)?;
     let row = decode(&bytes)?;
     Some(row.op)
 }
 
 /// Whether a pair's high register is below 80 in each node at a spot: the pair points into ROM.
-pub(crate) fn points_to_rom(run: &Run<'_>, spot: Spot, high: Register) -> bool {
+pub fn points_to_rom(run: &Run<'_>, spot: Spot, high: Register) -> bool {
     for number in run.nodes_at(spot) {
         if let Some(node) = run.nodes.get(*number) {
             if value_of(node, high).hi >= 0x80 {
@@ -52,7 +52,7 @@ pub(crate) fn points_to_rom(run: &Run<'_>, spot: Spot, high: Register) -> bool {
 }
 
 /// The address in a pair at the first node of a spot, where it is known.
-pub(crate) fn pointed_at(run: &Run<'_>, spot: Spot, pair: (Register, Register)) -> Option<u16> {
+pub fn pointed_at(run: &Run<'_>, spot: Spot, pair: (Register, Register)) -> Option<u16> {
     let number = run.nodes_at(spot).first()?;
     let node = run.nodes.get(*number)?;
     let high = value_of(node, pair.0);
@@ -65,7 +65,7 @@ pub(crate) fn pointed_at(run: &Run<'_>, spot: Spot, pair: (Register, Register)) 
 }
 
 /// Whether a procedure begins at a spot.
-pub(crate) fn has_entry(run: &Run<'_>, spot: Spot) -> bool {
+pub fn has_entry(run: &Run<'_>, spot: Spot) -> bool {
     run.nodes_at(spot).iter().any(|number| match run.nodes.get(*number) {
         Some(node) => node.key.is_entry,
         None => false,
@@ -85,12 +85,7 @@ fn is_known_at(run: &Run<'_>, spot: Spot, register: Register, with_entry: bool) 
 }
 
 /// Those of some registers that aren't known in each node at a spot; the procedure's first node counts only if that is said.
-pub(crate) fn open_at(
-    run: &Run<'_>,
-    spot: Spot,
-    wanted: &RegisterSet,
-    with_entry: bool,
-) -> RegisterSet {
+pub fn open_at(run: &Run<'_>, spot: Spot, wanted: &RegisterSet, with_entry: bool) -> RegisterSet {
     let mut open = RegisterSet::empty();
     for register in REGISTERS {
         if wanted.contains(register) && !is_known_at(run, spot, register, with_entry) {
@@ -101,7 +96,7 @@ pub(crate) fn open_at(
 }
 
 /// The most values that a register has in a node at a spot.
-pub(crate) fn width_at(run: &Run<'_>, spot: Spot, register: Register) -> u32 {
+pub fn width_at(run: &Run<'_>, spot: Spot, register: Register) -> u32 {
     let mut widest = 0;
     for number in run.nodes_at(spot) {
         if let Some(node) = run.nodes.get(*number) {
@@ -112,11 +107,7 @@ pub(crate) fn width_at(run: &Run<'_>, spot: Spot, register: Register) -> u32 {
 }
 
 /// The register of two that has fewer values, and the product of both counts.
-pub(crate) fn narrower(
-    run: &Run<'_>,
-    spot: Spot,
-    registers: &RegisterSet,
-) -> Option<(Register, u32)> {
+pub fn narrower(run: &Run<'_>, spot: Spot, registers: &RegisterSet) -> Option<(Register, u32)> {
     let left = sources::first(registers)?;
     let right = sources::first(&sources::without(registers, left))?;
     let left_width = width_at(run, spot, left);

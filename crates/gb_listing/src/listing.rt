@@ -1,8 +1,8 @@
 //! A certificate as a listing: for each procedure its nodes by address, with the instruction, registers and cells. Two
 //! listings can be compared line by line.
 
+use crate::named::Named;
 use crate::state::{ShownCell, ShownFlags, ShownRegisters, fmt_core};
-use crate::told::Named;
 use gb_cert::{Cert, NodeRef};
 use gb_explain::Code;
 use gb_header::Rom;

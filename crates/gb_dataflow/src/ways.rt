@@ -32,18 +32,18 @@ enum Direction {
 }
 
 /// The addresses of a loop.
-pub(crate) type Loop = BTreeSet<u16>;
+pub type Loop = BTreeSet<u16>;
 
 /// The ways inside one procedure, but for those from an address to itself.
 #[derive(Drop)]
-pub(crate) struct Ways {
+pub struct Ways {
     alloc: Global,
     ways: Vec<Way>,
 }
 
 impl Ways {
     /// The ways inside a procedure.
-    pub(crate) fn of(alloc: Global, run: &Run<'_>, procedure: usize) -> Result<Ways, AllocError> {
+    pub fn of(alloc: Global, run: &Run<'_>, procedure: usize) -> Result<Ways, AllocError> {
         let mut ways = Vec::new(alloc);
         for edge in run.edges.iter() {
             if edge.procedure == procedure && edge.from != edge.to {
@@ -57,7 +57,7 @@ impl Ways {
     }
 
     /// The address before, where there is just one.
-    pub(crate) fn only_before(&self, address: u16) -> Option<u16> {
+    pub fn only_before(&self, address: u16) -> Option<u16> {
         let mut before = None;
         for way in &self.ways {
             if way.to == address {
@@ -71,7 +71,7 @@ impl Ways {
     }
 
     /// The addresses before.
-    pub(crate) fn before(&self, address: u16) -> Result<Vec<u16>, AllocError> {
+    pub fn before(&self, address: u16) -> Result<Vec<u16>, AllocError> {
         let mut before = Vec::new(self.alloc);
         for way in &self.ways {
             if way.to == address {
@@ -135,7 +135,7 @@ impl Ways {
     }
 
     /// The addresses of a loop where it is entered.
-    pub(crate) fn heads(&self, around: &Loop) -> Result<Vec<u16>, AllocError> {
+    pub fn heads(&self, around: &Loop) -> Result<Vec<u16>, AllocError> {
         let mut heads = Vec::new(self.alloc);
         for address in around.iter() {
             if self.is_head(around, *address) {
@@ -160,7 +160,7 @@ impl Ways {
     }
 
     /// The loops around an address, the innermost first.
-    pub(crate) fn loops(&self, address: u16) -> Result<Vec<Loop>, AllocError> {
+    pub fn loops(&self, address: u16) -> Result<Vec<Loop>, AllocError> {
         let mut loops = Vec::new(self.alloc);
         let mut inside: Option<Loop> = None;
         for _ in 0..NESTING {
@@ -179,7 +179,7 @@ impl Ways {
     }
 
     /// Whether nothing leads out of a loop.
-    pub(crate) fn is_endless(&self, around: &Loop) -> bool {
+    pub fn is_endless(&self, around: &Loop) -> bool {
         self.ways.iter().all(|way| !around.contains(&way.from) || around.contains(&way.to))
     }
 }

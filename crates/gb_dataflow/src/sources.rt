@@ -15,7 +15,7 @@ pub fn without(set: &RegisterSet, register: Register) -> RegisterSet {
 }
 
 /// How many registers a set has, and the first of them.
-pub(crate) fn count(set: &RegisterSet) -> usize {
+pub fn count(set: &RegisterSet) -> usize {
     REGISTERS
         .iter()
         .filter(|register| set.contains(**register))
@@ -23,7 +23,7 @@ pub(crate) fn count(set: &RegisterSet) -> usize {
 }
 
 /// The first register of a set.
-pub(crate) fn first(set: &RegisterSet) -> Option<Register> {
+pub fn first(set: &RegisterSet) -> Option<Register> {
     REGISTERS
         .iter()
         .copied()
@@ -31,7 +31,7 @@ pub(crate) fn first(set: &RegisterSet) -> Option<Register> {
 }
 
 /// The registers of a pair; SP has none.
-pub(crate) fn halves(pair: Pair) -> RegisterSet {
+pub fn halves(pair: Pair) -> RegisterSet {
     match pair {
         Pair::Bc => RegisterSet::of(&[Register::B, Register::C]),
         Pair::De => RegisterSet::of(&[Register::D, Register::E]),
@@ -41,7 +41,7 @@ pub(crate) fn halves(pair: Pair) -> RegisterSet {
 }
 
 /// The registers of a pair that is pushed or popped, the high one first; of AF it is A alone.
-pub(crate) fn stacked(pair: StackPair) -> [Option<Register>; 2] {
+pub fn stacked(pair: StackPair) -> [Option<Register>; 2] {
     match pair {
         StackPair::Bc => [Some(Register::B), Some(Register::C)],
         StackPair::De => [Some(Register::D), Some(Register::E)],
@@ -99,7 +99,7 @@ fn replaced(wanted: &RegisterSet, target: Register, sources: &RegisterSet) -> Re
 }
 
 /// The pair through which an instruction loads a wanted register, if it does: the high register first.
-pub(crate) fn pointer_of(op: Op, wanted: &RegisterSet) -> Option<(Register, Register)> {
+pub fn pointer_of(op: Op, wanted: &RegisterSet) -> Option<(Register, Register)> {
     match op {
         Op::LoadA(Indirect::Bc) if wanted.contains(Register::A) => Some((Register::B, Register::C)),
         Op::LoadA(Indirect::De) if wanted.contains(Register::A) => Some((Register::D, Register::E)),
@@ -114,7 +114,7 @@ pub(crate) fn pointer_of(op: Op, wanted: &RegisterSet) -> Option<(Register, Regi
 
 /// The registers before an instruction of which the wanted ones are copies behind it; a pointer that is counted up or down
 /// is its own copy. What is computed is no copy. None where they come from RAM, from the stack or from a call.
-pub(crate) fn copied(op: Op, wanted: &RegisterSet) -> Option<RegisterSet> {
+pub fn copied(op: Op, wanted: &RegisterSet) -> Option<RegisterSet> {
     match op {
         Op::AddHl(_) => Some(less(wanted, &hl())),
         Op::IncrementPair(_) | Op::DecrementPair(_) | Op::StoreA(_) => Some(*wanted),
@@ -176,7 +176,7 @@ fn pop_sources(pair: StackPair, wanted: &RegisterSet) -> Option<RegisterSet> {
 
 /// The registers before an instruction from which the wanted ones get their values behind it; a table's address is one of
 /// them. None where they come from RAM, from the stack or from a call.
-pub(crate) fn sources(op: Op, wanted: &RegisterSet) -> Option<RegisterSet> {
+pub fn sources(op: Op, wanted: &RegisterSet) -> Option<RegisterSet> {
     match op {
         Op::AddHl(pair) if meet(wanted, &hl()) => Some(wanted.union(&hl()).union(&halves(pair))),
         Op::IncrementPair(pair) | Op::DecrementPair(pair) => {

@@ -32,7 +32,7 @@ fn flag_text(may: May) -> &'static str {
 
 /// The flags.
 #[derive(Clone, Copy)]
-pub(crate) struct ShownFlags(pub(crate) Flg);
+pub struct ShownFlags(pub Flg);
 
 impl fmt::Display for ShownFlags {
     fn fmt<W: fmt::Write>(&self, f: &mut fmt::Formatter<W>) -> fmt::Result {
@@ -43,7 +43,7 @@ impl fmt::Display for ShownFlags {
 }
 
 /// What the interrupt master enable may be.
-pub(crate) fn ime_text(ime: ImeSet) -> &'static str {
+pub fn ime_text(ime: ImeSet) -> &'static str {
     match (ime.off, ime.pending, ime.on) {
         (true, false, false) => "interrupts off",
         (false, true, false) => "interrupts on after the next instruction",
@@ -53,7 +53,7 @@ pub(crate) fn ime_text(ime: ImeSet) -> &'static str {
 }
 
 /// What the gate of cartridge RAM may be.
-pub(crate) fn gate_text(gate: May) -> &'static str {
+pub fn gate_text(gate: May) -> &'static str {
     match (gate.clear, gate.set) {
         (true, false) => "closed",
         (false, true) => "open",
@@ -86,7 +86,7 @@ impl fmt::Display for ShownController {
 
 /// The registers.
 #[derive(Clone, Copy)]
-pub(crate) struct ShownRegisters<'a>(pub(crate) &'a Abs);
+pub struct ShownRegisters<'a>(pub &'a Abs);
 
 impl fmt::Display for ShownRegisters<'_> {
     fn fmt<W: fmt::Write>(&self, f: &mut fmt::Formatter<W>) -> fmt::Result {
@@ -104,7 +104,7 @@ impl fmt::Display for ShownRegisters<'_> {
 
 /// A cell.
 #[derive(Clone, Copy)]
-pub(crate) struct ShownCell(pub(crate) Cell);
+pub struct ShownCell(pub Cell);
 
 impl fmt::Display for ShownCell {
     fn fmt<W: fmt::Write>(&self, f: &mut fmt::Formatter<W>) -> fmt::Result {
@@ -115,7 +115,7 @@ impl fmt::Display for ShownCell {
 }
 
 /// Interrupts and banks.
-pub(crate) fn fmt_core<W: fmt::Write>(core: &Core, f: &mut fmt::Formatter<W>) -> fmt::Result {
+pub fn fmt_core<W: fmt::Write>(core: &Core, f: &mut fmt::Formatter<W>) -> fmt::Result {
     let ime = ime_text(core.ime);
     let ie = ShownVal(core.ie);
     let controller = ShownController(core.ctl);
@@ -151,7 +151,7 @@ fn fmt_cells<W: fmt::Write>(cells: &[Cell], f: &mut fmt::Formatter<W>) -> fmt::R
 
 /// A whole state in some lines, each behind a margin, the last without its end.
 #[derive(Clone, Copy)]
-pub(crate) struct ShownState<'a>(pub(crate) &'a Abs);
+pub struct ShownState<'a>(pub &'a Abs);
 
 impl fmt::Display for ShownState<'_> {
     fn fmt<W: fmt::Write>(&self, f: &mut fmt::Formatter<W>) -> fmt::Result {
