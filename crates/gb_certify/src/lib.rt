@@ -11,11 +11,10 @@ mod messages;
 mod perform;
 mod progress;
 mod reading;
-mod status;
 mod words;
 
+use gb_command_line::status::exit_code;
 use perform::start;
-use status::Status;
 use std::io::Input;
 use std::process::ExitCode;
 use std::rt::{Env, Files};
@@ -26,9 +25,5 @@ pub fn run<R: Print + Eprint + Input + Files + Env + AllocGlobal>(
     rt: &R,
     is_shown: bool,
 ) -> ExitCode {
-    let status: Status = match start(rt, is_shown) {
-        Ok(status) => status,
-        Err(trouble) => messages::complain(rt, trouble),
-    };
-    ExitCode::from(status as u8)
+    exit_code(rt, start(rt, is_shown))
 }

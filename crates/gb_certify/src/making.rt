@@ -1,10 +1,11 @@
 //! A certificate is made, checked, and written where it is accepted.
 
 use crate::files::write_file;
-use crate::messages::tell_output;
+use crate::messages::PROGRAM;
 use crate::progress::Shown;
-use crate::status::{Status, verify_status};
 use crate::words::Task;
+use gb_command_line::messages::{tell_output, verify};
+use gb_command_line::status::Status;
 use gb_files::Trouble;
 use gb_header::Rom;
 use gb_obstacles::{Obstacle, Told, obstacle_json};
@@ -17,15 +18,6 @@ use std::rt::Files;
 
 /// The most rounds of refinement.
 const ROUNDS: u32 = 400;
-
-/// Prints the line of a cartridge and a certificate.
-pub fn verify<R: Print + Eprint + AllocGlobal>(rt: &R, rom: &[u8], cert: &[u8]) -> Status {
-    let mut out = Plain::new(io::writer(rt));
-    match verify_bytes(rt.alloc(), rom, cert, &mut out) {
-        Ok(outcome) => verify_status(outcome),
-        Err(_) => tell_output(rt),
-    }
-}
 
 /// Whether the checker accepts a certificate, which prints nothing.
 fn is_accepted<R: AllocGlobal>(rt: &R, rom: &[u8], cert: &[u8]) -> bool {
@@ -61,7 +53,7 @@ fn print_json<R: Print + Eprint + AllocGlobal>(
     for obstacle in obstacles {
         let text = obstacle_json(rt.alloc(), obstacle, symbols)?;
         if rt.println(text.as_str()).is_err() {
-            return Ok(tell_output(rt));
+            return Ok(tell_output(rt, PROGRAM));
         }
     }
     Ok(Status::Refused)
@@ -93,7 +85,7 @@ pub fn report<R: Print + Eprint + AllocGlobal>(
     let count = obstacles.len();
     match println!(rt; "NO CERTIFICATE obstacles {count}") {
         Ok(()) => Ok(Status::Refused),
-        Err(_) => Ok(tell_output(rt)),
+        Err(_) => Ok(tell_output(rt, PROGRAM)),
     }
 }
 
@@ -107,13 +99,13 @@ pub fn make_file<R: Print + Eprint + Files + AllocGlobal>(
 ) -> Result<Status, Trouble> {
     let Ok(rom) = Rom::parse(bytes) else {
         // The line says what is wrong with the cartridge.
-        return Ok(verify(rt, bytes, b""));
+        return Ok(verify(rt, PROGRAM, bytes, b""));
     };
     match made(rt, task, &rom, is_shown)? {
         Made::Obstacles(obstacles) => report(rt, task, &obstacles, symbols),
         Made::Certificate(cert) if is_accepted(rt, bytes, &cert) => {
             write_file(rt, task.cert, &cert)?;
-            Ok(verify(rt, bytes, &cert))
+            Ok(verify(rt, PROGRAM, bytes, &cert))
         }
         Made::Certificate(_) => report(rt, task, &[Obstacle::Refused], symbols),
     }

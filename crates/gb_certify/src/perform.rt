@@ -2,32 +2,15 @@
 
 use crate::files::read_symbols;
 use crate::making::make_file;
-use crate::messages::{PROGRAM, complain, tell_output, tell_symbols, tell_words};
+use crate::messages::{PROGRAM, tell_symbols};
 use crate::reading::{explain_file, list_file};
-use crate::status::Status;
 use crate::words::{Task, Work, read_words};
-use clap::Error;
-use clap::error::ErrorKind;
+use gb_command_line::status::Status;
+use gb_command_line::words::{explain, tell_words, words_of};
 use gb_files::{Trouble, is_input, read_cartridge};
 use gb_symbols::Symbols;
 use std::io::Input;
 use std::rt::{Env, Files};
-use std::{env, io};
-
-/// Prints what is wrong with the words, or the help that was asked for.
-fn explain<R: Print + Eprint>(rt: &R, error: &Error) -> Status {
-    if error.kind() == ErrorKind::OutOfMemory {
-        return complain(rt, Trouble::Memory);
-    }
-    if error.use_stderr() {
-        let _ = eprint!(rt; "{error}");
-        return Status::Unreadable;
-    }
-    match print!(rt; "{error}") {
-        Ok(()) => Status::Done,
-        Err(_) => tell_output(rt),
-    }
-}
 
 /// How many of the files are standard input, which can be read only once.
 fn inputs(task: &Task<'_>) -> usize {
@@ -81,26 +64,18 @@ pub fn start<R: Print + Eprint + Input + Files + Env + AllocGlobal>(
     rt: &R,
     is_shown: bool,
 ) -> Result<Status, Trouble> {
-    let args = match env::args(rt) {
-        Ok(args) => args,
-        Err(error) if error.kind() == io::ErrorKind::InvalidData => {
-            return Ok(tell_words(
-                rt,
-                "a word is not UTF-8; a cartridge with such a name can be given as - by < on standard input",
-            ));
-        }
-        Err(error) => return Err(Trouble::from(error)),
+    let Some(words) = words_of(rt)? else {
+        return Ok(tell_words(
+            rt,
+            "a word is not UTF-8; a cartridge with such a name can be given as - by < on standard input",
+        ));
     };
-    let mut words = Vec::new(rt.alloc());
-    for word in args.skip(1) {
-        words.push(word)?;
-    }
     let mut texts = Vec::new(rt.alloc());
     for word in &words {
         texts.push(word.as_str())?;
     }
     match read_words(rt.alloc(), &texts) {
         Ok(task) => perform(rt, &task, is_shown),
-        Err(error) => Ok(explain(rt, &error)),
+        Err(error) => Ok(explain(rt, PROGRAM, &error)),
     }
 }

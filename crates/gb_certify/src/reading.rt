@@ -1,10 +1,11 @@
 //! A certificate that is there: its refusal explained, or its nodes listed.
 
-use crate::making::{made, tell_obstacles, verify};
-use crate::messages::{PROGRAM, tell_fault, tell_output};
-use crate::status::Status;
+use crate::making::{made, tell_obstacles};
+use crate::messages::PROGRAM;
 use crate::words::Task;
 use gb_cert::Cert;
+use gb_command_line::messages::{tell_fault, tell_output, verify};
+use gb_command_line::status::Status;
 use gb_explain::explain;
 use gb_files::{Trouble, read_certificate, shown_name};
 use gb_header::Rom;
@@ -67,12 +68,12 @@ pub fn explain_file<R: Print + Eprint + Input + Files + AllocGlobal>(
     is_shown: bool,
 ) -> Result<Status, Trouble> {
     let cert = read_certificate(rt, PROGRAM, task.cert)?;
-    let status = verify(rt, bytes, &cert);
+    let status = verify(rt, PROGRAM, bytes, &cert);
     let Ok(rom) = Rom::parse(bytes) else {
         return Ok(status);
     };
     match status {
-        Status::Unreadable => tell_fault(rt, task.cert, &cert),
+        Status::Unreadable => tell_fault(rt, PROGRAM, task.cert, &cert),
         Status::Refused => {
             tell_refusal(rt, task.cert, bytes, &cert, symbols);
             tell_made(rt, task, &rom, symbols, is_shown)?;
@@ -92,8 +93,8 @@ pub fn list_file<R: Print + Eprint + Input + Files + AllocGlobal>(
     let cert_bytes = read_certificate(rt, PROGRAM, task.cert)?;
     let (Ok(rom), Ok(cert)) = (Rom::parse(bytes), Cert::parse(rt.alloc(), &cert_bytes)) else {
         // The line says which file is none, and what is wrong with it.
-        let status = verify(rt, bytes, &cert_bytes);
-        tell_fault(rt, task.cert, &cert_bytes);
+        let status = verify(rt, PROGRAM, bytes, &cert_bytes);
+        tell_fault(rt, PROGRAM, task.cert, &cert_bytes);
         return Ok(status);
     };
     let listing = Listing {
@@ -103,6 +104,6 @@ pub fn list_file<R: Print + Eprint + Input + Files + AllocGlobal>(
     };
     match print!(rt; "{listing}") {
         Ok(()) => Ok(Status::Done),
-        Err(_) => Ok(tell_output(rt)),
+        Err(_) => Ok(tell_output(rt, PROGRAM)),
     }
 }

@@ -1,11 +1,11 @@
 //! What nodes enter, for who puts procedures in order.
 
-use crate::reading::decoded;
 use crate::stepping::FIRST_VECTOR;
 use crate::types::Run;
 use gb_abs_effects::targets::Target;
 use gb_calls::entering::enter;
 use gb_calls::interrupts::{dispatched, may_come};
+use gb_causes::instruction::decoded;
 use gb_joins::tracking::keep_tracked;
 use gb_states::types::Abs;
 use gb_successors::successor::Successor;

@@ -3,7 +3,8 @@
 //! Nothing here is trusted: a certificate that comes out is judged by the checker. Every function is proved safe and
 //! to return.
 //!
-//! Read `types` and `run`, then `stepping`, `flow`, `calls` and `exits`; `entries` is for who orders procedures.
+//! Read `types` and `run`, then `stepping`, `flow`, `calls` and `exits`; `entries` is for who orders procedures. What is
+//! against an instruction is gb_causes'.
 #![tactic(auto)]
 
 mod calls;
@@ -12,7 +13,6 @@ mod exits;
 mod flow;
 mod reading;
 mod records;
-mod refusals;
 mod run;
 mod stepping;
 mod stop;

@@ -1,10 +1,10 @@
 //! One step: a node's instruction is executed, and the interrupts come that may come.
 
-use crate::refusals::refusal;
 use crate::stop::Stop;
 use crate::types::Run;
 use gb_abs_effects::targets::Target;
 use gb_calls::interrupts::{dispatched, may_come};
+use gb_causes::refusals::refusal;
 use gb_joins::tracking::keep_tracked;
 use gb_partition::cause::Cause;
 use gb_partition::register_set::RegisterSet;

@@ -7,20 +7,12 @@ use Rattle.gb_fields.specs.declared.fault.CertFault.{CertFault}
 use Rattle.gb_fields.specs.declared.fault.CertFault.TheVariants.{Memory}
 use Rattle.gb_verify.specs.declared.upgrade.Upgraded.{Upgraded}
 use Rattle.gb_verify.specs.declared.upgrade.Upgraded.TheVariants as upgrade
-use Rattle.gb_verify.specs.declared.verify.Outcome.{Outcome}
-use Rattle.gb_verify.specs.declared.verify.Outcome.TheVariants as outcome
 use Rattle.gb_main.specs.declared.commands.RunOutcome.{RunOutcome}
 use Rattle.gb_main.specs.declared.commands.RunOutcome.TheVariants as played
-use Rattle.gb_program.specs.declared.status.Status.{Status}
-use Rattle.gb_program.specs.declared.status.Status.TheVariants as status
+use Rattle.gb_command_line.specs.declared.status.Status.{Status}
+use Rattle.gb_command_line.specs.declared.status.Status.TheVariants as status
 use Rattle.gb_files.specs.declared.trouble.Trouble.{Trouble}
 use Rattle.gb_files.specs.declared.trouble.Trouble.TheVariants as trouble
-
-abbrev pub verify_status : Outcome → Status
-verify_status outcome.Accepted = status.Done
-verify_status outcome.Refused = status.Refused
-verify_status outcome.Unreadable = status.Unreadable
-verify_status outcome.NoMemory = status.Failed
 
 -- of a file with this fault, or none
 abbrev pub header_status : Option HeaderFault → Status

@@ -1,7 +1,8 @@
 //! The program: its words, files and statuses, and what it says to a person.
 //!
 //! `run` does what the words ask for; the lines that it prints are gb_verify's and gb_main's, whose contracts say what they
-//! are. `status` says which status each outcome has. Read `perform` first, then `messages` and `status`; files are read by gb_files.
+//! are. `status` says which status each outcome has. Read `perform` first, then `status`; files are read by gb_files, and what
+//! `certify` does alike is gb_command_line's.
 #![tactic(auto)]
 
 mod inputs;
@@ -11,8 +12,8 @@ mod progress;
 mod status;
 mod stored;
 
+use gb_command_line::status::exit_code;
 use perform::start;
-use status::Status;
 use std::io::Input;
 use std::process::ExitCode;
 use std::rt::{Env, Files};
@@ -23,9 +24,5 @@ pub fn run<R: Print + Eprint + Input + Files + Env + AllocGlobal>(
     rt: &R,
     is_shown: bool,
 ) -> ExitCode {
-    let status: Status = match start(rt, is_shown) {
-        Ok(status) => status,
-        Err(trouble) => messages::complain(rt, trouble),
-    };
-    ExitCode::from(status as u8)
+    exit_code(rt, start(rt, is_shown))
 }

@@ -1,35 +1,21 @@
 //! The commands, and what becomes of the words.
 
 use crate::inputs::has_input_twice;
-use crate::messages::{
-    PROGRAM, complain, explain_input, explain_name, tell_fault, tell_output, tell_refusal,
-};
+use crate::messages::{PROGRAM, tell_refusal};
 use crate::progress::Shown;
-use crate::status::{
-    Status, header_status, run_status, show_status, upgrade_status, verify_status,
-};
+use crate::status::{header_status, run_status, show_status, upgrade_status};
 use crate::stored;
-use clap::Error;
-use clap::error::ErrorKind;
+use gb_command_line::messages::{tell_fault, tell_output, verify};
+use gb_command_line::status::Status;
+use gb_command_line::words::{explain, tell_words, words_of};
 use gb_files::{Trouble, read_cartridge, read_certificate, read_file};
 use gb_header::Rom;
 use gb_main::{header_bytes, run_bytes, show_bytes};
 use gb_text::sink::Plain;
 use gb_verify::upgrade::upgrade_bytes;
-use gb_verify::verify::verify_bytes;
 use gb_words::{Task, read_words};
-use std::io::Input;
+use std::io::{self, Input};
 use std::rt::{Env, Files};
-use std::{env, io};
-
-/// Prints the line of a cartridge and a certificate.
-fn verify<R: Print + Eprint + AllocGlobal>(rt: &R, rom: &[u8], cert: &[u8]) -> Status {
-    let mut out = Plain::new(io::writer(rt));
-    match verify_bytes(rt.alloc(), rom, cert, &mut out) {
-        Ok(outcome) => verify_status(outcome),
-        Err(_) => tell_output(rt),
-    }
-}
 
 /// The command `verify`. Where the cartridge can't be read, the line says nothing of the certificate.
 fn verify_files<R: Print + Eprint + Input + Files + AllocGlobal>(
@@ -39,9 +25,9 @@ fn verify_files<R: Print + Eprint + Input + Files + AllocGlobal>(
 ) -> Result<Status, Trouble> {
     let rom = read_cartridge(rt, PROGRAM, rom)?;
     let bytes = read_certificate(rt, PROGRAM, cert)?;
-    let status = verify(rt, &rom, &bytes);
+    let status = verify(rt, PROGRAM, &rom, &bytes);
     if status == Status::Unreadable && Rom::parse(&rom).is_ok() {
-        tell_fault(rt, cert, &bytes);
+        tell_fault(rt, PROGRAM, cert, &bytes);
     }
     if status == Status::Refused {
         tell_refusal(rt, cert, &rom, &bytes);
@@ -58,7 +44,7 @@ fn header<R: Print + Eprint + Input + Files + AllocGlobal>(
     let mut out = Plain::new(io::writer(rt));
     match header_bytes(&rom, &mut out) {
         Ok(fault) => Ok(header_status(fault)),
-        Err(_) => Ok(tell_output(rt)),
+        Err(_) => Ok(tell_output(rt, PROGRAM)),
     }
 }
 
@@ -71,10 +57,10 @@ fn show<R: Print + Eprint + Input + Files + AllocGlobal>(
     let mut out = Plain::new(io::writer(rt));
     let status = match show_bytes(rt.alloc(), &bytes, &mut out) {
         Ok(fault) => show_status(fault),
-        Err(_) => return Ok(tell_output(rt)),
+        Err(_) => return Ok(tell_output(rt, PROGRAM)),
     };
     if status == Status::Unreadable {
-        tell_fault(rt, cert, &bytes);
+        tell_fault(rt, PROGRAM, cert, &bytes);
     }
     Ok(status)
 }
@@ -88,10 +74,10 @@ fn upgrade<R: Print + Eprint + Input + Files + AllocGlobal>(
     let mut out = Plain::new(io::writer(rt));
     let status = match upgrade_bytes(rt.alloc(), &bytes, &mut out) {
         Ok(upgraded) => upgrade_status(upgraded),
-        Err(_) => return Ok(tell_output(rt)),
+        Err(_) => return Ok(tell_output(rt, PROGRAM)),
     };
     if status == Status::Unreadable {
-        tell_fault(rt, cert, &bytes);
+        tell_fault(rt, PROGRAM, cert, &bytes);
     }
     Ok(status)
 }
@@ -110,22 +96,7 @@ fn run<R: Print + Eprint + Input + Files + AllocGlobal>(
     let mut progress = Shown::new(rt, is_shown);
     match run_bytes(rt.alloc(), &rom, &script, frames, &mut out, &mut progress) {
         Ok(outcome) => run_status(outcome),
-        Err(_) => Ok(tell_output(rt)),
-    }
-}
-
-/// Prints what is wrong with the words, or the help that was asked for.
-fn explain<R: Print + Eprint>(rt: &R, error: &Error) -> Status {
-    if error.kind() == ErrorKind::OutOfMemory {
-        return complain(rt, Trouble::Memory);
-    }
-    if error.use_stderr() {
-        let _ = eprint!(rt; "{error}");
-        return Status::Unreadable;
-    }
-    match print!(rt; "{error}") {
-        Ok(()) => Status::Done,
-        Err(_) => tell_output(rt),
+        Err(_) => Ok(tell_output(rt, PROGRAM)),
     }
 }
 
@@ -137,13 +108,13 @@ fn perform<R: Print + Eprint + Input + Files + AllocGlobal>(
 ) -> Result<Status, Trouble> {
     let task = match read_words(rt.alloc(), words) {
         Ok(task) => task,
-        Err(error) => return Ok(explain(rt, &error)),
+        Err(error) => return Ok(explain(rt, PROGRAM, &error)),
     };
     if has_input_twice(&task) {
-        return Ok(explain_input(rt));
+        return Ok(tell_words(rt, "only one of the files can be - for standard input"));
     }
     match task {
-        Task::Stored => Ok(verify(rt, &stored::cartridge(), stored::CERTIFICATE)),
+        Task::Stored => { Ok(verify(rt, PROGRAM, &stored::cartridge(), stored::CERTIFICATE)) },
         Task::Verify { rom, cert } => verify_files(rt, rom, cert),
         Task::Header { rom } => header(rt, rom),
         Task::Show { cert } => show(rt, cert),
@@ -161,15 +132,12 @@ pub fn start<R: Print + Eprint + Input + Files + Env + AllocGlobal>(
     rt: &R,
     is_shown: bool,
 ) -> Result<Status, Trouble> {
-    let args = match env::args(rt) {
-        Ok(args) => args,
-        Err(error) if error.kind() == io::ErrorKind::InvalidData => return Ok(explain_name(rt)),
-        Err(error) => return Err(Trouble::from(error)),
+    let Some(words) = words_of(rt)? else {
+        return Ok(tell_words(
+            rt,
+            "a word is not UTF-8; a file with such a name can be given as - by < on standard input",
+        ));
     };
-    let mut words = Vec::new(rt.alloc());
-    for word in args.skip(1) {
-        words.push(word)?;
-    }
     let mut texts = Vec::new(rt.alloc());
     for word in &words {
         texts.push(word.as_str())?;

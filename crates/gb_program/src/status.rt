@@ -1,40 +1,15 @@
-//! What the program ends with.
+//! What the program ends with, by command; after a verdict gb_command_line says it.
 
 ghost use Rattle.std.specs.Prelude.{◌≡◌};
-ghost use Rattle.gb_program.specs.Status.{verify_status, header_status, show_status, upgrade_status, run_status};
+ghost use Rattle.gb_program.specs.Status.{header_status, show_status, upgrade_status, run_status};
 
 use gb_cert::CertFault;
+use gb_command_line::status::Status;
 use gb_console::Ending;
 use gb_files::Trouble;
 use gb_header::HeaderFault;
 use gb_main::RunOutcome;
 use gb_verify::upgrade::Upgraded;
-use gb_verify::verify::Outcome;
-
-/// The statuses that the program ends with.
-#[derive(Clone, Copy, PartialEq, Eq)]
-pub enum Status {
-    /// Accepted, run whole, or printed.
-    Done = 0,
-    /// Refused, locked or stopped.
-    Refused = 1,
-    /// The input or the words can't be read.
-    Unreadable = 2,
-    /// Memory or a device failed.
-    Failed = 3,
-}
-
-/// The status of a verdict.
-pub fn verify_status(outcome: Outcome) -> Status
-    ensures { result ≡ verify_status outcome }
-{
-    match outcome {
-        Outcome::Accepted => Status::Done,
-        Outcome::Refused => Status::Refused,
-        Outcome::Unreadable => Status::Unreadable,
-        Outcome::NoMemory => Status::Failed,
-    }
-}
 
 /// The status of a header's line, or of the fault in its place.
 pub fn header_status(fault: Option<HeaderFault>) -> Status

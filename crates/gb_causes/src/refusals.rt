@@ -1,4 +1,4 @@
-//! What is against a node's instruction, by the checker's own tests.
+//! What is against an instruction with its successors, by the checker's own tests.
 
 use gb_abs::span::Span;
 use gb_abs_effects::reads::AbsRead;
@@ -28,7 +28,7 @@ const RAM: [Range; 2] = [
 ];
 
 /// A refusal: its cause, and the registers that the access or the jump went by.
-pub(crate) type Refusal = (Cause, RegisterSet);
+pub type Refusal = (Cause, RegisterSet);
 
 /// The registers by which an instruction's access or jump goes.
 fn pointer(op: Op) -> RegisterSet {
@@ -61,7 +61,7 @@ fn stored(op: Op) -> RegisterSet {
 }
 
 /// The addresses of a read.
-pub(crate) fn read_span(read: AbsRead) -> Option<Span> {
+fn read_span(read: AbsRead) -> Option<Span> {
     match read {
         AbsRead::Byte(span) => Some(span),
         AbsRead::Nothing | AbsRead::Top => None,
@@ -69,7 +69,7 @@ pub(crate) fn read_span(read: AbsRead) -> Option<Span> {
 }
 
 /// The addresses of a write, but for a push.
-pub(crate) fn write_span(write: AbsWrite) -> Option<Span> {
+fn write_span(write: AbsWrite) -> Option<Span> {
     match write {
         AbsWrite::Byte(span, _) => Some(span),
         AbsWrite::Word(address, _, _) => Some(Span {
@@ -171,8 +171,8 @@ fn transfer_refusal(
     None
 }
 
-/// What is against a node's instruction, of all but covering, calls and returns.
-pub(crate) fn refusal(
+/// What is against an instruction in a state, of all but covering, calls and returns.
+pub fn refusal(
     rom: &Rom<'_>,
     region: Region,
     state: &Abs,
