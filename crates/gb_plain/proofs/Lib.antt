@@ -2,6 +2,11 @@ pub mod Bytes
 pub mod Dispatching
 pub mod Facts
 pub mod Fetches
+pub mod Leaving
 pub mod Limiting
+pub mod Ordering
 pub mod Pending
+pub mod Running
 pub mod Starting
+pub mod Stepping
+pub mod Taking

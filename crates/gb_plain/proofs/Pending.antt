@@ -3,7 +3,7 @@ use Rattle.std.proofs.Common.{◌≡◌, ℕ, ◌%◌, ◌<◌, bit_and, ap, ◌
 use Rattle.std.specs.Prelude.{bit_or}
 use Rattle.std.proofs.lemmas.Nat.{and_assoc, and_or_self, or_shifted}
 
-itself : (x : ℕ) → x < 32 → bit_and x x ≡ x
+pub itself : (x : ℕ) → x < 32 → bit_and x x ≡ x
 itself x h =
     let zero_or : bit_or 0 x ≡ x = or_shifted 0 5 x h ∙ zero-add x in
     rw zero_or at (and_or_self x 0)
