@@ -11,6 +11,7 @@ ghost use Rattle.std.specs.Bool.{OnFalse};
 ghost use Rattle.gb_ops.specs.Accesses.{Access};
 ghost use Rattle.gb_ops.specs.Accesses as access;
 ghost use Rattle.gb_ops.specs.Memory.{View, is_free, byte_at, place_of, wrote, passed};
+ghost use Rattle.gb_ops.specs.ReadsBack.{IsSized};
 
 mod access;
 pub mod cartridge;
@@ -54,9 +55,11 @@ pub trait Bus {
         ensures joined { does self.old (access.Writes address value) self.new }
         ensures view { shows self.new ≡ wrote (shows self.old) address value };
 
-    /// What answers a read.
+    /// What answers a read. Work RAM and high RAM have their sizes on every bus, so that what is
+    /// stored there reads back.
     fn place(&self, address: u16) -> Place
-        ensures { result ≡ place_of (shows self.now) address };
+        ensures place { result ≡ place_of (shows self.now) address }
+        ensures sized { IsSized (shows self.now) };
 
     /// The same as `read`, and whether the byte is free: `place` and `read` in one.
     #[tactic(auto, unfolding(gb_ops::specs::Memory::is_free))]
@@ -88,3 +91,9 @@ pub trait Bus {
         ensures joined { does self.old (access.Passes cycles) self.new }
         ensures view { shows self.new ≡ passed (shows self.old) cycles };
 }
+
+pub use gb_dma;
+pub use gb_mbc;
+pub use gb_mbc::gb_header;
+pub use gb_ppu;
+pub use gb_ppu::gb_timer;

@@ -1,18 +1,19 @@
 //! The console's memory.
 
-ghost use Rattle.std.specs.Prelude.{◌≡◌, ◌<◌, ◌≤◌, IfOk, vec_len};
+ghost use Rattle.std.specs.Prelude.{◌≡◌, ◌<◌, ◌≤◌, IfOk, length, vec_len};
+ghost use Rattle.gb_ops.specs.ReadsBack.{IsSized};
 ghost use Rattle.gb_bus.specs.PowerUp.{at_power_up, zeros};
 
 use crate::picture::dark;
 use gb_devices::Devices;
 use gb_dma::Transfer;
-use gb_header::Rom;
+use gb_mbc::gb_header::Rom;
 use gb_mbc::{Clock, Controller, Mapper};
 use gb_ops::map::{HIGH_RAM, WORK_RAM};
+use gb_ppu::gb_timer::irqs::Irqs;
+use gb_ppu::gb_timer::joypad::Joypad;
 use gb_ppu::line::{HEIGHT, WIDTH};
 use gb_ppu::scene::{OAM, VIDEO_RAM};
-use gb_timer::irqs::Irqs;
-use gb_timer::joypad::Joypad;
 use std::alloc::{AllocError, Global};
 use std::marker::Model;
 
@@ -48,12 +49,12 @@ pub struct Memory<'a> {
 
 impl<'a> Model for Memory<'a> {
     ghost use Rattle.std.specs.Prelude.{◌≡◌, ◌<◌, ◌*◌, vec_len, length};
-    ghost use Rattle.gb_header.specs.Header.{IsCartridge};
+    ghost use Rattle.gb_mbc.specs.gb_header.Header.{IsCartridge};
     ghost use Rattle.gb_mbc.specs.Controller.{features, registers};
     ghost use Rattle.gb_mbc.specs.Controllers.{features_of};
     ghost use Rattle.gb_mbc.specs.Controllers as Shown;
     ghost use Rattle.gb_ops.specs.Cartridge.{ram_banks};
-    ghost use Rattle.gb_timer.specs.Interrupts.{irq_bits};
+    ghost use Rattle.gb_ppu.specs.gb_timer.Interrupts.{irq_bits};
     ghost use Rattle.gb_bus.specs.Contents.{Contents};
 
     ghost Value = { Contents };
@@ -93,6 +94,13 @@ fn zeros<const N: usize>(alloc: Global) -> Result<Box<[u8; N]>, AllocError>
     Ok(Box::new(alloc, [0; N])?)
 }
 
+/// An array has as many bytes as its type says.
+fn has_its_size<const N: usize>(bytes: &[u8; N])
+    ensures { length bytes.now ≡ N }
+{
+    let _bytes = bytes;
+}
+
 /// So many bytes 00.
 #[tactic(auto, unfolding(crate::specs::PowerUp::zeros))]
 fn zero_bytes(alloc: Global, size: usize) -> Result<Vec<u8>, AllocError>
@@ -103,6 +111,14 @@ fn zero_bytes(alloc: Global, size: usize) -> Result<Vec<u8>, AllocError>
 }
 
 impl<'a> Memory<'a> {
+    /// Work RAM and high RAM have their sizes.
+    pub(crate) fn sizes(&self)
+        ensures { IsSized self.now.view }
+    {
+        has_its_size(&*self.work_ram);
+        has_its_size(&*self.high_ram);
+    }
+
     /// A cartridge's memory at power-up. All room is made here; nothing of it grows later.
     #[tactic(auto, unfolding(crate::specs::PowerUp::at_power_up))]
     pub fn new(alloc: Global, rom: &Rom<'a>) -> Result<Memory<'a>, AllocError>

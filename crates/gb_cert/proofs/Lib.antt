@@ -1,5 +1,6 @@
 pub mod CertificateLaws
 pub mod CheckedLaws
+pub mod Counting
 pub mod Entries
 pub mod Laying
 pub mod Lending

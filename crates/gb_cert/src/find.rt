@@ -1,23 +1,26 @@
 //! The nodes with a key.
 
-ghost use Rattle.std.specs.Prelude.{◌≡◌, ◌<◌, map, ℕ, List};
+ghost use Rattle.std.specs.Prelude.{◌≡◌, ◌<◌, ◌≤◌, map, length, ℕ, List};
 ghost use Rattle.gb_states.specs.Rules.{key};
 ghost use Rattle.gb_rows.specs.Rows.{IsFound};
 
 use crate::cert::Cert;
 use gb_rows::{Found, Rows, find_in, find_near};
 
-/// The nodes of a certificate, as rows.
+/// The nodes of a certificate, as rows, and how many of their keys were asked for.
 #[derive(Drop)]
 struct NodeRows<'c, 'a> {
     cert: &'c Cert<'a>,
+    asked: u32,
 }
 
 impl<'c, 'a> Rows for NodeRows<'c, 'a> {
+    ghost use Rattle.std.specs.Prelude.{◌≡◌, min};
+
     ghost keys = { λ rows. map key rows.cert.now.nodes };
 
-    // Nothing is kept of how many keys were asked for.
-    ghost asked = { λ rows n. Unit {0} };
+    // As many as were asked for, or the most that can be counted.
+    ghost asked = { λ rows n. rows.asked ≡ min n 4294967295 };
 
     fn len(&self) -> u32 {
         let cert = self.cert;
@@ -25,26 +28,56 @@ impl<'c, 'a> Rows for NodeRows<'c, 'a> {
     }
 
     fn key(&mut self, i: u32) -> (u8, u16) {
+        self.asked = self.asked.saturating_add(1);
         let cert = self.cert;
         let node = cert.node(i);
         (node.procedure(), node.address())
     }
 }
 
+/// The nodes with a key, and how many keys were asked for to find them.
+#[derive(Clone, Copy, PartialEq, Eq)]
+pub struct Search {
+    pub found: Found,
+    pub asked: u32,
+}
+
 impl<'a> Cert<'a> {
-    /// The numbers of the nodes of a procedure at an address, by `find_in`.
-    pub fn find(&self, procedure: u8, address: u16) -> Found
-        ensures { IsFound (map key self.now.nodes) (procedure, address) result.first result.after }
+    /// The numbers of the nodes of a procedure at an address, by `find_in`: at most 32 keys are asked for among
+    /// 65,535 nodes, 42 among 1,048,576.
+    pub fn find(&self, procedure: u8, address: u16) -> Search
+        ensures found { IsFound (map key self.now.nodes) (procedure, address) result.found.first result.found.after }
+        ensures few { length self.now.nodes ≤ 65535 → result.asked ≤ 32 }
+        ensures most { length self.now.nodes ≤ 1048576 → result.asked ≤ 42 }
     {
         let _region = self.region();
-        find_in(&mut NodeRows { cert: self }, procedure, address)
+        let mut rows = NodeRows {
+            cert: self,
+            asked: 0,
+        };
+        let found = find_in(&mut rows, procedure, address);
+        Search {
+            found,
+            asked: rows.asked,
+        }
     }
 
-    /// The same numbers, by `find_near`: quickly found where they are a little above `near`.
-    pub fn find_near(&self, near: u32, procedure: u8, address: u16) -> Found
-        ensures { IsFound (map key self.now.nodes) (procedure, address) result.first result.after }
+    /// The same nodes, by `find_near`: quickly found where they are a little above `near`. At most 64 keys are asked
+    /// for among 65,535 nodes, 84 among 1,048,576.
+    pub fn find_near(&self, near: u32, procedure: u8, address: u16) -> Search
+        ensures found { IsFound (map key self.now.nodes) (procedure, address) result.found.first result.found.after }
+        ensures few { length self.now.nodes ≤ 65535 → result.asked ≤ 64 }
+        ensures most { length self.now.nodes ≤ 1048576 → result.asked ≤ 84 }
     {
         let _region = self.region();
-        find_near(&mut NodeRows { cert: self }, near, procedure, address)
+        let mut rows = NodeRows {
+            cert: self,
+            asked: 0,
+        };
+        let found = find_near(&mut rows, near, procedure, address);
+        Search {
+            found,
+            asked: rows.asked,
+        }
     }
 }

@@ -16,7 +16,9 @@ mod procedure;
 mod walk;
 
 pub use cert::{Cert, encode};
+pub use find::Search;
 pub use gb_fields::CertFault;
+pub use gb_rows;
 pub use gb_rows::Found;
 pub use node::NodeRef;
 pub use parse::one_spelling;

@@ -12,3 +12,5 @@ pub mod field;
 pub mod place;
 mod text;
 mod walk;
+
+pub use gb_cert;

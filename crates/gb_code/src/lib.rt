@@ -1,7 +1,11 @@
 //! Where code may lie, and what a checker knows of the instruction at an address, whatever the
-//! machine's state is among those that an abstract state stands for. Where the bytes are known, the
-//! machine fetches them, without a fault, from places that the node certifies (`CodeLaws` of the
-//! proofs, over `Fetched` of the definitions).
+//! machine's state is among those that an abstract state stands for. That the machine fetches the
+//! bytes that are known, without a fault, from places that the node certifies, is a law (`CodeLaws` of
+//! the proofs, over `Fetched` of the definitions) that the rules of nodes rest on; no contract of this
+//! crate names it.
 #![tactic(auto)]
 
 pub mod code;
+
+pub use gb_abs_memory;
+pub use gb_abs_memory::gb_header;

@@ -1,15 +1,15 @@
 //! Certificates, read and written again.
 
-use gb_cert::{Cert, CertFault, Found, encode, one_spelling};
-use gb_header::Rom;
 use gb_ops::machine::Region;
 use gb_ops::op::Register;
 use gb_samples::cartridges::{PLAIN, put, small};
 use gb_samples::certificates::{least, least_in_version_2, write_nodes};
+use gb_samples::gb_states::types::{Cell, Item};
 use gb_samples::programs::LOOP;
 use gb_samples::states::{ANY, copy_of};
-use gb_states::types::{Cell, Item};
 use gb_verify::check::{check, verdict_ignores_version};
+use gb_verify::gb_cert::{Cert, CertFault, Found, encode, one_spelling};
+use gb_verify::gb_header::Rom;
 use gb_verify::verdict::Verdict;
 use std::alloc::{AllocError, Global};
 use std::test::Fail;
@@ -89,7 +89,7 @@ fn nodes_are_found(rt: HostRuntime) -> Result<(), Fail> {
     write_nodes(&mut bytes, &[0x0100, 0x0101, 0x0101, 0x0150]);
     let cert = Cert::parse(rt.alloc(), &bytes)?;
     for (procedure, address, first, after) in FOUND {
-        let found = cert.find(procedure, address);
+        let found = cert.find(procedure, address).found;
         assert!(rt;
             found == Found { first, after },
             "{procedure} at {address:x}"
@@ -258,7 +258,7 @@ fn reads_the_most_of_each(rt: HostRuntime) -> Result<(), Fail> {
 }
 
 fn finds_none(cert: &Cert<'_>, procedure: u8, address: u16) -> bool {
-    let found = cert.find(procedure, address);
+    let found = cert.find(procedure, address).found;
     found.first == found.after
 }
 
@@ -273,7 +273,7 @@ fn nodes_of_one_address(rt: HostRuntime) -> Result<(), Fail> {
     let mut bytes = [0; 488];
     write_nodes(&mut bytes, &ADDRESSES);
     let cert = Cert::parse(rt.alloc(), &bytes)?;
-    assert!(rt; cert.find(0, 0x0156) == Found { first: 5, after: 9 });
+    assert!(rt; cert.find(0, 0x0156).found == Found { first: 5, after: 9 });
     assert!(rt; finds_none(&cert, 0, 0x0155));
     assert!(rt; finds_none(&cert, 1, 0x0156));
     Ok(())

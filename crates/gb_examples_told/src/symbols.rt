@@ -1,6 +1,6 @@
 //! Lines of each format of symbols, as their tools write them, and the places that they give.
 
-use gb_symbols::{Format, Place, SymbolFault, SymbolFaultKind, Symbols};
+use gb_reports::{Format, Place, SymbolFault, SymbolFaultKind, Symbols};
 use std::process::Abort;
 use std::test::Fail;
 

@@ -1,18 +1,24 @@
 //! What there is to say to a person of a refused certificate: the node with its place and its instruction, what is
 //! wrong with it, what usually mends that, and, where other nodes or procedures have to do with it, what is in the way.
 //!
-//! Read `refusal`, then `explanation`, and `finding`, which finds what is in the way; `gb_differences` compares states. All
-//! texts stand in `advice` and `obstacle`, and there. Of the texts nothing is promised but by tests.
+//! Read `refusal`, then `explanation`, and `finding`, which finds what is in the way; `differences` tells the parts of
+//! a state that another state doesn't stand for. All texts stand in `advice`, `obstacle` and `difference`. Of the texts
+//! nothing is promised but by tests.
 #![tactic(auto)]
 
 mod advice;
 mod code;
+mod difference;
+mod differences;
 mod explanation;
 mod finding;
 mod obstacle;
 mod refusal;
 
 pub use code::Code;
+pub use difference::{Difference, Known, Part};
+pub use differences::Differences;
 pub use explanation::Explanation;
+pub use gb_spelling;
 pub use obstacle::{Claim, Finding, Obstacle, Way, Words};
 pub use refusal::explain;

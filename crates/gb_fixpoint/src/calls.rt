@@ -1,15 +1,15 @@
 //! Calls and dispatches: procedures are found or made, entered, and resumed behind.
 
+use crate::cause::Cause;
+use crate::keys::{ControllerKey, KnownRegisters, NodeKey, ProcedureKey};
+use crate::register_set::RegisterSet;
 use crate::run::PROCEDURES;
 use crate::stop::Stop;
+use crate::tracking::keep_tracked;
 use crate::types::{Call, Procedure, Run};
-use gb_calls::entering::enter;
-use gb_calls::resuming::resume;
-use gb_joins::tracking::keep_tracked;
-use gb_partition::cause::Cause;
-use gb_partition::keys::{ControllerKey, KnownRegisters, NodeKey, ProcedureKey};
-use gb_partition::register_set::RegisterSet;
-use gb_states::types::{Abs, Core, Range};
+use gb_verify::gb_calls::entering::enter;
+use gb_verify::gb_calls::resuming::resume;
+use gb_verify::gb_states::types::{Abs, Core, Range};
 use std::collections::BTreeSet;
 use std::mem;
 

@@ -1,17 +1,17 @@
 //! States flow to the nodes of their keys.
 
+use crate::configuration::Place;
+use crate::joining::join;
+use crate::keys::NodeKey;
+use crate::register_set::{REGISTERS, RegisterSet};
 use crate::stop::Stop;
+use crate::tracking::keep_tracked;
 use crate::types::{CellValue, Edge, Node, Run, Spot};
 use arrayvec::ArrayVec;
-use gb_abs::covering::{cell_at, covers};
-use gb_abs::operations::with_value;
-use gb_joins::joining::join;
-use gb_joins::tracking::keep_tracked;
 use gb_ops::op::Register;
-use gb_partition::configuration::Place;
-use gb_partition::keys::NodeKey;
-use gb_partition::register_set::{REGISTERS, RegisterSet};
-use gb_states::types::{Abs, Cell, Core};
+use gb_verify::gb_abs::covering::{cell_at, covers};
+use gb_verify::gb_abs::operations::with_value;
+use gb_verify::gb_states::types::{Abs, Cell, Core};
 
 /// How often a node grows by joins alone.
 const GROWTHS: u32 = 60;

@@ -3,17 +3,32 @@
 //! Nothing here is trusted: a certificate that comes out is judged by the checker. Every function is proved safe and
 //! to return.
 //!
-//! Read `types` and `run`, then `stepping`, `flow`, `calls` and `exits`; `entries` is for who orders procedures. What is
-//! against an instruction is gb_causes'.
+//! States: `joining`, `steps` and `ranges` join and widen them, `configuration`, `keys` and `register_set` say how
+//! finely they are told apart, `cause` why a run stops. What is against an instruction in a state is `instruction` and
+//! `refusals`, by the checker's own tests; what is asked of the stack is stated again, told apart more finely. The
+//! run: read `types` and `run`, then `stepping`, `flow`, `calls` and `exits`; `entries` is for who orders procedures.
 #![tactic(auto)]
 
 mod calls;
+pub mod cause;
+pub mod configuration;
 pub mod entries;
 mod exits;
 mod flow;
+mod instruction;
+mod joining;
+pub mod keys;
+mod ranges;
 mod reading;
 mod records;
+mod refusals;
+pub mod register_set;
 mod run;
 mod stepping;
+mod steps;
 mod stop;
+mod tracking;
 pub mod types;
+
+pub use gb_verify;
+pub use gb_verify::{gb_abs, gb_abs_memory, gb_cert, gb_code, gb_header, gb_states};

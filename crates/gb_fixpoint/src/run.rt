@@ -1,18 +1,18 @@
 //! A run from power-up to the fixpoint.
 
+use crate::cause::{Cause, Failure, Outcome};
+use crate::configuration::{Configuration, Place};
+use crate::keys::{NodeKey, ProcedureKey};
+use crate::ranges::RangeSet;
+use crate::register_set::RegisterSet;
+use crate::steps::Steps;
 use crate::stop::Stop;
 use crate::types::{Procedure, Run, Spot, Turn};
-use gb_code::code::known_bytes;
-use gb_header::Rom;
-use gb_joins::ranges::RangeSet;
-use gb_joins::steps::Steps;
 use gb_ops::op::Register;
-use gb_partition::cause::{Cause, Failure, Outcome};
-use gb_partition::configuration::{Configuration, Place};
-use gb_partition::keys::{NodeKey, ProcedureKey};
-use gb_partition::register_set::RegisterSet;
-use gb_states::types::Abs;
 use gb_verify::check::core_at_power_up;
+use gb_verify::gb_code::code::known_bytes;
+use gb_verify::gb_header::Rom;
+use gb_verify::gb_states::types::Abs;
 use std::alloc::{AllocError, Global};
 use std::collections::{BTreeSet, HashMap, HashSet};
 

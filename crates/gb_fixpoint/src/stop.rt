@@ -1,6 +1,6 @@
 //! What ends a step, or a run.
 
-use gb_partition::cause::Failure;
+use crate::cause::Failure;
 use std::alloc::{AllocError, AllocFailed};
 
 /// Why a step, or a run, goes no further.

@@ -1,12 +1,12 @@
 //! What a run is made of: nodes, procedures, and what refinement asks of them.
 
-use gb_header::Rom;
-use gb_joins::ranges::RangeSet;
-use gb_joins::steps::Steps;
-use gb_partition::cause::Failure;
-use gb_partition::configuration::Configuration;
-use gb_partition::keys::{NodeKey, ProcedureKey};
-use gb_states::types::Abs;
+use crate::cause::Failure;
+use crate::configuration::Configuration;
+use crate::keys::{NodeKey, ProcedureKey};
+use crate::ranges::RangeSet;
+use crate::steps::Steps;
+use gb_verify::gb_header::Rom;
+use gb_verify::gb_states::types::Abs;
 use std::alloc::Global;
 use std::collections::{BTreeSet, HashMap, HashSet};
 

@@ -1,12 +1,12 @@
 //! Memory cells: which are tracked, and which registers were loaded from them.
 
 use crate::plan::{Edit, Plan};
-use gb_dataflow::sources::{copied, pointer_of, sources, stacked, without};
-use gb_dataflow::spots::{has_entry, op_at, open_at, pointed_at};
-use gb_dataflow::ways::Ways;
+use crate::sources::{copied, pointer_of, sources, stacked, without};
+use crate::spots::{has_entry, op_at, open_at, pointed_at};
+use crate::ways::Ways;
+use gb_fixpoint::register_set::{REGISTERS, RegisterSet};
 use gb_fixpoint::types::{Run, Spot};
 use gb_ops::op::{Op, Operand, Register, StackPair};
-use gb_partition::register_set::{REGISTERS, RegisterSet};
 use std::alloc::{AllocError, Global};
 use std::collections::{BTreeMap, BTreeSet};
 

@@ -1,7 +1,9 @@
 //! What certificates' maker refines after a failure: which states are to be told apart, and where.
 //!
-//! `plan_for` answers a plan for a run's failure, if anything may help. Read `plans`, then `slices`, `loops` and `cells`, all over
-//! `gb_dataflow`. Nothing here is trusted: a plan that doesn't help costs time alone.
+//! How data flows through the procedures of a run: `sources` (what instructions make registers from), `spots` (what a
+//! run knows at an address) and `ways` (a procedure's graph and its loops). Over them `plan_for` answers a plan for a
+//! run's failure, if anything may help: read `plans`, then `slices`, `loops` and `cells`. Nothing here is trusted: a
+//! plan that doesn't help costs time alone.
 #![tactic(auto)]
 
 mod cells;
@@ -9,7 +11,11 @@ mod loops;
 mod plan;
 mod plans;
 mod slices;
+mod sources;
+mod spots;
+mod ways;
 
 pub use cells::pointer_cells;
 pub use plan::{Edit, Plan, parted_by};
 pub use plans::plan_for;
+pub use sources::without;

@@ -1,11 +1,11 @@
 //! Loops: paged, then keyed, and their counters split.
 
 use crate::plan::{Edit, Plan, split_at};
-use gb_dataflow::spots::{op_at, place_of, value_of};
-use gb_dataflow::ways::{Loop, Ways};
+use crate::spots::{op_at, place_of, value_of};
+use crate::ways::{Loop, Ways};
+use gb_fixpoint::configuration::Place;
 use gb_fixpoint::types::{Run, Spot};
 use gb_ops::op::{Op, Operand, Register};
-use gb_partition::configuration::Place;
 use std::alloc::{AllocError, Global};
 
 /// The most values, less one, that a counter is split into.

@@ -1,8 +1,8 @@
 //! What refinement changes.
 
+use gb_fixpoint::configuration::{Configuration, Place};
+use gb_fixpoint::register_set::RegisterSet;
 use gb_ops::op::Register;
-use gb_partition::configuration::{Configuration, Place};
-use gb_partition::register_set::RegisterSet;
 use std::alloc::{AllocError, Global};
 use std::collections::BTreeSet;
 

@@ -4,12 +4,12 @@ use crate::cells::key_cells;
 use crate::loops::refine_loops;
 use crate::plan::{Edit, Plan, parted_by};
 use crate::slices::{Sought, slice};
-use gb_dataflow::spots::{is_known, place_of, value_of};
-use gb_dataflow::ways::Ways;
+use crate::spots::{is_known, place_of, value_of};
+use crate::ways::Ways;
+use gb_fixpoint::cause::{Cause, Failure};
+use gb_fixpoint::register_set::{REGISTERS, RegisterSet};
 use gb_fixpoint::types::{Procedure, Run, Spot};
 use gb_ops::op::Register;
-use gb_partition::cause::{Cause, Failure};
-use gb_partition::register_set::{REGISTERS, RegisterSet};
 use std::alloc::{AllocError, Global};
 use std::collections::BTreeSet;
 

@@ -2,13 +2,13 @@
 //! value.
 
 use crate::plan::{Edit, Plan, split_at};
-use gb_dataflow::sources::{count, first, pointer_of, sources};
-use gb_dataflow::spots::{has_entry, narrower, op_at, open_at, place_of, points_to_rom, width_at};
-use gb_dataflow::ways::Ways;
+use crate::sources::{count, first, pointer_of, sources};
+use crate::spots::{has_entry, narrower, op_at, open_at, place_of, points_to_rom, width_at};
+use crate::ways::Ways;
+use gb_fixpoint::configuration::Place;
+use gb_fixpoint::register_set::RegisterSet;
 use gb_fixpoint::types::{Run, Spot};
 use gb_ops::op::Register;
-use gb_partition::configuration::Place;
-use gb_partition::register_set::RegisterSet;
 use std::alloc::{AllocError, Global};
 
 /// How many instructions a slice goes back.

@@ -24,3 +24,5 @@ pub mod picture;
 pub mod ppu;
 pub mod registers;
 pub mod scene;
+
+pub use gb_timer;

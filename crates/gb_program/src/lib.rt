@@ -1,6 +1,6 @@
 //! The program: its words, files and statuses, and what it says to a person.
 //!
-//! `run` does what the words ask for; the lines that it prints are gb_verify's and gb_main's, whose contracts say what they
+//! `run` does what the words ask for; the lines that it prints are gb_verify's and gb_printed's, whose contracts say what they
 //! are. `status` says which status each outcome has. Read `perform` first, then `status`; files are read by gb_files, and what
 //! `certify` does alike is gb_command_line's.
 #![tactic(auto)]

@@ -1,6 +1,6 @@
 //! How far a run has come, for whoever waits for it.
 
-use gb_main::Progress;
+use gb_printed::Progress;
 
 /// The frames from one telling to the next.
 const STEP: u32 = 100;

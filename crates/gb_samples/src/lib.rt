@@ -11,3 +11,5 @@ pub mod programs;
 pub mod spelled;
 pub mod states;
 pub mod streams;
+
+pub use gb_states;

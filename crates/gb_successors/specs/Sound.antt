@@ -156,7 +156,8 @@ pub record IsHalt (row : Row) : Type 0 where
   pub length_is : row.length ≡ 1
   pub cycles_are : row.cycles ≡ 1
 
--- Whatever an instruction does, it leads by one of the successors: executed, or HALT with an interrupt that is requested.
+-- Whatever an instruction but STOP does where the HALT mark is clear, it leads by one of the successors: executed, or HALT with an
+-- interrupt that is requested.
 -- Then, with IME pending, the processor stays on it; with IME off the byte behind it will be read twice.
 pub record AreSoundSuccessors (rom : List ℕ) (row : Row) (a : ℕ) (s : AbsState) (ss : Successors) : Type 0 where
   pub executes :

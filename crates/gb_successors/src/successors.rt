@@ -5,12 +5,12 @@ ghost use Rattle.gb_successors.specs.Successors as Succession;
 ghost use Rattle.gb_successors.specs.Sound.{AreSoundSuccessors};
 
 use crate::successor::{Successor, staying_successor, taken_successor, untaken_successor};
+use gb_abs::gb_vals::bits::may_enable;
 use gb_abs::operations::settle;
 use gb_abs_effects::sides::sides_of;
-use gb_header::Rom;
+use gb_abs_memory::gb_header::Rom;
 use gb_ops::op::{Op, Row};
 use gb_states::types::{Abs, Core};
-use gb_vals::bits::may_enable;
 
 /// The possible successors of an instruction.
 #[derive(Drop)]
@@ -44,7 +44,8 @@ fn stays(row: Row, address: u16, state: &Abs) -> Option<Successor<'_>>
 }
 
 /// The possible successors of the instruction at an address, from the states that one stands for.
-/// Whatever the machine does there leads by one of them, if nothing refuses that one's accesses.
+/// Where the HALT mark is clear and the instruction isn't STOP, executing it leads by one of them, if
+/// nothing refuses that one's accesses; so do staying on HALT and the halt bug.
 #[tactic(auto, using(crate::proofs::WayLaws::successors_of_sound))]
 pub fn successors_of<'a>(rom: &Rom<'_>, row: Row, address: u16, state: &'a Abs) -> Successors<'a>
     ensures exact { result ≡ Succession.successors_of rom.now row address state.now }

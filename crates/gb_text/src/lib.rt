@@ -9,3 +9,5 @@ pub mod kept_bytes;
 pub mod line;
 pub mod put;
 pub mod sink;
+
+pub use gb_header;

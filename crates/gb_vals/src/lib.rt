@@ -20,3 +20,5 @@ pub mod outcome;
 pub mod shifts;
 pub mod sums;
 pub mod vals;
+
+pub use gb_effects;

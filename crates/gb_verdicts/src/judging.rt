@@ -1,8 +1,8 @@
 //! The checker's verdicts.
 
-use gb_text::kept_bytes::KeptBytes;
-use gb_text::line::Line;
-use gb_verify::verify::verify_bytes;
+use gb_console::gb_text::kept_bytes::KeptBytes;
+use gb_console::gb_text::line::Line;
+use gb_console::gb_verify::verify::verify_bytes;
 use std::alloc::Global;
 use std::io::{self, Write};
 
@@ -18,11 +18,57 @@ pub fn judge<W: Write>(alloc: Global, out: &mut W, rom: &[u8], cert: &[u8]) -> i
     out.write_all(verdict_line(alloc, rom, cert).as_slice())
 }
 
-/// Prints the first word of the verdict on a certificate that was made: how many nodes it has is the maker's choice.
-pub fn judge_made<W: Write>(alloc: Global, out: &mut W, rom: &[u8], cert: &[u8]) -> io::Result<()> {
+/// The most nodes and procedures that a certificate may have which is made.
+#[derive(Clone, Copy)]
+pub struct Ceiling {
+    pub nodes: usize,
+    pub procedures: usize,
+}
+
+/// The number that follows a word of a line.
+fn number_behind(line: &str, word: &str) -> Option<usize> {
+    let mut is_behind = false;
+    for found in line.trim().split(' ') {
+        if is_behind {
+            return found.parse::<usize>().ok();
+        }
+        is_behind = found == word;
+    }
+    None
+}
+
+/// Whether a verdict's line has no more nodes and procedures than a ceiling.
+fn is_kept(line: &str, ceiling: Ceiling) -> bool {
+    match (
+        number_behind(line, "nodes"),
+        number_behind(line, "procedures"),
+    ) {
+        (Some(nodes), Some(procedures)) => {
+            nodes <= ceiling.nodes && procedures <= ceiling.procedures
+        }
+        _ => false,
+    }
+}
+
+/// Prints the first word of the verdict on a certificate that was made, and whether it keeps its ceiling: how many nodes it
+/// has else is the maker's choice.
+pub fn judge_made<W: Write>(
+    alloc: Global,
+    out: &mut W,
+    rom: &[u8],
+    cert: &[u8],
+    ceiling: Option<Ceiling>,
+) -> io::Result<()> {
     let line = verdict_line(alloc, rom, cert);
-    for word in line.as_slice().split(|byte| *byte == b' ').take(1) {
-        out.write_all(word)?;
+    let text = str::from_utf8(line.as_slice()).unwrap_or("");
+    out.write_all(text.split(' ').next().unwrap_or("").as_bytes())?;
+    if let Some(ceiling) = ceiling {
+        let says = if is_kept(text, ceiling) {
+            ", no more nodes and procedures than are told"
+        } else {
+            ", more nodes or procedures than are told"
+        };
+        out.write_all(says.as_bytes())?;
     }
     writeln!(out)
 }

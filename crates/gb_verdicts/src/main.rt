@@ -7,7 +7,8 @@
 //! An example is some lines: `about` with a sentence; `sizes` with the bytes 0147 to 0149; `rom` with an offset and bytes
 //! that lie there, beside the start at 0100 and the header; `fill` with the byte that the whole file has, or `length` with the
 //! file's own; `cert` with bytes that follow one another, as often as it takes; `symbol` with a line of its file of symbols;
-//! `keys` with the bytes of a script; and what is to be done: `verdict`, `certify`, `json`, and `frames` with a number.
+//! `keys` with the bytes of a script; `most` with the nodes and the procedures that a certificate which is made may have;
+//! and what is to be done: `verdict`, `certify`, `json`, and `frames` with a number.
 //! Numbers are hexadecimal, and other lines mean nothing. `examples/text` writes those of the games.
 #![tactic(auto)]
 
@@ -17,18 +18,20 @@ mod running;
 
 use gb_samples::cartridges::put;
 use gb_samples::spelled::{Example, bytes_of, number_of, word_of};
-use judging::judge;
+use judging::{Ceiling, judge};
 use making::{Telling, certify};
 use running::run;
 use std::alloc::Global;
 use std::io::{self, BufRead, BufReader, BufWriter, Write};
 
-/// A cartridge and a certificate, the text of its symbols, and the keys that are held in each frame.
+/// A cartridge and a certificate, the text of its symbols, the keys that are held in each frame, and how large a
+/// certificate may be that is made.
 #[derive(Drop)]
 struct Played {
     files: Example,
     symbols: String,
     keys: Vec<u8>,
+    most: Option<Ceiling>,
 }
 
 impl Played {
@@ -38,6 +41,7 @@ impl Played {
             files: Example::new(alloc),
             symbols: String::new(alloc),
             keys: Vec::new(alloc),
+            most: None,
         }
     }
 
@@ -47,7 +51,14 @@ impl Played {
 
     /// Makes a certificate of the cartridge.
     fn certify<W: Write>(&self, alloc: Global, out: &mut W, telling: Telling) -> io::Result<()> {
-        certify(alloc, out, self.rom(), self.symbols.as_bytes(), telling)
+        certify(
+            alloc,
+            out,
+            self.rom(),
+            self.symbols.as_bytes(),
+            telling,
+            self.most,
+        )
     }
 }
 
@@ -56,6 +67,15 @@ fn resized(alloc: Global, bytes: &[u8], length: usize) -> io::Result<Vec<u8>> {
     let mut resized = vec![in alloc; 0; length]?;
     put(resized.as_mut_slice(), 0, bytes);
     Ok(resized)
+}
+
+/// The ceiling of two numbers.
+fn ceiling_of(rest: &str) -> Ceiling {
+    let (nodes, procedures) = word_of(rest);
+    Ceiling {
+        nodes: number_of(nodes),
+        procedures: number_of(procedures),
+    }
 }
 
 /// Takes a line that says what the example is.
@@ -71,6 +91,7 @@ fn take(alloc: Global, played: &mut Played, word: &str, rest: &str) -> io::Resul
             played.symbols.push('\n')?;
         }
         "keys" => played.keys = bytes_of(alloc, rest),
+        "most" => played.most = Some(ceiling_of(rest)),
         _ => played.files.take(alloc, word, rest)?,
     }
     Ok(())

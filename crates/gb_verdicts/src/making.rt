@@ -1,10 +1,9 @@
 //! Certificates are made of cartridges, or it is told what is in the way.
 
-use crate::judging::judge_made;
-use gb_header::Rom;
-use gb_obstacles::{Obstacle, Standing, Told, obstacle_json};
+use crate::judging::{Ceiling, judge_made};
+use gb_console::gb_header::Rom;
+use gb_refine::gb_reports::{Obstacle, Standing, Symbols, Told, obstacle_json};
 use gb_refine::{Limits, Made, Progress, make};
-use gb_symbols::Symbols;
 use std::alloc::Global;
 use std::io::{self, Write};
 
@@ -89,6 +88,7 @@ pub fn certify<W: Write>(
     cartridge: &[u8],
     symbols: &[u8],
     telling: Telling,
+    ceiling: Option<Ceiling>,
 ) -> io::Result<()> {
     let Ok(rom) = Rom::parse(cartridge) else {
         return writeln!(out, "no cartridge");
@@ -97,7 +97,9 @@ pub fn certify<W: Write>(
         return writeln!(out, "no symbols");
     };
     match (make(alloc, &rom, LIMITS, &mut Silent)?, telling) {
-        (Made::Certificate(cert), _) => judge_made(alloc, out, cartridge, cert.as_slice()),
+        (Made::Certificate(cert), _) => {
+            judge_made(alloc, out, cartridge, cert.as_slice(), ceiling)
+        }
         (Made::Obstacles(obstacles), Telling::Words) => {
             tell(alloc, out, obstacles.as_slice(), &symbols)
         }

@@ -4,8 +4,8 @@ use Rattle.gb_ops.specs.declared.machine.Event.{Event}
 use Rattle.gb_ops.specs.Play.{MState, IsStart}
 use Rattle.gb_states.specs.Certificate.{Certificate}
 use Rattle.gb_states.specs.Rules.{IsCertificate}
-use Rattle.gb_blocks.specs.Frames.{IsStanding}
-use Rattle.gb_blocks.proofs.FrameRunLaws.{AreEventsSafe, IsSafeRun, IsStanding-start, IsStanding-running, run_safe}
+use Rattle.gb_rules.specs.Frames.{IsStanding}
+use Rattle.gb_rules.proofs.FrameRunLaws.{AreEventsSafe, IsSafeRun, IsStanding-start, IsStanding-running, run_safe}
 use Rattle.gb_verify.specs.Verdict.{is_bad_entry}
 use Rattle.gb_verify.specs.Headline.{IsSafe}
 use Rattle.gb_verify.proofs.StartLaws.{IsMeant-start, main_base}

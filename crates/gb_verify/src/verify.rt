@@ -6,9 +6,9 @@ ghost use Rattle.gb_verify.specs.Text.{certificate_text, IsAnswer, IfAcceptedAns
 
 use crate::check::check;
 use crate::verdict::Verdict;
-use gb_cert::{Cert, CertFault};
-use gb_header::{HeaderFault, Rom};
+use gb_rules::gb_cert::{Cert, CertFault};
 use gb_text::cartridge::cartridge_line;
+use gb_text::gb_header::{HeaderFault, Rom};
 use gb_text::line::Line;
 use gb_text::put::put_all;
 use gb_text::sink::{OutFault, Sink};
@@ -111,7 +111,7 @@ pub fn verify_bytes<W: Sink>(
     out: &mut W,
 ) -> Result<Outcome, OutFault>
     requires { W.has_failed out.old ≡ false }
-    // What was written is the line of the two files, once, or where memory ran out its own.
+    // On a sink that tells its bytes, what was written is the line of the two files, once, or where memory ran out its own.
     ensures line { IfOk result (λ outcome. Gains (W.contents out.old) (written outcome rom.now cert.now) (W.contents out.new)) }
     // The outcome names the line's kind; memory runs out only behind a cartridge that can be read.
     ensures outcome { IfOk result (λ outcome. IsOutcome outcome rom.now cert.now) }

@@ -1,7 +1,0 @@
-use Rattle.gb_abs.specs.Operations.{with_core}
-use Rattle.gb_blocks.specs.Covered.{is_cover}
-use Rattle.gb_blocks.proofs.SearchLaws.{NoneBefore}
-use Rattle.gb_blocks.proofs.covered.is_covered_by_one.Given as goal
-
-abbrev pub invariant-loop-i : goal.invariant-loop-i
-invariant-loop-i l = NoneBefore (is_cover l.procedure l.address (with_core l.lists l.core)) l.cert.nodes l.i

@@ -1,5 +1,0 @@
-use Rattle.std.proofs.Common.{◌≡◌, ◌&&◌, ◌||◌, ℕ, false, nat_le, nat_lt, slice_index_or}
-use Rattle.gb_blocks.proofs.covered.mark.Given as goal
-
-abbrev pub invariant-loop-value : goal.invariant-loop-value
-invariant-loop-value l = (v : ℕ) → slice_index_or l.marks v false ≡ (slice_index_or l.initial.marks v false || (nat_le l.val.lo v && (nat_lt v l.value && nat_le v l.val.hi)))

@@ -1,5 +1,0 @@
-pub mod Covered
-pub mod Procedures
-pub mod Rules
-pub mod Safety
-pub mod Frames

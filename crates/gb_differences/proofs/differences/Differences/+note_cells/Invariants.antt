@@ -1,5 +1,0 @@
-use Rattle.std.proofs.Common.{length}
-use Rattle.gb_differences.proofs.differences.Differences.+note_cells.Given as goal
-
-abbrev pub decreases-note_cells : goal.decreases-note_cells
-decreases-note_cells l = length l.t.now

@@ -1,0 +1,215 @@
+//! The parts of a state that another state doesn't stand for.
+
+ghost use Rattle.std.specs.Prelude.{◌≡◌, true};
+ghost use Rattle.gb_abs.specs.Covering as Covering;
+ghost use Rattle.gb_explain.specs.Noted.{IsNoted};
+
+use crate::difference::{Difference, Known, Part};
+use gb_abs::covering::{cell_at, covers_ime, covers_may, covers_origin, covers_test, covers_val};
+use gb_abs::gb_states::types::{Abs, Cell, Core, Ctl, Flg, Item, May, Val};
+use gb_ops::op::Register;
+use gb_ops::registers::Registers;
+
+/// The parts of a state that another doesn't stand for. It prints a line for each of the first of them, behind an end of
+/// line.
+#[derive(Clone, Copy)]
+pub struct Differences {
+    /// The first parts, as many as are told.
+    pub first: [Option<Difference>; 9],
+    /// How many parts there are.
+    pub count: u32,
+}
+
+/// What is told of two values: their bounds, and where they are copies of others too, that.
+fn known_vals(s: &Val, t: &Val) -> (Known, Known) {
+    if covers_origin(s.origin, t.origin) {
+        (Known::Bytes(s.lo, s.hi), Known::Bytes(t.lo, t.hi))
+    } else {
+        (Known::Copy(*s), Known::Copy(*t))
+    }
+}
+
+/// How many words there are, where these begin with the word of a number.
+fn counts(number: usize, s: &[Item], t: &[Item]) -> (Known, Known) {
+    let before = number.wrapping_sub(1);
+    (
+        Known::Count(before.wrapping_add(s.len())),
+        Known::Count(before.wrapping_add(t.len())),
+    )
+}
+
+impl Differences {
+    /// No parts.
+    pub fn none() -> Differences
+        ensures { result.count ≡ 0 }
+    {
+        Differences {
+            first: [None; 9],
+            count: 0,
+        }
+    }
+
+    /// How many parts there are beside the first ones.
+    pub fn more(&self) -> u32 {
+        self.count.saturating_sub(self.first.len() as u32)
+    }
+
+    /// A part is one of them, unless it is covered.
+    fn note(&mut self, is_covered: bool, part: Part, known: (Known, Known))
+        ensures { IsNoted self.old.count self.new.count is_covered }
+    {
+        if is_covered {
+            return;
+        }
+        let (left, claimed) = known;
+        if let Some(place) = self.first.get_mut(self.count as usize) {
+            *place = Some(Difference {
+                part,
+                left,
+                claimed,
+            });
+        }
+        self.count = self.count.saturating_add(1);
+    }
+
+    fn note_val(&mut self, part: Part, s: &Val, t: &Val)
+        ensures { IsNoted self.old.count self.new.count (Covering.covers_val s.now t.now) }
+    {
+        self.note(covers_val(s, t), part, known_vals(s, t));
+    }
+
+    fn note_flag(&mut self, part: Part, s: May, t: May)
+        ensures { IsNoted self.old.count self.new.count (Covering.covers_may s t) }
+    {
+        self.note(covers_may(s, t), part, (Known::Flag(s), Known::Flag(t)));
+    }
+
+    #[tactic(auto, unfolding(gb_abs::specs::Covering::covers_registers))]
+    fn note_registers(&mut self, s: &Registers<Val>, t: &Registers<Val>)
+        ensures { IsNoted self.old.count self.new.count (Covering.covers_registers s.now t.now) }
+    {
+        self.note_val(Part::Register(Register::A), &s.a, &t.a);
+        self.note_val(Part::Register(Register::B), &s.b, &t.b);
+        self.note_val(Part::Register(Register::C), &s.c, &t.c);
+        self.note_val(Part::Register(Register::D), &s.d, &t.d);
+        self.note_val(Part::Register(Register::E), &s.e, &t.e);
+        self.note_val(Part::Register(Register::H), &s.h, &t.h);
+        self.note_val(Part::Register(Register::L), &s.l, &t.l);
+    }
+
+    #[tactic(auto, unfolding(gb_abs::specs::Covering::covers_flags))]
+    fn note_flags(&mut self, s: &Flg, t: &Flg)
+        ensures { IsNoted self.old.count self.new.count (Covering.covers_flags s.now t.now) }
+    {
+        self.note_flag(Part::Zero, s.zero, t.zero);
+        self.note_flag(Part::Subtract, s.subtract, t.subtract);
+        self.note_flag(Part::HalfCarry, s.half_carry, t.half_carry);
+        self.note_flag(Part::Carry, s.carry, t.carry);
+        let is_kept = !t.is_own || s.is_own;
+        self.note(
+            is_kept,
+            Part::Flags,
+            (Known::Kept(s.is_own), Known::Kept(t.is_own)),
+        );
+    }
+
+    #[tactic(auto, unfolding(gb_abs::specs::Covering::covers_controller))]
+    fn note_controller(&mut self, s: &Ctl, t: &Ctl)
+        ensures { IsNoted self.old.count self.new.count (Covering.covers_controller s.now t.now) }
+    {
+        let is_bank = t.bank_lo <= s.bank_lo && s.bank_hi <= t.bank_hi;
+        let banks = (
+            Known::Banks(s.bank_lo, s.bank_hi),
+            Known::Banks(t.bank_lo, t.bank_hi),
+        );
+        self.note(is_bank, Part::Bank, banks);
+        let is_second = t.second_lo <= s.second_lo && s.second_hi <= t.second_hi;
+        let seconds = (
+            Known::Bytes(s.second_lo, s.second_hi),
+            Known::Bytes(t.second_lo, t.second_hi),
+        );
+        self.note(is_second, Part::Second, seconds);
+        let gates = (Known::Gate(s.gate), Known::Gate(t.gate));
+        self.note(covers_may(s.gate, t.gate), Part::Gate, gates);
+        self.note_flag(Part::Mode, s.mode, t.mode);
+        let is_kept = !t.is_kept || s.is_kept;
+        self.note(
+            is_kept,
+            Part::Controller,
+            (Known::Kept(s.is_kept), Known::Kept(t.is_kept)),
+        );
+    }
+
+    #[tactic(auto, unfolding(gb_abs::specs::Covering::covers_core))]
+    fn note_core(&mut self, s: &Core, t: &Core)
+        ensures { IsNoted self.old.count self.new.count (Covering.covers_core s.now t.now) }
+    {
+        self.note_registers(&s.registers, &t.registers);
+        self.note_flags(&s.flags, &t.flags);
+        self.note_val(Part::InterruptEnable, &s.ie, &t.ie);
+        let imes = (Known::Ime(s.ime), Known::Ime(t.ime));
+        self.note(covers_ime(&s.ime, &t.ime), Part::Ime, imes);
+        self.note_controller(&s.ctl, &t.ctl);
+        let bounds = (
+            Known::Count(usize::from(s.bound)),
+            Known::Count(usize::from(t.bound)),
+        );
+        self.note(s.bound <= t.bound, Part::TransferBound, bounds);
+        let is_set = !t.stack_set || s.stack_set;
+        self.note(
+            is_set,
+            Part::Stack,
+            (Known::Set(s.stack_set), Known::Set(t.stack_set)),
+        );
+        let tests = (Known::Test(s.test), Known::Test(t.test));
+        self.note(covers_test(s.test, t.test), Part::Test, tests);
+    }
+
+    /// Words of both, from that with a number on.
+    fn note_words(&mut self, number: usize, s: &[Item], t: &[Item])
+        ensures { IsNoted self.old.count self.new.count (Covering.covers_items s.now t.now) }
+    {
+        let Some((first, rest)) = s.split_first() else {
+            self.note(t.is_empty(), Part::Words, counts(number, s, t));
+            return;
+        };
+        let Some((other, others)) = t.split_first() else {
+            self.note(false, Part::Words, counts(number, s, t));
+            return;
+        };
+        self.note_val(Part::HighByte(number), &first.high, &other.high);
+        self.note_val(Part::LowByte(number), &first.low, &other.low);
+        self.note_words(number.wrapping_add(1), rest, others);
+    }
+
+    #[tactic(auto, unfolding(gb_abs::specs::Covering::covers_cells))]
+    fn note_cells(&mut self, s: &[Cell], t: &[Cell])
+        ensures { IsNoted self.old.count self.new.count (Covering.covers_cells s.now t.now) }
+    {
+        let Some((cell, rest)) = t.split_first() else {
+            return;
+        };
+        let part = Part::Cell(cell.address);
+        self.note_val(part, &cell_at(cell.address, s), &cell.val);
+        self.note_cells(s, rest);
+    }
+
+    #[tactic(auto, unfolding(gb_abs::specs::Covering::covers))]
+    fn note_each(&mut self, s: &Abs, t: &Abs)
+        ensures { IsNoted self.old.count self.new.count (Covering.covers s.now t.now) }
+    {
+        self.note_core(s.core(), t.core());
+        self.note_words(1, s.items(), t.items());
+        self.note_cells(s.cells(), t.cells());
+    }
+
+    /// The parts of s that t doesn't stand for, by the comparisons of `covers`.
+    pub fn of(s: &Abs, t: &Abs) -> Differences
+        // Where it lists nothing, t stands for s.
+        ensures complete { result.count ≡ 0 → Covering.covers s.now t.now ≡ true }
+    {
+        let mut found = Differences::none();
+        found.note_each(s, t);
+        found
+    }
+}

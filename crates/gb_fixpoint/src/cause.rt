@@ -1,0 +1,114 @@
+//! Why a run stopped.
+
+use crate::register_set::RegisterSet;
+use gb_verify::gb_abs::reason::Reason;
+use gb_verify::gb_abs::span::Span;
+
+/// What an instruction does to the stack that no rule allows.
+#[derive(Clone, Copy, PartialEq, Eq)]
+pub enum StackMisuse {
+    /// A word is pushed, or popped, before LD SP,n16.
+    NotSet,
+    /// POP where none of the procedure's own words is on the stack.
+    PopsReturnWord,
+    /// INC SP, DEC SP, ADD SP,e8 or LD SP,HL.
+    Moved,
+    /// LD SP,n16 in a procedure that is called.
+    SetInCallee,
+    /// LD SP,n16 with another address than the one before.
+    SetAgain(u16),
+}
+
+/// What happens while an OAM transfer may run, or how one would start unseen.
+#[derive(Clone, Copy, PartialEq, Eq)]
+pub enum TransferMisuse {
+    /// The instruction lies outside high RAM.
+    Code,
+    /// It reads or writes outside high RAM.
+    Access(Span),
+    /// It uses the stack, which lies outside high RAM.
+    Stack,
+    /// An interrupt may come, whose dispatch pushes outside high RAM.
+    Interrupt,
+    /// A store to several addresses may start a transfer, FF46 among them.
+    Start(Span),
+}
+
+/// Why a node has no successor states.
+#[derive(Clone, Copy, PartialEq, Eq)]
+pub enum Cause {
+    /// The instruction lies outside the areas for code, or leaves its area.
+    Area,
+    /// The bank shown at the address isn't known.
+    Bank,
+    /// This byte of the instruction isn't known.
+    Unreadable { byte: u16 },
+    UndefinedOpcode { opcode: u8 },
+    Stop,
+    /// HALT where interrupts may be off, and no NOP behind it.
+    Halt,
+    Stack(StackMisuse),
+    /// More than 16 words are pushed.
+    PushesTooMany,
+    /// A procedure at this address may be called or dispatched while it runs.
+    Recursion { target: u16 },
+    /// A store where none is allowed.
+    Store { span: Span },
+    /// Cartridge RAM may be met while the gate may be closed, or where there is none.
+    CartridgeRam { span: Span },
+    /// An OAM transfer may copy cartridge RAM while the gate may be closed: FF46 gets this page or the next ones.
+    CopiesCartridgeRam { first_page: u8, last_page: u8 },
+    OamTransfer(TransferMisuse),
+    /// JP HL with HL not known.
+    JumpHl,
+    /// RET in main.
+    ReturnInMain,
+    /// RET with so many words on the stack.
+    ReturnWithWords { words: usize },
+    /// Interrupt 0 to 4 may come before LD SP,n16.
+    InterruptWithoutStack { interrupt: u8 },
+}
+
+/// Why a run stopped, and at which node.
+#[derive(Clone, Copy, PartialEq, Eq)]
+pub struct Failure {
+    /// The number of the node.
+    pub node: usize,
+    pub cause: Cause,
+    /// The registers that the access or the jump went by: a pair, C, or A that was stored to FF46. They may be known.
+    pub registers: RegisterSet,
+}
+
+/// What a run came to.
+#[derive(Clone, Copy, PartialEq, Eq)]
+pub enum Outcome {
+    /// All nodes are covered.
+    Finished,
+    Failed(Failure),
+    /// LD SP,n16 was met for the first time, and sets another stack than the configuration says.
+    StackSet { sp: u16 },
+    /// The limit of nodes, of procedures or of steps was met.
+    TooLarge,
+}
+
+impl Cause {
+    /// The checker's reason.
+    pub fn reason(self) -> Reason {
+        match self {
+            Cause::Area => Reason::Area,
+            Cause::Bank => Reason::Bank,
+            Cause::Unreadable { .. } => Reason::Unreadable,
+            Cause::UndefinedOpcode { .. } => Reason::UndefinedOpcode,
+            Cause::Stop => Reason::Stop,
+            Cause::Halt => Reason::Halt,
+            Cause::Stack(_) => Reason::Stack,
+            Cause::PushesTooMany | Cause::Recursion { .. } => Reason::Depth,
+            Cause::Store { .. } => Reason::Store,
+            Cause::CartridgeRam { .. } | Cause::CopiesCartridgeRam { .. } => Reason::CartridgeRam,
+            Cause::OamTransfer(_) => Reason::OamTransfer,
+            Cause::JumpHl => Reason::JumpHl,
+            Cause::ReturnInMain | Cause::ReturnWithWords { .. } => Reason::Return,
+            Cause::InterruptWithoutStack { .. } => Reason::Interrupt,
+        }
+    }
+}

@@ -1,0 +1,74 @@
+//! How finely a run tells states apart.
+
+use crate::register_set::RegisterSet;
+use gb_ops::machine::Region;
+use std::alloc::{AllocError, Global};
+use std::collections::{BTreeSet, HashMap, HashSet};
+
+/// The most nodes of a run, where nothing else is said.
+pub const NODES: usize = 400_000;
+
+/// An address in the procedures that begin at another one.
+#[derive(Clone, Copy, PartialEq, Eq, PartialOrd, Ord, Hash)]
+pub struct Place {
+    /// The address where the procedure begins.
+    pub target: u16,
+    pub address: u16,
+}
+
+/// What refinement has decided so far. Each failure adds an edit; the last one may be taken back, and at the end what a
+/// certificate doesn't need is.
+#[derive(Clone, Drop)]
+pub struct Configuration {
+    /// The stack region.
+    pub region: Region,
+    /// Whether LD SP,n16 was met, by which the region is set.
+    pub is_stack_seen: bool,
+    /// The memory cells that are kept, at most 32.
+    pub tracked: BTreeSet<u16>,
+    /// Where the known registers are part of the key.
+    pub keyed: HashSet<Place>,
+    /// Where H and D are taken value by value, while they have at most 8 values, and are part of the key.
+    pub paged: HashSet<Place>,
+    /// The registers of which one is taken value by value on arrival: of those that aren't known the one with the fewest
+    /// values. Covering goes value by value over one register alone, so another one has to wait for the next address.
+    pub split: HashMap<Place, RegisterSet>,
+    /// By the address where procedures begin, the registers by whose known values they are parted.
+    pub parted: HashMap<u16, RegisterSet>,
+    /// Where procedures begin that are not parted by the controller and the key cells.
+    pub flat: HashSet<u16>,
+    /// The cells whose known values are part of every key: shadows of the bank, states.
+    pub key_cells: BTreeSet<u16>,
+    /// Places with a failure that stands. Nothing goes on from there; the run goes on elsewhere.
+    pub given_up: HashSet<Place>,
+    /// The values at which widening stops, besides 0 and 255.
+    pub points: BTreeSet<u8>,
+    /// The most nodes.
+    pub limit: usize,
+}
+
+/// Where widening stops at first.
+const POINTS: [u8; 16] = [0, 1, 2, 3, 4, 7, 8, 15, 16, 31, 32, 63, 64, 127, 128, 255];
+
+impl Configuration {
+    /// The coarsest one. Its region is that of the stack at power-up, one word below FFFE.
+    pub fn new(alloc: Global) -> Result<Configuration, AllocError> {
+        Ok(Configuration {
+            region: Region {
+                first: 0xFFFC,
+                last: 0xFFFD,
+            },
+            is_stack_seen: false,
+            tracked: BTreeSet::new(alloc),
+            keyed: HashSet::new(alloc),
+            paged: HashSet::new(alloc),
+            split: HashMap::new(alloc),
+            parted: HashMap::new(alloc),
+            flat: HashSet::new(alloc),
+            key_cells: BTreeSet::new(alloc),
+            given_up: HashSet::new(alloc),
+            points: BTreeSet::from_array(alloc, POINTS)?,
+            limit: NODES,
+        })
+    }
+}

@@ -1,0 +1,65 @@
+//! The instruction at an address, or why there is none that can be executed.
+
+use crate::cause::{Cause, StackMisuse};
+use gb_ops::decode::decode;
+use gb_ops::op::{Op, Pair, Row};
+use gb_verify::gb_abs_memory::shown::known_bank;
+use gb_verify::gb_code::code::{area_end, known_byte, known_bytes, leaves_area};
+use gb_verify::gb_header::Rom;
+use gb_verify::gb_rules::rules::is_nop_behind;
+use gb_verify::gb_states::types::Abs;
+
+/// The first byte of the instruction at an address that isn't known.
+fn unknown_byte(rom: &Rom<'_>, state: &Abs, address: u16) -> u16 {
+    for offset in 0..3u16 {
+        let place = address.wrapping_add(offset);
+        if known_byte(rom, state, place).is_none() {
+            return place;
+        }
+    }
+    address
+}
+
+/// The instruction at an address, or why it isn't known.
+pub fn decoded(rom: &Rom<'_>, state: &Abs, address: u16) -> Result<Row, Cause> {
+    let opcode = known_byte(rom, state, address);
+    if leaves_area(address, opcode, area_end(address)) {
+        return Err(Cause::Area);
+    }
+    if known_bank(rom, &state.core().ctl, address).is_none() {
+        return Err(Cause::Bank);
+    }
+    let Some(bytes) = known_bytes(rom, state, address) else {
+        return Err(Cause::Unreadable {
+            byte: unknown_byte(rom, state, address),
+        });
+    };
+    match decode(&bytes) {
+        Some(row) => Ok(row),
+        None => Err(Cause::UndefinedOpcode { opcode: bytes[0] }),
+    }
+}
+
+/// What an instruction but LD SP,n16 does to the stack that no rule allows.
+fn misuse(state: &Abs, op: Op) -> Option<StackMisuse> {
+    match op {
+        Op::Push(_) | Op::CallIf(_, _) | Op::Call(_) | Op::Restart(_) | Op::Pop(_)
+            if !state.core().stack_set => { Some(StackMisuse::NotSet) }
+        Op::Pop(_) if state.items().is_empty() => Some(StackMisuse::PopsReturnWord),
+        Op::IncrementPair(Pair::Sp) | Op::DecrementPair(Pair::Sp) | Op::AddSp(_) | Op::LoadSpHl =>
+            Some(StackMisuse::Moved),
+        _ => None,
+    }
+}
+
+/// Why a known instruction can't be executed, but for what LD SP,n16 loads.
+pub fn refused(rom: &Rom<'_>, state: &Abs, address: u16, op: Op) -> Option<Cause> {
+    match op {
+        Op::Stop => Some(Cause::Stop),
+        Op::Halt
+            if state.core().ime.off && !is_nop_behind(rom, state, address, area_end(address)) => {
+            Some(Cause::Halt)
+        }
+        _ => misuse(state, op).map(Cause::Stack),
+    }
+}

@@ -1,0 +1,133 @@
+//! The least state above two others.
+
+use arrayvec::ArrayVec;
+use gb_ops::registers::Registers;
+use gb_verify::gb_states::types::{Abs, Cell, Core, Ctl, Flg, ImeSet, Item, May, Origin, Val};
+use gb_verify::gb_vals::vals::any;
+
+/// The origin of both, if it is one.
+fn join_origin(a: Option<Origin>, b: Option<Origin>) -> Option<Origin> {
+    match (a, b) {
+        (Some(first), Some(second)) if first == second => Some(first),
+        _ => None,
+    }
+}
+
+/// The least interval around both.
+pub fn join_val(a: Val, b: Val) -> Val {
+    Val {
+        lo: a.lo.min(b.lo),
+        hi: a.hi.max(b.hi),
+        origin: join_origin(a.origin, b.origin),
+    }
+}
+
+fn join_may(a: May, b: May) -> May {
+    May {
+        clear: a.clear || b.clear,
+        set: a.set || b.set,
+    }
+}
+
+fn join_ime(a: ImeSet, b: ImeSet) -> ImeSet {
+    ImeSet {
+        off: a.off || b.off,
+        pending: a.pending || b.pending,
+        on: a.on || b.on,
+    }
+}
+
+fn join_flags(a: &Flg, b: &Flg) -> Flg {
+    Flg {
+        zero: join_may(a.zero, b.zero),
+        subtract: join_may(a.subtract, b.subtract),
+        half_carry: join_may(a.half_carry, b.half_carry),
+        carry: join_may(a.carry, b.carry),
+        is_own: a.is_own && b.is_own,
+    }
+}
+
+fn join_controller(a: &Ctl, b: &Ctl) -> Ctl {
+    Ctl {
+        bank_lo: a.bank_lo.min(b.bank_lo),
+        bank_hi: a.bank_hi.max(b.bank_hi),
+        second_lo: a.second_lo.min(b.second_lo),
+        second_hi: a.second_hi.max(b.second_hi),
+        gate: join_may(a.gate, b.gate),
+        mode: join_may(a.mode, b.mode),
+        is_kept: a.is_kept && b.is_kept,
+    }
+}
+
+fn join_registers(a: &Registers<Val>, b: &Registers<Val>) -> Registers<Val> {
+    Registers {
+        a: join_val(a.a, b.a),
+        b: join_val(a.b, b.b),
+        c: join_val(a.c, b.c),
+        d: join_val(a.d, b.d),
+        e: join_val(a.e, b.e),
+        h: join_val(a.h, b.h),
+        l: join_val(a.l, b.l),
+    }
+}
+
+/// The least core above both.
+pub fn join_core(a: &Core, b: &Core) -> Core {
+    Core {
+        ime: join_ime(a.ime, b.ime),
+        bound: a.bound.max(b.bound),
+        stack_set: a.stack_set && b.stack_set,
+        test: if a.test == b.test { a.test } else { None },
+        ctl: join_controller(&a.ctl, &b.ctl),
+        flags: join_flags(&a.flags, &b.flags),
+        ie: join_val(a.ie, b.ie),
+        registers: join_registers(&a.registers, &b.registers),
+    }
+}
+
+/// The words of both, as far as both have them.
+fn join_items(a: &[Item], b: &[Item]) -> ArrayVec<Item, 16> {
+    let mut items = ArrayVec::new();
+    for (first, second) in a.iter().zip(b) {
+        let _ = items.try_push(Item {
+            high: join_val(first.high, second.high),
+            low: join_val(first.low, second.low),
+        });
+    }
+    items
+}
+
+/// The cells of both that say something together. Both are in order of address.
+fn join_cells(a: &[Cell], b: &[Cell]) -> ArrayVec<Cell, 32> {
+    let mut cells = ArrayVec::new();
+    let mut rest = b;
+    for first in a {
+        while let [second, others @ ..] = rest {
+            if second.address >= first.address {
+                break;
+            }
+            rest = others;
+        }
+        if let [second, ..] = rest
+            && second.address == first.address
+        {
+            let val = join_val(first.val, second.val);
+            if val != any() {
+                let _ = cells.try_push(Cell {
+                    address: first.address,
+                    val,
+                });
+            }
+        }
+    }
+    cells
+}
+
+/// The least state above both, where both have equally many words on the stack.
+pub fn join(a: &Abs, b: &Abs) -> Abs {
+    Abs::of_parts(
+        join_core(a.core(), b.core()),
+        join_items(a.items(), b.items()),
+        join_cells(a.cells(), b.cells()),
+    )
+}

@@ -1,0 +1,164 @@
+//! What tells the nodes of an address apart, and the procedures of a target.
+
+use crate::register_set::RegisterSet;
+use gb_ops::op::Register;
+use gb_ops::registers::Registers;
+use gb_verify::gb_states::types::{Core, Ctl, Val};
+
+/// The values of registers that have one alone, in the order of their letters.
+#[derive(Clone, Copy, PartialEq, Eq, Hash)]
+pub struct KnownRegisters {
+    values: [Option<u8>; 7],
+}
+
+/// The bounds and sets of a controller's registers.
+#[derive(Clone, Copy, PartialEq, Eq, Hash)]
+pub struct ControllerKey {
+    pub bank: (u16, u16),
+    pub second: (u8, u8),
+    /// Whether the gate may be closed, and whether it may be open.
+    pub gate: (bool, bool),
+    /// Whether the mode may be 0, and whether it may be 1.
+    pub mode: (bool, bool),
+}
+
+/// What tells the nodes of an address of a procedure apart.
+#[derive(Clone, Copy, PartialEq, Eq, Hash)]
+pub struct NodeKey {
+    /// The number of the procedure.
+    pub procedure: usize,
+    pub address: u16,
+    /// The one node where its procedure begins. It joins all that enters: nothing below is part of its key.
+    pub is_entry: bool,
+    /// Whether interrupts may be off, pending and on.
+    pub ime: (bool, bool, bool),
+    pub bound: u8,
+    pub stack_set: bool,
+    pub items: usize,
+    pub controller: Option<ControllerKey>,
+    /// The bounds of IE.
+    pub ie: (u8, u8),
+    pub registers: KnownRegisters,
+    /// The number of the values that the key cells have.
+    pub cells: usize,
+}
+
+/// What tells the procedures of a target apart.
+#[derive(Clone, Copy, PartialEq, Eq, Hash)]
+pub struct ProcedureKey {
+    /// The address where it begins.
+    pub target: u16,
+    /// Whether it handles an interrupt.
+    pub is_handler: bool,
+    /// Whether interrupts may be off, pending and on.
+    pub ime: (bool, bool, bool),
+    pub bound: u8,
+    /// None where it isn't parted by the controller.
+    pub controller: Option<ControllerKey>,
+    /// The bounds of IE, of a procedure that is called.
+    pub ie: (u8, u8),
+    pub registers: KnownRegisters,
+    /// The number of the values that the key cells have.
+    pub cells: usize,
+}
+
+/// The value of an interval that has one alone, if it is wanted.
+fn known(val: Val, is_wanted: bool) -> Option<u8> {
+    if is_wanted && val.lo == val.hi {
+        Some(val.lo)
+    } else {
+        None
+    }
+}
+
+impl KnownRegisters {
+    /// Those of these registers that are known.
+    pub fn of(registers: &Registers<Val>, wanted: &RegisterSet) -> KnownRegisters {
+        KnownRegisters {
+            values: [
+                known(registers.a, wanted.contains(Register::A)),
+                known(registers.b, wanted.contains(Register::B)),
+                known(registers.c, wanted.contains(Register::C)),
+                known(registers.d, wanted.contains(Register::D)),
+                known(registers.e, wanted.contains(Register::E)),
+                known(registers.h, wanted.contains(Register::H)),
+                known(registers.l, wanted.contains(Register::L)),
+            ],
+        }
+    }
+
+    /// No register.
+    pub fn none() -> KnownRegisters {
+        KnownRegisters { values: [None; 7] }
+    }
+}
+
+impl ControllerKey {
+    pub fn of(ctl: &Ctl) -> ControllerKey {
+        ControllerKey {
+            bank: (ctl.bank_lo, ctl.bank_hi),
+            second: (ctl.second_lo, ctl.second_hi),
+            gate: (ctl.gate.clear, ctl.gate.set),
+            mode: (ctl.mode.clear, ctl.mode.set),
+        }
+    }
+}
+
+impl NodeKey {
+    /// The key of a procedure's first node.
+    pub fn of_entry(procedure: usize, address: u16) -> NodeKey {
+        NodeKey {
+            procedure,
+            address,
+            is_entry: true,
+            ime: (false, false, false),
+            bound: 0,
+            stack_set: true,
+            items: 0,
+            controller: None,
+            ie: (0, 0),
+            registers: KnownRegisters::none(),
+            cells: 0,
+        }
+    }
+
+    /// The key of a node with this core and so many words on the stack, parted by these registers and key cells.
+    pub fn of_state(
+        procedure: usize,
+        address: u16,
+        core: &Core,
+        items: usize,
+        registers: &RegisterSet,
+        cells: usize,
+    ) -> NodeKey {
+        NodeKey {
+            procedure,
+            address,
+            is_entry: false,
+            ime: (core.ime.off, core.ime.pending, core.ime.on),
+            bound: core.bound,
+            stack_set: core.stack_set,
+            items,
+            controller: Some(ControllerKey::of(&core.ctl)),
+            ie: (core.ie.lo, core.ie.hi),
+            registers: KnownRegisters::of(&core.registers, registers),
+            cells,
+        }
+    }
+}
+
+impl ProcedureKey {
+    /// Main's key.
+    pub fn of_main(core: &Core) -> ProcedureKey {
+        ProcedureKey {
+            target: 0x0100,
+            is_handler: false,
+            ime: (true, false, false),
+            bound: 0,
+            controller: Some(ControllerKey::of(&core.ctl)),
+            ie: (0, 0),
+            registers: KnownRegisters::none(),
+            cells: 0,
+        }
+    }
+}

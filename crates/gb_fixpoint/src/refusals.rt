@@ -1,0 +1,201 @@
+//! What is against an instruction with its successors, by the checker's own tests; that a 17th word is pushed is
+//! stated again.
+
+use crate::cause::{Cause, TransferMisuse};
+use crate::register_set::RegisterSet;
+use gb_ops::machine::Region;
+use gb_ops::op::{Indirect, Op, Operand, Register, Row};
+use gb_verify::gb_abs::span::Span;
+use gb_verify::gb_abs_effects::reads::AbsRead;
+use gb_verify::gb_abs_effects::writes::AbsWrite;
+use gb_verify::gb_abs_memory::refusals::{is_limited, meets_closed_ram};
+use gb_verify::gb_calls::interrupts::may_come;
+use gb_verify::gb_code::code::lies_in_high_ram;
+use gb_verify::gb_header::Rom;
+use gb_verify::gb_states::types::{Abs, Core, ITEMS, Range};
+use gb_verify::gb_successors::refused::is_stack_limited;
+use gb_verify::gb_successors::successors::Successors;
+
+/// All that a procedure could declare: work RAM and high RAM. The region is asked for apart.
+const RAM: [Range; 2] = [
+    Range {
+        first: 0xC000,
+        last: 0xDFFF,
+    },
+    Range {
+        first: 0xFF80,
+        last: 0xFFFE,
+    },
+];
+
+/// A refusal: its cause, and the registers that the access or the jump went by.
+pub type Refusal = (Cause, RegisterSet);
+
+/// The registers by which an instruction's access or jump goes.
+fn pointer(op: Op) -> RegisterSet {
+    match op {
+        Op::StoreA(Indirect::Bc) | Op::LoadA(Indirect::Bc) => {
+            RegisterSet::of(&[Register::B, Register::C])
+        }
+        Op::StoreA(Indirect::De) | Op::LoadA(Indirect::De) => {
+            RegisterSet::of(&[Register::D, Register::E])
+        }
+        Op::StoreHighC | Op::LoadHighC => RegisterSet::of(&[Register::C]),
+        Op::StoreHigh(_)
+        | Op::LoadHigh(_)
+        | Op::StoreAbsolute(_)
+        | Op::LoadAbsolute(_)
+        | Op::StoreSp(_) => RegisterSet::empty(),
+        _ => RegisterSet::of(&[Register::H, Register::L]),
+    }
+}
+
+/// The register that an instruction stores.
+fn stored(op: Op) -> RegisterSet {
+    match op {
+        Op::Load(Operand::AtHl, Operand::Register(register)) => RegisterSet::of(&[register]),
+        Op::StoreA(_) | Op::StoreHigh(_) | Op::StoreHighC | Op::StoreAbsolute(_) => {
+            RegisterSet::of(&[Register::A])
+        }
+        _ => RegisterSet::empty(),
+    }
+}
+
+/// The addresses of a read.
+fn read_span(read: AbsRead) -> Option<Span> {
+    match read {
+        AbsRead::Byte(span) => Some(span),
+        AbsRead::Nothing | AbsRead::Top => None,
+    }
+}
+
+/// The addresses of a write, but for a push.
+fn write_span(write: AbsWrite) -> Option<Span> {
+    match write {
+        AbsWrite::Byte(span, _) => Some(span),
+        AbsWrite::Word(address, _, _) => Some(Span {
+            first: address,
+            last: address.saturating_add(1),
+        }),
+        AbsWrite::Nothing | AbsWrite::Push { .. } => None,
+    }
+}
+
+/// The accesses of an instruction: those of its taken way, since the others have none.
+fn accesses(ways: &Successors<'_>) -> (AbsRead, AbsWrite) {
+    match &ways.taken {
+        Some(taken) => (taken.read, taken.write),
+        None => (AbsRead::Nothing, AbsWrite::Nothing),
+    }
+}
+
+/// Why a store is refused, by its addresses.
+fn store_refusal(op: Op, ways: &Successors<'_>) -> Refusal {
+    let (_, write) = accesses(ways);
+    let span = write_span(write).unwrap_or(Span::one(0));
+    (Cause::Store { span }, pointer(op))
+}
+
+/// Why closed cartridge RAM may be met: by an access, or by the OAM transfer that it starts.
+fn closed_refusal(rom: &Rom<'_>, core: &Core, op: Op, ways: &Successors<'_>) -> Refusal {
+    let (read, write) = accesses(ways);
+    for span in [read_span(read), write_span(write)] {
+        if let Some(span) = span
+            && meets_closed_ram(rom, core, span)
+        {
+            return (Cause::CartridgeRam { span }, pointer(op));
+        }
+    }
+    match write {
+        AbsWrite::Byte(_, val) => {
+            let cause = Cause::CopiesCartridgeRam {
+                first_page: val.lo,
+                last_page: val.hi,
+            };
+            (cause, stored(op))
+        }
+        _ => (
+            Cause::CopiesCartridgeRam {
+                first_page: 0,
+                last_page: 255,
+            },
+            RegisterSet::empty(),
+        ),
+    }
+}
+
+/// What an OAM transfer has to do with an instruction that is refused for it.
+fn transfer_misuse(core: &Core, ways: &Successors<'_>) -> TransferMisuse {
+    let (read, write) = accesses(ways);
+    for span in [read_span(read), write_span(write)] {
+        if let Some(span) = span
+            && is_limited(core, span)
+        {
+            return TransferMisuse::Access(span);
+        }
+    }
+    match write_span(write) {
+        Some(span) => TransferMisuse::Start(span),
+        None => TransferMisuse::Stack,
+    }
+}
+
+/// The first interrupt that may come.
+fn first_interrupt(core: &Core) -> Option<u8> {
+    for interrupt in 0..5u8 {
+        if may_come(interrupt, core) {
+            return Some(interrupt);
+        }
+    }
+    None
+}
+
+/// What an OAM transfer refuses of an instruction, or of a dispatch before it.
+fn transfer_refusal(
+    region: Region,
+    core: &Core,
+    address: u16,
+    row: Row,
+    ways: &Successors<'_>,
+) -> Option<Refusal> {
+    let none = RegisterSet::empty();
+    if core.bound != 0 && ways.are_some() && !lies_in_high_ram(address, row.length) {
+        return Some((Cause::OamTransfer(TransferMisuse::Code), none));
+    }
+    if ways.meet_oam_transfer(region, core) {
+        let misuse = transfer_misuse(core, ways);
+        return Some((Cause::OamTransfer(misuse), pointer(row.op)));
+    }
+    if is_stack_limited(region, core) && first_interrupt(core).is_some() {
+        return Some((Cause::OamTransfer(TransferMisuse::Interrupt), none));
+    }
+    None
+}
+
+/// What is against an instruction in a state, of all but covering, calls and returns.
+pub fn refusal(
+    rom: &Rom<'_>,
+    region: Region,
+    state: &Abs,
+    address: u16,
+    row: Row,
+    ways: &Successors<'_>,
+) -> Option<Refusal> {
+    let core = state.core();
+    if matches!(row.op, Op::Push(_)) && state.items().len() >= ITEMS {
+        return Some((Cause::PushesTooMany, RegisterSet::empty()));
+    }
+    if ways.store_outside(rom.kind(), region, &RAM) {
+        return Some(store_refusal(row.op, ways));
+    }
+    if ways.meet_closed_ram(rom, core) {
+        return Some(closed_refusal(rom, core, row.op, ways));
+    }
+    if let Some(refusal) = transfer_refusal(region, core, address, row, ways) {
+        return Some(refusal);
+    }
+    if ways.lead_anywhere() {
+        return Some((Cause::JumpHl, pointer(row.op)));
+    }
+    None
+}

@@ -1,0 +1,26 @@
+//! States that keep some memory cells alone.
+
+use arrayvec::ArrayVec;
+use gb_verify::gb_states::types::{Abs, Cell};
+use gb_verify::gb_vals::vals::any;
+
+/// The cells that say something and whose addresses are among these. Both are in order of address.
+fn tracked_cells(cells: &[Cell], tracked: &[u16]) -> ArrayVec<Cell, 32> {
+    let mut kept = ArrayVec::new();
+    for cell in cells {
+        if cell.val != any() && tracked.binary_search(&cell.address).is_ok() {
+            let _ = kept.try_push(*cell);
+        }
+    }
+    kept
+}
+
+/// The state keeps the cells that say something and whose addresses are among these, which are in order.
+pub fn keep_tracked(state: &mut Abs, tracked: &[u16]) {
+    let are_kept = state.cells().iter().all(|cell| cell.val != any()
+        && tracked.binary_search(&cell.address).is_ok());
+    if !are_kept {
+        let cells = tracked_cells(state.cells(), tracked);
+        state.set_cells(cells);
+    }
+}

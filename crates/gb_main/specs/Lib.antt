@@ -1,5 +1,0 @@
-pub mod Commands
-pub mod HeaderLine
-pub mod Screen
-pub mod Script
-pub mod Show

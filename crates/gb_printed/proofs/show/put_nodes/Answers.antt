@@ -1,0 +1,16 @@
+use Rattle.std.proofs.Common.{◌≤◌, length, ◌∙◌, arith, subst}
+use Rattle.gb_text.specs.Text.{GainsBeginning}
+use Rattle.gb_console.proofs.gb_verify_laws.FileLaws.{on_err}
+use Rattle.gb_printed.specs.Show.{node_text}
+use Rattle.gb_printed.proofs.ShowLaws.{line_cut, lines_taken}
+use Rattle.gb_printed.proofs.show.put_nodes.Goals as goal
+
+pub returns-in_err-put_all-clause-beginning : goal.returns-in_err-put_all-clause-beginning
+returns-in_err-put_all-clause-beginning g c =
+    on_err c.from_residual.result (line_cut node_text _ _ _ _ _ c.loop-i.i c.node.result c.node.ensures c.loop-i.invariant.remains
+    (subst (λ t. GainsBeginning (g.W.Sink.contents c.loop-i.out) t (g.W.Sink.contents c.put_all.new.out)) (c.as_slice.ensures ∙ c.node_line.ensures) c.in_err-put_all.ensures.beginning))
+
+pub returns-clause-whole : goal.returns-clause-whole
+returns-clause-whole g c =
+    let past : length c.args.cert.now.nodes ≤ c.loop-i.i = omega (arith, c.nodes-i-end.ensures) in
+    lines_taken node_text _ _ _ c.args.cert.now.nodes c.loop-i.i past c.loop-i.invariant.remains

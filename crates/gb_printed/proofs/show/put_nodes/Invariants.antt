@@ -1,0 +1,10 @@
+use Rattle.std.proofs.Common.{◌≡◌, false, drop}
+use Rattle.gb_text.proofs.Remaining.{Remains}
+use Rattle.gb_printed.specs.Show.{node_text, numbered}
+use Rattle.gb_printed.proofs.show.put_nodes.Given as goal
+
+abbrev pub invariant-loop-i : goal.invariant-loop-i
+invariant-loop-i g l = record {
+  works : g.W.Sink.has_failed l.out ≡ false;
+  remains : Remains (g.W.Sink.contents l.fn.out) (numbered node_text 0 l.cert.nodes) (g.W.Sink.contents l.out) (numbered node_text l.i (drop l.i l.cert.nodes));
+}

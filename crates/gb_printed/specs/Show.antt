@@ -1,0 +1,37 @@
+-- The lines of a certificate (own texts).
+use Rattle.std.specs.Prelude.{ℕ, ◌+◌, List, [], ◌∷◌, ◌++◌, length, drop, codes, decimal, is_some}
+use Rattle.gb_console.specs.gb_states.Types.{ProcedureParts, Node}
+use Rattle.gb_console.specs.gb_states.Certificate.{Certificate}
+use Rattle.gb_text.specs.Text.{line_feed, hex_word}
+use Rattle.gb_printed.specs.HeaderLine.{yes_or_no}
+
+-- a bank, at most 511, in three hexadecimal digits
+abbrev pub hex_bank : ℕ → List ℕ
+hex_bank bank = drop 1 (hex_word bank)
+
+-- the stack region, and how many procedures and nodes there are
+unfoldable pub stack_text : Certificate → List ℕ
+stack_text c =
+    codes "stack " ++ hex_word c.region.first ++ codes ".." ++ hex_word c.region.last
+    ++ codes " procedures " ++ decimal (length c.procedures) ++ codes " nodes " ++ decimal (length c.nodes) ++ line_feed
+
+-- a procedure with its number: its first node, the words of stack that it needs, how many ranges it declares, whether it returns
+unfoldable pub procedure_text : ℕ → ProcedureParts → List ℕ
+procedure_text i p =
+    codes "procedure " ++ decimal i ++ codes " entry " ++ decimal p.entry ++ codes " need " ++ decimal p.need
+    ++ codes " ranges " ++ decimal (length p.ranges) ++ codes " returns " ++ yes_or_no (is_some p.exit) ++ line_feed
+
+-- a node with its number: its procedure, its address and its bank
+unfoldable pub node_text : ℕ → Node → List ℕ
+node_text i n =
+    codes "node " ++ decimal i ++ codes " procedure " ++ decimal n.procedure
+    ++ codes " address " ++ hex_word n.address ++ codes " bank " ++ hex_bank n.bank ++ line_feed
+
+-- each with its number, the first of them with this one
+unfoldable pub numbered : {X : Type 0} → (ℕ → X → List ℕ) → ℕ → List X → List ℕ
+numbered text i [] = []
+numbered text i (x ∷ xs) = text i x ++ numbered text (i + 1) xs
+
+-- the stack's line, then a line for each procedure, then one for each node
+unfoldable pub show_text : Certificate → List ℕ
+show_text c = stack_text c ++ (numbered procedure_text 0 c.procedures ++ numbered node_text 0 c.nodes)

@@ -1,0 +1,21 @@
+//! The lines that the program prints: of a cartridge's header, of a certificate, and of a run by a script.
+//!
+//! `run_bytes` says that what is written is the run of the file's cartridge, and `header_bytes` that it is its header's
+//! line. `show_bytes` says the same of a certificate's lines. Read `commands` first, and below it `header`, `show`,
+//! `script` and `screen`.
+#![tactic(auto)]
+
+pub mod commands;
+pub mod header;
+mod screen;
+pub mod script;
+pub mod show;
+
+pub use commands::{RunOutcome, header_bytes, run_bytes, show_bytes};
+pub use gb_console;
+pub use gb_console::{gb_bus, gb_cert, gb_cpu, gb_effects, gb_timer, gb_verify};
+pub use gb_text;
+pub use gb_text::gb_header;
+pub use header::header_line;
+pub use script::{Progress, run_script, run_script_shown};
+pub use show::show_cert;

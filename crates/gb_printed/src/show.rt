@@ -1,0 +1,136 @@
+//! What a certificate claims, line by line.
+
+ghost use Rattle.std.specs.Prelude.{◌≡◌, ◌+◌, ◌≤◌, ◌++◌, false, is_err, OnOk, OnErr, length, decimal};
+ghost use Rattle.gb_text.specs.Sink.{Gains};
+ghost use Rattle.gb_text.specs.Text.{GainsBeginning};
+ghost use Rattle.gb_printed.specs.Show.{hex_bank, stack_text, procedure_text, node_text, numbered, show_text};
+
+use crate::header::yes_or_no;
+use gb_console::gb_cert::{Cert, NodeRef, ProcedureRef};
+use gb_text::line::Line;
+use gb_text::put::put_all;
+use gb_text::sink::{OutFault, Sink};
+
+/// Puts a number below 65,536 at a line's end, in at most five digits.
+fn push_small(line: &mut Line, number: u16)
+    requires { length line.old + 20 ≤ 96 }
+    ensures text { line.new ≡ line.old ++ decimal number }
+    ensures short { length line.new ≤ length line.old + 5 }
+{
+    line.push_number(u64::from(number));
+}
+
+/// Puts a bank at a line's end, in three hexadecimal digits.
+fn push_bank(line: &mut Line, bank: u16)
+    requires { length line.old + 3 ≤ 96 }
+    ensures text { line.new ≡ line.old ++ hex_bank bank }
+    ensures length { length line.new ≡ length line.old + 3 }
+{
+    let mut digits = Line::new();
+    digits.push_word(bank);
+    line.push_text(&digits.as_slice()[1..]);
+}
+
+/// The line of a certificate's stack region and counts.
+#[tactic(auto, unfolding(crate::specs::Show::stack_text))]
+fn stack_line(cert: &Cert<'_>) -> Line
+    ensures { result ≡ stack_text cert.now }
+{
+    let region = cert.region();
+    let mut line = Line::new();
+    line.push_text(b"stack ");
+    line.push_word(region.first);
+    line.push_text(b"..");
+    line.push_word(region.last);
+    line.push_text(b" procedures ");
+    line.push_number(u64::from(cert.procedures()));
+    line.push_text(b" nodes ");
+    line.push_number(u64::from(cert.nodes()));
+    line.end();
+    line
+}
+
+/// The line of a procedure.
+#[tactic(auto, unfolding(crate::specs::Show::procedure_text))]
+fn procedure_line(number: u8, procedure: &ProcedureRef<'_>) -> Line
+    ensures { result ≡ procedure_text number procedure.now }
+{
+    let mut line = Line::new();
+    line.push_text(b"procedure ");
+    push_small(&mut line, u16::from(number));
+    line.push_text(b" entry ");
+    line.push_number(u64::from(procedure.entry()));
+    line.push_text(b" need ");
+    push_small(&mut line, procedure.need());
+    line.push_text(b" ranges ");
+    push_small(&mut line, procedure.ranges().len() as u16);
+    line.push_text(b" returns ");
+    line.push_text(yes_or_no(procedure.exit().is_some()));
+    line.end();
+    line
+}
+
+/// The line of a node.
+#[tactic(auto, unfolding(crate::specs::Show::node_text))]
+fn node_line(number: u32, node: &NodeRef<'_>) -> Line
+    ensures { result ≡ node_text number node.now }
+{
+    let mut line = Line::new();
+    line.push_text(b"node ");
+    line.push_number(u64::from(number));
+    line.push_text(b" procedure ");
+    push_small(&mut line, u16::from(node.procedure()));
+    line.push_text(b" address ");
+    line.push_word(node.address());
+    line.push_text(b" bank ");
+    push_bank(&mut line, node.bank());
+    line.end();
+    line
+}
+
+/// Writes the lines of all procedures.
+#[tactic(auto, using(crate::proofs::ShowLaws::procedure_taken))]
+fn put_procedures<W: Sink>(cert: &Cert<'_>, out: &mut W) -> Result<(), OutFault>
+    requires { W.has_failed out.old ≡ false }
+    ensures whole { OnOk result (Gains (W.contents out.old) (numbered procedure_text 0 cert.now.procedures) (W.contents out.new)) }
+    ensures beginning { OnErr result (GainsBeginning (W.contents out.old) (numbered procedure_text 0 cert.now.procedures) (W.contents out.new)) }
+    ensures failed { W.has_failed out.new ≡ is_err result }
+{
+    for i in 0..cert.procedures() {
+        put_all(out, procedure_line(i, &cert.procedure(i)).as_slice())?;
+    }
+    Ok(())
+}
+
+/// Writes the lines of all nodes.
+#[tactic(auto, using(crate::proofs::ShowLaws::node_taken))]
+fn put_nodes<W: Sink>(cert: &Cert<'_>, out: &mut W) -> Result<(), OutFault>
+    requires { W.has_failed out.old ≡ false }
+    ensures whole { OnOk result (Gains (W.contents out.old) (numbered node_text 0 cert.now.nodes) (W.contents out.new)) }
+    ensures beginning { OnErr result (GainsBeginning (W.contents out.old) (numbered node_text 0 cert.now.nodes) (W.contents out.new)) }
+    ensures failed { W.has_failed out.new ≡ is_err result }
+{
+    for i in 0..cert.nodes() {
+        put_all(out, node_line(i, &cert.node(i)).as_slice())?;
+    }
+    Ok(())
+}
+
+/// Writes the lines of a certificate, of either version: `stack BBBB..TTTT procedures P nodes N`, then for each procedure
+/// `procedure I entry E need W ranges R returns yes` (or `returns no`), then for each node
+/// `node I procedure P address AAAA bank BBB`. Addresses and banks are hexadecimal; numbers begin with 0.
+///
+/// # Errors
+///
+/// OutFault where the sink fails before it took them all; it then has a beginning of them.
+#[tactic(auto, using(gb_text::proofs::Gained::gains_both, gb_text::proofs::Gained::begins_first, gb_text::proofs::Gained::begins_second), unfolding(crate::specs::Show::show_text))]
+pub fn show_cert<W: Sink>(cert: &Cert<'_>, out: &mut W) -> Result<(), OutFault>
+    requires { W.has_failed out.old ≡ false }
+    ensures lines { OnOk result (Gains (W.contents out.old) (show_text cert.now) (W.contents out.new)) }
+    ensures beginning { OnErr result (GainsBeginning (W.contents out.old) (show_text cert.now) (W.contents out.new)) }
+    ensures failed { W.has_failed out.new ≡ is_err result }
+{
+    put_all(out, stack_line(cert).as_slice())?;
+    put_procedures(cert, out)?;
+    put_nodes(cert, out)
+}

@@ -1,0 +1,103 @@
+//! A JSON object that is built member by member.
+
+use gb_fixpoint::gb_states::types::Val;
+use serde_json::{Map, Value, json};
+use std::alloc::{AllocError, Global};
+use std::fmt;
+
+/// An object that isn't whole yet.
+#[derive(Drop)]
+pub(crate) struct Object {
+    pub(crate) alloc: Global,
+    members: Map<String, Value>,
+}
+
+impl Object {
+    /// No member yet.
+    pub(crate) fn new(alloc: Global) -> Object {
+        Object {
+            alloc,
+            members: Map::new(alloc),
+        }
+    }
+
+    /// One more member.
+    pub(crate) fn put(&mut self, name: &str, value: Value) -> Result<(), AllocError> {
+        let name = String::from_str(self.alloc, name)?;
+        drop(self.members.insert(name, value)?);
+        Ok(())
+    }
+
+    /// A number.
+    pub(crate) fn put_number(&mut self, name: &str, number: u64) -> Result<(), AllocError> {
+        self.put(name, Value::from(number))
+    }
+
+    /// An address.
+    pub(crate) fn put_address(&mut self, name: &str, address: u16) -> Result<(), AllocError> {
+        self.put_number(name, u64::from(address))
+    }
+
+    /// Whether something is so.
+    pub(crate) fn put_flag(&mut self, name: &str, flag: bool) -> Result<(), AllocError> {
+        self.put(name, Value::from(flag))
+    }
+
+    /// A text.
+    pub(crate) fn put_text(&mut self, name: &str, text: &str) -> Result<(), AllocError> {
+        let text = Value::try_from_str(self.alloc, text)?;
+        self.put(name, text)
+    }
+
+    /// A text, as something prints itself.
+    pub(crate) fn put_shown<T: fmt::Display>(
+        &mut self,
+        name: &str,
+        shown: &T,
+    ) -> Result<(), AllocError> {
+        let alloc = self.alloc;
+        let text = format!(in alloc; "{shown}")?;
+        self.put(name, Value::String(text))
+    }
+
+    /// A list of two numbers.
+    pub(crate) fn put_pair(&mut self, name: &str, first: u64, last: u64) -> Result<(), AllocError> {
+        let list = pair(self.alloc, first, last)?;
+        self.put(name, list)
+    }
+
+    /// A value's least and greatest byte.
+    pub(crate) fn put_val(&mut self, name: &str, val: Val) -> Result<(), AllocError> {
+        self.put_pair(name, u64::from(val.lo), u64::from(val.hi))
+    }
+
+    /// A list of addresses.
+    pub(crate) fn put_addresses(
+        &mut self,
+        name: &str,
+        addresses: &[u16],
+    ) -> Result<(), AllocError> {
+        let list = list_of(self.alloc, addresses)?;
+        self.put(name, list)
+    }
+
+    /// The whole object.
+    pub(crate) fn finish(self) -> Value {
+        let Object { members, .. } = self;
+        Value::Object(members)
+    }
+}
+
+/// A list of two numbers.
+pub(crate) fn pair(alloc: Global, first: u64, last: u64) -> Result<Value, AllocError> {
+    json!(in alloc; [first, last])
+}
+
+/// A list of addresses.
+fn list_of(alloc: Global, addresses: &[u16]) -> Result<Value, AllocError> {
+    let mut values = Vec::new(alloc);
+    for address in addresses {
+        values.push(Value::from(u64::from(*address)))?;
+    }
+    Ok(Value::Array(values))
+}

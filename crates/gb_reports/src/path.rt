@@ -1,0 +1,116 @@
+//! The way by which a node was first reached.
+
+use gb_fixpoint::gb_abs_memory::shown::known_bank;
+use gb_fixpoint::types::{Node, Run};
+use std::alloc::{AllocError, Global};
+
+/// The most segments of a path that are kept: the last ones.
+const SEGMENTS: usize = 12;
+
+/// Addresses that were gone through one after another.
+#[derive(Clone, Copy)]
+pub struct Segment {
+    pub first: u16,
+    pub last: u16,
+}
+
+/// Where a path begins.
+#[derive(Clone, Copy)]
+pub enum Start {
+    PowerUp,
+    /// A call at this address, of a procedure at the target.
+    Call { from: u16, target: u16 },
+    /// An interrupt at this address, handled at the target.
+    Interrupt { from: u16, target: u16 },
+}
+
+/// The addresses from power-up, or from the last call or interrupt.
+#[derive(Drop)]
+pub struct Path {
+    pub start: Start,
+    pub segments: Vec<Segment>,
+    /// Segments at the beginning are left out.
+    pub is_cut: bool,
+}
+
+/// The bank that a node's state shows at its address, where it is known; RAM has none.
+pub(crate) fn bank_of(run: &Run<'_>, node: &Node) -> Option<u16> {
+    let address = node.key.address;
+    if address < 0x8000 {
+        known_bank(run.rom, &node.state.core().ctl, address)
+    } else {
+        None
+    }
+}
+
+/// Whether a procedure handles an interrupt.
+fn is_handler(run: &Run<'_>, number: usize) -> bool {
+    match run.procedures.get(number) {
+        Some(procedure) => procedure.key.is_handler,
+        None => false,
+    }
+}
+
+/// A node, if there is one by that number.
+fn node_at<'a>(run: &'a Run<'_>, number: Option<usize>) -> Option<&'a Node> {
+    run.nodes.get(number?)
+}
+
+/// Where the procedure of a first node was entered from.
+fn start_of(run: &Run<'_>, entry: &Node) -> Start {
+    let target = entry.key.address;
+    let Some(from) = node_at(run, entry.via) else {
+        return Start::PowerUp;
+    };
+    let from = from.key.address;
+    if is_handler(run, entry.key.procedure) {
+        Start::Interrupt { from, target }
+    } else {
+        Start::Call { from, target }
+    }
+}
+
+/// Adds an address behind a path that is gathered backwards: the last segment begins at it, or a new one.
+fn add_before(segments: &mut Vec<Segment>, address: u16) -> Result<(), AllocError> {
+    if let Some(segment) = segments.last_mut() {
+        if address < segment.first && segment.first - address <= 3 {
+            segment.first = address;
+            return Ok(());
+        }
+    }
+    segments.push(Segment {
+        first: address,
+        last: address,
+    })?;
+    Ok(())
+}
+
+/// Adds the segments of the path to a node, backwards, and answers where it begins.
+fn gather(run: &Run<'_>, number: usize, segments: &mut Vec<Segment>) -> Result<Start, AllocError> {
+    let mut at = Some(number);
+    for _ in 0..=run.nodes.len() {
+        let Some(node) = node_at(run, at) else { break };
+        add_before(segments, node.key.address)?;
+        if node.key.is_entry {
+            return Ok(start_of(run, node));
+        }
+        at = node.via;
+    }
+    Ok(Start::PowerUp)
+}
+
+impl Path {
+    /// The path to a node.
+    pub(crate) fn to(alloc: Global, run: &Run<'_>, number: usize) -> Result<Path, AllocError> {
+        let mut segments = Vec::new(alloc);
+        let start = gather(run, number, &mut segments)?;
+        let is_cut = segments.len() > SEGMENTS;
+        segments.truncate(SEGMENTS);
+        segments.reverse();
+        Ok(Path {
+            start,
+            segments,
+            is_cut,
+        })
+    }
+}

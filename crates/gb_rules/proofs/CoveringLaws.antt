@@ -1,0 +1,92 @@
+-- Where states are covered at an address, some node of the procedure there means each of their machine states.
+use Rattle.std.proofs.Common.{◌≡◌, ℕ, zero, suc, ◌+◌, ◌≤◌, ◌<◌, Bool, true, false, ◌&&◌, ◌||◌, ◌⊎◌, inl, inr, List, [], ◌∷◌, length, refl, sym, ap, subst, arith}
+use Rattle.std.proofs.lemmas.Bool.{and_parts, eqb-true}
+use Rattle.std.specs.List.{Contains, list_any}
+use Rattle.std.proofs.lemmas.List.Folds.{Any-from_list_any}
+use Rattle.gb_ops.specs.declared.op.Register.{Register}
+use Rattle.gb_ops.specs.Registers.{get}
+use Rattle.gb_ops.specs.Play.{MState}
+use Rattle.gb_states.specs.declared.types.Item.{Item}
+use Rattle.gb_states.specs.Types.{AbsState, Node}
+use Rattle.gb_states.specs.Certificate.{Certificate}
+use Rattle.gb_abs.specs.Covering.{covers, covers_items}
+use Rattle.gb_abs.specs.Meaning.{Holds, Means}
+use Rattle.gb_abs.proofs.CoveringLaws.{Means-covered}
+use Rattle.gb_abs.proofs.OperationLaws.{Means-with_value}
+use Rattle.gb_rules.specs.Covered.{is_cover, is_covered_by_one, is_covered_by_values, with_value, all_from, count_of, registers, covered_at}
+
+items_counted : (s t : List Item) → covers_items s t ≡ true → length t ≡ length s
+items_counted [] [] h = refl
+items_counted [] (t ∷ ts) h = cc
+items_counted (s ∷ ss) [] h = cc
+items_counted (s ∷ ss) (t ∷ ts) h = ap suc (items_counted ss ts (and_parts _ _ h).1)
+
+pub covered_items : (s t : AbsState) → covers s t ≡ true → length t.items ≡ length s.items
+unfolding covers
+covered_items s t h = items_counted s.items t.items (middle _ _ _ h)
+  where
+    middle : (a b c : Bool) → (a && b && c) ≡ true → b ≡ true
+    middle true true c h = refl
+    middle true false c h = cc
+    middle false b c h = cc
+
+-- a node that means the state, at an address of the procedure
+pub record IsFoundAt (cert : Certificate) (procedure a : ℕ) (items : ℕ) (entry : MState) (base : ℕ) (y : MState) : Type 0 where
+  pub node : Node
+  pub is_node : Contains cert.nodes node
+  pub procedure_is : node.procedure ≡ procedure
+  pub address : node.address ≡ a
+  pub means : Means node.state entry base y
+  pub count : length node.state.items ≡ items
+
+found_by_one : (cert : Certificate) (procedure a : ℕ) (s : AbsState) (entry : MState) (base : ℕ) (y : MState) → is_covered_by_one cert.nodes procedure a s ≡ true → Means s entry base y
+    → IsFoundAt cert procedure a (length s.items) entry base y
+unfolding is_covered_by_one
+found_by_one cert procedure a s entry base y h m =
+    let p = Any-from_list_any (is_cover procedure a s) cert.nodes h in
+    let q = and_parts _ _ p.4 in
+    let r = and_parts _ _ q.0 in
+    record {
+      node = p.1;
+      is_node = (p.0, p.2, p.3);
+      procedure_is = eqb-true _ _ r.0;
+      address = eqb-true _ _ r.1;
+      means = Means-covered s p.1.state entry base y q.1 m;
+      count = covered_items s p.1.state q.1;
+    }
+
+one_of_them : (test : ℕ → Bool) (first n v : ℕ) → all_from test first n ≡ true → first ≤ v → v < first + n → test v ≡ true
+one_of_them test first zero v h le lt = absurd (omega arith)
+one_of_them test first (suc n) v h le lt =
+    let p = and_parts _ _ h in
+    elim (split first n v lt) [ inl less ↦ one_of_them test first n v p.0 le less | inr same ↦ subst (λ k. test k ≡ true) (sym same) p.1 ]
+  where
+    split : (first n v : ℕ) → v < first + suc n → (v < first + n) ⊎ (v ≡ first + n)
+    split first n v h = grind arith
+
+found_by_values : (cert : Certificate) (procedure a : ℕ) (s : AbsState) (r : Register) (entry : MState) (base : ℕ) (y : MState) → is_covered_by_values cert.nodes procedure a s r ≡ true → Means s entry base y
+    → IsFoundAt cert procedure a (length s.items) entry base y
+unfolding is_covered_by_values with_value
+found_by_values cert procedure a s r entry base y h m =
+    let val = get r s.core.registers in
+    let v = get r y.processor.registers in
+    let holds : Holds val entry v = m.core.registers r in
+    let least = holds.least in
+    let most = holds.most in
+    let one = one_of_them (λ v. is_covered_by_one cert.nodes procedure a (with_value r s v)) val.lo (count_of val) v h least (omega arith) in
+    found_by_one cert procedure a (with_value r s v) entry base y one (Means-with_value r s entry base y m)
+
+-- states that are covered at an address: a node there means each of their machine states
+pub found_at : (cert : Certificate) (procedure a : ℕ) (s : AbsState) (entry : MState) (base : ℕ) (y : MState) → covered_at cert.nodes procedure a s ≡ true → Means s entry base y
+    → IsFoundAt cert procedure a (length s.items) entry base y
+unfolding covered_at
+found_at cert procedure a s entry base y h m = by (is_covered_by_one cert.nodes procedure a s) refl h
+  where
+    values : list_any (is_covered_by_values cert.nodes procedure a s) registers ≡ true → IsFoundAt cert procedure a (length s.items) entry base y
+    values e =
+        let p = Any-from_list_any (is_covered_by_values cert.nodes procedure a s) registers e in
+        found_by_values cert procedure a s p.1 entry base y p.4 m
+
+    by : (b : Bool) → is_covered_by_one cert.nodes procedure a s ≡ b → (b || list_any (is_covered_by_values cert.nodes procedure a s) registers) ≡ true → IsFoundAt cert procedure a (length s.items) entry base y
+    by true e t = found_by_one cert procedure a s entry base y e m
+    by false e t = values t

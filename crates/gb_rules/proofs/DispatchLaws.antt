@@ -1,0 +1,245 @@
+-- An interrupt's dispatch: the procedure is left as by a call, and its handler is entered.
+use Rattle.std.proofs.Common.{◌≡◌, ℕ, ◌+◌, ◌-◌, ◌/◌, ◌%◌, ◌≤◌, ◌<◌, Bool, true, false, ◌&&◌, nat_lt, ◌⊎◌, inl, inr, List, length, Some, refl, sym, ◌∙◌, ap, subst, arith}
+use Rattle.std.proofs.lemmas.Bool.Decides.{nat_tests}
+use Rattle.std.proofs.lemmas.List.Elements.{All-nil}
+use Rattle.std.specs.List.{All, Contains}
+use Rattle.gb_ops.specs.declared.machine.Event.TheVariants as event
+use Rattle.gb_ops.specs.declared.machine.Region.{Region}
+use Rattle.gb_ops.specs.declared.machine.Write.TheVariants as write
+use Rattle.gb_ops.specs.declared.registers.Ime.{Ime}
+use Rattle.gb_ops.specs.declared.registers.Ime.TheVariants as ime
+use Rattle.gb_ops.specs.declared.registers.Processor.{Processor}
+use Rattle.gb_ops.specs.Effects.{with_pc, with_sp}
+use Rattle.gb_ops.specs.Memory.{stored, passed}
+use Rattle.gb_ops.specs.Machine as Machine
+use Rattle.gb_ops.specs.Machine.{is_possible, happened, is_ime, vector}
+use Rattle.gb_ops.specs.Faults.{no_faults, store_faults, event_faults, event_places}
+use Rattle.gb_ops.specs.Play.{MState, within, outside}
+use Rattle.gb_states.specs.declared.types.Core.{Core}
+use Rattle.gb_states.specs.Types.{AbsState, Node}
+use Rattle.gb_states.specs.Certificate.{Certificate}
+use Rattle.gb_states.specs.Rules.{IsCertificate}
+use Rattle.gb_abs.specs.gb_vals.Vals.{single}
+use Rattle.gb_abs.specs.gb_vals.Bits.{has_bit, may_have_bit}
+use Rattle.gb_abs.proofs.gb_vals_laws.BitLaws.{may_have_bit_sound}
+use Rattle.gb_abs.specs.Cells.{ArePlaced}
+use Rattle.gb_abs.specs.Mark.{IsMarkHarmless}
+use Rattle.gb_abs.specs.Meaning.{Holds, MeansCore, Means, ime_may_be}
+use Rattle.gb_abs.specs.Operations.{core_end, with_core}
+use Rattle.gb_abs.specs.Stack.{pushed}
+use Rattle.gb_abs.specs.Storage.{peek}
+use Rattle.gb_abs.proofs.OperationLaws.{Holds-single}
+use Rattle.gb_abs.proofs.StackLaws.{IsRegionOpen-bound, Means-pushed, Means-with_core}
+use Rattle.gb_code.specs.gb_abs_memory.Kept.{IsKept}
+use Rattle.gb_code.specs.gb_abs_memory.Sound.{view}
+use Rattle.gb_calls.specs.Calls.{entered, callee_of, are_ranges_inside, resumed}
+use Rattle.gb_calls.specs.Interrupts.{only_off, dispatched, may_come, handler_of}
+use Rattle.gb_calls.proofs.CalleeLaws.{IsCallee-found, IsEntryNode-entry}
+use Rattle.gb_code.specs.Places.{IsCertified}
+use Rattle.gb_successors.specs.Behind.{ended}
+use Rattle.gb_successors.specs.Words.{word_item}
+use Rattle.gb_successors.proofs.StackWayLaws.{not_pushed}
+use Rattle.gb_successors.proofs.SuccessorLaws.{Means-ended, passed_peek}
+use Rattle.gb_rules.specs.Covered.{covered_at}
+use Rattle.gb_rules.specs.Procedures.{ranges_of, need_of, exit_of}
+use Rattle.gb_rules.specs.Safety.{IsAt, Calls, IsSafeEvent}
+use Rattle.gb_rules.proofs.SearchLaws.{Contains-slice_get}
+use Rattle.gb_rules.proofs.NodeLaws.{IsNodeState-node, fewer_words}
+use Rattle.gb_rules.proofs.WayLaws.{is_own, same_number}
+use Rattle.gb_rules.proofs.EventLaws.{IsSafeHappening, IsSafeEvent-where}
+
+-- ---- where a dispatch is possible
+
+-- interrupts are on, and IE has the interrupt's bit
+record IsCalled (x : MState) (i : ℕ) : Type 0 where
+  on : x.processor.ime ≡ ime.On
+  small : i < 5
+  bit : has_bit i x.storage.ie ≡ true
+
+is_called : (rom : List ℕ) (x : MState) (i : ℕ) → is_possible (within rom x) (event.Irq i) ≡ true → IsCalled x i
+unfolding is_possible within
+is_called rom x i h =
+    let p = last_three _ _ _ _ h in
+    record { on = is_on x.processor.ime p.0; small = below i 5 p.1; bit = p.2 }
+  where
+    last_three : (a b c d : Bool) → (a && b && c && d) ≡ true → (b ≡ true) × (c ≡ true) × (d ≡ true)
+    last_three true true true true h = (refl, refl, refl)
+    last_three false b c d h = cc
+    last_three true false c d h = cc
+    last_three true true false d h = cc
+    last_three true true true false h = cc
+
+    is_on : (i : Ime) → is_ime i ime.On ≡ true → i ≡ ime.On
+    is_on ime.Off h = cc
+    is_on ime.Pending h = cc
+    is_on ime.On h = refl
+
+    below : (a b : ℕ) → nat_lt a b ≡ true → a < b
+    below a b h = grind (arith, nat_tests)
+
+-- a dispatch that is possible is one that the node's state says may come
+pub may_come-possible : (rom : List ℕ) (cert : Certificate) (n : Node) (entry : MState) (base : ℕ) (x : MState) (i : ℕ) → IsAt rom cert n entry base x → is_possible (within rom x) (event.Irq i) ≡ true
+    → (may_come i n.state.core ≡ true) × (i < 5)
+may_come-possible rom cert n entry base x i at possible =
+    let c = is_called rom x i possible in
+    let small = c.small in
+    let on : n.state.core.ime.on ≡ true = subst (λ j. ime_may_be n.state.core.ime j ≡ true) c.on at.means.core.ime in
+    let ie = at.means.core.ie in
+    let bit : may_have_bit n.state.core.ie i ≡ true =
+    (may_have_bit_sound i n.state.core.ie (may_have_bit n.state.core.ie i) refl (omega arith)).gives x.storage.ie (record { least = ie.least; most = ie.most }) c.bit in
+    (both _ _ on bit, small)
+  where
+    both : (a b : Bool) → a ≡ true → b ≡ true → (a && b) ≡ true
+    both true true h k = refl
+    both true false h k = cc
+    both false b h k = cc
+
+-- the HALT mark is clear there: it is left only while interrupts are off
+mark_clear : (rom : List ℕ) (x : MState) → IsMarkHarmless rom x → x.processor.ime ≡ ime.On → x.processor.halt_mark ≡ false
+mark_clear rom x (inl clear) on = clear
+mark_clear rom x (inr nop) on = absurd (different (sym on ∙ nop.0))
+  where
+    different : ime.On ≡ ime.Off → ⊥
+    different h = cc
+
+-- ---- what the dispatch leaves
+
+-- the processor behind it, but for its stack pointer
+abbrev in_handler : Processor → ℕ → Processor
+in_handler p i = record (with_pc p (vector i)) { ime = ime.Off }
+
+-- the machine behind it, where it pushed a
+abbrev left_by : List ℕ → MState → ℕ → ℕ → MState
+left_by rom x i a = record {
+  processor = with_sp (in_handler x.processor i) ((x.processor.sp + 65534) % 65536);
+  storage = (passed (stored (view rom x false) (write.Push x.processor.sp a)) 5).storage;
+}
+
+happened_is : (rom : List ℕ) (x : MState) (i a : ℕ) → x.processor.pc ≡ a → outside (happened (within rom x) (event.Irq i)) ≡ left_by rom x i a
+unfolding happened within outside Machine.dispatched
+happened_is rom x i a at = ap (left_by rom x i) at
+
+faults_are : (rom : List ℕ) (region : Region) (x : MState) (i a : ℕ) → x.processor.pc ≡ a → event_faults region (within rom x) (event.Irq i) ≡ store_faults region (view rom x false) (write.Push x.processor.sp a)
+unfolding event_faults within
+faults_are rom region x i a at = ap (λ b. store_faults region (view rom x false) (write.Push x.processor.sp b)) at
+
+no_places : (rom : List ℕ) (cert : Certificate) (x : MState) (i : ℕ) → All (IsCertified rom cert) (event_places (within rom x) (event.Irq i))
+unfolding event_places
+no_places rom cert x i = All-nil _
+
+-- the core of the state, interrupts off
+abbrev masked : Core → Core
+masked s = record s { ime = only_off }
+
+MeansCore-masked : (s : Core) (entry x : MState) (i : ℕ) → MeansCore s entry x → MeansCore (masked s) entry (record { processor = in_handler x.processor i; storage = x.storage })
+MeansCore-masked s entry x i m = record {
+  registers = m.registers;
+  flags = m.flags;
+  ie = m.ie;
+  ime = refl;
+  controller = m.controller;
+  count = m.count;
+  test = m.test;
+  locked = m.locked;
+  stopped = m.stopped;
+}
+
+record IsDispatched (rom : List ℕ) (cert : Certificate) (n : Node) (entry : MState) (base : ℕ) (x : MState) (i : ℕ) : Type 0 where
+  means : Means (pushed (word_item n.address) (dispatched n.state)) entry base (left_by rom x i n.address)
+  faults : store_faults cert.region (view rom x false) (write.Push x.processor.sp n.address) ≡ no_faults
+  kept : (b : ℕ) → IsKept cert.region (ranges_of cert n.procedure) base b → peek (left_by rom x i n.address).storage b ≡ peek x.storage b
+
+pushed_ended : (s : AbsState) (a : ℕ) → ended false 5 (pushed (word_item a) (with_core s (masked s.core))) ≡ pushed (word_item a) (dispatched s)
+unfolding ended pushed dispatched
+pushed_ended s a = refl
+
+is_dispatched : (rom : List ℕ) (cert : Certificate) (n : Node) (entry : MState) (base : ℕ) (x : MState) (i : ℕ) → IsAt rom cert n entry base x → Contains cert.nodes n → IsCertificate cert
+    → n.state.core.stack_set ≡ true → (n.state.core.bound ≡ 0) ⊎ (0xFF80 ≤ cert.region.first) → length n.state.items + 1 ≤ need_of cert n.procedure → IsDispatched rom cert n entry base x i
+is_dispatched rom cert n entry base x i at is_node certificate set unlimited held =
+    let s = IsNodeState-node cert n certificate is_node in
+    let room = fewer_words cert.region base (need_of cert n.procedure) (length n.state.items + 1) at.room held in
+    let top = at.means.stack set in
+    let y : MState = record { processor = in_handler x.processor i; storage = x.storage } in
+    let core = MeansCore-masked n.state.core entry x i at.means.core in
+    let means : Means (with_core n.state (masked n.state.core)) entry base y = Means-with_core n.state (masked n.state.core) entry base x y at.means core refl refl refl (λ on. on) in
+    let done =
+    Means-pushed cert.region (with_core n.state (masked n.state.core)) entry base y (view rom x false) (word_item n.address) n.address means refl set room s.is_region s.placed
+    (IsRegionOpen-bound n.state.core entry x cert.region at.means.core unlimited) (Holds-single (n.address / 256) entry) (Holds-single (n.address % 256) entry) s.address in
+    record {
+      means = subst (λ z. Means z entry base (left_by rom x i n.address)) (pushed_ended n.state n.address)
+          (Means-ended rom (pushed (word_item n.address) (with_core n.state (masked n.state.core))) entry base (left_by rom x i n.address).processor (stored (view rom x false) (write.Push x.processor.sp n.address)) false 5 done.starting done.means);
+      faults = done.faults;
+      kept = λ b kept. passed_peek (stored (view rom x false) (write.Push x.processor.sp n.address)) 5 b
+          ∙ done.others b kept.ram (not_pushed cert.region base x.processor.sp (length n.state.items) (x.processor.sp - 1) b room top (inl refl) kept.above)
+          (not_pushed cert.region base x.processor.sp (length n.state.items) (x.processor.sp - 2) b room top (inr refl) kept.above);
+    }
+
+-- ---- the handler
+
+dispatched_set : (s : AbsState) → (dispatched s).core.stack_set ≡ s.core.stack_set
+unfolding dispatched core_end
+dispatched_set s = refl
+
+dispatched_items : (s : AbsState) → (dispatched s).items ≡ s.items
+unfolding dispatched
+dispatched_items s = refl
+
+dispatched_cells : (s : AbsState) → (dispatched s).cells ≡ s.cells
+unfolding dispatched
+dispatched_cells s = refl
+
+handler_is : (cert : Certificate) (i : ℕ) (s : AbsState) → handler_of cert i s ≡ callee_of cert (vector i) (dispatched s)
+unfolding handler_of
+handler_is cert i s = refl
+
+handled : (rom : List ℕ) (cert : Certificate) (n : Node) (entry : MState) (base : ℕ) (x : MState) (i q : ℕ) → IsAt rom cert n entry base x → Contains cert.nodes n → IsCertificate cert
+    → IsDispatched rom cert n entry base x i → x.processor.halt_mark ≡ false → n.state.core.stack_set ≡ true → handler_of cert i n.state ≡ Some q
+    → are_ranges_inside (ranges_of cert q) (ranges_of cert n.procedure) ≡ true → length n.state.items + 1 + need_of cert q ≤ need_of cert n.procedure
+    → ((exit : AbsState) → exit_of cert q ≡ Some exit → covered_at cert.nodes n.procedure n.address (resumed (ranges_of cert q) (dispatched n.state) exit) ≡ true)
+    → Calls cert n.procedure entry base (left_by rom x i n.address)
+handled rom cert n entry base x i q at is_node certificate d mark set handler inside depth resumes =
+    let s = IsNodeState-node cert n certificate is_node in
+    let callee = IsCallee-found cert (vector i) (dispatched n.state) q (sym (handler_is cert i n.state) ∙ handler) in
+    let begin = IsEntryNode-entry cert (vector i) (entered (dispatched n.state)) callee.procedure callee.begins in
+    let number : begin.node.procedure ≡ q =
+    same_number begin.node.procedure q (is_own 0 cert.procedures cert.nodes q callee.procedure begin.node certificate.entries callee.is_procedure begin.is_node) in
+    record {
+      state = dispatched n.state;
+      back = n.address;
+      back_small = s.address;
+      means = d.means;
+      stack_set = dispatched_set n.state ∙ set;
+      placed = subst (λ cells. ArePlaced cert.region cells) (sym (dispatched_cells n.state)) s.placed;
+      node = begin.node;
+      is_node = Contains-slice_get cert.nodes callee.procedure.entry begin.node begin.is_node;
+      not_main = subst (λ m. 0 < m) (sym number) callee.not_main;
+      address = sym begin.address;
+      begins = begin.covering;
+      mark = mark;
+      depth = subst (λ items. length items + 1 + need_of cert begin.node.procedure ≤ need_of cert n.procedure) (sym (dispatched_items n.state))
+          (subst (λ m. length n.state.items + 1 + need_of cert m ≤ need_of cert n.procedure) (sym number) depth);
+      inside = subst (λ m. are_ranges_inside (ranges_of cert m) (ranges_of cert n.procedure) ≡ true) (sym number) inside;
+      resumes = λ exit is. subst (λ m. covered_at cert.nodes n.procedure n.address (resumed (ranges_of cert m) (dispatched n.state) exit) ≡ true) (sym number)
+          (resumes exit (subst (λ m. exit_of cert m ≡ Some exit) number is));
+    }
+
+-- ---- the event
+
+-- A dispatch is safe where the stack is set and no OAM transfer closes it, and where the interrupt has a handler whose
+-- ranges and words lie inside the procedure's, and behind which the procedure goes on at a node.
+pub IsSafeEvent-dispatch : (rom : List ℕ) (cert : Certificate) (n : Node) (entry : MState) (base : ℕ) (x : MState) (i q : ℕ) → IsAt rom cert n entry base x → Contains cert.nodes n → IsCertificate cert
+    → is_possible (within rom x) (event.Irq i) ≡ true → n.state.core.stack_set ≡ true → (n.state.core.bound ≡ 0) ⊎ (0xFF80 ≤ cert.region.first) → handler_of cert i n.state ≡ Some q
+    → are_ranges_inside (ranges_of cert q) (ranges_of cert n.procedure) ≡ true → length n.state.items + 1 + need_of cert q ≤ need_of cert n.procedure
+    → ((exit : AbsState) → exit_of cert q ≡ Some exit → covered_at cert.nodes n.procedure n.address (resumed (ranges_of cert q) (dispatched n.state) exit) ≡ true)
+    → IsSafeEvent rom cert n.procedure entry base x (event.Irq i)
+IsSafeEvent-dispatch rom cert n entry base x i q at is_node certificate possible set unlimited handler inside depth resumes =
+    let mark = mark_clear rom x at.mark (is_called rom x i possible).on in
+    let d = is_dispatched rom cert n entry base x i at is_node certificate set unlimited (omega arith) in
+    let after = happened_is rom x i n.address at.address in
+    let safe : IsSafeHappening rom cert n.procedure entry base x (event.Irq i) = record {
+      faults = faults_are rom cert.region x i n.address at.address ∙ d.faults;
+      places = no_places rom cert x i;
+      leads = inr (inl (subst (λ y. Calls cert n.procedure entry base y) (sym after) (handled rom cert n entry base x i q at is_node certificate d mark set handler inside depth resumes)));
+      kept = λ b kept. ap (λ (y : MState). peek y.storage b) after ∙ d.kept b kept;
+    } in
+    IsSafeEvent-where rom cert n.procedure entry base x (event.Irq i) true possible (record { node = n; is_node = is_node; procedure_is = refl; at = at }) (λ yes. safe)

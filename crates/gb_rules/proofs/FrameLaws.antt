@@ -1,0 +1,279 @@
+-- The procedures that wait, event by event: the machine stays in the one on top, calls another one, or returns.
+use Rattle.std.proofs.Common.{◌≡◌, ℕ, ◌+◌, ◌*◌, ◌≤◌, ◌<◌, true, inl, inr, List, [], ◌∷◌, length, Some, refl, sym, ◌∙◌, ap, subst, arith}
+use Rattle.gb_ops.specs.declared.machine.Event.{Event}
+use Rattle.gb_ops.specs.Pairs.{word}
+use Rattle.gb_ops.specs.Play.{MState, next}
+use Rattle.gb_states.specs.Types.{AbsState, Node}
+use Rattle.gb_states.specs.Certificate.{Certificate}
+use Rattle.gb_states.specs.Rules.{IsCertificate}
+use Rattle.gb_abs.specs.Covering.{covers}
+use Rattle.gb_abs.specs.Meaning.{Means}
+use Rattle.gb_abs.specs.Stack.{AreInRegion}
+use Rattle.gb_abs.specs.Storage.{peek}
+use Rattle.gb_abs.proofs.CoveringLaws.{Means-covered}
+use Rattle.gb_abs.proofs.StorageLaws.{region_in_ram}
+use Rattle.gb_code.specs.gb_abs_memory.Kept.{IsKept}
+use Rattle.gb_calls.specs.Calls.{entered, are_ranges_inside, resumed}
+use Rattle.gb_calls.specs.Sound.{without_word, ComesBack}
+use Rattle.gb_calls.proofs.EnteringLaws.{Means-entered}
+use Rattle.gb_calls.proofs.RangeLaws.{IsKept-inside}
+use Rattle.gb_calls.proofs.ResumingLaws.{Means-resumed}
+use Rattle.gb_successors.specs.Words.{word_item}
+use Rattle.gb_rules.specs.Covered.{covered_at}
+use Rattle.gb_rules.specs.Procedures.{ranges_of, need_of, exit_of}
+use Rattle.gb_rules.specs.Safety.{IsAt, IsMeant, Calls, Returns, Leads, IsSafeEvent}
+use Rattle.gb_rules.specs.Frames.{Keeps, Frame, IsWaiting, Stands, IsStanding}
+use Rattle.gb_rules.proofs.CoveringLaws.{IsFoundAt, covered_items, found_at}
+use Rattle.gb_rules.proofs.ProcedureLaws.{ranges_apart, apart_outside, exit_state, exit_set, exit_items}
+use Rattle.gb_rules.proofs.CallLaws.{sp_pushed, Means-without_word, pushed_word, region_end}
+
+-- ---- what is kept
+
+pub Keeps-none : (cert : Certificate) (procedure base : ℕ) (s : MState) → Keeps cert procedure base s s
+Keeps-none cert procedure base s = record { byte = λ b k. refl }
+
+pub Keeps-then : (cert : Certificate) (procedure base : ℕ) (s t u : MState) → Keeps cert procedure base s t → Keeps cert procedure base t u → Keeps cert procedure base s u
+Keeps-then cert procedure base s t u first second = record { byte = λ b k. second.byte b k ∙ first.byte b k }
+
+-- ---- an event in the procedure on top
+
+-- the machine has stayed in the procedure
+pub Stands-stays : (rom : List ℕ) (cert : Certificate) (frames : List Frame) (procedure : ℕ) (entry : MState) (base : ℕ) (s t : MState) → Stands rom cert frames procedure entry base s
+    → IsMeant rom cert procedure entry base t → Keeps cert procedure base s t → Stands rom cert frames procedure entry base t
+Stands-stays rom cert frames procedure entry base s t stands meant keeps =
+    record { meant = meant; waiting = stands.waiting; keeps = Keeps-then cert procedure base entry s t stands.keeps keeps }
+
+-- ---- where words stand at a call
+
+-- the return word of a call, and the words above it
+record IsPlacedCall (cert : Certificate) (procedure : ℕ) (entry : MState) (base : ℕ) (t : MState) (c : Calls cert procedure entry base t) : Type 0 where
+  sp : t.processor.sp + 2 * (length c.state.items + 1) ≡ base
+  small : t.processor.sp + 2 < 65536
+  return_word : t.processor.sp + 2 ≤ cert.region.last + 1
+  room : AreInRegion cert.region base (length c.state.items + 1)
+  callee_room : AreInRegion cert.region t.processor.sp (need_of cert c.node.procedure)
+
+placed_call : (cert : Certificate) (procedure : ℕ) (entry : MState) (base : ℕ) (t : MState) → IsCertificate cert → AreInRegion cert.region base (need_of cert procedure)
+    → (c : Calls cert procedure entry base t) → IsPlacedCall cert procedure entry base t c
+placed_call cert procedure entry base t certificate room c =
+    let end : cert.region.last < 0xFFFF = region_end cert.region certificate.region in
+    let sp : t.processor.sp + 2 * (length c.state.items + 1) ≡ base = sp_pushed (word_item c.back) c.state entry base t c.means c.stack_set in
+    let first : cert.region.first + 2 * need_of cert procedure ≤ base = room.first in
+    let last : base ≤ cert.region.last + 1 = room.last in
+    let depth : length c.state.items + 1 + need_of cert c.node.procedure ≤ need_of cert procedure = c.depth in
+    record {
+      sp = sp;
+      small = omega arith;
+      return_word = omega arith;
+      room = record { first = omega arith; last = last };
+      callee_room = record { first = omega arith; last = omega arith };
+    }
+
+-- the state that waits is meant, without the return word
+caller_means : (cert : Certificate) (procedure : ℕ) (entry : MState) (base : ℕ) (t : MState) (c : Calls cert procedure entry base t) → IsPlacedCall cert procedure entry base t c
+    → Means c.state entry base (without_word t)
+caller_means cert procedure entry base t c p = Means-without_word (word_item c.back) c.state entry base t c.means c.stack_set p.small
+
+-- ---- a frame is put on
+
+no_items : (s : AbsState) (n : Node) → covers (entered s) n.state ≡ true → length n.state.items ≡ 0
+unfolding entered
+no_items s n h = covered_items (entered s) n.state h
+
+-- the callee stands at its entry, and was entered just now
+IsAt-called : (rom : List ℕ) (cert : Certificate) (procedure : ℕ) (entry : MState) (base : ℕ) (t : MState)
+    → (c : Calls cert procedure entry base t) → IsPlacedCall cert procedure entry base t c → IsAt rom cert c.node t t.processor.sp t
+IsAt-called rom cert procedure entry base t c p =
+    let small : t.processor.sp < 65536 = (let h = p.small in omega arith) in
+    let none = no_items c.state c.node c.begins in
+    let some = c.not_main in
+    record {
+      address = c.address;
+      means = Means-covered (entered c.state) c.node.state t t.processor.sp t c.begins
+          (Means-entered c.state entry base t (caller_means cert procedure entry base t c p) small);
+      mark = inl c.mark;
+      main = λ e. absurd (omega arith);
+      return_word = λ _. p.return_word;
+      room = p.callee_room;
+      depth = omega arith;
+    }
+
+-- the machine has called: the procedure waits, and the callee was entered just now
+pub Stands-called : (rom : List ℕ) (cert : Certificate) (frames : List Frame) (procedure : ℕ) (entry : MState) (base : ℕ) (s t : MState) → IsCertificate cert
+    → Stands rom cert frames procedure entry base s → (c : Calls cert procedure entry base t) → Keeps cert procedure base s t
+    → Stands rom cert (record { procedure = procedure; entry = entry; base = base } ∷ frames) c.node.procedure t t.processor.sp t
+Stands-called rom cert frames procedure entry base s t certificate stands c keeps =
+    let at = stands.meant.at in
+    let same = stands.meant.procedure_is in
+    let room = subst (λ n. AreInRegion cert.region base (need_of cert n)) same at.room in
+    let p = placed_call cert procedure entry base t certificate room c in
+    record {
+      meant = record { node = c.node; is_node = c.is_node; procedure_is = refl; at = IsAt-called rom cert procedure entry base t c p };
+      waiting = (
+        record {
+          calls = c;
+          callee = refl;
+          base_is = refl;
+          main = λ e. at.main (same ∙ e);
+          return_word = λ some. at.return_word (subst (λ n. 0 < n) (sym same) some);
+          room = room;
+          keeps = Keeps-then cert procedure base entry s t stands.keeps keeps;
+        },
+        stands.waiting,
+      );
+      keeps = Keeps-none cert c.node.procedure t.processor.sp t;
+    }
+
+-- ---- a frame is taken off
+
+-- what a procedure keeps, the one that it called keeps too
+Keeps-callee : (cert : Certificate) (f : Frame) (procedure : ℕ) (entered : MState) (base : ℕ) (s t : MState) → IsCertificate cert → IsWaiting cert f procedure entered base
+    → Keeps cert procedure base s t → Keeps cert f.procedure f.base s t
+Keeps-callee cert f procedure called base s t certificate w keeps =
+    let c = w.calls in
+    let p = placed_call cert f.procedure f.entry f.base called certificate w.room c in
+    let below : called.processor.sp ≤ f.base = (let sp = p.sp in omega arith) in
+    let lower : base ≤ f.base = subst (λ n. n ≤ f.base) (sym w.base_is) below in
+    let inside = subst (λ n. are_ranges_inside (ranges_of cert n) (ranges_of cert f.procedure) ≡ true) w.callee c.inside in
+    record { byte = λ b k. keeps.byte b (IsKept-inside cert.region (ranges_of cert procedure) (ranges_of cert f.procedure) f.base base b inside lower k) }
+
+-- a byte of the return word is kept
+word_kept : (cert : Certificate) (procedure base b : ℕ) → IsCertificate cert → cert.region.first ≤ base → base + 2 ≤ cert.region.last + 1 → base ≤ b → b ≤ base + 1
+    → IsKept cert.region (ranges_of cert procedure) base b
+word_kept cert procedure base b certificate first last low high = record {
+  ram = region_in_ram cert.region b certificate.region (omega arith) (omega arith);
+  outside = apart_outside cert.region (ranges_of cert procedure) b (ranges_apart cert procedure certificate) (omega arith) (omega arith);
+  above = λ _. low;
+}
+
+-- the return word is as it was when the procedure was entered: the address where the one below goes on
+back_is : (cert : Certificate) (f : Frame) (procedure : ℕ) (entry : MState) (base : ℕ) (s : MState) → IsCertificate cert → (w : IsWaiting cert f procedure entry base)
+    → Keeps cert procedure base entry s → word (peek s.storage (base + 1)) (peek s.storage base) ≡ w.calls.back
+back_is cert f procedure entry base s certificate w keeps =
+    let c = w.calls in
+    let p = placed_call cert f.procedure f.entry f.base entry certificate w.room c in
+    let e = w.base_is in
+    let first : cert.region.first ≤ base = (let room = p.callee_room.first in omega arith) in
+    let last : base + 2 ≤ cert.region.last + 1 = (let h = p.return_word in omega arith) in
+    let low = keeps.byte base (word_kept cert procedure base base certificate first last (omega arith) (omega arith)) in
+    let high = keeps.byte (base + 1) (word_kept cert procedure base (base + 1) certificate first last (omega arith) (omega arith)) in
+    let found = pushed_word c.back c.state f.entry f.base entry c.means c.stack_set in
+    ap (λ n. word n (peek s.storage base)) high ∙ (ap (λ n. word (peek entry.storage (base + 1)) n) low ∙ (ap (λ n. word (peek entry.storage (n + 1)) (peek entry.storage n)) e ∙ found))
+
+-- the callee has come back
+comes_back : (cert : Certificate) (f : Frame) (procedure : ℕ) (entry : MState) (base : ℕ) (s t : MState) → IsCertificate cert → (w : IsWaiting cert f procedure entry base)
+    → Keeps cert procedure base entry s → (r : Returns cert procedure entry base s t) → Keeps cert procedure base s t
+    → ComesBack cert.region (ranges_of cert procedure) w.calls.state r.exit f.entry f.base entry t
+comes_back cert f procedure entry base s t certificate w before r keeps =
+    let c = w.calls in
+    let p = placed_call cert f.procedure f.entry f.base entry certificate w.room c in
+    let exit = exit_state cert procedure r.exit certificate r.is_exit in
+    let all = Keeps-then cert procedure base entry s t before keeps in
+    record {
+      is_region = certificate.region;
+      apart = ranges_apart cert procedure certificate;
+      placed = c.placed;
+      room = p.room;
+      stack_set = c.stack_set;
+      caller = caller_means cert f.procedure f.entry f.base entry c p;
+      exit_set = exit_set cert.region r.exit exit;
+      exit_items = exit_items cert.region r.exit exit;
+      exits = subst (λ n. Means r.exit entry (n + 2) t) w.base_is r.means;
+      kept = λ b k. all.byte b (subst (λ n. IsKept cert.region (ranges_of cert procedure) n b) (sym w.base_is) k);
+    }
+
+-- the state that the caller goes on with is covered at the address behind the call
+is_resumed : (cert : Certificate) (f : Frame) (procedure : ℕ) (entry : MState) (base : ℕ) (exit : AbsState) → (w : IsWaiting cert f procedure entry base) → exit_of cert procedure ≡ Some exit
+    → covered_at cert.nodes f.procedure w.calls.back (resumed (ranges_of cert procedure) w.calls.state exit) ≡ true
+is_resumed cert f procedure entry base exit w is =
+    subst (λ n. covered_at cert.nodes f.procedure w.calls.back (resumed (ranges_of cert n) w.calls.state exit) ≡ true) w.callee
+    (w.calls.resumes exit (ap (exit_of cert) w.callee ∙ is))
+
+-- the caller's state behind the call is meant by a node
+goes_on : (cert : Certificate) (f : Frame) (procedure : ℕ) (entry : MState) (base : ℕ) (s t : MState) → IsCertificate cert → (w : IsWaiting cert f procedure entry base)
+    → Keeps cert procedure base entry s → Returns cert procedure entry base s t → Keeps cert procedure base s t
+    → IsFoundAt cert f.procedure w.calls.back (length w.calls.state.items) f.entry f.base t
+unfolding resumed
+goes_on cert f procedure entry base s t certificate w before r keeps =
+    let ranges = ranges_of cert procedure in
+    let after = resumed ranges w.calls.state r.exit in
+    let back = comes_back cert f procedure entry base s t certificate w before r keeps in
+    let means = Means-resumed cert.region ranges w.calls.state r.exit f.entry f.base entry t back in
+    found_at cert f.procedure w.calls.back after f.entry f.base t (is_resumed cert f procedure entry base r.exit w r.is_exit) means
+
+IsMeant-returned : (rom : List ℕ) (cert : Certificate) (f : Frame) (procedure : ℕ) (entry : MState) (base : ℕ) (s t : MState) → IsCertificate cert
+    → IsWaiting cert f procedure entry base → Keeps cert procedure base entry s → Returns cert procedure entry base s t → Keeps cert procedure base s t
+    → IsMeant rom cert f.procedure f.entry f.base t
+IsMeant-returned rom cert f procedure entry base s t certificate w before r keeps =
+    let g = goes_on cert f procedure entry base s t certificate w before r keeps in
+    let same = g.procedure_is in
+    let deep : length g.node.state.items ≤ need_of cert f.procedure = (let count = g.count in let depth = w.calls.depth in omega arith) in
+    record {
+      node = g.node;
+      is_node = g.is_node;
+      procedure_is = same;
+      at = record {
+        address = r.address ∙ (back_is cert f procedure entry base s certificate w before ∙ sym g.address);
+        means = g.means;
+        mark = inl r.mark;
+        main = λ e. w.main (sym same ∙ e);
+        return_word = λ some. w.return_word (subst (λ n. 0 < n) same some);
+        room = subst (λ n. AreInRegion cert.region f.base (need_of cert n)) (sym same) w.room;
+        depth = subst (λ n. length g.node.state.items ≤ need_of cert n) (sym same) deep;
+      };
+    }
+
+-- the callee has returned: the procedure that called it goes on, as if it had never waited
+pub Stands-returned : (rom : List ℕ) (cert : Certificate) (f : Frame) (rest : List Frame) (procedure : ℕ) (entry : MState) (base : ℕ) (s t : MState) → IsCertificate cert
+    → Stands rom cert (f ∷ rest) procedure entry base s → Returns cert procedure entry base s t → Keeps cert procedure base s t
+    → Stands rom cert rest f.procedure f.entry f.base t
+Stands-returned rom cert f rest procedure entry base s t certificate stands r keeps =
+    let w = stands.waiting.0 in
+    let all = Keeps-then cert procedure base entry s t stands.keeps keeps in
+    record {
+      meant = IsMeant-returned rom cert f procedure entry base s t certificate w stands.keeps r keeps;
+      waiting = stands.waiting.1;
+      keeps = Keeps-then cert f.procedure f.base f.entry entry t w.keeps (Keeps-callee cert f procedure entry base entry t certificate w all);
+    }
+
+-- ---- each event
+
+-- nobody waits below main, which doesn't return
+IsStanding-returned : (rom : List ℕ) (cert : Certificate) (frames : List Frame) (procedure : ℕ) (entry : MState) (base : ℕ) (s t : MState) → IsCertificate cert
+    → Stands rom cert frames procedure entry base s → Returns cert procedure entry base s t → Keeps cert procedure base s t → IsStanding rom cert t
+IsStanding-returned rom cert [] procedure entry base s t certificate stands r keeps =
+    let main : procedure ≡ 0 = stands.waiting in
+    let some : 0 < procedure = r.not_main in
+    absurd (omega arith)
+IsStanding-returned rom cert (f ∷ rest) procedure entry base s t certificate stands r keeps = record {
+  frames = rest;
+  procedure = f.procedure;
+  entry = f.entry;
+  base = f.base;
+  stands = Stands-returned rom cert f rest procedure entry base s t certificate stands r keeps;
+}
+
+IsStanding-leads : (rom : List ℕ) (cert : Certificate) (frames : List Frame) (procedure : ℕ) (entry : MState) (base : ℕ) (s t : MState) → IsCertificate cert
+    → Stands rom cert frames procedure entry base s → Leads rom cert procedure entry base s t → Keeps cert procedure base s t → IsStanding rom cert t
+IsStanding-leads rom cert frames procedure entry base s t certificate stands (inl meant) keeps = record {
+  frames = frames;
+  procedure = procedure;
+  entry = entry;
+  base = base;
+  stands = Stands-stays rom cert frames procedure entry base s t stands meant keeps;
+}
+IsStanding-leads rom cert frames procedure entry base s t certificate stands (inr (inl c)) keeps = record {
+  frames = record { procedure = procedure; entry = entry; base = base } ∷ frames;
+  procedure = c.node.procedure;
+  entry = t;
+  base = t.processor.sp;
+  stands = Stands-called rom cert frames procedure entry base s t certificate stands c keeps;
+}
+IsStanding-leads rom cert frames procedure entry base s t certificate stands (inr (inr r)) keeps =
+    IsStanding-returned rom cert frames procedure entry base s t certificate stands r keeps
+
+-- after each safe event the machine stands
+pub IsStanding-event : (rom : List ℕ) (cert : Certificate) (frames : List Frame) (procedure : ℕ) (entry : MState) (base : ℕ) (s : MState) (e : Event) → IsCertificate cert
+    → Stands rom cert frames procedure entry base s → IsSafeEvent rom cert procedure entry base s e → IsStanding rom cert (next rom s e)
+IsStanding-event rom cert frames procedure entry base s e certificate stands safe =
+    IsStanding-leads rom cert frames procedure entry base s (next rom s e) certificate stands safe.leads (record { byte = safe.kept })

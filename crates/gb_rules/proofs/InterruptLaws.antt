@@ -1,0 +1,54 @@
+-- Every event, an interrupt's dispatch among them, from a state of a node that nothing is against.
+use Rattle.std.proofs.Common.{◌≡◌, ℕ, Bool, true, false, List, None, Result, Ok, Err, refl, sym, ◌∙◌, ap}
+use Rattle.std.specs.Prelude.{option_and_then}
+use Rattle.std.specs.Result.{MatchResult, OnOk}
+use Rattle.std.specs.List.{Contains}
+use Rattle.gb_ops.specs.declared.machine.Event.{Event}
+use Rattle.gb_ops.specs.declared.machine.Event.TheVariants as event
+use Rattle.gb_ops.specs.Machine.{is_possible}
+use Rattle.gb_ops.specs.Play.{MState, within}
+use Rattle.gb_states.specs.Types.{Node}
+use Rattle.gb_states.specs.Certificate.{Certificate}
+use Rattle.gb_states.specs.Rules.{IsCertificate}
+use Rattle.gb_abs.specs.declared.reason.Reason.{Reason}
+use Rattle.gb_abs.specs.declared.reason.Reason.TheVariants as reasons
+use Rattle.gb_code.specs.gb_abs_memory.Sound.{IsRom}
+use Rattle.gb_successors.proofs.AccessLaws.{clear_stack}
+use Rattle.gb_rules.specs.Rules.{reason_of, reason_at, lacks_handler, lacks_in, lacks_handler_at}
+use Rattle.gb_rules.specs.Safety.{IsAt, IsSafeEvent, IsWhollySafeAt}
+use Rattle.gb_rules.proofs.SearchLaws.{Contains-slice_get}
+use Rattle.gb_rules.proofs.NodeLaws.{Passes-from, IsProvided-passed}
+use Rattle.gb_rules.proofs.EventLaws.{IsSafeNode-right, IsSafeEvent-where}
+use Rattle.gb_rules.proofs.DispatchLaws.{IsSafeEvent-dispatch, may_come-possible}
+
+-- an interrupt's dispatch, where it is possible or not
+interrupt_safe : (rom : List ℕ) (cert : Certificate) (n : Node) (entry : MState) (base : ℕ) (s : MState) (i : ℕ) → IsCertificate cert → Contains cert.nodes n → reason_of rom cert n ≡ None
+    → lacks_handler cert n ≡ false → IsAt rom cert n entry base s → (b : Bool) → is_possible (within rom s) (event.Irq i) ≡ b → IsSafeEvent rom cert n.procedure entry base s (event.Irq i)
+interrupt_safe rom cert n entry base s i certificate is_node right handled at true possible =
+    let may = may_come-possible rom cert n entry base s i at possible in
+    let k = IsProvided-passed rom cert n (Passes-from rom cert n right) i handled may.1 may.0 in
+    IsSafeEvent-dispatch rom cert n entry base s i k.handler at is_node certificate possible k.stack_set (clear_stack cert.region n.state.core k.clear) k.is_handler k.inside k.depth k.resumes
+interrupt_safe rom cert n entry base s i certificate is_node right handled at false impossible =
+    IsSafeEvent-where rom cert n.procedure entry base s (event.Irq i) false impossible (record { node = n; is_node = is_node; procedure_is = refl; at = at }) (λ h. absurd (different h))
+  where
+    different : false ≡ true → ⊥
+    different h = cc
+
+-- a node that no reason is against and that has its handlers
+pub IsSafeEvent-handled : (rom : List ℕ) (cert : Certificate) (n : Node) → IsRom rom → IsCertificate cert → Contains cert.nodes n → reason_of rom cert n ≡ None → lacks_handler cert n ≡ false
+    → (entry : MState) (base : ℕ) (s : MState) (e : Event) → IsAt rom cert n entry base s → IsSafeEvent rom cert n.procedure entry base s e
+IsSafeEvent-handled rom cert n cartridge certificate is_node right handled entry base s (event.Run fetch reads) at =
+    IsSafeNode-right rom cert n cartridge certificate is_node right entry base s (event.Run fetch reads) tt at
+IsSafeEvent-handled rom cert n cartridge certificate is_node right handled entry base s event.HaltStay at = IsSafeNode-right rom cert n cartridge certificate is_node right entry base s event.HaltStay tt at
+IsSafeEvent-handled rom cert n cartridge certificate is_node right handled entry base s event.HaltBug at = IsSafeNode-right rom cert n cartridge certificate is_node right entry base s event.HaltBug tt at
+IsSafeEvent-handled rom cert n cartridge certificate is_node right handled entry base s (event.Irq i) at =
+    interrupt_safe rom cert n entry base s i certificate is_node right handled at (is_possible (within rom s) (event.Irq i)) refl
+IsSafeEvent-handled rom cert n cartridge certificate is_node right handled entry base s (event.Wait cycles) at =
+    IsSafeNode-right rom cert n cartridge certificate is_node right entry base s (event.Wait cycles) tt at
+
+-- what an answer of check_irqs promises
+pub check_irqs_safe : {X : Type 0} (rom : List ℕ) (cert : Certificate) (i : ℕ) (r : Result X Reason) → IsRom rom → IsCertificate cert
+    → MatchResult r (λ _. lacks_handler_at cert i ≡ false) (λ reason. (lacks_handler_at cert i ≡ true) × (reason ≡ reasons.Interrupt)) → reason_at rom cert i ≡ None → OnOk r (IsWhollySafeAt rom cert i)
+check_irqs_safe rom cert i (Ok u) cartridge certificate h right = λ n is entry base s e at.
+    IsSafeEvent-handled rom cert n cartridge certificate (Contains-slice_get cert.nodes i n is) (ap (option_and_then (reason_of rom cert)) (sym is) ∙ right) (ap (lacks_in cert) (sym is) ∙ h) entry base s e at
+check_irqs_safe rom cert i (Err reason) cartridge certificate h right = tt

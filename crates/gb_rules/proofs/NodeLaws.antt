@@ -1,0 +1,441 @@
+-- What is known of a node of a certificate that no reason applies to.
+use Rattle.std.proofs.Common.{◌≡◌, ℕ, zero, suc, ◌+◌, ◌≤◌, ◌<◌, Bool, true, false, cond, not, ◌&&◌, ◌||◌, ◌==◌, nat_lt, ◌⊎◌, inl, inr, List, [], ◌∷◌, length, slice_index, slice_get, get_or, Option, Some, None, is_none, refl, sym, ◌∙◌, ap, subst, arith}
+use Rattle.std.proofs.lemmas.Bool.{or_parts, not-false, eqb-true}
+use Rattle.gb_states.specs.declared.role.Role.TheVariants as role
+use Rattle.std.proofs.lemmas.Bool.Decides.{nat_tests}
+use Rattle.std.proofs.lemmas.Option.{same_Some}
+use Rattle.std.specs.List.{AllByRecursion, Contains, find, list_any}
+use Rattle.gb_ops.specs.declared.machine.Region.{Region}
+use Rattle.gb_ops.specs.declared.op.Pair.{Pair}
+use Rattle.gb_ops.specs.declared.op.Pair.TheVariants as pair
+use Rattle.gb_ops.specs.declared.op.Op.{Op}
+use Rattle.gb_ops.specs.declared.op.Op.TheVariants as op
+use Rattle.gb_ops.specs.declared.op.Row.{Row}
+use Rattle.gb_ops.specs.Table.{decoded}
+use Rattle.gb_ops.specs.Machine.{length_of}
+use Rattle.gb_states.specs.declared.types.Val.{Val}
+use Rattle.gb_states.specs.declared.types.Cell.{Cell}
+use Rattle.gb_states.specs.declared.types.Item.{Item}
+use Rattle.gb_states.specs.Types.{AbsState, Node}
+use Rattle.gb_states.specs.Certificate.{Certificate}
+use Rattle.gb_states.specs.Rules.{IsVal, IsCell, IsChain, IsNode, IsState, IsCore, IsItem, IsRegion, IsCertificate, after_cell, key, role_of, needs_stack}
+use Rattle.gb_abs.specs.Cells.{ArePlaced}
+use Rattle.gb_abs.specs.Stack.{AreInRegion}
+use Rattle.gb_successors.specs.gb_abs_effects.declared.targets.Target.{Target}
+use Rattle.gb_successors.specs.gb_abs_effects.declared.targets.Target.TheVariants as target
+use Rattle.gb_successors.proofs.gb_abs_effects_laws.DecodingLaws.{HasBytes-decoded, length-decoded}
+use Rattle.gb_code.specs.gb_abs_memory.Access.{val_at}
+use Rattle.gb_code.specs.gb_abs_memory.Shown.{known_bank}
+use Rattle.gb_code.specs.gb_abs_memory.Sound.{IsRom, AreVals}
+use Rattle.gb_code.proofs.gb_abs_memory_laws.LoadLaws.{IsVal-val_at}
+use Rattle.gb_code.specs.Code.{area_end, known_byte, known_where, single_of}
+use Rattle.gb_code.proofs.ByteLaws.{chosen}
+use Rattle.gb_code.proofs.CodeLaws.{KnownBytes, KnownBytes-known_bytes, IsKnown, end_of, bank_of, clear_of}
+use Rattle.gb_successors.specs.Way.{Successor}
+use Rattle.gb_successors.specs.declared.successors.Successors.{Successors}
+use Rattle.gb_successors.specs.Successors.{has, any_successor, successors_of}
+use Rattle.gb_successors.specs.Refused.{is_stack_limited, is_unknown}
+use Rattle.gb_successors.specs.Sound.{IsOneOf, IsAllowed, IsStackKnown, IsStackFit, IsPushable, IsPoppable, IsReturnable, IsRuled}
+use Rattle.gb_calls.specs.Calls.{callee_of, are_ranges_inside, resumed}
+use Rattle.gb_calls.specs.Interrupts.{dispatched, may_come, handler_of}
+use Rattle.gb_rules.specs.Covered.{covered_at}
+use Rattle.gb_rules.specs.Procedures.{ranges_of, need_of, exit_of}
+use Rattle.gb_rules.specs.Rules.{is_stop, may_read_twice, breaks_stack, pushes_too_deep, is_code_limited, callee_by, callee_at, is_over, calls_too_deep, is_resumed_uncovered, is_uncovered, is_outside_of, is_uncallable_at, is_uncallable, is_exit_missed, is_unreturnable_at, is_unreturnable, interrupts, any_interrupt, handles_too_deep, is_dispatch_limited, is_unhandled, lacks_handler, test_row, test_instruction, is_undefined, node_bytes, any_of, grows_too_deep, stores_outside, meets_ram, meets_transfer, leads_anywhere, leads_uncovered, calls_wrongly, returns_wrongly, applies_to_row, applies, reasons, reason_of}
+
+-- ---- a node of a certificate is one of its grammar
+
+contained : {S X : Type 0} (good : S → X → Type 0) (next : X → S) (s : S) (xs : List X) (x : X) → IsChain good next s xs → Contains xs x → (t : S) × good t x
+contained good next s [] x h c = absurd (let lt : c.0 < 0 = c.1 in omega arith)
+contained {S} {X} good next s (y ∷ xs) x h c = choose c.0 c.1 c.2 (contained good next (next y) xs x h.1)
+  where
+    choose : (i : ℕ) → i < suc (length xs) → get_or (y ∷ xs) i x ≡ x → (Contains xs x → (t : S) × good t x) → (t : S) × good t x
+    choose zero lt e rest = (s, subst (good s) e h.0)
+    choose (suc i) lt e rest = rest (i, omega arith, e)
+
+placed_from : (region : Region) (least : ℕ) (cells : List Cell) → IsChain (IsCell region) after_cell least cells → ArePlaced region cells
+placed_from region least [] h = tt
+placed_from region least (c ∷ rest) h = (record { area = h.0.area; apart = h.0.apart }, placed_from region (after_cell c) rest h.1)
+
+vals_from : (region : Region) (least : ℕ) (cells : List Cell) → IsChain (IsCell region) after_cell least cells → AreVals cells
+vals_from region least [] h = tt
+vals_from region least (c ∷ rest) h = (h.0.val, vals_from region (after_cell c) rest h.1)
+
+-- its parts
+pub record IsNodeState (cert : Certificate) (n : Node) : Type 0 where
+  pub is_region : IsRegion cert.region
+  pub address : n.address < 65536
+  pub core : IsCore n.state.core
+  pub placed : ArePlaced cert.region n.state.cells
+  pub vals : AreVals n.state.cells
+  pub items : AllByRecursion IsItem n.state.items
+  pub stack : 0 < n.procedure → n.state.core.stack_set ≡ true
+
+needs_other : (procedure : ℕ) (set : Bool) → 0 < procedure → (set || not (needs_stack (role_of procedure))) ≡ true → set ≡ true
+needs_other procedure set lt h = by (procedure == 0) refl set h
+  where
+    by : (b : Bool) → (procedure == 0) ≡ b → (set : Bool) → (set || not (needs_stack (cond b role.Main role.Other))) ≡ true → set ≡ true
+    by true e set h = let none : procedure ≡ 0 = eqb-true procedure 0 e in absurd (omega arith)
+    by false e true h = refl
+    by false e false h = cc
+
+pub IsNodeState-node : (cert : Certificate) (n : Node) → IsCertificate cert → Contains cert.nodes n → IsNodeState cert n
+IsNodeState-node cert n c is =
+    let p = contained (IsNode cert.region (length cert.procedures)) key (0, 0) cert.nodes n c.nodes is in
+    let node = p.1 in
+    let state : IsState (role_of n.procedure) cert.region n.state = node.state in
+    record {
+      is_region = c.region;
+      address = node.address;
+      core = state.core;
+      placed = placed_from cert.region 0 n.state.cells state.cells;
+      vals = vals_from cert.region 0 n.state.cells state.cells;
+      items = state.items;
+      stack = λ other. needs_other n.procedure n.state.core.stack_set other state.stack;
+    }
+
+-- ---- no reason applies
+
+none_found : {X : Type 0} (test : X → Bool) (xs : List X) → find test xs ≡ None → AllByRecursion (λ x. test x ≡ false) xs
+none_found test [] h = tt
+none_found {X} test (x ∷ xs) h = let p = not_chosen (test x) x (find test xs) h in (p.0, none_found test xs p.1)
+  where
+    not_chosen : (b : Bool) (y : X) (o : Option X) → cond b (Some y) o ≡ None → (b ≡ false) × (o ≡ None)
+    not_chosen true y o h = cc
+    not_chosen false y o h = (refl, h)
+
+-- a node that passes has a known instruction, inside its area and in its bank, and nothing is against it or its successors
+pub record Passes (rom : List ℕ) (cert : Certificate) (n : Node) : Type 0 where
+  pub bytes : List ℕ
+  pub known : KnownBytes rom n.state n.address bytes
+  pub row : Row
+  pub is_row : decoded bytes ≡ Some row
+  pub end : ℕ
+  pub is_end : area_end n.address ≡ Some end
+  pub inside : n.address + length_of known.opcode ≤ end
+  pub bank : known_bank rom n.state.core.ctl n.address ≡ Some n.bank
+  pub stop : is_stop row.op ≡ false
+  pub halt : may_read_twice rom n row.op ≡ false
+  pub stack : breaks_stack cert.region n row.op ≡ false
+  pub depth : grows_too_deep rom cert n row ≡ false
+  pub stores : stores_outside rom cert n row ≡ false
+  pub ram : meets_ram rom n row ≡ false
+  pub oam_transfer : meets_transfer rom cert.region n row ≡ false
+  pub jump : leads_anywhere rom n row ≡ false
+  pub covered : leads_uncovered rom cert n row ≡ false
+  pub calls : calls_wrongly rom cert n row ≡ false
+  pub returns : returns_wrongly rom cert n row ≡ false
+
+some_from : {X : Type 0} (o : Option X) → is_none o ≡ false → (x : X) × (o ≡ Some x)
+some_from None h = cc
+some_from (Some x) h = (x, refl)
+
+undefined_use : (o : Option (List ℕ)) (bytes : List ℕ) → o ≡ Some bytes → is_undefined o ≡ false → is_none (decoded bytes) ≡ false
+undefined_use o bytes e h = sym (ap is_undefined e) ∙ h
+
+row_use : (test : Row → Bool) (o : Option (List ℕ)) (bytes : List ℕ) (row : Row) → o ≡ Some bytes → decoded bytes ≡ Some row → test_instruction test o ≡ false → test row ≡ false
+row_use test o bytes row e f h = sym (ap (test_row test) f) ∙ (sym (ap (test_instruction test) e) ∙ h)
+
+pub Passes-from : (rom : List ℕ) (cert : Certificate) (n : Node) → reason_of rom cert n ≡ None → Passes rom cert n
+unfolding reason_of applies applies_to_row node_bytes
+Passes-from rom cert n h =
+    let none = none_found (applies rom cert n) reasons h in
+    let bytes = some_from _ none.1.1.0 in
+    let known = KnownBytes-known_bytes rom n.state n.address bytes.0 bytes.1 in
+    let row = some_from _ (undefined_use _ bytes.0 bytes.1 none.1.1.1.0) in
+    let end = end_of _ _ _ _ known.is_opcode none.0 in
+    record {
+      bytes = bytes.0;
+      known = known;
+      row = row.0;
+      is_row = row.1;
+      end = end.0;
+      is_end = end.1;
+      inside = end.2;
+      bank = bank_of _ _ none.1.0;
+      stop = row_use _ _ bytes.0 row.0 bytes.1 row.1 none.1.1.1.1.0;
+      halt = row_use _ _ bytes.0 row.0 bytes.1 row.1 none.1.1.1.1.1.0;
+      stack = row_use _ _ bytes.0 row.0 bytes.1 row.1 none.1.1.1.1.1.1.0;
+      depth = row_use _ _ bytes.0 row.0 bytes.1 row.1 none.1.1.1.1.1.1.1.0;
+      stores = row_use _ _ bytes.0 row.0 bytes.1 row.1 none.1.1.1.1.1.1.1.1.0;
+      ram = row_use _ _ bytes.0 row.0 bytes.1 row.1 none.1.1.1.1.1.1.1.1.1.0;
+      oam_transfer = row_use _ _ bytes.0 row.0 bytes.1 row.1 none.1.1.1.1.1.1.1.1.1.1.0;
+      jump = row_use _ _ bytes.0 row.0 bytes.1 row.1 none.1.1.1.1.1.1.1.1.1.1.1.0;
+      covered = row_use _ _ bytes.0 row.0 bytes.1 row.1 none.1.1.1.1.1.1.1.1.1.1.1.1.0;
+      calls = row_use _ _ bytes.0 row.0 bytes.1 row.1 none.1.1.1.1.1.1.1.1.1.1.1.1.1.0;
+      returns = row_use _ _ bytes.0 row.0 bytes.1 row.1 none.1.1.1.1.1.1.1.1.1.1.1.1.1.1.0;
+    }
+
+-- ---- its bytes are bytes
+
+single_small : (v : Val) (b : ℕ) → IsVal v → single_of v ≡ Some b → b < 256
+unfolding single_of
+single_small v b is h = elim (chosen (v.lo == v.hi) (Some v.lo) None (Some b) h) [
+  | inl p ↦
+      let low : v.lo ≡ b = same_Some v.lo b p.1 in
+      let order = is.order in
+      let hi = is.hi in
+      omega arith
+  | inr p ↦ cc
+]
+
+byte_small : (rom : List ℕ) (s : AbsState) (a b : ℕ) → IsRom rom → IsCore s.core → AreVals s.cells → known_byte rom s a ≡ Some b → b < 256
+unfolding known_byte
+byte_small rom s a b r c vals h = elim (chosen _ (single_of (val_at rom s a)) None (Some b) h) [
+  | inl p ↦ single_small (val_at rom s a) b (IsVal-val_at rom s a c.ie vals r.bytes) p.1
+  | inr p ↦ cc
+]
+
+where_small : (wanted : Bool) (rom : List ℕ) (s : AbsState) (a b : ℕ) → IsRom rom → IsCore s.core → AreVals s.cells → known_where wanted rom s a ≡ Some b → b < 256
+where_small true rom s a b r c vals h = byte_small rom s a b r c vals h
+where_small false rom s a b r c vals h = let zero_is : 0 ≡ b = same_Some 0 b h in omega arith
+
+-- ---- its instruction has rules
+
+not_stop : (o : Op) → is_stop o ≡ false → o ≡ op.Stop → ⊥
+not_stop o h e = let stops : is_stop o ≡ true = ap is_stop e in cc
+
+loaded_stack : (region : Region) (n : Node) (base w : ℕ) → (n.procedure ≡ 0 → base ≡ region.last + 1) → (not (n.procedure == 0) || not (w == region.last + 1)) ≡ false → op.LoadPair pair.Sp w ≡ op.LoadPair pair.Sp base
+loaded_stack region n base w main h = ap (λ v. op.LoadPair pair.Sp v) (by n.procedure main h)
+  where
+    by : (procedure : ℕ) → (procedure ≡ 0 → base ≡ region.last + 1) → (not (procedure == 0) || not (w == region.last + 1)) ≡ false → w ≡ base
+    by procedure main h =
+        let first : procedure ≡ 0 = grind (arith, nat_tests) in
+        let word : w ≡ region.last + 1 = grind (arith, nat_tests) in
+        let top : base ≡ region.last + 1 = main first in
+        word ∙ sym top
+
+loaded_pair : (region : Region) (n : Node) (base w : ℕ) (which : Pair) → (n.procedure ≡ 0 → base ≡ region.last + 1) → breaks_stack region n (op.LoadPair which w) ≡ false → IsStackKnown region (op.LoadPair which w) n.state base
+unfolding breaks_stack
+loaded_pair region n base w pair.Bc main h = inl refl
+loaded_pair region n base w pair.De main h = inl refl
+loaded_pair region n base w pair.Hl main h = inl refl
+loaded_pair region n base w pair.Sp main h = inr (inl (loaded_stack region n base w main h))
+
+-- a word less than the need has room
+pub fewer_words : (region : Region) (base need words : ℕ) → AreInRegion region base need → words ≤ need → AreInRegion region base words
+fewer_words region base need words room le =
+    let first = room.first in
+    record { first = omega arith; last = room.last }
+
+pushable : (region : Region) (need base : ℕ) (s : AbsState) → AreInRegion region base need → not s.core.stack_set ≡ false → (nat_lt need (length s.items + 1) || nat_lt 16 (length s.items + 1)) ≡ false → IsPushable region s base
+pushable region need base s room set h = record {
+  stack_set = not-false _ set;
+  held = held (length s.items) h;
+  room = fewer_words region base need (length s.items + 1) room (fits (length s.items) h);
+}
+  where
+    held : (n : ℕ) → (nat_lt need (n + 1) || nat_lt 16 (n + 1)) ≡ false → (n == 16) ≡ false
+    held n h = grind (arith, nat_tests)
+
+    fits : (n : ℕ) → (nat_lt need (n + 1) || nat_lt 16 (n + 1)) ≡ false → n + 1 ≤ need
+    fits n h = grind (arith, nat_tests)
+
+poppable : (s : AbsState) → (not s.core.stack_set || length s.items == 0) ≡ false → IsPoppable s
+poppable s h = by s.core.stack_set (length s.items) refl refl h
+  where
+    by : (set : Bool) (n : ℕ) → s.core.stack_set ≡ set → length s.items ≡ n → (not set || n == 0) ≡ false → IsPoppable s
+    by true zero e m h = cc
+    by true (suc n) e m h = record { stack_set = e; held = omega arith }
+    by false n e m h = cc
+
+stack_known : (region : Region) (need base : ℕ) (n : Node) (o : Op) → (n.procedure ≡ 0 → base ≡ region.last + 1) → AreInRegion region base need → breaks_stack region n o ≡ false → pushes_too_deep need n o ≡ false → IsStackKnown region o n.state base
+unfolding breaks_stack pushes_too_deep
+stack_known region need base n (op.LoadPair which w) main room h deep = loaded_pair region n base w which main h
+stack_known region need base n (op.Push from) main room h deep = inr (inr (inl (refl, pushable region need base n.state room h deep)))
+stack_known region need base n (op.Pop to) main room h deep = inr (inr (inr (inl (refl, poppable n.state h))))
+stack_known region need base n (op.CallIf k w) main room h deep = inr (inr (inr (inr (inl (refl, not-false _ h)))))
+stack_known region need base n (op.Call w) main room h deep = inr (inr (inr (inr (inl (refl, not-false _ h)))))
+stack_known region need base n (op.Restart w) main room h deep = inr (inr (inr (inr (inl (refl, not-false _ h)))))
+stack_known region need base n (op.ReturnIf k) main room h deep = inr (inr (inr (inr (inr refl))))
+stack_known region need base n op.Return main room h deep = inr (inr (inr (inr (inr refl))))
+stack_known region need base n op.ReturnFromInterrupt main room h deep = inr (inr (inr (inr (inr refl))))
+stack_known region need base n o main room h deep = inl h
+
+pub ruled : (rom : List ℕ) (cert : Certificate) (n : Node) (base : ℕ) (p : Passes rom cert n) → IsRom rom → IsNodeState cert n → (n.procedure ≡ 0 → base ≡ cert.region.last + 1)
+    → AreInRegion cert.region base (need_of cert n.procedure) → IsRuled cert.region p.row n.state base
+unfolding grows_too_deep
+ruled rom cert n base p r s main room =
+    let second : p.known.second < 256 = where_small _ rom n.state _ _ r s.core s.vals p.known.is_second in
+    let third : p.known.third < 256 = where_small _ rom n.state _ _ r s.core s.vals p.known.is_third in
+    let at_second : slice_index p.bytes 1 ≡ p.known.second = ap (λ bytes. slice_index bytes 1) p.known.bytes_are in
+    let at_third : slice_index p.bytes 2 ≡ p.known.third = ap (λ bytes. slice_index bytes 2) p.known.bytes_are in
+    record {
+      operands = HasBytes-decoded p.bytes p.row (subst (λ k. k < 256) (sym at_second) second) (subst (λ k. k < 256) (sym at_third) third) p.is_row;
+      runs = not_stop p.row.op p.stop;
+      stack = stack_known cert.region (need_of cert n.procedure) base n p.row.op main room p.stack (or_parts _ _ (or_parts _ _ p.depth).0).0;
+    }
+
+-- ---- nothing is against a successor
+
+none_of : (test : Successor → Bool) (ss : Successors) (t : Successor) → any_successor test ss ≡ false → IsOneOf ss t → test t ≡ false
+unfolding any_successor
+none_of test ss t h is = by is (parts _ _ _ h)
+  where
+    parts : (a b c : Bool) → (a || b || c) ≡ false → (a ≡ false) × (b ≡ false) × (c ≡ false)
+    parts true b c h = cc
+    parts false true c h = cc
+    parts false false c h = (refl, refl, h)
+
+    by : IsOneOf ss t → (has test ss.taken ≡ false) × (has test ss.not_taken ≡ false) × (has test ss.stays ≡ false) → test t ≡ false
+    by (inl e) k = sym (ap (has test) e) ∙ k.0
+    by (inr (inl e)) k = sym (ap (has test) e) ∙ k.1
+    by (inr (inr e)) k = sym (ap (has test) e) ∙ k.2
+
+-- the successors of a node's instruction
+abbrev pub ways_of : List ℕ → Node → Row → Successors
+ways_of rom n row = successors_of rom row n.address n.state
+
+-- what a call asks for: a callee, with room for the return address
+callable : (cert : Certificate) (n : Node) (t : Successor) (base a : ℕ) (o : Option ℕ) → is_outside_of cert n.procedure o ≡ false → is_over cert (need_of cert n.procedure) (length t.state.items) o ≡ false
+    → AreInRegion cert.region base (need_of cert n.procedure) → AreInRegion cert.region base (length t.state.items + 1)
+callable cert n t base a None outside over room = cc
+callable cert n t base a (Some q) outside over room = fewer_words cert.region base (need_of cert n.procedure) (length t.state.items + 1) room (fits (need_of cert n.procedure) (length t.state.items) (need_of cert q) over)
+  where
+    fits : (need held more : ℕ) → nat_lt need (held + 1 + more) ≡ false → held + 1 ≤ need
+    fits need held more h = grind (arith, nat_tests)
+
+-- what a return asks for: an exit, with no word held
+returnable : (cert : Certificate) (n : Node) (t : Successor) (base : ℕ) (o : Option AbsState) → IsNodeState cert n → (n.procedure == 0 || is_exit_missed t.state o) ≡ false
+    → (0 < n.procedure → base + 2 ≤ cert.region.last + 1) → AreInRegion cert.region base (need_of cert n.procedure) → IsReturnable cert.region n.state t base
+returnable cert n t base o state h word room =
+    let p = or_parts _ _ h in
+    let other : 0 < n.procedure = not_zero n.procedure p.0 in
+    let last = word other in
+    let first = room.first in
+    record { stack_set = state.stack other; held = no_items o t.state p.1; return_word = record { first = omega arith; last = last } }
+  where
+    not_zero : (m : ℕ) → (m == 0) ≡ false → 0 < m
+    not_zero m h = grind (arith, nat_tests)
+
+    empty : (items : List Item) → length items ≡ 0 → items ≡ []
+    empty [] h = refl
+    empty (i ∷ items) h = cc
+
+    no_items : (o : Option AbsState) (s : AbsState) → is_exit_missed s o ≡ false → s.items ≡ []
+    no_items None s h = cc
+    no_items (Some exit) s h = empty s.items (eqb-true _ _ (not-false _ (or_parts _ _ h).0))
+
+pub allowed : (rom : List ℕ) (cert : Certificate) (n : Node) (p : Passes rom cert n) (base : ℕ) (t : Successor) → IsOneOf (ways_of rom n p.row) t → IsNodeState cert n
+    → (0 < n.procedure → base + 2 ≤ cert.region.last + 1) → AreInRegion cert.region base (need_of cert n.procedure) → IsAllowed rom cert.region (ranges_of cert n.procedure) n.state base t
+unfolding stores_outside meets_ram meets_transfer grows_too_deep calls_wrongly returns_wrongly any_of is_uncallable is_unreturnable calls_too_deep callee_at
+allowed rom cert n p base t is state word room =
+    record {
+      stores = none_of _ (ways_of rom n p.row) t p.stores is;
+      ram = none_of _ (ways_of rom n p.row) t p.ram is;
+      oam_transfer = (or_parts _ _ (none_of _ (ways_of rom n p.row) t (or_parts _ _ p.oam_transfer).0 is)).1;
+      stack = by t.target
+          (none_of (is_uncallable cert n.procedure) (ways_of rom n p.row) t p.calls is)
+          (none_of (calls_too_deep cert (need_of cert n.procedure)) (ways_of rom n p.row) t (or_parts _ _ (or_parts _ _ p.depth).0).1 is)
+          (none_of (is_unreturnable cert n.procedure) (ways_of rom n p.row) t p.returns is);
+    }
+  where
+    by : (w : Target) → is_uncallable_at cert n.procedure w t.state ≡ false → is_over cert (need_of cert n.procedure) (length t.state.items) (callee_by cert w t.state) ≡ false
+        → is_unreturnable_at cert n.procedure w t.state ≡ false → IsStackFit cert.region w n.state t base
+    by (target.At a) calls deep returns = tt
+    by (target.Call a) calls deep returns = callable cert n t base a (callee_of cert a t.state) calls deep room
+    by target.Return calls deep returns = returnable cert n t base (exit_of cert n.procedure) state returns word room
+    by target.Unknown calls deep returns = tt
+
+pub not_uncallable : (rom : List ℕ) (cert : Certificate) (n : Node) (p : Passes rom cert n) (t : Successor) → IsOneOf (ways_of rom n p.row) t → is_uncallable cert n.procedure t ≡ false
+unfolding calls_wrongly any_of
+not_uncallable rom cert n p t is = none_of _ (ways_of rom n p.row) t p.calls is
+
+pub not_too_deep : (rom : List ℕ) (cert : Certificate) (n : Node) (p : Passes rom cert n) (t : Successor) → IsOneOf (ways_of rom n p.row) t → calls_too_deep cert (need_of cert n.procedure) t ≡ false
+unfolding grows_too_deep any_of
+not_too_deep rom cert n p t is = none_of _ (ways_of rom n p.row) t (or_parts _ _ (or_parts _ _ p.depth).0).1 is
+
+pub not_unreturnable : (rom : List ℕ) (cert : Certificate) (n : Node) (p : Passes rom cert n) (t : Successor) → IsOneOf (ways_of rom n p.row) t → is_unreturnable cert n.procedure t ≡ false
+unfolding returns_wrongly any_of
+not_unreturnable rom cert n p t is = none_of _ (ways_of rom n p.row) t p.returns is
+
+pub not_unknown : (rom : List ℕ) (cert : Certificate) (n : Node) (p : Passes rom cert n) (t : Successor) → IsOneOf (ways_of rom n p.row) t → is_unknown t.target ≡ false
+unfolding leads_anywhere any_of
+not_unknown rom cert n p t is = none_of _ (ways_of rom n p.row) t p.jump is
+
+pub not_uncovered : (rom : List ℕ) (cert : Certificate) (n : Node) (p : Passes rom cert n) (t : Successor) → IsOneOf (ways_of rom n p.row) t → is_uncovered cert n.procedure t ≡ false
+unfolding leads_uncovered any_of
+not_uncovered rom cert n p t is = none_of _ (ways_of rom n p.row) t p.covered is
+
+first_is : (bytes : List ℕ) (a b c : ℕ) → bytes ≡ a ∷ b ∷ c ∷ [] → slice_index bytes 0 ≡ a
+first_is bytes a b c h = rw h refl
+
+-- where there is a successor, no OAM transfer closes the instruction's bytes
+pub known_by : (rom : List ℕ) (cert : Certificate) (n : Node) (p : Passes rom cert n) (t : Successor) → IsOneOf (ways_of rom n p.row) t → IsKnown rom n p.bytes
+unfolding meets_transfer any_of is_code_limited
+known_by rom cert n p t is =
+    let length : p.row.length ≡ length_of p.known.opcode = length-decoded p.bytes p.row p.is_row ∙ ap length_of (first_is p.bytes _ _ _ p.known.bytes_are) in
+    let open_ = clear_of n.state.core.bound n.address p.row.length (or_parts _ _ (none_of _ (ways_of rom n p.row) t (or_parts _ _ p.oam_transfer).0 is)).0 in
+    record {
+      known = p.known;
+      end = p.end;
+      is_end = p.is_end;
+      inside = p.inside;
+      bank = p.bank;
+      clear = subst (λ k. (n.state.core.bound ≡ 0) ⊎ ((0xFF80 ≤ n.address) × (n.address + k ≤ 0xFFFF))) length open_;
+    }
+
+-- ---- interrupts
+
+none_in : (test : ℕ → Bool) (xs : List ℕ) (k x : ℕ) → list_any test xs ≡ false → slice_get xs k ≡ Some x → test x ≡ false
+none_in test [] k x h at = cc
+none_in test (y ∷ ys) zero x h at = subst (λ z. test z ≡ false) (same_Some _ _ at) (or_parts _ _ h).0
+none_in test (y ∷ ys) (suc k) x h at = none_in test ys k x (or_parts _ _ h).1 at
+
+interrupt_at : (i : ℕ) → i < 5 → slice_get interrupts i ≡ Some i
+interrupt_at zero lt = refl
+interrupt_at (suc zero) lt = refl
+interrupt_at (suc (suc zero)) lt = refl
+interrupt_at (suc (suc (suc zero))) lt = refl
+interrupt_at (suc (suc (suc (suc zero)))) lt = refl
+interrupt_at (suc (suc (suc (suc (suc i))))) lt = absurd (omega arith)
+
+both_false : (a b : Bool) → a ≡ true → (a && b) ≡ false → b ≡ false
+both_false true b e h = h
+both_false false b e h = cc
+
+-- an interrupt that may come passes no test that none passes
+pub one_interrupt : (test : ℕ → Bool) (n : Node) (i : ℕ) → any_interrupt test n ≡ false → i < 5 → may_come i n.state.core ≡ true → test i ≡ false
+one_interrupt test n i h lt may = both_false _ _ may (none_in (λ i. may_come i n.state.core && test i) interrupts i i h (interrupt_at i lt))
+
+-- what is known of an interrupt that may come
+pub record IsProvided (cert : Certificate) (n : Node) (i : ℕ) : Type 0 where
+  pub stack_set : n.state.core.stack_set ≡ true
+  pub clear : is_stack_limited cert.region n.state.core ≡ false
+  pub handler : ℕ
+  pub is_handler : handler_of cert i n.state ≡ Some handler
+  pub inside : are_ranges_inside (ranges_of cert handler) (ranges_of cert n.procedure) ≡ true
+  pub depth : length n.state.items + 1 + need_of cert handler ≤ need_of cert n.procedure
+  pub resumes :
+      (exit : AbsState) → exit_of cert handler ≡ Some exit
+      → covered_at cert.nodes n.procedure n.address (resumed (ranges_of cert handler) (dispatched n.state) exit) ≡ true
+
+provided : (cert : Certificate) (n : Node) (i : ℕ) (o : Option ℕ) → handler_of cert i n.state ≡ o → is_stack_limited cert.region n.state.core ≡ false
+    → is_unhandled cert n o ≡ false → is_over cert (need_of cert n.procedure) (length n.state.items) o ≡ false → IsProvided cert n i
+provided cert n i None e clear handled over = absurd (none_out (not n.state.core.stack_set) handled)
+  where
+    none_out : (a : Bool) → (a || true || false) ≡ false → ⊥
+    none_out true h = cc
+    none_out false h = cc
+provided cert n i (Some q) e clear handled over =
+    let p = or_parts _ _ handled in
+    let r = or_parts _ _ p.0 in
+    record {
+      stack_set = not-false _ r.0;
+      clear = clear;
+      handler = q;
+      is_handler = e;
+      inside = not-false _ r.1;
+      depth = held (length n.state.items + 1 + need_of cert q) (need_of cert n.procedure) over;
+      resumes = λ exit is. not-false _ (subst (λ o. is_resumed_uncovered cert n.procedure n.address (dispatched n.state) (ranges_of cert q) o ≡ false) is p.1);
+    }
+  where
+    held : (m need : ℕ) → nat_lt need m ≡ false → m ≤ need
+    held m need h = grind (arith, nat_tests)
+
+pub IsProvided-passed : (rom : List ℕ) (cert : Certificate) (n : Node) (p : Passes rom cert n) (i : ℕ) → lacks_handler cert n ≡ false → i < 5 → may_come i n.state.core ≡ true → IsProvided cert n i
+unfolding grows_too_deep meets_transfer handles_too_deep is_dispatch_limited lacks_handler
+IsProvided-passed rom cert n p i handled lt may =
+    provided cert n i (handler_of cert i n.state) refl
+    (one_interrupt (λ i. is_stack_limited cert.region n.state.core) n i (or_parts _ _ p.oam_transfer).1 lt may)
+    (one_interrupt (λ i. is_unhandled cert n (handler_of cert i n.state)) n i handled lt may)
+    (one_interrupt (λ i. is_over cert (need_of cert n.procedure) (length n.state.items) (handler_of cert i n.state)) n i (or_parts _ _ p.depth).1 lt may)

@@ -1,0 +1,108 @@
+-- What a certificate promises of its procedures.
+use Rattle.std.proofs.Common.{◌≡◌, ℕ, zero, suc, ◌+◌, ◌≤◌, Bool, true, false, ◌||◌, List, [], ◌∷◌, length, slice_get, Option, Some, None, refl, subst, arith}
+use Rattle.std.proofs.lemmas.Bool.{eqb-true, leb-true}
+use Rattle.std.proofs.lemmas.Bool.Decides.{nat_tests}
+use Rattle.std.proofs.lemmas.Option.{same_Some}
+use Rattle.std.specs.Prelude.{IfSome}
+use Rattle.std.specs.List.{AllByRecursion, list_any}
+use Rattle.gb_ops.specs.declared.machine.Region.{Region}
+use Rattle.gb_states.specs.declared.types.Range.{Range}
+use Rattle.gb_states.specs.declared.types.Item.{Item}
+use Rattle.gb_states.specs.declared.role.Role.TheVariants as role
+use Rattle.gb_states.specs.Types.{AbsState, ProcedureParts}
+use Rattle.gb_states.specs.Certificate.{Certificate}
+use Rattle.gb_states.specs.Rules.{IsChain, IsRange, IsProcedure, IsState, IsRegion, IsCertificate, after_range, is_after, meets, words}
+use Rattle.gb_abs.specs.Span.{one}
+use Rattle.gb_abs.specs.Stack.{AreInRegion}
+use Rattle.gb_code.specs.gb_abs_memory.Access.{is_range}
+use Rattle.gb_rules.specs.Procedures.{ranges_in, need_in, exit_in, ranges_of, need_of, exit_of}
+
+-- ---- the procedure with a number
+
+-- one of a certificate's procedures, main or not
+record IsOneProcedure (region : Region) (nodes : ℕ) (p : ProcedureParts) : Type 0 where
+  is_main : Bool
+  is_procedure : IsProcedure region nodes is_main p
+
+one_procedure : (region : Region) (nodes : ℕ) (is_main : Bool) (ps : List ProcedureParts) (i : ℕ) (p : ProcedureParts) → IsChain (IsProcedure region nodes) is_after is_main ps
+    → slice_get ps i ≡ Some p → IsOneProcedure region nodes p
+one_procedure region nodes is_main [] i p h at = cc
+one_procedure region nodes is_main (q ∷ ps) zero p h at = record { is_main = is_main; is_procedure = subst (λ r. IsProcedure region nodes is_main r) (same_Some _ _ at) h.0 }
+one_procedure region nodes is_main (q ∷ ps) (suc i) p h at = one_procedure region nodes false ps i p h.1 at
+
+procedure_at : (cert : Certificate) (i : ℕ) (p : ProcedureParts) → IsCertificate cert → slice_get cert.procedures i ≡ Some p → IsOneProcedure cert.region (length cert.nodes) p
+procedure_at cert i p certificate at = one_procedure cert.region (length cert.nodes) true cert.procedures i p certificate.procedures at
+
+-- ---- its need
+
+-- the words that main may need lie in the region
+main_fits : (region : Region) (nodes : ℕ) (ps : List ProcedureParts) → IsRegion region → IsChain (IsProcedure region nodes) is_after true ps
+    → AreInRegion region (region.last + 1) (need_in (slice_get ps 0))
+main_fits region nodes [] r h =
+    let area = r.area in
+    let order : region.first ≤ region.last = grind (arith, nat_tests) in
+    record { first = omega arith; last = omega arith }
+main_fits region nodes (p ∷ ps) r h =
+    let area = r.area in
+    let order : region.first ≤ region.last = grind (arith, nat_tests) in
+    let fitting : p.need ≤ words region = leb-true p.need (words region) h.0.room in
+    record { first = omega arith; last = omega arith }
+
+-- main's base is the address behind the region
+pub main_room : (cert : Certificate) → IsCertificate cert → AreInRegion cert.region (cert.region.last + 1) (need_of cert 0)
+unfolding need_of
+main_room cert certificate = main_fits cert.region (length cert.nodes) cert.procedures certificate.region certificate.procedures
+
+-- ---- its ranges
+
+-- ranges lie outside the stack region
+abbrev pub AreApart : Region → List Range → Type 0
+AreApart region ranges = AllByRecursion (λ r. meets region r.first r.last ≡ false) ranges
+
+chain_apart : (region : Region) (least : ℕ) (ranges : List Range) → IsChain (IsRange region) after_range least ranges → AreApart region ranges
+chain_apart region least [] h = tt
+chain_apart region least (r ∷ ranges) h = (h.0.apart, chain_apart region (after_range r) ranges h.1)
+
+-- a certificate's ranges do
+pub ranges_apart : (cert : Certificate) (i : ℕ) → IsCertificate cert → AreApart cert.region (ranges_of cert i)
+unfolding ranges_of
+ranges_apart cert i certificate = by (slice_get cert.procedures i) refl
+  where
+    by : (o : Option ProcedureParts) → slice_get cert.procedures i ≡ o → AreApart cert.region (ranges_in o)
+    by None e = tt
+    by (Some p) e = chain_apart cert.region 0 p.ranges (procedure_at cert i p certificate e).is_procedure.ranges
+
+-- an address of the region is in none of them
+pub apart_outside : (region : Region) (ranges : List Range) (b : ℕ) → AreApart region ranges → region.first ≤ b → b ≤ region.last → list_any (is_range (one b)) ranges ≡ false
+apart_outside region [] b h low high = refl
+apart_outside region (r ∷ ranges) b h low high = rw (not_in r h.0, apart_outside region ranges b h.1 low high) refl
+  where
+    not_in : (r : Range) → meets region r.first r.last ≡ false → is_range (one b) r ≡ false
+    not_in r h = grind (arith, nat_tests)
+
+-- ---- its exit
+
+-- it is a state such as a procedure returns with
+pub exit_state : (cert : Certificate) (i : ℕ) (exit : AbsState) → IsCertificate cert → exit_of cert i ≡ Some exit → IsState role.Exit cert.region exit
+unfolding exit_of
+exit_state cert i exit certificate is = by (slice_get cert.procedures i) refl is
+  where
+    by : (o : Option ProcedureParts) → slice_get cert.procedures i ≡ o → exit_in o ≡ Some exit → IsState role.Exit cert.region exit
+    by None e is = cc
+    by (Some p) e is = subst (λ o. IfSome o (IsState role.Exit cert.region)) is (procedure_at cert i p certificate e).is_procedure.exit
+
+-- a procedure returns with its stack set
+pub exit_set : (region : Region) (exit : AbsState) → IsState role.Exit region exit → exit.core.stack_set ≡ true
+exit_set region exit k = by exit.core.stack_set k.stack
+  where
+    by : (b : Bool) → (b || false) ≡ true → b ≡ true
+    by true h = refl
+    by false h = h
+
+-- and with nothing pushed
+pub exit_items : (region : Region) (exit : AbsState) → IsState role.Exit region exit → exit.items ≡ []
+exit_items region exit k = none exit.items (eqb-true _ _ k.pushed)
+  where
+    none : (items : List Item) → length items ≡ 0 → items ≡ []
+    none [] h = refl
+    none (i ∷ items) h = cc

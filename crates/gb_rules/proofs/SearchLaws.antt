@@ -1,0 +1,90 @@
+-- A node that covers lies among those with its key.
+use Rattle.std.proofs.Common.{◌≡◌, ℕ, zero, suc, ◌+◌, ◌≤◌, ◌<◌, Bool, true, false, ◌&&◌, ◌==◌, List, [], ◌∷◌, map, slice_get, ◌⊎◌, inl, inr, Some, refl, sym, ◌∙◌, ap, arith}
+use Rattle.std.proofs.lemmas.Bool.{or_right, and_parts, eqb-true}
+use Rattle.std.proofs.lemmas.Bool.Decides.{nat_tests}
+use Rattle.std.proofs.lemmas.Option.{slice_get_within, get_or_from_slice_get, slice_get-map}
+use Rattle.std.specs.Prelude.{option_map}
+use Rattle.std.specs.List.{Contains, list_any}
+use Rattle.gb_abs.specs.gb_rows.Rows.{IsFound}
+use Rattle.gb_states.specs.Types.{AbsState, Node}
+use Rattle.gb_states.specs.Rules.{key}
+use Rattle.gb_abs.specs.Covering.{covers}
+use Rattle.gb_rules.specs.Covered.{is_cover, is_covered_by_one}
+
+-- one that passes
+found_at : {X : Type 0} (test : X → Bool) (xs : List X) (i : ℕ) (x : X) → slice_get xs i ≡ Some x → test x ≡ true → list_any test xs ≡ true
+found_at test [] i x at passes = cc
+found_at test (y ∷ ys) zero x at passes = let e : y ≡ x = cc in rw (e, passes) refl
+found_at test (y ∷ ys) (suc i) x at passes = rw (found_at test ys i x at passes) (or_right (test y) true refl)
+
+-- none of the elements before a number passes
+abbrev pub NoneBefore : {X : Type 0} → (X → Bool) → List X → ℕ → Type 0
+NoneBefore {X} test xs i = (j : ℕ) (x : X) → j < i → slice_get xs j ≡ Some x → test x ≡ false
+
+-- none passes
+none_at : {X : Type 0} (test : X → Bool) (xs : List X) → ((j : ℕ) (x : X) → slice_get xs j ≡ Some x → test x ≡ false) → list_any test xs ≡ false
+none_at test [] h = refl
+none_at test (y ∷ ys) h = rw (h 0 y refl, none_at test ys (λ j x at. h (suc j) x at)) refl
+
+from_true : (b : Bool) → (b ≡ true → ⊥) → b ≡ false
+from_true true h = absurd (h refl)
+from_true false h = refl
+
+has_key : (procedure a : ℕ) (s : AbsState) (n : Node) → is_cover procedure a s n ≡ true → key n ≡ (procedure, a)
+has_key procedure a s n h =
+    let p = and_parts _ _ h in
+    let q = and_parts _ _ p.0 in
+    let e : n.procedure ≡ procedure = eqb-true _ _ q.0 in
+    let f : n.address ≡ a = eqb-true _ _ q.1 in
+    ap (λ m. (m, n.address)) e ∙ ap (λ m. (procedure, m)) f
+
+keyed : (nodes : List Node) (i : ℕ) (n : Node) (k : ℕ × ℕ) → slice_get nodes i ≡ Some n → key n ≡ k → slice_get (map key nodes) i ≡ Some k
+keyed nodes i n k at e = slice_get-map key nodes i ∙ (ap (option_map key) at ∙ ap Some e)
+
+-- before the nodes with the key none covers
+pub none_before : (nodes : List Node) (procedure a : ℕ) (s : AbsState) (first after : ℕ) → IsFound (map key nodes) (procedure, a) first after
+    → NoneBefore (is_cover procedure a s) nodes first
+none_before nodes procedure a s first after found = λ j n lt at.
+    from_true (is_cover procedure a s n) (λ h. let p = found.all j (keyed nodes j n (procedure, a) at (has_key procedure a s n h)) in let least : first ≤ j = p.0 in absurd (omega arith))
+
+-- the node at hand doesn't cover either
+pub none_yet : (nodes : List Node) (procedure a : ℕ) (s : AbsState) (i : ℕ) (n : Node) → slice_get nodes i ≡ Some n → covers s n.state ≡ false
+    → NoneBefore (is_cover procedure a s) nodes i → NoneBefore (is_cover procedure a s) nodes (i + 1)
+none_yet nodes procedure a s i n at apart before = λ j m lt there.
+    elim (split j i lt) [ inl less ↦ before j m less there | inr e ↦ from_true (is_cover procedure a s m) (λ h. not_both j m e there (and_parts _ _ h).1) ]
+  where
+    split : (j i : ℕ) → j < i + 1 → (j < i) ⊎ (j ≡ i)
+    split j i lt = grind arith
+
+    not_both : (j : ℕ) (m : Node) → j ≡ i → slice_get nodes j ≡ Some m → covers s m.state ≡ true → ⊥
+    not_both j m e there h =
+        let here : Some m ≡ Some n = sym there ∙ (ap (slice_get nodes) e ∙ at) in
+        let same : m ≡ n = cc in
+        let told : covers s m.state ≡ covers s n.state = ap (λ (k : Node). covers s k.state) same in
+        cc
+
+-- behind the nodes with the key none covers
+pub none_covers : (nodes : List Node) (procedure a : ℕ) (s : AbsState) (first after i : ℕ) → IsFound (map key nodes) (procedure, a) first after → after ≤ i
+    → NoneBefore (is_cover procedure a s) nodes i → false ≡ is_covered_by_one nodes procedure a s
+unfolding is_covered_by_one
+none_covers nodes procedure a s first after i found le before = sym (none_at (is_cover procedure a s) nodes (λ j n at.
+    from_true (is_cover procedure a s n) (λ h. let p = found.all j (keyed nodes j n (procedure, a) at (has_key procedure a s n h)) in let most : j < after = p.1 in let no : is_cover procedure a s n ≡ false = before j n (omega arith) at in cc)))
+
+-- a node among those with the key covers
+pub one_covers : (nodes : List Node) (procedure a : ℕ) (s : AbsState) (first after i : ℕ) (n : Node) → IsFound (map key nodes) (procedure, a) first after → first ≤ i → i < after
+    → slice_get nodes i ≡ Some n → covers s n.state ≡ true → true ≡ is_covered_by_one nodes procedure a s
+unfolding is_covered_by_one
+one_covers nodes procedure a s first after i n found least most at h =
+    let e = found.each i least most in
+    let f = keyed nodes i n (key n) at refl in
+    let same : key n ≡ (procedure, a) = cc in
+    let p : n.procedure ≡ procedure = ap (λ k. k.0) same in
+    let q : n.address ≡ a = ap (λ k. k.1) same in
+    sym (found_at (is_cover procedure a s) nodes i n at (covering n.procedure procedure n.address a (covers s n.state) p q h))
+  where
+    covering : (m procedure b a : ℕ) (c : Bool) → m ≡ procedure → b ≡ a → c ≡ true → ((m == procedure) && (b == a) && c) ≡ true
+    covering m procedure b a c e f h = grind (arith, nat_tests)
+
+-- the element with a number is an element
+pub Contains-slice_get : {X : Type 0} (xs : List X) (i : ℕ) (x : X) → slice_get xs i ≡ Some x → Contains xs x
+Contains-slice_get xs i x h = (i, slice_get_within xs i x h, get_or_from_slice_get xs i x x h)

@@ -1,0 +1,120 @@
+-- Where the machine stands at a node that passes: its successors are sound, one of them is there, and what it leads to is meant.
+use Rattle.std.proofs.Common.{◌≡◌, ℕ, zero, suc, ◌+◌, ◌≤◌, ◌<◌, Bool, true, false, cond, ◌&&◌, ◌||◌, ◌⊎◌, inl, inr, List, [], ◌∷◌, length, Option, Some, None, option_map, refl, sym, ◌∙◌, ap, subst, arith}
+use Rattle.std.proofs.lemmas.Bool.{not-false, and_parts, eqb-true}
+use Rattle.std.proofs.lemmas.Option.{same_Some}
+use Rattle.std.specs.List.{Contains, list_any}
+use Rattle.std.proofs.lemmas.List.Folds.{Any-from_list_any}
+use Rattle.gb_ops.specs.declared.op.Pair.TheVariants as pair
+use Rattle.gb_ops.specs.declared.op.Register.{Register}
+use Rattle.gb_ops.specs.declared.op.Op.{Op}
+use Rattle.gb_ops.specs.declared.op.Op.TheVariants as op
+use Rattle.gb_ops.specs.declared.op.Row.{Row}
+use Rattle.gb_ops.specs.Registers.{get}
+use Rattle.gb_ops.specs.Play.{MState}
+use Rattle.gb_states.specs.declared.types.Item.{Item}
+use Rattle.gb_states.specs.declared.types.Core.{Core}
+use Rattle.gb_states.specs.Types.{AbsState, Node}
+use Rattle.gb_states.specs.Certificate.{Certificate}
+use Rattle.gb_abs.specs.Covering.{covers, covers_items}
+use Rattle.gb_abs.specs.Mark.{IsMarkHarmless}
+use Rattle.gb_abs.specs.Meaning.{Holds, Means}
+use Rattle.gb_abs.specs.Stack.{AreInRegion}
+use Rattle.gb_abs.proofs.CoveringLaws.{Means-covered}
+use Rattle.gb_abs.proofs.OperationLaws.{Means-with_value}
+use Rattle.gb_successors.specs.gb_abs_effects.declared.targets.Target.{Target}
+use Rattle.gb_successors.specs.gb_abs_effects.declared.targets.Target.TheVariants as target
+use Rattle.gb_successors.specs.gb_abs_effects.Targets.{moves_sp, target_of}
+use Rattle.gb_successors.specs.gb_abs_effects.Pairs.{is_word_known, pair_halves}
+use Rattle.gb_successors.specs.gb_abs_effects.Sound.{HoldsTarget}
+use Rattle.gb_code.specs.gb_abs_memory.Sound.{IsRom}
+use Rattle.gb_code.proofs.CodeLaws.{IsKnown, IsAt as IsAtCode}
+use Rattle.gb_successors.specs.Way.{Successor}
+use Rattle.gb_successors.specs.Successors.{successors_of, taken_successor, untaken_successor, staying_successor, stays}
+use Rattle.gb_successors.specs.Refused.{is_unknown}
+use Rattle.gb_successors.specs.Sound.{IsOneOf, Stands, AreSoundSuccessors}
+use Rattle.gb_successors.proofs.WayLaws.{successors_of_sound}
+use Rattle.gb_states.specs.Rules.{IsCertificate}
+use Rattle.gb_rules.specs.Procedures.{ranges_of, need_of}
+use Rattle.gb_rules.proofs.NodeLaws.{IsNodeState, Passes, ways_of, ruled, known_by, fewer_words}
+
+-- the machine stands at a node that passes
+pub record OnNode (rom : List ℕ) (cert : Certificate) (n : Node) (entry : MState) (base : ℕ) (x : MState) : Type 0 where
+  pub cartridge : IsRom rom
+  pub certificate : IsCertificate cert
+  pub is_node : Contains cert.nodes n
+  pub state : IsNodeState cert n
+  pub passes : Passes rom cert n
+  pub address : x.processor.pc ≡ n.address
+  pub means : Means n.state entry base x
+  pub main : n.procedure ≡ 0 → base ≡ cert.region.last + 1
+  pub return_word : 0 < n.procedure → base + 2 ≤ cert.region.last + 1
+  pub room : AreInRegion cert.region base (need_of cert n.procedure)
+  pub depth : length n.state.items ≤ need_of cert n.procedure
+
+pub stands : (rom : List ℕ) (cert : Certificate) (n : Node) (entry : MState) (base : ℕ) (x : MState) (k : OnNode rom cert n entry base x) → Stands rom cert.region k.passes.row n.address n.state entry base x
+stands rom cert n entry base x k = record {
+  cartridge = k.cartridge;
+  is_region = k.state.is_region;
+  core = k.state.core;
+  placed = k.state.placed;
+  vals = k.state.vals;
+  items = k.state.items;
+  room = fewer_words cert.region base (need_of cert n.procedure) (length n.state.items) k.room k.depth;
+  means = k.means;
+  at = k.address;
+}
+
+pub sound_ways : (rom : List ℕ) (cert : Certificate) (n : Node) (entry : MState) (base : ℕ) (x : MState) (k : OnNode rom cert n entry base x)
+    → AreSoundSuccessors rom k.passes.row n.address n.state (ways_of rom n k.passes.row)
+sound_ways rom cert n entry base x k = successors_of_sound rom k.passes.row n.address n.state (ways_of rom n k.passes.row) refl
+
+-- the same machine without the HALT mark
+abbrev pub unmarked : MState → MState
+unmarked x = record x { processor = record x.processor { halt_mark = false } }
+
+on_unmarked : (rom : List ℕ) (cert : Certificate) (n : Node) (entry : MState) (base : ℕ) (x : MState) → OnNode rom cert n entry base x → OnNode rom cert n entry base (unmarked x)
+on_unmarked rom cert n entry base x k = record {
+  cartridge = k.cartridge;
+  certificate = k.certificate;
+  is_node = k.is_node;
+  state = k.state;
+  passes = k.passes;
+  address = k.address;
+  means = record {
+    core = record {
+      registers = k.means.core.registers;
+      flags = k.means.core.flags;
+      ie = k.means.core.ie;
+      ime = k.means.core.ime;
+      controller = k.means.core.controller;
+      count = k.means.core.count;
+      test = k.means.core.test;
+      locked = k.means.core.locked;
+      stopped = k.means.core.stopped;
+    };
+    memory = k.means.memory;
+    sp = k.means.sp;
+    stack = k.means.stack;
+    items = k.means.items;
+    cells = k.means.cells;
+  };
+  main = k.main;
+  return_word = k.return_word;
+  room = k.room;
+  depth = k.depth;
+}
+
+-- there is a successor
+pub some_way : (rom : List ℕ) (cert : Certificate) (n : Node) (entry : MState) (base : ℕ) (x : MState) (k : OnNode rom cert n entry base x) → (t : Successor) × IsOneOf (ways_of rom n k.passes.row) t
+unfolding on_unmarked
+some_way rom cert n entry base x k =
+    let u = on_unmarked rom cert n entry base x k in
+    let done = (sound_ways rom cert n entry base (unmarked x) u).executes cert.region (ranges_of cert n.procedure) entry base (unmarked x) [] (stands rom cert n entry base (unmarked x) u)
+    (ruled rom cert n base k.passes k.cartridge k.state k.main k.room) refl (omega arith) in
+    (done.successor, done.is_one)
+
+pub is_known : (rom : List ℕ) (cert : Certificate) (n : Node) (entry : MState) (base : ℕ) (x : MState) (k : OnNode rom cert n entry base x) → IsKnown rom n k.passes.bytes
+is_known rom cert n entry base x k = let w = some_way rom cert n entry base x k in known_by rom cert n k.passes w.0 w.1
+
+pub on_code : (rom : List ℕ) (cert : Certificate) (n : Node) (entry : MState) (base : ℕ) (x : MState) → OnNode rom cert n entry base x → IsAtCode rom n entry base x
+on_code rom cert n entry base x k = record { cartridge = k.cartridge; means = k.means; ie = k.state.core.ie; at = k.address }

@@ -1,0 +1,184 @@
+-- What a successor of a node that passes leads to: a node of the procedure, a callee, or the procedure's exit.
+use Rattle.std.proofs.Common.{◌≡◌, ℕ, zero, suc, ◌+◌, ◌≤◌, ◌<◌, Bool, true, false, cond, not, ◌&&◌, ◌||◌, ◌==◌, nat_lt, inl, inr, List, [], ◌∷◌, length, slice_get, Option, Some, None, refl, sym, ◌∙◌, ap, subst, arith}
+use Rattle.std.proofs.lemmas.Bool.{not-false, and_parts, or_parts, eqb-true}
+use Rattle.std.proofs.lemmas.Bool.Decides.{nat_tests}
+use Rattle.std.proofs.lemmas.Option.{same_Some}
+use Rattle.gb_ops.specs.declared.op.Op.{Op}
+use Rattle.gb_ops.specs.Play.{MState}
+use Rattle.gb_states.specs.Types.{AbsState, ProcedureParts, Node}
+use Rattle.gb_states.specs.Certificate.{Certificate}
+use Rattle.gb_states.specs.Rules.{IsCertificate, is_of, have_entries}
+use Rattle.gb_abs.specs.Covering.{covers}
+use Rattle.gb_abs.specs.Mark.{IsMarkHarmless}
+use Rattle.gb_abs.specs.Meaning.{Means}
+use Rattle.gb_abs.specs.Stack.{AreInRegion}
+use Rattle.gb_abs.proofs.CoveringLaws.{Means-covered}
+use Rattle.gb_successors.specs.gb_abs_effects.declared.targets.Target.{Target}
+use Rattle.gb_successors.specs.gb_abs_effects.declared.targets.Target.TheVariants as target
+use Rattle.gb_successors.specs.gb_abs_effects.Targets.{is_push}
+use Rattle.gb_calls.specs.Calls.{entered, callee_of, are_ranges_inside, resumed}
+use Rattle.gb_calls.proofs.CalleeLaws.{IsCallee-found, IsEntryNode-entry}
+use Rattle.gb_successors.specs.Way.{Successor}
+use Rattle.gb_successors.specs.Refused.{is_unknown}
+use Rattle.gb_successors.specs.Sound.{words_behind, IsOneOf, StaysAt, CallsAt, ReturnsTo, LeadsTo}
+use Rattle.gb_successors.specs.Sound as successors
+use Rattle.gb_rules.specs.Covered.{covered_at}
+use Rattle.gb_rules.specs.Procedures.{ranges_of, need_of, exit_of}
+use Rattle.gb_rules.specs.Rules.{pushes_too_deep, callee_by, callee_at, is_over, calls_too_deep, is_resumed_uncovered, is_back_uncovered, is_uncovered, is_uncovered_at, is_outside_of, is_uncallable, is_uncallable_at, is_exit_missed, is_unreturnable, is_unreturnable_at, grows_too_deep}
+use Rattle.gb_rules.specs.Safety.{IsMeant, Calls, Returns, Leads}
+use Rattle.gb_rules.proofs.SearchLaws.{Contains-slice_get}
+use Rattle.gb_rules.proofs.CoveringLaws.{found_at}
+use Rattle.gb_rules.proofs.NodeLaws.{Passes, ways_of, not_unknown, not_uncovered, not_uncallable, not_too_deep, not_unreturnable}
+use Rattle.gb_rules.proofs.StandLaws.{OnNode}
+
+not_so : {X : Type 0} → true ≡ false → X
+not_so h = cc
+
+-- ---- the words that are held
+
+words_fit : (o : Op) (need held : ℕ) (n : Node) → length n.state.items ≡ held → held ≤ need → pushes_too_deep need n o ≡ false → words_behind o held ≤ need
+unfolding pushes_too_deep words_behind
+words_fit o need held n e least h = by (is_push o) h
+  where
+    fits : (m : ℕ) → m ≡ held → (nat_lt need (m + 1) || nat_lt 16 (m + 1)) ≡ false → held + 1 ≤ need
+    fits m e h = grind (arith, nat_tests)
+
+    by : (b : Bool) → (b && (nat_lt need (length n.state.items + 1) || nat_lt 16 (length n.state.items + 1))) ≡ false → cond b (held + 1) held ≤ need
+    by true g = fits (length n.state.items) e g
+    by false g = least
+
+-- behind an instruction of a node that passes no more words are held than the need
+pub words_within : (rom : List ℕ) (cert : Certificate) (n : Node) (entry : MState) (base : ℕ) (x : MState) (k : OnNode rom cert n entry base x) → words_behind k.passes.row.op (length n.state.items) ≤ need_of cert n.procedure
+unfolding grows_too_deep
+words_within rom cert n entry base x k =
+    words_fit k.passes.row.op (need_of cert n.procedure) (length n.state.items) n refl k.depth (or_parts _ _ (or_parts _ _ k.passes.depth).0).0
+
+-- ---- the callee's entry
+
+-- the node at which a procedure begins is its own
+pub is_own : (number : ℕ) (ps : List ProcedureParts) (nodes : List Node) (i : ℕ) (p : ProcedureParts) (n : Node) → have_entries number ps nodes ≡ true → slice_get ps i ≡ Some p → slice_get nodes p.entry ≡ Some n
+    → n.procedure ≡ number + i
+unfolding have_entries
+is_own number [] nodes i p n h at is = cc
+is_own number (q ∷ ps) nodes zero p n h at is =
+    let same : q ≡ p = same_Some _ _ at in
+    let first : is_of number (slice_get nodes p.entry) ≡ true = subst (λ (r : ProcedureParts). is_of number (slice_get nodes r.entry) ≡ true) same (and_parts _ _ h).0 in
+    let own : n.procedure ≡ number = eqb-true _ _ (subst (λ o. is_of number o ≡ true) is first) in
+    omega arith
+is_own number (q ∷ ps) nodes (suc i) p n h at is =
+    let later : n.procedure ≡ number + 1 + i = is_own (number + 1) ps nodes i p n (and_parts _ _ h).1 at is in
+    omega arith
+
+pub same_number : (m q : ℕ) → m ≡ 0 + q → m ≡ q
+same_number m q h = omega arith
+
+-- ---- calls
+
+not_over : (cert : Certificate) (need held q : ℕ) → nat_lt need (held + 1 + need_of cert q) ≡ false → held + 1 + need_of cert q ≤ need
+not_over cert need held q h = by (held + 1 + need_of cert q) h
+  where
+    by : (m : ℕ) → nat_lt need m ≡ false → m ≤ need
+    by m h = grind (arith, nat_tests)
+
+resumed_covered : (cert : Certificate) (procedure back : ℕ) (s : AbsState) (q : ℕ) → is_back_uncovered cert procedure back s (Some q) ≡ false → (exit : AbsState) → exit_of cert q ≡ Some exit
+    → covered_at cert.nodes procedure back (resumed (ranges_of cert q) s exit) ≡ true
+resumed_covered cert procedure back s q h exit is = not-false _ (subst (λ o. is_resumed_uncovered cert procedure back s (ranges_of cert q) o ≡ false) is h)
+
+calls_at : (rom : List ℕ) (cert : Certificate) (n : Node) (t : Successor) (a : ℕ) (entry : MState) (base : ℕ) (y : MState) → IsCertificate cert → CallsAt cert.region a t entry base y
+    → y.processor.halt_mark ≡ false → is_outside_of cert n.procedure (callee_of cert a t.state) ≡ false → is_over cert (need_of cert n.procedure) (length t.state.items) (callee_of cert a t.state) ≡ false
+    → is_back_uncovered cert n.procedure t.next t.state (callee_of cert a t.state) ≡ false → Calls cert n.procedure entry base y
+calls_at rom cert n t a entry base y certificate c mark outside over uncovered = by (callee_of cert a t.state) refl outside over uncovered
+  where
+    by : (o : Option ℕ) → callee_of cert a t.state ≡ o → is_outside_of cert n.procedure o ≡ false → is_over cert (need_of cert n.procedure) (length t.state.items) o ≡ false
+        → is_back_uncovered cert n.procedure t.next t.state o ≡ false → Calls cert n.procedure entry base y
+    by None e out deep back = not_so out
+    by (Some q) e out deep back =
+        let callee = IsCallee-found cert a t.state q e in
+        let begin = IsEntryNode-entry cert a (entered t.state) callee.procedure callee.begins in
+        let number : begin.node.procedure ≡ q = same_number begin.node.procedure q (is_own 0 cert.procedures cert.nodes q callee.procedure begin.node certificate.entries callee.is_procedure begin.is_node) in
+        record {
+          state = t.state;
+          back = t.next;
+          back_small = c.next;
+          means = c.means;
+          stack_set = c.stack_set;
+          placed = c.placed;
+          node = begin.node;
+          is_node = Contains-slice_get cert.nodes callee.procedure.entry begin.node begin.is_node;
+          not_main = subst (λ m. 0 < m) (sym number) callee.not_main;
+          address = c.goes ∙ sym begin.address;
+          begins = begin.covering;
+          mark = mark;
+          depth = subst (λ m. length t.state.items + 1 + need_of cert m ≤ need_of cert n.procedure) (sym number) (not_over cert (need_of cert n.procedure) (length t.state.items) q deep);
+          inside = subst (λ m. are_ranges_inside (ranges_of cert m) (ranges_of cert n.procedure) ≡ true) (sym number) (not-false _ out);
+          resumes = λ exit is. subst (λ m. covered_at cert.nodes n.procedure t.next (resumed (ranges_of cert m) t.state exit) ≡ true) (sym number)
+              (resumed_covered cert n.procedure t.next t.state q back exit (subst (λ m. exit_of cert m ≡ Some exit) number is));
+        }
+
+-- ---- returns
+
+returns_to : (cert : Certificate) (n : Node) (t : Successor) (entry : MState) (base : ℕ) (x y : MState) → ReturnsTo t entry base x y → y.processor.halt_mark ≡ false
+    → (n.procedure == 0 || is_exit_missed t.state (exit_of cert n.procedure)) ≡ false → Returns cert n.procedure entry base x y
+returns_to cert n t entry base x y r mark h = by (exit_of cert n.procedure) refl (or_parts _ _ h).1
+  where
+    not_zero : (m : ℕ) → (m == 0) ≡ false → 0 < m
+    not_zero m h = grind (arith, nat_tests)
+
+    by : (o : Option AbsState) → exit_of cert n.procedure ≡ o → is_exit_missed t.state o ≡ false → Returns cert n.procedure entry base x y
+    by None e missed = not_so missed
+    by (Some exit) e missed = record {
+      not_main = not_zero n.procedure (or_parts _ _ h).0;
+      exit = exit;
+      is_exit = e;
+      means = Means-covered t.state exit entry (base + 2) y (not-false _ (or_parts _ _ missed).1) r.means;
+      address = r.goes;
+      mark = mark;
+    }
+
+-- ---- any successor
+
+-- it calls or returns
+abbrev pub IsElsewhere : Target → Type 0
+IsElsewhere (target.Call a) = Unit {0}
+IsElsewhere target.Return = Unit {0}
+IsElsewhere _ = ⊥
+
+-- The mark that a successor in the same procedure may leave; calls and returns leave none.
+pub record IsMarked (rom : List ℕ) (w : Target) (y : MState) : Type 0 where
+  pub harmless : IsMarkHarmless rom y
+  pub clear : IsElsewhere w → y.processor.halt_mark ≡ false
+
+-- a successor leads on in the same procedure
+stays_at : (rom : List ℕ) (cert : Certificate) (n : Node) (entry : MState) (base : ℕ) (x : MState) (k : OnNode rom cert n entry base x) (t : Successor) (a : ℕ) (y : MState)
+    → StaysAt cert.region a t entry base y → length t.state.items ≤ need_of cert n.procedure → covered_at cert.nodes n.procedure a t.state ≡ true → IsMarkHarmless rom y → IsMeant rom cert n.procedure entry base y
+stays_at rom cert n entry base x k t a y to held covered mark =
+    let f = found_at cert n.procedure a t.state entry base y covered to.means in
+    record {
+      node = f.node;
+      is_node = f.is_node;
+      procedure_is = f.procedure_is;
+      at = record {
+        address = to.goes ∙ sym f.address;
+        means = f.means;
+        mark = mark;
+        main = λ is. k.main (sym f.procedure_is ∙ is);
+        return_word = λ other. k.return_word (subst (λ m. 0 < m) f.procedure_is other);
+        room = subst (λ m. AreInRegion cert.region base (need_of cert m)) (sym f.procedure_is) k.room;
+        depth = subst (λ m. length f.node.state.items ≤ need_of cert m) (sym f.procedure_is) (subst (λ c. c ≤ need_of cert n.procedure) (sym f.count) held);
+      };
+    }
+
+pub Leads-way : (rom : List ℕ) (cert : Certificate) (n : Node) (entry : MState) (base : ℕ) (x : MState) (k : OnNode rom cert n entry base x) (t : Successor) → IsOneOf (ways_of rom n k.passes.row) t → (y : MState)
+    → successors.Leads cert.region (ranges_of cert n.procedure) t entry base x y → length t.state.items ≤ need_of cert n.procedure → IsMarked rom t.target y → Leads rom cert n.procedure entry base x y
+unfolding is_uncovered is_uncallable is_unreturnable calls_too_deep callee_at
+Leads-way rom cert n entry base x k t is y leads held mark =
+    by t.target leads.to (not_unknown rom cert n k.passes t is) (not_uncovered rom cert n k.passes t is) (not_uncallable rom cert n k.passes t is) (not_too_deep rom cert n k.passes t is)
+    (not_unreturnable rom cert n k.passes t is) mark
+  where
+    by : (w : Target) → LeadsTo cert.region w t entry base x y → is_unknown w ≡ false → is_uncovered_at cert n.procedure w t.next t.state ≡ false → is_uncallable_at cert n.procedure w t.state ≡ false
+        → is_over cert (need_of cert n.procedure) (length t.state.items) (callee_by cert w t.state) ≡ false → is_unreturnable_at cert n.procedure w t.state ≡ false → IsMarked rom w y
+        → Leads rom cert n.procedure entry base x y
+    by (target.At a) to known covered callable shallow returnable marked = inl (stays_at rom cert n entry base x k t a y to held (not-false _ covered) marked.harmless)
+    by (target.Call a) to known covered callable shallow returnable marked = inr (inl (calls_at rom cert n t a entry base y k.certificate to (marked.clear tt) callable shallow covered))
+    by target.Return to known covered callable shallow returnable marked = inr (inr (returns_to cert n t entry base x y to (marked.clear tt) returnable))
+    by target.Unknown to known covered callable shallow returnable marked = not_so known

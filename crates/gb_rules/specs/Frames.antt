@@ -1,0 +1,51 @@
+-- The procedures that wait for one another. Nothing keeps a list of them: what is said of each is what held as the
+-- procedure above it was entered (own; abstract interpretation: calls by summary).
+use Rattle.std.specs.Prelude.{◌≡◌, ℕ, ◌+◌, ◌≤◌, ◌<◌, List, [], ◌∷◌}
+use Rattle.gb_ops.specs.Play.{MState}
+use Rattle.gb_states.specs.Certificate.{Certificate}
+use Rattle.gb_abs.specs.Stack.{AreInRegion}
+use Rattle.gb_abs.specs.Storage.{peek}
+use Rattle.gb_code.specs.gb_abs_memory.Kept.{IsKept}
+use Rattle.gb_rules.specs.Procedures.{ranges_of, need_of}
+use Rattle.gb_rules.specs.Safety.{IsMeant, Calls}
+
+-- from s to t each byte stays that a procedure with its return word at base has to keep
+pub record Keeps (cert : Certificate) (procedure base : ℕ) (s t : MState) : Type 0 where
+  pub byte : (b : ℕ) → IsKept cert.region (ranges_of cert procedure) base b → peek t.storage b ≡ peek s.storage b
+
+-- a procedure that waits for the one that it called: its number, the state in which it was entered, and where its
+-- return word stands (main: the address behind the region)
+pub record Frame : Type 0 where
+  pub procedure : ℕ
+  pub entry : MState
+  pub base : ℕ
+
+-- The procedure of the frame waits for another one, which was entered in the state entered with its return word at base:
+-- it called that one, the words that it may need lie in the region, and it had kept what it has to keep.
+pub record IsWaiting (cert : Certificate) (f : Frame) (procedure : ℕ) (entered : MState) (base : ℕ) : Type 0 where
+  pub calls : Calls cert f.procedure f.entry f.base entered
+  pub callee : calls.node.procedure ≡ procedure
+  pub base_is : base ≡ entered.processor.sp
+  pub main : f.procedure ≡ 0 → f.base ≡ cert.region.last + 1
+  pub return_word : 0 < f.procedure → f.base + 2 ≤ cert.region.last + 1
+  pub room : AreInRegion cert.region f.base (need_of cert f.procedure)
+  pub keeps : Keeps cert f.procedure f.base f.entry entered
+
+-- the procedures that wait below one, the youngest first; the last one is main, which nothing waits for
+abbrev pub AreWaiting : Certificate → List Frame → ℕ → MState → ℕ → Type 0
+AreWaiting cert [] procedure entry base = procedure ≡ 0
+AreWaiting cert (f ∷ rest) procedure entry base = IsWaiting cert f procedure entry base × AreWaiting cert rest f.procedure f.entry f.base
+
+-- the machine stands at a node of a procedure, others wait below it, and it has kept what it has to keep
+pub record Stands (rom : List ℕ) (cert : Certificate) (frames : List Frame) (procedure : ℕ) (entry : MState) (base : ℕ) (s : MState) : Type 0 where
+  pub meant : IsMeant rom cert procedure entry base s
+  pub waiting : AreWaiting cert frames procedure entry base
+  pub keeps : Keeps cert procedure base entry s
+
+-- the machine stands at a node of some procedure, whichever wait below it
+pub record IsStanding (rom : List ℕ) (cert : Certificate) (s : MState) : Type 0 where
+  pub frames : List Frame
+  pub procedure : ℕ
+  pub entry : MState
+  pub base : ℕ
+  pub stands : Stands rom cert frames procedure entry base s

@@ -1,0 +1,129 @@
+//! What a node asks where interrupts may come.
+
+ghost use Rattle.std.specs.Prelude.{◌≡◌, ◌<◌, ◌&&◌, true, false, length, Option, None, MatchResult, OnOk};
+ghost use Rattle.gb_abs.specs.declared.reason.Reason.TheVariants.{Interrupt};
+ghost use Rattle.gb_calls.specs.Interrupts.{may_come, handler_of};
+ghost use Rattle.gb_successors.specs.Refused as Refused;
+ghost use Rattle.gb_rules.specs.Rules as Rules;
+ghost use Rattle.gb_rules.specs.Safety.{IsWhollySafeAt};
+
+use crate::procedures::{is_back_uncovered, is_outside_of, is_over, need_of};
+use gb_abs::gb_cert::{Cert, NodeRef};
+use gb_abs::reason::Reason;
+use gb_calls::interrupts::{dispatched, handler, may_come};
+use gb_code::gb_abs_memory::load::holds_bytes;
+use gb_code::gb_header::Rom;
+use gb_ops::machine::Region;
+use gb_states::types::{Abs, Core};
+use gb_successors::refused::is_stack_limited;
+
+/// Whether interrupt `i`, 0 to 4, may come, and its handler would need more words than there are.
+fn is_deep_at(cert: &Cert<'_>, need: u16, state: &Abs, i: u8) -> bool
+    requires { i < 5 }
+    ensures { result ≡ (may_come i state.now.core && Rules.is_over cert.now need (length state.now.items) (handler_of cert.now i state.now)) }
+{
+    may_come(i, state.core()) && is_over(cert, need, state, handler(cert, i, state))
+}
+
+/// Whether an interrupt may come whose handler would need more words than the procedure has left.
+#[tactic(auto, unfolding(crate::specs::Rules::handles_too_deep))]
+pub(crate) fn handles_too_deep(cert: &Cert<'_>, node: &NodeRef<'_>, state: &Abs) -> bool
+    requires { state.now ≡ node.now.state }
+    ensures { result ≡ Rules.handles_too_deep cert.now node.now }
+{
+    let need = need_of(cert, node.procedure());
+    is_deep_at(cert, need, state, 0)
+        || is_deep_at(cert, need, state, 1)
+        || is_deep_at(cert, need, state, 2)
+        || is_deep_at(cert, need, state, 3)
+        || is_deep_at(cert, need, state, 4)
+}
+
+/// Whether interrupt `i`, 0 to 4, may come while an OAM transfer may close the stack region.
+fn is_limited_at(region: Region, core: &Core, i: u8) -> bool
+    requires { i < 5 }
+    ensures { result ≡ (may_come i core.now && Refused.is_stack_limited region core.now) }
+{
+    may_come(i, core) && is_stack_limited(region, core)
+}
+
+/// Whether a dispatch may push while an OAM transfer closes the stack region.
+#[tactic(auto, unfolding(crate::specs::Rules::is_dispatch_limited))]
+pub(crate) fn is_dispatch_limited(region: Region, node: &NodeRef<'_>, core: &Core) -> bool
+    requires { core.now ≡ node.now.state.core }
+    ensures { result ≡ Rules.is_dispatch_limited region node.now }
+{
+    is_limited_at(region, core, 0)
+        || is_limited_at(region, core, 1)
+        || is_limited_at(region, core, 2)
+        || is_limited_at(region, core, 3)
+        || is_limited_at(region, core, 4)
+}
+
+/// Whether a handler can't be entered from a node, or what its procedure goes on with behind it isn't covered there.
+fn is_unhandled(cert: &Cert<'_>, node: &NodeRef<'_>, state: &Abs, handler: Option<u8>) -> bool
+    requires { state.now ≡ node.now.state }
+    ensures { result ≡ Rules.is_unhandled cert.now node.now handler }
+{
+    let procedure = node.procedure();
+    !state.core().stack_set
+        || is_outside_of(cert, procedure, handler)
+        || is_back_uncovered(cert, procedure, node.address(), &dispatched(state), handler)
+}
+
+/// Whether interrupt `i`, 0 to 4, may come at a node and isn't provided for.
+fn is_unhandled_at(cert: &Cert<'_>, node: &NodeRef<'_>, state: &Abs, i: u8) -> bool
+    requires small { i < 5 }
+    requires state { state.now ≡ node.now.state }
+    ensures { result ≡ (may_come i node.now.state.core && Rules.is_unhandled cert.now node.now (handler_of cert.now i node.now.state)) }
+{
+    may_come(i, state.core()) && is_unhandled(cert, node, state, handler(cert, i, state))
+}
+
+/// Whether an interrupt may come at a node that isn't provided for (own rules): the stack isn't set, no procedure may
+/// be entered at its vector, or what its procedure goes on with behind the handler isn't covered where it was left. The
+/// node's state is given, so that it is read from the certificate once.
+#[tactic(auto, unfolding(crate::specs::Rules::lacks_handler))]
+pub fn lacks_handler(cert: &Cert<'_>, node: &NodeRef<'_>, state: &Abs) -> bool
+    requires { state.now ≡ node.now.state }
+    ensures { result ≡ Rules.lacks_handler cert.now node.now }
+{
+    is_unhandled_at(cert, node, state, 0)
+        || is_unhandled_at(cert, node, state, 1)
+        || is_unhandled_at(cert, node, state, 2)
+        || is_unhandled_at(cert, node, state, 3)
+        || is_unhandled_at(cert, node, state, 4)
+}
+
+/// Checks that each interrupt that may come at the node with a number is provided for.
+///
+/// # Errors
+///
+/// `Reason::Interrupt`, where one isn't (own rules).
+pub fn check_irqs(rom: &Rom<'_>, cert: &Cert<'_>, i: u32) -> Result<(), Reason>
+    requires { i < length cert.now.nodes }
+    // Ok exactly where each interrupt is provided for.
+    ensures exact { MatchResult result (λ _. Rules.lacks_handler_at cert.now i ≡ false) (λ r. (Rules.lacks_handler_at cert.now i ≡ true) × (r ≡ Interrupt)) }
+    // Where no other reason is against the node either, each event, a dispatch among them, from a state of
+    // the node, has no fault, fetches certified places, leaves a state that some node of the procedure
+    // means, or enters another one, or returns, and changes nothing that the procedure keeps.
+    ensures safe { Rules.reason_at rom.now cert.now i ≡ None → OnOk result (IsWhollySafeAt rom.now cert.now i) }
+{
+    // Behind the promise stand that a cartridge holds bytes, and the rules of certificates.
+    holds_bytes(rom);
+    let _region = cert.region();
+    provided_at(cert, i)
+}
+
+fn provided_at(cert: &Cert<'_>, i: u32) -> Result<(), Reason>
+    requires { i < length cert.now.nodes }
+    ensures { MatchResult result (λ _. Rules.lacks_handler_at cert.now i ≡ false) (λ r. (Rules.lacks_handler_at cert.now i ≡ true) × (r ≡ Interrupt)) }
+{
+    let node = cert.node(i);
+    let state = node.state();
+    if lacks_handler(cert, &node, &state) {
+        Err(Reason::Interrupt)
+    } else {
+        Ok(())
+    }
+}
