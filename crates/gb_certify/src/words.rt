@@ -6,8 +6,8 @@ use clap::{Arg, ArgAction, ArgMatches, Command, Error};
 use gb_ops::machine::Region;
 use std::alloc::{AllocError, Global};
 
-/// The most nodes that may be allowed.
-const MOST_NODES: i64 = 4_000_000;
+/// The most nodes that may be allowed: a certificate of version 2 has no more.
+const MOST_NODES: i64 = 1_048_576;
 
 /// The most nodes, where nothing is said.
 const NODES: u32 = 400_000;
@@ -108,7 +108,7 @@ fn with_options<'a>(alloc: Global) -> Result<Command<'a>, AllocError> {
         alloc,
         "nodes",
         "N",
-        "Allow so many nodes, 400000 if nothing is said",
+        "Allow so many nodes, 400000 if nothing is said, at most 1048576: no certificate has more",
     )
     .value_parser(clap::value_parser!(u32).range(1..=MOST_NODES));
     let stack = option_arg(

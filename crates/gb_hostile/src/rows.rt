@@ -473,6 +473,23 @@ pub const FAULTY: &[Row] = &[
         ..CERTIFY
     },
     Row {
+        about: "certify: a certificate in the cartridge's own file",
+        words: &[b"certify", b"game.gb", b"game.gb"],
+        game: CARTRIDGE,
+        written: NOTHING,
+        status: 2,
+        told: "the cartridge's own file",
+        ..CERTIFY
+    },
+    Row {
+        about: "certify: more nodes than a certificate may have",
+        words: &[b"certify", b"game.gb", b"game.cert", b"--nodes", b"1048577"],
+        written: NOTHING,
+        status: 2,
+        told: "1048576",
+        ..CERTIFY
+    },
+    Row {
         about: "certify: a stack outside of RAM",
         words: &[
             b"certify",
