@@ -220,14 +220,14 @@ def processes_at_once():
     return max(1, min(len(os.sched_getaffinity(0)), free // MEMORY))
 
 
-def plan(wanted, uses, weight, width, begun=None):
+def plan(wanted, below, weight, width, begun=None):
     """The seconds that the wanted crates take, `width` at a time, and of them the longest chain's first. The begun ones run."""
     running = dict(begun or {})
-    chain = chains(wanted, uses, weight)
+    chain = chains(wanted, below, weight)
     waiting, clock = [name for name in wanted if name not in running], 0.0
     while waiting or running:
         left = {*waiting, *running}
-        ready = [name for name in waiting if not left.intersection(uses[name])]
+        ready = [name for name in waiting if not left.intersection(below[name])]
         for name in sorted(ready, key=chain.get, reverse=True)[: max(width - len(running), 0)]:
             running[name] = clock + weight[name]
             waiting.remove(name)
@@ -236,12 +236,12 @@ def plan(wanted, uses, weight, width, begun=None):
     return clock
 
 
-def chains(wanted, uses, weight):
+def chains(wanted, below, weight):
     """Of each wanted crate the weight of the longest chain from it upwards, itself among it. They stand in order."""
     above = dict.fromkeys(wanted, 0)
     for name in reversed(wanted):
         above[name] += weight[name]
-        for each in uses[name]:
+        for each in below[name]:
             if each in above:
                 above[each] = max(above[each], above[name])
     return above
@@ -301,6 +301,7 @@ class Prover:
         self.crates, self.tell, self.root = crates, tell, crates.root
         self.program = crates.order[-1]
         self.weight = weights(self.root, crates)
+        self.below = {name: crates.below(name) for name in crates.order}
         self.width = processes_at_once()
         # The program itself is always linked.
         self.waiting = [name for name in crates.order[:-1] if not crates.is_proved(name)] + [self.program]
@@ -326,24 +327,25 @@ class Prover:
         kits = {text_of(f"{self.root}/out/stamps/{name}").partition("\n")[2].strip() for name in self.waiting}
         if kits - {"", self.crates.kit}:
             self.tell(f"the toolchain is not that of the last build: proving everything again, by {self.crates.kit}")
-        uses, total = self.crates.uses, sum(self.weight[name] for name in self.waiting)
-        chain = max(chains(self.waiting, uses, self.weight).values())
+        below, total = self.below, sum(self.weight[name] for name in self.waiting)
+        chain = max(chains(self.waiting, below, self.weight).values())
         self.tell(
-            f"proving {len(self.waiting)} of {len(uses)} crates, {self.width} at a time: about"
-            f" {in_minutes(plan(self.waiting, uses, self.weight, self.width))} ({in_minutes(total)} of one processor, with"
+            f"proving {len(self.waiting)} of {len(below)} crates, {self.width} at a time: about"
+            f" {in_minutes(plan(self.waiting, below, self.weight, self.width))} ({in_minutes(total)} of one processor, with"
             f" {in_minutes(chain)} one after another); ./{self.program} --unproved .. runs it unproved meanwhile"
         )
 
     def start_ready(self):
         """Starts crates whose uses are proved, the longest chain first, while there are processors."""
         left = {*self.waiting, *self.running}
-        ready = [name for name in self.waiting if not left.intersection(self.crates.uses[name])]
-        chain = chains(self.waiting, self.crates.uses, self.weight)
-        for name in sorted(ready, key=chain.get, reverse=True):
+        ready = [name for name in self.waiting if not left.intersection(self.below[name])]
+        chain = chains(self.waiting, self.below, self.weight)
+        for number, name in enumerate(sorted(ready, key=chain.get, reverse=True)):
             free = self.width - sum(job.slots for job in self.running.values())
             if free < 1:
                 return
-            self.start(name, free if len(self.waiting) == 1 else 1)
+            # Processors that no other crate could use work on this one.
+            self.start(name, max(1, free // (len(ready) - number)))
 
     def start(self, name, slots):
         """Starts a crate in a root of its own, unless another rt works in its folder."""
@@ -360,7 +362,7 @@ class Prover:
         self.waiting.remove(name)
         remove(place)
         self.crates.copy_sources(name, place)
-        for each in self.crates.below(name):
+        for each in self.below[name]:
             if os.path.isdir(self.crates.library(each)):
                 shutil.copytree(self.crates.library(each), f"{place}/crates/{each}/out/rlib", copy_function=link_or_copy)
         had_kept = self.take_kept(name, place)
@@ -441,7 +443,7 @@ class Prover:
             verb = "run" if job.name == self.program else "lib"
             raise Failure(f"{job.name} could not be proved and built; above is what `rt {verb}` said in crates/{job.name}")
         self.take_home(job)
-        self.waiting.append(job.name)
+        self.waiting = [name for name in self.crates.order if name in (*self.waiting, job.name)]
 
     def take_home(self, job):
         """Moves what a crate's process kept and built into the crate's folder, and removes its root."""
@@ -476,12 +478,12 @@ class Prover:
 
     def tell_progress(self, name):
         """Says how far it is."""
-        uses, now, left = self.crates.uses, time.monotonic(), [*self.running, *self.waiting]
+        now, left = time.monotonic(), [*self.running, *self.waiting]
         total, missing = sum(self.weight.values()), sum(self.weight[each] for each in left)
         pace = min(max(self.spent / self.planned, 0.1), 10) if self.planned else 1
         begun = {each: max(pace * self.weight[each] - now + job.started, 5) for each, job in self.running.items()}
         weight = {each: pace * self.weight[each] for each in self.weight}
         wanted = [each for each in self.crates.order if each in left]
-        seconds = plan(wanted, uses, weight, self.width, begun)
+        seconds = plan(wanted, self.below, weight, self.width, begun)
         percent = 100 * (total - missing) // total
         self.tell(f"{percent} % proved ({name}); {len(self.running)} running; about {in_minutes(seconds)} left")

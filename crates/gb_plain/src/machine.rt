@@ -66,8 +66,9 @@ impl Bus for PlainMachine {
         self.is_starting = write(&mut self.state, self.is_starting, address, value);
     }
 
-    #[tactic(auto, using(crate::proofs::Starting::place_is))]
+    #[tactic(auto, using(crate::proofs::Starting::place_is, crate::proofs::Starting::sized_is))]
     fn place(&self, address: u16) -> Place {
+        self.state.sizes();
         place_of(&self.state, address)
     }
 

@@ -90,6 +90,16 @@ impl MachineState {
         })
     }
 
+    /// Work RAM and high RAM have their sizes.
+    pub(crate) fn sizes(&self)
+        ensures work { length self.now.machine.storage.work ≡ 8192 }
+        ensures high { length self.now.machine.storage.high ≡ 127 }
+    {
+        let work: &[u8] = self.work.as_slice();
+        let high: &[u8] = self.high.as_slice();
+        let _sizes = (work.len(), high.len());
+    }
+
     /// The processor's part.
     pub fn processor(&self) -> Processor
         ensures { result ≡ self.now.machine.processor }
