@@ -16,9 +16,3 @@ pub mod reason;
 pub mod span;
 pub mod stack;
 pub mod storage;
-
-pub use gb_cert;
-pub use gb_cert::gb_rows;
-pub use gb_states;
-pub use gb_vals;
-pub use gb_vals::gb_effects;

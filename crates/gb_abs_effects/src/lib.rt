@@ -14,7 +14,3 @@ pub mod sides;
 pub mod targets;
 pub mod transfer;
 pub mod writes;
-
-pub use gb_abs;
-pub use gb_vals;
-pub use gb_vals::gb_effects;

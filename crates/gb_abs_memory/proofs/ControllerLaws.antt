@@ -10,7 +10,7 @@ use Rattle.gb_ops.specs.Cartridge.{at_least_one, kind_after, mbc1_after, mbc3_af
 use Rattle.gb_states.specs.declared.types.Val.{Val}
 use Rattle.gb_states.specs.declared.types.Ctl.{Ctl}
 use Rattle.gb_states.specs.Rules.{IsVal, IsCtl}
-use Rattle.gb_abs.specs.gb_vals.Meaning.{In}
+use Rattle.gb_vals.specs.Meaning.{In}
 use Rattle.gb_abs_memory.specs.declared.windows.ControllerRegister.{ControllerRegister}
 use Rattle.gb_abs_memory.specs.declared.windows.ControllerRegister.TheVariants as register
 use Rattle.gb_abs_memory.specs.declared.windows.Window.{Window}

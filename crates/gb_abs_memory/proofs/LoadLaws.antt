@@ -19,8 +19,8 @@ use Rattle.gb_states.specs.declared.types.Cell.{Cell}
 use Rattle.gb_states.specs.declared.types.Core.{Core}
 use Rattle.gb_states.specs.Types.{AbsState}
 use Rattle.gb_states.specs.Rules.{IsVal}
-use Rattle.gb_abs.specs.gb_vals.Vals.{any_val, single}
-use Rattle.gb_abs.specs.gb_vals.Meaning.{may_be}
+use Rattle.gb_vals.specs.Vals.{any_val, single}
+use Rattle.gb_vals.specs.Meaning.{may_be}
 use Rattle.gb_abs.specs.declared.span.Span.{Span}
 use Rattle.gb_abs.specs.declared.reason.Reason.{Reason}
 use Rattle.gb_abs.specs.Span.{IsIn, is_one, is_inside, may_meet}

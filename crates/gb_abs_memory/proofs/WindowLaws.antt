@@ -9,8 +9,8 @@ use Rattle.gb_states.specs.declared.types.Val.{Val}
 use Rattle.gb_states.specs.declared.types.May.{May}
 use Rattle.gb_states.specs.declared.types.Ctl.{Ctl}
 use Rattle.gb_states.specs.Rules.{IsVal, IsCtl, has_value}
-use Rattle.gb_abs.specs.gb_vals.Meaning.{In, may_be}
-use Rattle.gb_abs.proofs.gb_vals_laws.MeaningLaws.{may_be-by}
+use Rattle.gb_vals.specs.Meaning.{In, may_be}
+use Rattle.gb_vals.proofs.MeaningLaws.{may_be-by}
 use Rattle.gb_abs_memory.specs.declared.windows.ControllerRegister.{ControllerRegister}
 use Rattle.gb_abs_memory.specs.declared.windows.ControllerRegister.TheVariants as register
 use Rattle.gb_abs_memory.specs.declared.windows.Window.{Window}

@@ -11,7 +11,7 @@ use Rattle.gb_states.specs.declared.types.Core.{Core}
 use Rattle.gb_states.specs.declared.types.Range.{Range}
 use Rattle.gb_states.specs.Types.{AbsState}
 use Rattle.gb_states.specs.Rules.{meets}
-use Rattle.gb_abs.specs.gb_vals.Vals.{any_val, single}
+use Rattle.gb_vals.specs.Vals.{any_val, single}
 use Rattle.gb_abs.specs.declared.reason.Reason.{Reason}
 use Rattle.gb_abs.specs.declared.reason.Reason.TheVariants as reason
 use Rattle.gb_abs.specs.declared.span.Span.{Span}

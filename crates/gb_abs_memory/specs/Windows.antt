@@ -8,7 +8,7 @@ use Rattle.gb_ops.specs.Cartridge.{at_least_one, kind_after}
 use Rattle.gb_states.specs.declared.types.Val.{Val}
 use Rattle.gb_states.specs.declared.types.May.{May}
 use Rattle.gb_states.specs.declared.types.Ctl.{Ctl}
-use Rattle.gb_abs.specs.gb_vals.Meaning.{In, may_be}
+use Rattle.gb_vals.specs.Meaning.{In, may_be}
 use Rattle.gb_abs.specs.declared.span.Span.{Span}
 use Rattle.gb_abs.specs.Span.{is_inside}
 use Rattle.gb_abs_memory.specs.declared.windows.ControllerRegister.{ControllerRegister}

@@ -13,7 +13,3 @@ pub mod refusals;
 pub mod shown;
 pub mod store;
 pub mod windows;
-
-pub use gb_abs::gb_effects;
-pub use gb_header;
-pub use gb_states;

@@ -10,12 +10,12 @@ ghost use Rattle.gb_abs_memory.specs.Sound.{AreVals, IsRom, IsSoundLoad};
 use crate::refusals::{is_limited, meets_closed_ram};
 use crate::shown::known_bank;
 use gb_abs::covering::cell_at;
-use gb_abs::gb_vals::vals::{any, single};
 use gb_abs::reason::Reason;
 use gb_abs::span::Span;
 use gb_abs::storage::is_ram;
 use gb_header::Rom;
 use gb_states::types::{Abs, Core, Val};
+use gb_vals::vals::{any, single};
 
 /// Where the byte at an address is kept: the echo of work RAM is the same byte.
 fn home_of(address: u16) -> u16

@@ -167,7 +167,3 @@ pub fn store<B: Bus>(bus: &mut B, write: Write)
         }
     }
 }
-
-pub use gb_bus;
-pub use gb_bus::{gb_header, gb_mbc, gb_ppu, gb_timer};
-pub use gb_effects;

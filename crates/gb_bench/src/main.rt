@@ -10,9 +10,9 @@ mod picture;
 mod processor;
 
 use certificates::Sample;
-use gb_cpu::gb_header::Rom;
+use gb_cert::Cert;
+use gb_header::Rom;
 use gb_verify::check::check;
-use gb_verify::gb_cert::Cert;
 use gb_verify::verdict::Verdict;
 use std::io;
 use std::rt::Clock;

@@ -6,4 +6,3 @@ pub mod Reading
 pub mod ReadingBack
 pub mod Requests
 pub mod Screens
-pub use Rattle.gb_ppu.proofs.gb_timer_laws as gb_timer_laws

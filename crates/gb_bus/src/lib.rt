@@ -91,9 +91,3 @@ pub trait Bus {
         ensures joined { does self.old (access.Passes cycles) self.new }
         ensures view { shows self.new ≡ passed (shows self.old) cycles };
 }
-
-pub use gb_dma;
-pub use gb_mbc;
-pub use gb_mbc::gb_header;
-pub use gb_ppu;
-pub use gb_ppu::gb_timer;

@@ -22,8 +22,8 @@ use Rattle.gb_states.specs.declared.types.Core.{Core}
 use Rattle.gb_states.specs.declared.types.Range.{Range}
 use Rattle.gb_states.specs.Types.{AbsState}
 use Rattle.gb_states.specs.Rules.{IsRegion, meets}
-use Rattle.gb_abs.specs.gb_vals.Vals.{any_val}
-use Rattle.gb_abs.specs.gb_vals.Tests.{IsTested}
+use Rattle.gb_vals.specs.Vals.{any_val}
+use Rattle.gb_vals.specs.Tests.{IsTested}
 use Rattle.gb_abs.specs.Span.{one}
 use Rattle.gb_abs.specs.Covering.{covers_origin, covers_val}
 use Rattle.gb_abs.specs.Cells.{IsPlaced, ArePlaced}

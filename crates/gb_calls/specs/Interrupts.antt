@@ -5,7 +5,7 @@ use Rattle.gb_states.specs.declared.types.ImeSet.{ImeSet}
 use Rattle.gb_states.specs.declared.types.Core.{Core}
 use Rattle.gb_states.specs.Types.{AbsState}
 use Rattle.gb_states.specs.Certificate.{Certificate}
-use Rattle.gb_abs.specs.gb_vals.Bits.{may_have_bit}
+use Rattle.gb_vals.specs.Bits.{may_have_bit}
 use Rattle.gb_abs.specs.Operations.{core_end, with_core}
 use Rattle.gb_calls.specs.Calls.{callee_of}
 

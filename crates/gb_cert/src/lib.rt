@@ -18,7 +18,6 @@ mod walk;
 pub use cert::{Cert, encode};
 pub use find::Search;
 pub use gb_fields::CertFault;
-pub use gb_rows;
 pub use gb_rows::Found;
 pub use node::NodeRef;
 pub use parse::one_spelling;

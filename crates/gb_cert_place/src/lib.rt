@@ -12,5 +12,3 @@ pub mod field;
 pub mod place;
 mod text;
 mod walk;
-
-pub use gb_cert;

@@ -5,10 +5,10 @@ use crate::making::make_file;
 use crate::messages::{PROGRAM, tell_symbols};
 use crate::reading::{explain_file, list_file};
 use crate::words::{Task, Work, read_words};
-use gb_command_line::gb_files::{Trouble, is_input, read_cartridge};
 use gb_command_line::status::Status;
 use gb_command_line::words::{explain, tell_words, words_of};
-use gb_refine::gb_reports::Symbols;
+use gb_files::{Trouble, is_input, read_cartridge};
+use gb_reports::Symbols;
 use std::io::Input;
 use std::rt::{Env, Files};
 

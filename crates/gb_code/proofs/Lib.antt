@@ -1,3 +1,2 @@
 pub mod ByteLaws
 pub mod CodeLaws
-pub use Rattle.gb_abs_memory.proofs as gb_abs_memory_laws

@@ -6,6 +6,3 @@
 #![tactic(auto)]
 
 pub mod code;
-
-pub use gb_abs_memory;
-pub use gb_abs_memory::gb_header;

@@ -1,4 +1,1 @@
 pub mod Status
-pub use Rattle.gb_files.specs as gb_files
-pub use Rattle.gb_verify.specs.gb_header as gb_header
-pub use Rattle.gb_verify.specs as gb_verify

@@ -7,8 +7,3 @@
 pub mod messages;
 pub mod status;
 pub mod words;
-
-pub use gb_cert_place::gb_cert;
-pub use gb_files;
-pub use gb_verify;
-pub use gb_verify::{gb_header, gb_text};

@@ -7,4 +7,3 @@ pub mod Frames
 pub mod Going
 pub mod Running
 pub mod Whole
-pub use Rattle.gb_verify.proofs as gb_verify_laws

@@ -14,8 +14,4 @@ pub mod run;
 
 pub use console::Console;
 pub use frame::Ending;
-pub use gb_cpu;
-pub use gb_cpu::{gb_bus, gb_effects, gb_header, gb_ppu, gb_timer};
-pub use gb_verify;
-pub use gb_verify::{gb_cert, gb_text};
 pub use run::Input;

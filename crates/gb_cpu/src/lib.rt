@@ -9,5 +9,3 @@
 mod opcodes;
 mod power_up;
 pub mod step;
-
-pub use gb_accesses::{gb_bus, gb_effects, gb_header, gb_mbc, gb_ppu, gb_timer};

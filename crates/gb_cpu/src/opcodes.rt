@@ -6,7 +6,7 @@ ghost use Rattle.gb_cpu.specs.Run.{IsRowRun};
 
 use crate::step::{Cpu, run_row};
 use gb_accesses::fetch;
-use gb_accesses::gb_bus::Bus;
+use gb_bus::Bus;
 use gb_ops::decode::decode;
 use gb_ops::registers::Processor;
 

@@ -2,8 +2,8 @@
 
 use crate::order::order;
 use crate::writing::Writing;
-use gb_fixpoint::gb_abs::covering::covers;
-use gb_fixpoint::gb_abs_memory::shown::known_bank;
+use gb_abs::covering::covers;
+use gb_abs_memory::shown::known_bank;
 use gb_fixpoint::types::{Node, Procedure, Run};
 use std::alloc::{AllocError, Global};
 

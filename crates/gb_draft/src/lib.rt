@@ -11,6 +11,4 @@ mod order;
 mod writing;
 
 pub use certificate::certificate_of;
-pub use gb_fixpoint;
-pub use gb_fixpoint::{gb_abs, gb_cert, gb_header, gb_states, gb_verify};
 pub use needs::find_needs;

@@ -1,12 +1,10 @@
 //! The bytes of a certificate's parts.
 
-use gb_fixpoint::gb_states::types::{
-    Abs, Cell, Core, Ctl, Flg, ImeSet, Item, May, Origin, Range, Val,
-};
 use gb_fixpoint::register_set::REGISTERS;
 use gb_ops::machine::Region;
 use gb_ops::op::Register;
 use gb_ops::registers::Registers;
+use gb_states::types::{Abs, Cell, Core, Ctl, Flg, ImeSet, Item, May, Origin, Range, Val};
 use std::alloc::{AllocError, Global};
 
 /// The beginning of a certificate's bytes.

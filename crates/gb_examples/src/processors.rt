@@ -1,11 +1,11 @@
 //! Single steps of the processor on the console's memory. An example is a list of steps, which one function plays.
 
+use gb_bus::{Bus, Memory};
+use gb_cpu::step::{Cpu, Stepped};
+use gb_effects::flags::{flags_byte, flags_of};
+use gb_header::Rom;
 use gb_ops::machine::Event;
 use gb_ops::registers::Ime;
-use gb_printed::gb_bus::{Bus, Memory};
-use gb_printed::gb_cpu::step::{Cpu, Stepped};
-use gb_printed::gb_effects::flags::{flags_byte, flags_of};
-use gb_printed::gb_header::Rom;
 use gb_samples::cartridges::{PLAIN, small};
 use gb_samples::states::processor;
 use std::alloc::Global;

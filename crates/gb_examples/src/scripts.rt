@@ -2,13 +2,13 @@
 
 ghost use Rattle.std.specs.Prelude.{◌≡◌, false};
 
-use gb_printed::gb_console::{Console, Ending};
-use gb_printed::gb_header::{HeaderFault, Rom};
-use gb_printed::gb_text::kept_bytes::KeptBytes;
-use gb_printed::gb_text::sink::OutFault;
+use gb_console::{Console, Ending};
+use gb_header::{HeaderFault, Rom};
 use gb_printed::{Progress, RunOutcome, run_bytes, run_script, run_script_shown};
 use gb_samples::cartridges::{PLAIN, put, small};
 use gb_samples::programs::{DRAWS, LOCKS_AT_A, LOOP, OBJECTS, WAITS, WAITS_A_SECOND, tiles};
+use gb_text::kept_bytes::KeptBytes;
+use gb_text::sink::OutFault;
 use std::alloc::{AllocError, Global};
 use std::test::Fail;
 

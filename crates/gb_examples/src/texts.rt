@@ -1,13 +1,13 @@
 //! Sinks, and the lines that are written of headers.
 
-use gb_printed::gb_header::{HeaderFault, Rom};
-use gb_printed::gb_text::kept_bytes::KeptBytes;
-use gb_printed::gb_text::put::put_all;
-use gb_printed::gb_text::sink::{OutFault, Plain, Sink};
+use gb_header::{HeaderFault, Rom};
 use gb_printed::{header_bytes, header_line};
 use gb_samples::cartridges::{PLAIN, Sizes, file, put, small};
 use gb_samples::programs::LOOP;
 use gb_samples::streams::FailingWriter;
+use gb_text::kept_bytes::KeptBytes;
+use gb_text::put::put_all;
+use gb_text::sink::{OutFault, Plain, Sink};
 use std::test::Fail;
 
 #[test]

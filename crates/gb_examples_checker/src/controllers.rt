@@ -1,13 +1,13 @@
 //! Controllers' windows, their registers after a store, and the banks that are known to be shown.
 
+use gb_abs::span::Span;
+use gb_abs_memory::shown::known_bank;
+use gb_abs_memory::windows::{ControllerRegister, ctl_after, window_of, windows};
+use gb_header::Rom;
 use gb_ops::machine::Kind;
 use gb_samples::cartridges::{PLAIN, file, small};
-use gb_samples::gb_states::types::{Ctl, May};
 use gb_samples::states::{CLEAR, EITHER, SET, START, from_to};
-use gb_verify::gb_abs::span::Span;
-use gb_verify::gb_abs_memory::shown::known_bank;
-use gb_verify::gb_abs_memory::windows::{ControllerRegister, ctl_after, window_of, windows};
-use gb_verify::gb_header::Rom;
+use gb_states::types::{Ctl, May};
 use std::test::Fail;
 
 const BANK: ControllerRegister = ControllerRegister::Bank;

@@ -2,9 +2,9 @@
 
 use gb_samples::cartridges::{PLAIN, put, small};
 use gb_samples::certificates::write_nodes;
-use gb_verify::gb_text::kept_bytes::KeptBytes;
-use gb_verify::gb_text::line::Line;
-use gb_verify::gb_text::sink::Sink;
+use gb_text::kept_bytes::KeptBytes;
+use gb_text::line::Line;
+use gb_text::sink::Sink;
 use gb_verify::verify::verify_bytes;
 use std::alloc::Global;
 

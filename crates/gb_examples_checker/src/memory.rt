@@ -1,20 +1,20 @@
 //! Loads and stores of abstract states.
 
-use gb_ops::machine::{Kind, Region};
-use gb_samples::cartridges::{PLAIN, SMALLEST, Sizes, put, small};
-use gb_samples::gb_states::types::{Abs, Core, Ctl, May, Origin, Range, Val};
-use gb_samples::states::{ANY, EITHER, SET, START, entered, from_to};
-use gb_verify::gb_abs::cells::with_cell;
-use gb_verify::gb_abs::covering::cell_at;
-use gb_verify::gb_abs::reason::Reason;
-use gb_verify::gb_abs::span::Span;
-use gb_verify::gb_abs_memory::load::{load, val_at};
-use gb_verify::gb_abs_memory::refusals::{
+use gb_abs::cells::with_cell;
+use gb_abs::covering::cell_at;
+use gb_abs::reason::Reason;
+use gb_abs::span::Span;
+use gb_abs_memory::load::{load, val_at};
+use gb_abs_memory::refusals::{
     is_limited, is_store_limited, meets_closed_ram, store_meets_closed_ram,
 };
-use gb_verify::gb_abs_memory::store::{Area, area_of, is_storable, store};
-use gb_verify::gb_abs_memory::windows::ControllerRegister;
-use gb_verify::gb_header::Rom;
+use gb_abs_memory::store::{Area, area_of, is_storable, store};
+use gb_abs_memory::windows::ControllerRegister;
+use gb_header::Rom;
+use gb_ops::machine::{Kind, Region};
+use gb_samples::cartridges::{PLAIN, SMALLEST, Sizes, put, small};
+use gb_samples::states::{ANY, EITHER, SET, START, entered, from_to};
+use gb_states::types::{Abs, Core, Ctl, May, Origin, Range, Val};
 use std::test::Fail;
 
 /// MBC3 with 8 KiB of RAM.

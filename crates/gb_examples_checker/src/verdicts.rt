@@ -1,17 +1,17 @@
 //! Verdicts on the least cartridge and its certificate, and on both with bytes replaced.
 
+use gb_abs::reason::Reason;
+use gb_cert::Cert;
+use gb_header::Rom;
+use gb_rules::rules::check_node;
 use gb_samples::cartridges::{PLAIN, SMALLEST, replace, small};
 use gb_samples::certificates::{least, write_nodes};
 use gb_samples::programs::LOOP;
 use gb_samples::streams::FailingWriter;
+use gb_text::kept_bytes::KeptBytes;
+use gb_text::line::Line;
+use gb_text::sink::{OutFault, Plain, Sink};
 use gb_verify::check::check;
-use gb_verify::gb_abs::reason::Reason;
-use gb_verify::gb_cert::Cert;
-use gb_verify::gb_header::Rom;
-use gb_verify::gb_rules::rules::check_node;
-use gb_verify::gb_text::kept_bytes::KeptBytes;
-use gb_verify::gb_text::line::Line;
-use gb_verify::gb_text::sink::{OutFault, Plain, Sink};
 use gb_verify::verdict::Verdict;
 use gb_verify::verify::{Outcome, verify_bytes};
 use std::alloc::Global;

@@ -2,8 +2,8 @@
 
 ghost use Rattle.std.specs.Prelude.{◌≤◌};
 
-use gb_bus::gb_header::{HeaderFault, Rom};
-use gb_bus::gb_mbc::{Clock, ClockRegister, Controller, Mapper};
+use gb_header::{HeaderFault, Rom};
+use gb_mbc::{Clock, ClockRegister, Controller, Mapper};
 use gb_ops::machine::Kind;
 use gb_samples::cartridges::{PLAIN, Sizes, file, put, small};
 use std::test::Fail;

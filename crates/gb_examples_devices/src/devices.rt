@@ -1,10 +1,10 @@
 //! The timer, the joypad, interrupts and the count of a transfer.
 
 use bitflags::Flags;
-use gb_bus::gb_dma::Transfer;
-use gb_bus::gb_timer::irqs::{Irqs, Keys, next_irq};
-use gb_bus::gb_timer::joypad::Joypad;
-use gb_bus::gb_timer::timer::Timer;
+use gb_dma::Transfer;
+use gb_timer::irqs::{Irqs, Keys, next_irq};
+use gb_timer::joypad::Joypad;
+use gb_timer::timer::Timer;
 
 fn timer(tac: u8, tima: u8, tma: u8) -> Timer {
     let mut timer = Timer::new();

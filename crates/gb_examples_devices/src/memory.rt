@@ -1,11 +1,11 @@
 //! The console's memory, by its addresses. An example is a list of steps, which one function plays.
 
 use bitflags::Flags;
-use gb_bus::gb_header::Rom;
-use gb_bus::gb_timer::irqs::Keys;
 use gb_bus::{Bus, Memory};
+use gb_header::Rom;
 use gb_ops::machine::Place;
 use gb_samples::cartridges::{PLAIN, Sizes, file, put, small};
+use gb_timer::irqs::Keys;
 use std::alloc::Global;
 use std::process::Abort;
 use std::test::Fail;

@@ -1,15 +1,15 @@
 //! The picture by itself: lines, modes and requests.
 
 use bitflags::Flags;
-use gb_bus::gb_ppu::lanes::{shades, tile_row};
-use gb_bus::gb_ppu::line::{WIDTH, render_line};
-use gb_bus::gb_ppu::mode::Mode;
-use gb_bus::gb_ppu::ppu::Ppu;
-use gb_bus::gb_ppu::registers::LcdRegister;
-use gb_bus::gb_ppu::scene::{OAM, Scene, VIDEO_RAM};
-use gb_bus::gb_timer::irqs::Irqs;
+use gb_ppu::lanes::{shades, tile_row};
+use gb_ppu::line::{WIDTH, render_line};
+use gb_ppu::mode::Mode;
+use gb_ppu::ppu::Ppu;
+use gb_ppu::registers::LcdRegister;
+use gb_ppu::scene::{OAM, Scene, VIDEO_RAM};
 use gb_samples::cartridges::put;
 use gb_samples::programs::{FIRST_LINE, OBJECTS, tiles};
+use gb_timer::irqs::Irqs;
 use std::process::Abort;
 use std::simd::prelude::*;
 

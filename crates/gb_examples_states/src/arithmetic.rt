@@ -1,23 +1,23 @@
 //! Operations on intervals, against the machine's on each of their values. The bounds and the flags that are found by
 //! trying are the least that can be, which no contract says.
 
-use gb_abs_effects::gb_effects::arithmetic::{alu_result, decremented, incremented};
-use gb_abs_effects::gb_effects::flags::flags_of;
-use gb_abs_effects::gb_vals::alu::{alu, alu_itself};
-use gb_abs_effects::gb_vals::bits::{may_have_bit, reset_bit, set_bit, test_bit};
-use gb_abs_effects::gb_vals::carry::{complement_carry, set_carry};
-use gb_abs_effects::gb_vals::daa::adjust;
-use gb_abs_effects::gb_vals::flags::{flags_of_val, flags_val, known, known_flags};
-use gb_abs_effects::gb_vals::logic::complement;
-use gb_abs_effects::gb_vals::outcome::Outcome;
-use gb_abs_effects::gb_vals::shifts::{rotate_a, shift};
-use gb_abs_effects::gb_vals::sums::{decrement, increment};
-use gb_abs_effects::gb_vals::vals::single;
+use gb_effects::arithmetic::{alu_result, decremented, incremented};
+use gb_effects::flags::flags_of;
 use gb_ops::machine::Computed;
 use gb_ops::op::{AluOp, Register, Shift};
 use gb_ops::registers::Flags;
-use gb_samples::gb_states::types::{Flg, May, Origin, Val};
 use gb_samples::states::{ANY, CLEAR, EITHER, NO_FLAGS, SET, copy_of, from_to, with_carry};
+use gb_states::types::{Flg, May, Origin, Val};
+use gb_vals::alu::{alu, alu_itself};
+use gb_vals::bits::{may_have_bit, reset_bit, set_bit, test_bit};
+use gb_vals::carry::{complement_carry, set_carry};
+use gb_vals::daa::adjust;
+use gb_vals::flags::{flags_of_val, flags_val, known, known_flags};
+use gb_vals::logic::complement;
+use gb_vals::outcome::Outcome;
+use gb_vals::shifts::{rotate_a, shift};
+use gb_vals::sums::{decrement, increment};
+use gb_vals::vals::single;
 use std::process::Abort;
 
 /// Whether a bit may be so.

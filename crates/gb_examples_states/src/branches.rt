@@ -1,12 +1,12 @@
 //! The sides of conditional instructions.
 
-use gb_abs_effects::gb_vals::branch::{Branch, side, test_of_immediate, test_of_itself};
 use gb_abs_effects::sides::{Sides, sides_of};
 use gb_abs_effects::transfer::untaken;
 use gb_abs_effects::writes::AbsWrite;
 use gb_ops::op::{AluOp, Condition, Op, Register};
-use gb_samples::gb_states::types::{Core, Flg};
 use gb_samples::states::{CLEAR, EITHER, SET, copy_of, entered, with_carry};
+use gb_states::types::{Core, Flg};
+use gb_vals::branch::{Branch, side, test_of_immediate, test_of_itself};
 use std::process::Abort;
 
 /// An operation, and its test with the byte 7 and with A itself.

@@ -1,13 +1,13 @@
 //! Cells, words and single values of abstract states.
 
-use gb_abs_effects::gb_abs::cells::{with_cell, without_cells};
-use gb_abs_effects::gb_abs::covering::{cell_at, covers, covers_val};
-use gb_abs_effects::gb_abs::operations::{end, settle, with_value};
-use gb_abs_effects::gb_abs::span::Span;
-use gb_abs_effects::gb_abs::stack::{pop, push};
+use gb_abs::cells::{with_cell, without_cells};
+use gb_abs::covering::{cell_at, covers, covers_val};
+use gb_abs::operations::{end, settle, with_value};
+use gb_abs::span::Span;
+use gb_abs::stack::{pop, push};
 use gb_ops::op::Register;
-use gb_samples::gb_states::types::{Abs, Cell, Core, ImeSet, Item, Val};
 use gb_samples::states::{ANY, copy_of, entered, from_to, own};
+use gb_states::types::{Abs, Cell, Core, ImeSet, Item, Val};
 
 fn up_to(hi: u8) -> Val {
     from_to(0, hi)

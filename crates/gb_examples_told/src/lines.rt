@@ -1,9 +1,9 @@
 //! The printed lines of a refused node.
 
+use gb_abs::reason::Reason;
+use gb_explain::{Code, Explanation};
 use gb_ops::decode::decode;
-use gb_reports::gb_abs::reason::Reason;
-use gb_reports::gb_explain::{Code, Explanation};
-use gb_reports::gb_spelling::Spelling;
+use gb_spelling::Spelling;
 use std::test::Fail;
 
 #[test]

@@ -1,8 +1,8 @@
 //! Places of faults. An example is a list of steps, which one function plays.
 
+use gb_cert::CertFault;
 use gb_cert_place::block::Part;
 use gb_cert_place::field::{Field, Owner};
-use gb_cert_place::gb_cert::CertFault;
 use gb_cert_place::place::{FaultPlace, Sought, fault_place};
 use gb_ops::op::Register;
 use gb_samples::cartridges::{put, replace};

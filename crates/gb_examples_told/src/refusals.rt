@@ -1,8 +1,8 @@
 //! What is in the way, worked by hand from the rules.
 
 use crate::spelled::{EMPTY, Node, Procedure, certificate};
-use gb_reports::gb_abs::reason::Reason;
-use gb_reports::gb_explain::explain;
+use gb_abs::reason::Reason;
+use gb_explain::explain;
 use gb_samples::cartridges::{PLAIN, small};
 use std::alloc::Global;
 use std::test::Fail;

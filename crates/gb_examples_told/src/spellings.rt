@@ -1,7 +1,7 @@
 //! Spellings of single instructions, by hand from Pan Docs' table of instructions.
 
 use gb_ops::decode::decode;
-use gb_reports::gb_spelling::Spelling;
+use gb_spelling::Spelling;
 use std::test::Fail;
 
 /// Bytes at 0150, and how their instruction is spelled.

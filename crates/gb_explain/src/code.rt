@@ -1,10 +1,10 @@
 //! What is known of a node's instruction.
 
-use gb_abs::gb_states::types::Abs;
+use gb_code::code::{known_byte, known_bytes};
+use gb_header::Rom;
 use gb_ops::decode::decode;
 use gb_spelling::Spelling;
-use gb_verify::gb_code::code::{known_byte, known_bytes};
-use gb_verify::gb_header::Rom;
+use gb_states::types::Abs;
 use std::fmt;
 
 /// What is known of the instruction at an address. It prints the instruction, or says what isn't known.

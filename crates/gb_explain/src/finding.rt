@@ -5,21 +5,21 @@ ghost use Rattle.std.specs.Prelude.{◌<◌, length, IfSome};
 use crate::Differences;
 use crate::obstacle::{Claim, Finding, Obstacle, Way, Words};
 use gb_abs::covering::covers;
-use gb_abs::gb_cert::{Cert, NodeRef};
-use gb_abs::gb_states::types::{Abs, ITEMS, Range};
 use gb_abs::reason::Reason;
+use gb_abs_effects::targets::Target;
+use gb_calls::entering::enter;
+use gb_calls::ranges::are_ranges_inside;
+use gb_calls::resuming::resume;
+use gb_cert::{Cert, NodeRef};
+use gb_code::code::known_bytes;
+use gb_header::Rom;
 use gb_ops::decode::decode;
 use gb_ops::op::Op;
-use gb_verify::gb_abs_effects::targets::Target;
-use gb_verify::gb_calls::entering::enter;
-use gb_verify::gb_calls::ranges::are_ranges_inside;
-use gb_verify::gb_calls::resuming::resume;
-use gb_verify::gb_code::code::known_bytes;
-use gb_verify::gb_header::Rom;
-use gb_verify::gb_rules::covered::covered_at;
-use gb_verify::gb_rules::procedures::{callee_at, exit_of, need_of, ranges_of};
-use gb_verify::gb_successors::successor::Successor;
-use gb_verify::gb_successors::successors::successors_of;
+use gb_rules::covered::covered_at;
+use gb_rules::procedures::{callee_at, exit_of, need_of, ranges_of};
+use gb_states::types::{Abs, ITEMS, Range};
+use gb_successors::successor::Successor;
+use gb_successors::successors::successors_of;
 
 /// A finding without compared states.
 fn plain(obstacle: Obstacle) -> Finding {

@@ -19,6 +19,5 @@ pub use code::Code;
 pub use difference::{Difference, Known, Part};
 pub use differences::Differences;
 pub use explanation::Explanation;
-pub use gb_spelling;
 pub use obstacle::{Claim, Finding, Obstacle, Way, Words};
 pub use refusal::explain;

@@ -7,9 +7,9 @@ use crate::run::PROCEDURES;
 use crate::stop::Stop;
 use crate::tracking::keep_tracked;
 use crate::types::{Call, Procedure, Run};
-use gb_verify::gb_calls::entering::enter;
-use gb_verify::gb_calls::resuming::resume;
-use gb_verify::gb_states::types::{Abs, Core, Range};
+use gb_calls::entering::enter;
+use gb_calls::resuming::resume;
+use gb_states::types::{Abs, Core, Range};
 use std::collections::BTreeSet;
 use std::mem;
 

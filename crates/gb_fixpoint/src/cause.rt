@@ -1,8 +1,8 @@
 //! Why a run stopped.
 
 use crate::register_set::RegisterSet;
-use gb_verify::gb_abs::reason::Reason;
-use gb_verify::gb_abs::span::Span;
+use gb_abs::reason::Reason;
+use gb_abs::span::Span;
 
 /// What an instruction does to the stack that no rule allows.
 #[derive(Clone, Copy, PartialEq, Eq)]

@@ -4,10 +4,10 @@ use crate::joining::join;
 use crate::stop::Stop;
 use crate::types::Run;
 use arrayvec::ArrayVec;
+use gb_abs::covering::covers;
 use gb_ops::op::Register;
 use gb_ops::registers::Registers;
-use gb_verify::gb_abs::covering::covers;
-use gb_verify::gb_states::types::{Abs, Cell, Core, Ctl, Flg, May, Origin, Range, Val};
+use gb_states::types::{Abs, Cell, Core, Ctl, Flg, May, Origin, Range, Val};
 
 /// How often an exit grows before it is widened.
 const GROWTHS: u32 = 40;

@@ -1,13 +1,13 @@
 //! The instruction at an address, or why there is none that can be executed.
 
 use crate::cause::{Cause, StackMisuse};
+use gb_abs_memory::shown::known_bank;
+use gb_code::code::{area_end, known_byte, known_bytes, leaves_area};
+use gb_header::Rom;
 use gb_ops::decode::decode;
 use gb_ops::op::{Op, Pair, Row};
-use gb_verify::gb_abs_memory::shown::known_bank;
-use gb_verify::gb_code::code::{area_end, known_byte, known_bytes, leaves_area};
-use gb_verify::gb_header::Rom;
-use gb_verify::gb_rules::rules::is_nop_behind;
-use gb_verify::gb_states::types::Abs;
+use gb_rules::rules::is_nop_behind;
+use gb_states::types::Abs;
 
 /// The first byte of the instruction at an address that isn't known.
 fn unknown_byte(rom: &Rom<'_>, state: &Abs, address: u16) -> u16 {

@@ -29,6 +29,3 @@ mod steps;
 mod stop;
 mod tracking;
 pub mod types;
-
-pub use gb_verify;
-pub use gb_verify::{gb_abs, gb_abs_memory, gb_cert, gb_code, gb_header, gb_states};

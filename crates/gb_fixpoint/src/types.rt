@@ -5,8 +5,8 @@ use crate::configuration::Configuration;
 use crate::keys::{NodeKey, ProcedureKey};
 use crate::ranges::RangeSet;
 use crate::steps::Steps;
-use gb_verify::gb_header::Rom;
-use gb_verify::gb_states::types::Abs;
+use gb_header::Rom;
+use gb_states::types::Abs;
 use std::alloc::Global;
 use std::collections::{BTreeSet, HashMap, HashSet};
 

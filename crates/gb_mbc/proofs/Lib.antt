@@ -1,4 +1,3 @@
 pub mod Halted
 pub mod Featured
 pub mod Seconds
-pub use Rattle.gb_header.proofs as gb_header_laws

@@ -16,7 +16,6 @@ mod mbc5;
 pub use clock::{Clock, ClockRegister};
 pub use controller::Controller;
 pub use flat::Flat;
-pub use gb_header;
 pub use mapper::Mapper;
 pub use mbc1::Mbc1;
 pub use mbc3::Mbc3;

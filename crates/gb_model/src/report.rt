@@ -1,10 +1,10 @@
 //! What is printed of an event.
 
 use crate::setup::Setup;
+use gb_effects::flags::flags_byte;
 use gb_ops::machine::{CodePlace, Event, Faults};
 use gb_ops::registers::Ime;
 use gb_plain::faults::faults;
-use gb_plain::gb_effects::flags::flags_byte;
 use gb_plain::places::places;
 use gb_plain::state::MachineState;
 use std::io::{self, Write};

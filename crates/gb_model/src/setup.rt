@@ -3,10 +3,10 @@
 ghost use Rattle.std.specs.Prelude.{◌≡◌, ◌<◌, ◌≤◌};
 
 use crate::fields::{Fields, byte_of};
+use gb_effects::flags::flags_of;
 use gb_ops::machine::{Banks, Event, Region};
 use gb_ops::registers::{Flags, Ime, Processor, Registers};
 use gb_plain::cartridge::Cartridge;
-use gb_plain::gb_effects::flags::flags_of;
 use gb_plain::machine::PlainMachine;
 use gb_plain::state::{HIGH_SIZE, MachineState, WORK_SIZE, longest_transfer};
 use std::alloc::{AllocError, Global};

@@ -2,12 +2,12 @@
 
 ghost use Rattle.std.specs.Prelude.{◌≡◌, ◌≢◌, ◌<◌, true, false, length, slice_set, IfOk, IfSome};
 ghost use Rattle.gb_ops.specs.Cartridge as Spec;
-ghost use Rattle.gb_cpu.specs.gb_mbc.Controllers.{features_of};
+ghost use Rattle.gb_mbc.specs.Controllers.{features_of};
 ghost use Rattle.gb_ops.specs.Memory.{rom_byte};
 ghost use Rattle.gb_plain.specs.Shown.{blank, zeros};
 
-use gb_cpu::gb_header::Rom;
-use gb_cpu::gb_mbc::{Controller, Flat, Mapper};
+use gb_header::Rom;
+use gb_mbc::{Controller, Flat, Mapper};
 use gb_ops::machine::Banks;
 use std::alloc::{AllocError, Global};
 use std::marker::Model;
@@ -28,8 +28,8 @@ pub struct Cartridge {
 
 impl Model for Cartridge {
     ghost use Rattle.std.specs.Prelude.{◌≡◌};
-    ghost use Rattle.gb_cpu.specs.gb_mbc.Controller.{features, registers};
-    ghost use Rattle.gb_cpu.specs.gb_mbc.Controllers.{features_of};
+    ghost use Rattle.gb_mbc.specs.Controller.{features, registers};
+    ghost use Rattle.gb_mbc.specs.Controllers.{features_of};
     ghost use Rattle.gb_ops.specs.Cartridge as Spec;
     ghost use Rattle.gb_plain.specs.Shown.{CartridgeState};
 

@@ -6,7 +6,7 @@ ghost use Rattle.gb_plain.specs.Shown.{resting};
 
 use crate::memory::{byte_at, is_free};
 use crate::state::MachineState;
-use gb_cpu::gb_effects::advance::{length_of, second_address, third_address};
+use gb_effects::advance::{length_of, second_address, third_address};
 use gb_ops::machine::{Loaded, Read};
 
 /// A byte that was read, and the free bytes that are left.

@@ -15,5 +15,3 @@ mod memory;
 pub mod places;
 pub mod possible;
 pub mod state;
-
-pub use gb_cpu::gb_effects;

@@ -8,7 +8,7 @@ ghost use Rattle.gb_plain.specs.Shown.{resting};
 use crate::fetch::fetched;
 use crate::possible::is_possible;
 use crate::state::MachineState;
-use gb_cpu::gb_effects::advance::{length_of, second_address, third_address};
+use gb_effects::advance::{length_of, second_address, third_address};
 use gb_ops::machine::{CodePlace, Event};
 use gb_ops::registers::Processor;
 use std::marker::Model;

@@ -17,4 +17,3 @@ pub mod SameRegisters
 pub mod WindowLine
 pub mod InFrame
 pub mod FrontObject
-pub use Rattle.gb_timer.proofs as gb_timer_laws

@@ -17,4 +17,3 @@ pub mod SameRegisters
 pub mod Frames
 pub mod FrontObject
 pub mod FrontLine
-pub use Rattle.gb_timer.specs as gb_timer

@@ -24,5 +24,3 @@ pub mod picture;
 pub mod ppu;
 pub mod registers;
 pub mod scene;
-
-pub use gb_timer;

@@ -3,4 +3,3 @@ pub mod HeaderLine
 pub mod Screen
 pub mod Script
 pub mod Show
-pub use Rattle.gb_console.specs as gb_console

@@ -12,10 +12,6 @@ pub mod script;
 pub mod show;
 
 pub use commands::{RunOutcome, header_bytes, run_bytes, show_bytes};
-pub use gb_console;
-pub use gb_console::{gb_bus, gb_cert, gb_cpu, gb_effects, gb_timer, gb_verify};
-pub use gb_text;
-pub use gb_text::gb_header;
 pub use header::header_line;
 pub use script::{Progress, run_script, run_script_shown};
 pub use show::show_cert;

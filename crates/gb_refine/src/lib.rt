@@ -11,7 +11,7 @@ mod rounds;
 mod shrink;
 mod tracking;
 
-use gb_draft::gb_header::Rom;
+use gb_header::Rom;
 use rounds::Refinement;
 pub use rounds::{Limits, Made, Progress};
 use std::alloc::{AllocError, Global};
@@ -45,6 +45,3 @@ fn make_by<P: Progress>(
     progress.done();
     Ok(made)
 }
-
-pub use gb_reports;
-pub use gb_reports::gb_explain;

@@ -2,11 +2,11 @@
 
 use crate::failures::{add_failure, add_failures, tell, told};
 use crate::tracking::Cells;
-use gb_draft::gb_fixpoint::cause::{Cause, Failure, Outcome};
-use gb_draft::gb_fixpoint::configuration::{Configuration, Place};
-use gb_draft::gb_fixpoint::types::Run;
-use gb_draft::gb_header::Rom;
 use gb_draft::{certificate_of, find_needs};
+use gb_fixpoint::cause::{Cause, Failure, Outcome};
+use gb_fixpoint::configuration::{Configuration, Place};
+use gb_fixpoint::types::Run;
+use gb_header::Rom;
 use gb_ops::machine::Region;
 use gb_plans::{Plan, plan_for};
 use gb_reports::{Crowd, Obstacle, Standing};

@@ -1,17 +1,17 @@
 //! Shrinking: what a certificate doesn't need is taken back while the checker accepts what is left.
 
 use crate::rounds::{Progress, Refinement};
-use gb_draft::gb_cert::Cert;
-use gb_draft::gb_fixpoint::cause::Outcome;
-use gb_draft::gb_fixpoint::configuration::{Configuration, Place};
-use gb_draft::gb_fixpoint::register_set::REGISTERS;
-use gb_draft::gb_fixpoint::types::Run;
-use gb_draft::gb_header::Rom;
-use gb_draft::gb_verify::check::check;
-use gb_draft::gb_verify::verdict::Verdict;
+use gb_cert::Cert;
 use gb_draft::{certificate_of, find_needs};
+use gb_fixpoint::cause::Outcome;
+use gb_fixpoint::configuration::{Configuration, Place};
+use gb_fixpoint::register_set::REGISTERS;
+use gb_fixpoint::types::Run;
+use gb_header::Rom;
 use gb_ops::op::Register;
 use gb_plans::{parted_by, without};
+use gb_verify::check::check;
+use gb_verify::verdict::Verdict;
 use std::alloc::{AllocError, Global};
 
 /// About how many steps of nodes all attempts together may take.

@@ -1,8 +1,8 @@
 //! What happens where a failure stands, in a sentence.
 
 use crate::obstacle::Standing;
+use gb_abs::span::Span;
 use gb_fixpoint::cause::{Cause, StackMisuse, TransferMisuse};
-use gb_fixpoint::gb_abs::span::Span;
 use std::fmt;
 
 /// Some addresses.

@@ -2,8 +2,8 @@
 
 use crate::advice::{self, Advice};
 use crate::obstacle::{Obstacle, Standing};
+use gb_abs::span::Span;
 use gb_fixpoint::cause::{Cause, StackMisuse, TransferMisuse};
-use gb_fixpoint::gb_abs::span::Span;
 use gb_ops::op::{Op, Pair};
 
 /// LD SP,n16 outside main: of the stack's own address, or of another one.

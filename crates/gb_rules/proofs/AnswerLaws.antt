@@ -4,7 +4,7 @@ use Rattle.std.specs.Result.{MatchResult, OnOk}
 use Rattle.gb_states.specs.Certificate.{Certificate}
 use Rattle.gb_states.specs.Rules.{IsCertificate}
 use Rattle.gb_abs.specs.declared.reason.Reason.{Reason}
-use Rattle.gb_code.specs.gb_abs_memory.Sound.{IsRom}
+use Rattle.gb_abs_memory.specs.Sound.{IsRom}
 use Rattle.gb_rules.specs.Rules.{reason_at}
 use Rattle.gb_rules.specs.Safety.{IsSafeAt}
 use Rattle.gb_rules.proofs.EventLaws.{IsSafeNode-at}

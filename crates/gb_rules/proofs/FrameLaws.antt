@@ -12,7 +12,7 @@ use Rattle.gb_abs.specs.Stack.{AreInRegion}
 use Rattle.gb_abs.specs.Storage.{peek}
 use Rattle.gb_abs.proofs.CoveringLaws.{Means-covered}
 use Rattle.gb_abs.proofs.StorageLaws.{region_in_ram}
-use Rattle.gb_code.specs.gb_abs_memory.Kept.{IsKept}
+use Rattle.gb_abs_memory.specs.Kept.{IsKept}
 use Rattle.gb_calls.specs.Calls.{entered, are_ranges_inside, resumed}
 use Rattle.gb_calls.specs.Sound.{without_word, ComesBack}
 use Rattle.gb_calls.proofs.EnteringLaws.{Means-entered}

@@ -13,6 +13,3 @@ pub mod InterruptLaws
 pub mod AnswerLaws
 pub mod FrameLaws
 pub mod FrameRunLaws
-pub use Rattle.gb_abs.proofs as gb_abs_laws
-pub use Rattle.gb_abs.proofs.gb_cert_laws as gb_cert_laws
-pub use Rattle.gb_abs.proofs.gb_vals_laws as gb_vals_laws

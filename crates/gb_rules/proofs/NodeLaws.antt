@@ -21,13 +21,13 @@ use Rattle.gb_states.specs.Certificate.{Certificate}
 use Rattle.gb_states.specs.Rules.{IsVal, IsCell, IsChain, IsNode, IsState, IsCore, IsItem, IsRegion, IsCertificate, after_cell, key, role_of, needs_stack}
 use Rattle.gb_abs.specs.Cells.{ArePlaced}
 use Rattle.gb_abs.specs.Stack.{AreInRegion}
-use Rattle.gb_successors.specs.gb_abs_effects.declared.targets.Target.{Target}
-use Rattle.gb_successors.specs.gb_abs_effects.declared.targets.Target.TheVariants as target
-use Rattle.gb_successors.proofs.gb_abs_effects_laws.DecodingLaws.{HasBytes-decoded, length-decoded}
-use Rattle.gb_code.specs.gb_abs_memory.Access.{val_at}
-use Rattle.gb_code.specs.gb_abs_memory.Shown.{known_bank}
-use Rattle.gb_code.specs.gb_abs_memory.Sound.{IsRom, AreVals}
-use Rattle.gb_code.proofs.gb_abs_memory_laws.LoadLaws.{IsVal-val_at}
+use Rattle.gb_abs_effects.specs.declared.targets.Target.{Target}
+use Rattle.gb_abs_effects.specs.declared.targets.Target.TheVariants as target
+use Rattle.gb_abs_effects.proofs.DecodingLaws.{HasBytes-decoded, length-decoded}
+use Rattle.gb_abs_memory.specs.Access.{val_at}
+use Rattle.gb_abs_memory.specs.Shown.{known_bank}
+use Rattle.gb_abs_memory.specs.Sound.{IsRom, AreVals}
+use Rattle.gb_abs_memory.proofs.LoadLaws.{IsVal-val_at}
 use Rattle.gb_code.specs.Code.{area_end, known_byte, known_where, single_of}
 use Rattle.gb_code.proofs.ByteLaws.{chosen}
 use Rattle.gb_code.proofs.CodeLaws.{KnownBytes, KnownBytes-known_bytes, IsKnown, end_of, bank_of, clear_of}

@@ -14,7 +14,7 @@ use Rattle.gb_states.specs.Certificate.{Certificate}
 use Rattle.gb_states.specs.Rules.{IsChain, IsRange, IsProcedure, IsState, IsRegion, IsCertificate, after_range, is_after, meets, words}
 use Rattle.gb_abs.specs.Span.{one}
 use Rattle.gb_abs.specs.Stack.{AreInRegion}
-use Rattle.gb_code.specs.gb_abs_memory.Access.{is_range}
+use Rattle.gb_abs_memory.specs.Access.{is_range}
 use Rattle.gb_rules.specs.Procedures.{ranges_in, need_in, exit_in, ranges_of, need_of, exit_of}
 
 -- ---- the procedure with a number

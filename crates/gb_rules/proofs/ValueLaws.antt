@@ -1,6 +1,6 @@
 -- Covering with one value in a register: the values with which a node covers are those of an interval, or none.
 use Rattle.std.proofs.Common.{◌≡◌, ℕ, ◌+◌, ◌≤◌, ◌<◌, Bool, true, false, ◌&&◌, ◌||◌, List, map, slice_get, Some, refl, sym, ◌∙◌, ap, subst, nat_le, arith}
-use Rattle.gb_abs.specs.gb_rows.Rows.{IsFound}
+use Rattle.gb_rows.specs.Rows.{IsFound}
 use Rattle.gb_states.specs.Rules.{key}
 use Rattle.gb_rules.proofs.SearchLaws.{NoneBefore, none_before, none_yet, none_covers, one_covers}
 use Rattle.std.proofs.lemmas.Bool.Decides.{nat_tests}

@@ -13,9 +13,9 @@ use Rattle.gb_abs.specs.Mark.{IsMarkHarmless}
 use Rattle.gb_abs.specs.Meaning.{Means}
 use Rattle.gb_abs.specs.Stack.{AreInRegion}
 use Rattle.gb_abs.proofs.CoveringLaws.{Means-covered}
-use Rattle.gb_successors.specs.gb_abs_effects.declared.targets.Target.{Target}
-use Rattle.gb_successors.specs.gb_abs_effects.declared.targets.Target.TheVariants as target
-use Rattle.gb_successors.specs.gb_abs_effects.Targets.{is_push}
+use Rattle.gb_abs_effects.specs.declared.targets.Target.{Target}
+use Rattle.gb_abs_effects.specs.declared.targets.Target.TheVariants as target
+use Rattle.gb_abs_effects.specs.Targets.{is_push}
 use Rattle.gb_calls.specs.Calls.{entered, callee_of, are_ranges_inside, resumed}
 use Rattle.gb_calls.proofs.CalleeLaws.{IsCallee-found, IsEntryNode-entry}
 use Rattle.gb_successors.specs.Way.{Successor}

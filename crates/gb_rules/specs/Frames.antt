@@ -5,7 +5,7 @@ use Rattle.gb_ops.specs.Play.{MState}
 use Rattle.gb_states.specs.Certificate.{Certificate}
 use Rattle.gb_abs.specs.Stack.{AreInRegion}
 use Rattle.gb_abs.specs.Storage.{peek}
-use Rattle.gb_code.specs.gb_abs_memory.Kept.{IsKept}
+use Rattle.gb_abs_memory.specs.Kept.{IsKept}
 use Rattle.gb_rules.specs.Procedures.{ranges_of, need_of}
 use Rattle.gb_rules.specs.Safety.{IsMeant, Calls}
 

@@ -14,7 +14,7 @@ use Rattle.gb_abs.specs.Mark.{IsMarkHarmless}
 use Rattle.gb_abs.specs.Meaning.{Means}
 use Rattle.gb_abs.specs.Stack.{AreInRegion, pushed}
 use Rattle.gb_abs.specs.Storage.{peek}
-use Rattle.gb_code.specs.gb_abs_memory.Kept.{IsKept}
+use Rattle.gb_abs_memory.specs.Kept.{IsKept}
 use Rattle.gb_calls.specs.Calls.{entered, are_ranges_inside, resumed}
 use Rattle.gb_code.specs.Places.{IsCertified}
 use Rattle.gb_successors.specs.Words.{word_item}

@@ -1,17 +1,17 @@
 //! Covering at an address.
 
 ghost use Rattle.std.specs.Prelude.{◌≡◌, ◌<◌, ◌&&◌, ◌||◌, ℕ, false, nat_le, slice_index_or, IfSome, IfNone, map};
-ghost use Rattle.gb_abs.specs.gb_rows.Rows.{IsFound};
+ghost use Rattle.gb_rows.specs.Rows.{IsFound};
 ghost use Rattle.gb_states.specs.Rules.{key};
 ghost use Rattle.gb_abs.specs.Covering.{covers};
 ghost use Rattle.gb_abs.specs.Operations.{with_core};
 ghost use Rattle.gb_rules.specs.Covered as Covered;
 
 use gb_abs::covering::{covers_core, covers_lists, covers_parts};
-use gb_abs::gb_cert::{Cert, NodeRef};
-use gb_abs::gb_rows::Found;
 use gb_abs::operations::with_value;
+use gb_cert::{Cert, NodeRef};
 use gb_ops::op::Register;
+use gb_rows::Found;
 use gb_states::types::{Abs, Core, Val};
 
 /// Whether one of the nodes that were found stands for these states.

@@ -14,11 +14,3 @@ pub mod covered;
 pub mod interrupts;
 pub mod procedures;
 pub mod rules;
-
-pub use gb_abs;
-pub use gb_abs::{gb_cert, gb_effects, gb_vals};
-pub use gb_calls;
-pub use gb_code;
-pub use gb_code::gb_abs_memory;
-pub use gb_successors;
-pub use gb_successors::gb_abs_effects;

@@ -1,7 +1,7 @@
 //! The rules of one node.
 
 ghost use Rattle.std.specs.Prelude.{◌≡◌, ◌<◌, length, find, Option, Some, None, MatchResult, OnOk};
-ghost use Rattle.gb_successors.specs.gb_abs_effects.Targets as Targets;
+ghost use Rattle.gb_abs_effects.specs.Targets as Targets;
 ghost use Rattle.gb_successors.specs.Successors.{successors_of};
 ghost use Rattle.gb_rules.specs.Rules as Rules;
 ghost use Rattle.gb_rules.specs.Rules.{callees_of, row_reasons, way_reasons, target_reasons, reason_at};
@@ -12,14 +12,14 @@ use crate::procedures::{
     Callees, callees_of, has_deep, has_uncallable, has_uncovered, has_unreturnable, need_of,
     ranges_of,
 };
-use gb_abs::gb_cert::{Cert, NodeRef};
 use gb_abs::reason::Reason;
+use gb_abs_memory::load::holds_bytes;
+use gb_abs_memory::shown::known_bank;
+use gb_cert::{Cert, NodeRef};
 use gb_code::code::{
     area_end, is_other_bank, known_byte, known_bytes, leaves_area, lies_in_high_ram,
 };
-use gb_code::gb_abs_memory::load::holds_bytes;
-use gb_code::gb_abs_memory::shown::known_bank;
-use gb_code::gb_header::Rom;
+use gb_header::Rom;
 use gb_ops::decode::decode;
 use gb_ops::machine::Region;
 use gb_ops::op::{Op, Pair, Row};

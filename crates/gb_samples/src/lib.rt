@@ -11,5 +11,3 @@ pub mod programs;
 pub mod spelled;
 pub mod states;
 pub mod streams;
-
-pub use gb_states;

@@ -2,14 +2,14 @@
 
 use bitflags::Flags;
 use clap::error::ErrorKind;
-use gb_console::gb_bus::memory::Memory;
-use gb_console::gb_cert::{Cert, CertFault, encode};
-use gb_console::gb_header::Rom;
-use gb_console::gb_text::kept_bytes::KeptBytes;
-use gb_console::gb_timer::irqs::Keys;
-use gb_console::gb_verify::upgrade::{Upgraded, upgrade_bytes};
-use gb_console::gb_verify::verify::{Outcome, verify_bytes};
+use gb_bus::memory::Memory;
+use gb_cert::{Cert, CertFault, encode};
 use gb_console::{Console, Ending};
+use gb_header::Rom;
+use gb_text::kept_bytes::KeptBytes;
+use gb_timer::irqs::Keys;
+use gb_verify::upgrade::{Upgraded, upgrade_bytes};
+use gb_verify::verify::{Outcome, verify_bytes};
 use gb_words::{Task, read_words};
 use std::alloc::Global;
 

@@ -12,8 +12,8 @@ mod calls;
 mod hoard;
 
 use calls::{Answer, Call, Files, NODES};
-use gb_console::gb_cert::Cert;
-use gb_console::gb_header::Rom;
+use gb_cert::Cert;
+use gb_header::Rom;
 use gb_samples::cartridges::{PLAIN, put, small};
 use gb_samples::certificates::write_nodes;
 use gb_samples::programs::LOOP;

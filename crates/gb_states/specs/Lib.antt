@@ -4,4 +4,3 @@ pub mod Reading
 pub mod Rules
 pub mod Spelling
 pub mod Types
-pub use Rattle.gb_fields.specs as gb_fields

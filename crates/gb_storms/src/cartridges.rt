@@ -4,12 +4,12 @@
 use crate::random::Random;
 use crate::tally::Tally;
 use bitflags::Flags;
-use gb_printed::gb_console::{Console, Ending};
-use gb_printed::gb_header::{HeaderFault, Rom};
-use gb_printed::gb_text::kept_bytes::KeptBytes;
-use gb_printed::gb_timer::irqs::Keys;
-use gb_printed::gb_verify::verify::{Outcome, verify_bytes};
+use gb_console::{Console, Ending};
+use gb_header::{HeaderFault, Rom};
 use gb_printed::header_bytes;
+use gb_text::kept_bytes::KeptBytes;
+use gb_timer::irqs::Keys;
+use gb_verify::verify::{Outcome, verify_bytes};
 use std::alloc::Global;
 
 /// The most bytes that are changed in one cartridge.

@@ -4,12 +4,12 @@ ghost use Rattle.std.specs.Prelude.{◌≡◌, false};
 
 use crate::random::Random;
 use crate::tally::Tally;
-use gb_cert_place::gb_cert::{Cert, CertFault, encode};
+use gb_cert::{Cert, CertFault, encode};
 use gb_cert_place::place::{Sought, fault_place};
-use gb_printed::gb_text::kept_bytes::KeptBytes;
-use gb_printed::gb_verify::upgrade::{Upgraded, upgrade_bytes};
-use gb_printed::gb_verify::verify::{Outcome, verify_bytes};
 use gb_printed::show_bytes;
+use gb_text::kept_bytes::KeptBytes;
+use gb_verify::upgrade::{Upgraded, upgrade_bytes};
+use gb_verify::verify::{Outcome, verify_bytes};
 use std::alloc::Global;
 use std::io;
 

@@ -16,10 +16,10 @@ mod random;
 mod tally;
 mod words;
 
-use gb_printed::gb_header::Rom;
-use gb_printed::gb_text::kept_bytes::KeptBytes;
-use gb_printed::gb_verify::verify::{Outcome, verify_bytes};
+use gb_header::Rom;
 use gb_samples::spelled::{Example, word_of};
+use gb_text::kept_bytes::KeptBytes;
+use gb_verify::verify::{Outcome, verify_bytes};
 use random::Random;
 use std::alloc::Global;
 use std::env;

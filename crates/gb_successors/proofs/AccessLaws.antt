@@ -18,7 +18,7 @@ use Rattle.gb_states.specs.declared.types.Core.{Core}
 use Rattle.gb_states.specs.declared.types.Range.{Range}
 use Rattle.gb_states.specs.Types.{AbsState}
 use Rattle.gb_states.specs.Rules.{IsVal, IsRegion}
-use Rattle.gb_abs.specs.gb_vals.Vals.{any_val}
+use Rattle.gb_vals.specs.Vals.{any_val}
 use Rattle.gb_abs.specs.declared.span.Span.{Span}
 use Rattle.gb_abs.specs.Span.{IsIn, one}
 use Rattle.gb_abs.specs.Storage.{is_ram, peek}

@@ -18,7 +18,7 @@ use Rattle.gb_ops.specs.declared.op.Op.TheVariants as op
 use Rattle.gb_states.specs.declared.types.Val.{Val}
 use Rattle.gb_states.specs.declared.types.Core.{Core}
 use Rattle.gb_states.specs.Rules.{IsVal, IsCore}
-use Rattle.gb_abs.specs.gb_vals.declared.branch.Branch.{Branch}
+use Rattle.gb_vals.specs.declared.branch.Branch.{Branch}
 use Rattle.gb_abs.specs.declared.span.Span.{Span}
 use Rattle.gb_abs.specs.Span.{pair_span}
 use Rattle.gb_abs.specs.Operations.{core_set_register, core_settle}

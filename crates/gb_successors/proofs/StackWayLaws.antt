@@ -27,7 +27,7 @@ use Rattle.gb_states.specs.declared.types.Item.{Item}
 use Rattle.gb_states.specs.declared.types.Range.{Range}
 use Rattle.gb_states.specs.Types.{AbsState, any_item}
 use Rattle.gb_states.specs.Rules.{IsVal, IsRegion, meets}
-use Rattle.gb_abs.specs.gb_vals.Vals.{single, any_val}
+use Rattle.gb_vals.specs.Vals.{single, any_val}
 use Rattle.gb_abs.specs.Storage.{is_ram, peek}
 use Rattle.gb_abs.specs.Operations.{core_end, with_core}
 use Rattle.gb_abs.specs.Meaning.{Holds, MeansCore, Means, IsMemory}

@@ -21,7 +21,7 @@ use Rattle.gb_states.specs.declared.types.Core.{Core}
 use Rattle.gb_states.specs.declared.types.Range.{Range}
 use Rattle.gb_states.specs.Types.{AbsState, any_item}
 use Rattle.gb_states.specs.Rules.{IsVal, IsCore, IsItem, IsRegion}
-use Rattle.gb_abs.specs.gb_vals.Vals.{any_val}
+use Rattle.gb_vals.specs.Vals.{any_val}
 use Rattle.gb_states.specs.declared.types.Item.{Item}
 use Rattle.gb_abs.specs.Storage.{peek}
 use Rattle.gb_abs.specs.Operations.{core_settle, core_end, with_core}

@@ -22,7 +22,7 @@ use Rattle.gb_states.specs.declared.types.Core.{Core}
 use Rattle.gb_states.specs.declared.types.Range.{Range}
 use Rattle.gb_states.specs.Types.{AbsState}
 use Rattle.gb_states.specs.Rules.{IsCore}
-use Rattle.gb_abs.specs.gb_vals.Bits.{may_enable}
+use Rattle.gb_vals.specs.Bits.{may_enable}
 use Rattle.gb_abs.specs.Operations.{core_settle, with_core, ime_set_after}
 use Rattle.gb_abs.specs.Meaning.{Holds, MeansCore, Means, ime_may_be}
 use Rattle.gb_abs.specs.Stack.{AreInRegion}

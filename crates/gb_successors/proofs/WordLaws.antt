@@ -8,7 +8,7 @@ use Rattle.gb_states.specs.declared.types.Val.{Val}
 use Rattle.gb_states.specs.declared.types.Core.{Core}
 use Rattle.gb_states.specs.declared.types.Item.{Item}
 use Rattle.gb_states.specs.Types.{AbsState}
-use Rattle.gb_abs.specs.gb_vals.Vals.{single}
+use Rattle.gb_vals.specs.Vals.{single}
 use Rattle.gb_abs.specs.Stack.{pushed, popped}
 use Rattle.gb_abs_effects.specs.declared.reads.AbsRead.TheVariants as read
 use Rattle.gb_abs_effects.specs.declared.writes.AbsWrite.{AbsWrite}

@@ -7,7 +7,7 @@ use Rattle.gb_ops.specs.declared.op.Op.TheVariants as op
 use Rattle.gb_states.specs.declared.types.Core.{Core}
 use Rattle.gb_states.specs.declared.types.Item.{Item}
 use Rattle.gb_states.specs.Types.{AbsState, any_item}
-use Rattle.gb_abs.specs.gb_vals.Vals.{any_val}
+use Rattle.gb_vals.specs.Vals.{any_val}
 use Rattle.gb_abs.specs.Span.{one}
 use Rattle.gb_abs.specs.Operations.{core_end, with_core}
 use Rattle.gb_abs.specs.Stack.{pushed, popped, youngest}

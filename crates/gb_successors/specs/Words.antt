@@ -2,7 +2,7 @@
 use Rattle.std.specs.Prelude.{ℕ, ◌/◌, ◌%◌, Option, Some, None}
 use Rattle.gb_states.specs.declared.types.Item.{Item}
 use Rattle.gb_states.specs.Types.{any_item}
-use Rattle.gb_abs.specs.gb_vals.Vals.{single}
+use Rattle.gb_vals.specs.Vals.{single}
 
 -- a word that is known
 abbrev pub word_item : ℕ → Item

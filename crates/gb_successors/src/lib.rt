@@ -11,5 +11,3 @@ pub mod refused;
 pub mod successor;
 pub mod successors;
 pub mod way;
-
-pub use gb_abs_effects;

@@ -9,5 +9,3 @@ pub mod kept_bytes;
 pub mod line;
 pub mod put;
 pub mod sink;
-
-pub use gb_header;

@@ -20,5 +20,3 @@ pub mod outcome;
 pub mod shifts;
 pub mod sums;
 pub mod vals;
-
-pub use gb_effects;

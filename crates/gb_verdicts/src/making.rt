@@ -1,9 +1,9 @@
 //! Certificates are made of cartridges, or it is told what is in the way.
 
 use crate::judging::{Ceiling, judge_made};
-use gb_console::gb_header::Rom;
-use gb_refine::gb_reports::{Obstacle, Standing, Symbols, Told, obstacle_json};
+use gb_header::Rom;
 use gb_refine::{Limits, Made, Progress, make};
+use gb_reports::{Obstacle, Standing, Symbols, Told, obstacle_json};
 use std::alloc::Global;
 use std::io::{self, Write};
 

@@ -3,8 +3,8 @@
 use bitflags::Flags;
 use gb_console::console::Console;
 use gb_console::frame::Ending;
-use gb_console::gb_header::Rom;
-use gb_console::gb_timer::irqs::Keys;
+use gb_header::Rom;
+use gb_timer::irqs::Keys;
 use std::alloc::Global;
 use std::io::{self, Write};
 

@@ -6,8 +6,8 @@ use Rattle.gb_ops.specs.Play.{MState}
 use Rattle.gb_states.specs.Types.{Node}
 use Rattle.gb_states.specs.Certificate.{Certificate}
 use Rattle.gb_states.specs.Rules.{IsCertificate}
-use Rattle.gb_rules.specs.gb_abs.declared.reason.Reason.{Reason}
-use Rattle.gb_rules.specs.gb_abs_memory.Sound.{IsRom}
+use Rattle.gb_abs.specs.declared.reason.Reason.{Reason}
+use Rattle.gb_abs_memory.specs.Sound.{IsRom}
 use Rattle.gb_rules.specs.Rules.{reason_of, lacks_handler}
 use Rattle.gb_rules.specs.Safety.{IsMeant, IsSafeEvent}
 use Rattle.gb_rules.proofs.InterruptLaws.{IsSafeEvent-handled}

@@ -1,6 +1,6 @@
 -- What is written of a certificate's file (own texts).
 use Rattle.std.specs.Prelude.{ℕ, List, Option, Result, Ok, Err, ◌⊎◌}
-use Rattle.gb_states.specs.gb_fields.declared.fault.CertFault.{CertFault}
+use Rattle.gb_fields.specs.declared.fault.CertFault.{CertFault}
 use Rattle.gb_states.specs.Certificate.{Certificate}
 use Rattle.gb_states.specs.Reading.{read_certificate}
 use Rattle.gb_text.specs.Text.{GainsBeginning}

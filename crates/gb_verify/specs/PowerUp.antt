@@ -7,7 +7,7 @@ use Rattle.gb_states.specs.declared.types.Origin.TheVariants as origin
 use Rattle.gb_states.specs.declared.types.Val.{Val}
 use Rattle.gb_states.specs.declared.types.Core.{Core}
 use Rattle.gb_states.specs.Types.{AbsState, state_of}
-use Rattle.gb_rules.specs.gb_vals.Flags.{known}
+use Rattle.gb_vals.specs.Flags.{known}
 
 -- a register's value at power-up, which is its own origin
 abbrev pub own : Register → ℕ → Val

@@ -3,9 +3,9 @@ use Rattle.std.specs.Prelude.{◌≡◌, ℕ, ◌+◌, ◌<◌, Bool, true, fals
 use Rattle.std.specs.List.{All}
 use Rattle.gb_states.specs.Types.{ProcedureParts, Node}
 use Rattle.gb_states.specs.Certificate.{Certificate}
-use Rattle.gb_rules.specs.gb_abs.declared.reason.Reason.{Reason}
-use Rattle.gb_rules.specs.gb_abs.declared.reason.Reason.TheVariants as reason
-use Rattle.gb_rules.specs.gb_abs.Covering.{covers}
+use Rattle.gb_abs.specs.declared.reason.Reason.{Reason}
+use Rattle.gb_abs.specs.declared.reason.Reason.TheVariants as reason
+use Rattle.gb_abs.specs.Covering.{covers}
 use Rattle.gb_rules.specs.Rules.{reason_of, lacks_handler}
 use Rattle.gb_verify.specs.PowerUp.{state_at_power_up}
 use Rattle.gb_verify.specs.declared.verdict.Verdict.{Verdict}

@@ -10,12 +10,3 @@ pub mod check;
 pub mod upgrade;
 pub mod verdict;
 pub mod verify;
-
-pub use gb_rules;
-pub use gb_rules::{
-    gb_abs, gb_abs_effects, gb_abs_memory, gb_calls, gb_cert, gb_code, gb_effects, gb_successors,
-    gb_vals,
-};
-pub use gb_states;
-pub use gb_text;
-pub use gb_text::gb_header;

@@ -6,9 +6,9 @@ ghost use Rattle.gb_verify.specs.Text.{certificate_text, IsAnswer, IfAcceptedAns
 
 use crate::check::check;
 use crate::verdict::Verdict;
-use gb_rules::gb_cert::{Cert, CertFault};
+use gb_cert::{Cert, CertFault};
+use gb_header::{HeaderFault, Rom};
 use gb_text::cartridge::cartridge_line;
-use gb_text::gb_header::{HeaderFault, Rom};
 use gb_text::line::Line;
 use gb_text::put::put_all;
 use gb_text::sink::{OutFault, Sink};
