@@ -4,9 +4,9 @@ use Rattle.std.proofs.lemmas.Bool.Decides.{nat_tests}
 use Rattle.std.proofs.lemmas.List.Sums.{length-filter, count_by-le-length}
 use Rattle.std.specs.List.{AllByRecursion, filter, list_any}
 use Rattle.gb_ops.specs.declared.machine.Region.{Region}
-use Rattle.gb_states.specs.declared.types.Cell.{Cell}
-use Rattle.gb_states.specs.Types.{AbsState}
-use Rattle.gb_states.specs.Rules.{IsChain, IsCell, after_cell}
+use Rattle.gb_domain.specs.declared.types.Cell.{Cell}
+use Rattle.gb_domain.specs.Types.{AbsState}
+use Rattle.gb_domain.specs.Rules.{IsChain, IsCell, after_cell}
 use Rattle.gb_abs.specs.Cells.{is_below, is_above, is_at, entered, with_cell, is_outside, without_cells, IsPlaced, ArePlaced, AreInOrder, IsEntryInOrder, IsDropInOrder}
 
 -- ---- lists

@@ -4,3 +4,4 @@ pub mod ListLaws
 pub mod StorageLaws
 pub mod StackLaws
 pub mod OperationLaws
+pub mod Below

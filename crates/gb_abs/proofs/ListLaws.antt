@@ -1,8 +1,8 @@
 -- A state without items and cells stands for all that hold no items.
 use Rattle.std.proofs.Common.{◌≡◌, ℕ, suc, length, ◌==◌, Bool, true, false, ◌&&◌, List, [], ◌∷◌, refl, ◌∙◌, arith}
 use Rattle.std.proofs.lemmas.Bool.Decides.{nat_tests}
-use Rattle.gb_states.specs.declared.types.Item.{Item}
-use Rattle.gb_states.specs.declared.types.Cell.{Cell}
+use Rattle.gb_domain.specs.declared.types.Item.{Item}
+use Rattle.gb_domain.specs.declared.types.Cell.{Cell}
 use Rattle.gb_abs.specs.Covering.{covers_items, covers_cells}
 
 not_zero : (n : ℕ) → (suc n == 0) ≡ false

@@ -12,11 +12,11 @@ use Rattle.gb_ops.specs.Pairs.{with_registers}
 use Rattle.gb_ops.specs.Memory.{passed}
 use Rattle.gb_ops.specs.Effects.{with_pc}
 use Rattle.gb_ops.specs.Play.{MState}
-use Rattle.gb_states.specs.declared.types.Val.{Val}
-use Rattle.gb_states.specs.declared.types.ImeSet.{ImeSet}
-use Rattle.gb_states.specs.declared.types.Core.{Core}
-use Rattle.gb_states.specs.Types.{AbsState}
-use Rattle.gb_states.specs.Rules.{IsVal, IsCore, may_be_any}
+use Rattle.gb_domain.specs.declared.types.Val.{Val}
+use Rattle.gb_domain.specs.declared.types.ImeSet.{ImeSet}
+use Rattle.gb_domain.specs.declared.types.Core.{Core}
+use Rattle.gb_domain.specs.Types.{AbsState}
+use Rattle.gb_domain.specs.Rules.{IsVal, IsCore, may_be_any}
 use Rattle.std.specs.Prelude.{IfSome}
 use Rattle.gb_abs.specs.Meaning.{Holds, MeansCore, Means, ime_may_be}
 use Rattle.gb_abs.specs.Sound.{IsSoundSet, IsSoundValue, IsSoundSettling, IsSoundEnd}

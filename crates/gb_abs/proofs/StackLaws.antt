@@ -14,11 +14,11 @@ use Rattle.gb_ops.specs.Machine.{loaded}
 use Rattle.gb_ops.specs.Effects.{with_sp}
 use Rattle.gb_ops.specs.Faults.{no_faults, either_faults, push_faults, write_faults, access_faults, store_faults, load_faults}
 use Rattle.gb_ops.specs.Play.{MState}
-use Rattle.gb_states.specs.declared.types.Core.{Core}
-use Rattle.gb_states.specs.declared.types.Item.{Item}
-use Rattle.gb_states.specs.declared.types.Cell.{Cell}
-use Rattle.gb_states.specs.Types.{AbsState}
-use Rattle.gb_states.specs.Rules.{IsRegion, meets}
+use Rattle.gb_domain.specs.declared.types.Core.{Core}
+use Rattle.gb_domain.specs.declared.types.Item.{Item}
+use Rattle.gb_domain.specs.declared.types.Cell.{Cell}
+use Rattle.gb_domain.specs.Types.{AbsState}
+use Rattle.gb_domain.specs.Areas.{IsRegion, meets}
 use Rattle.gb_abs.specs.Storage.{is_ram, peek, peek_by}
 use Rattle.gb_abs.specs.Operations.{with_core}
 use Rattle.gb_abs.specs.Meaning.{Holds, MeansCore, AreItems, Means, IsMemory}

@@ -11,12 +11,12 @@ use Rattle.gb_ops.specs.declared.machine.Region.{Region}
 use Rattle.gb_ops.specs.Play.{MState}
 use Rattle.gb_ops.specs.Machine.{read_at}
 use Rattle.gb_ops.specs.Faults.{no_faults, access_faults}
-use Rattle.gb_states.specs.declared.types.Val.{Val}
-use Rattle.gb_states.specs.declared.types.Core.{Core}
-use Rattle.gb_states.specs.declared.types.Item.{Item}
-use Rattle.gb_states.specs.declared.types.Cell.{Cell}
-use Rattle.gb_states.specs.Types.{AbsState}
-use Rattle.gb_states.specs.Rules.{IsRegion, meets}
+use Rattle.gb_domain.specs.declared.types.Val.{Val}
+use Rattle.gb_domain.specs.declared.types.Core.{Core}
+use Rattle.gb_domain.specs.declared.types.Item.{Item}
+use Rattle.gb_domain.specs.declared.types.Cell.{Cell}
+use Rattle.gb_domain.specs.Types.{AbsState}
+use Rattle.gb_domain.specs.Areas.{IsRegion, meets}
 use Rattle.gb_abs.specs.Meaning.{Holds, HoldsController, MeansCore, AreItems, Means, IsMemory}
 use Rattle.gb_abs.specs.Cells.{IsPlaced, ArePlaced, is_below, is_above, is_at, entered, with_cell, is_outside, without_cells}
 use Rattle.gb_abs.specs.Stack.{AreInRegion}

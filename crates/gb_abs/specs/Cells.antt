@@ -3,8 +3,9 @@ use Rattle.std.specs.Prelude.{◌≡◌, ℕ, Bool, true, false, not, ◌||◌, 
 use Rattle.std.specs.List.{AllByRecursion, filter, list_any}
 use Rattle.gb_ops.specs.declared.machine.Region.{Region}
 use Rattle.gb_ops.specs.Cartridge.{is_within}
-use Rattle.gb_states.specs.declared.types.Cell.{Cell}
-use Rattle.gb_states.specs.Rules.{IsChain, IsCell, after_cell, is_area, meets}
+use Rattle.gb_domain.specs.declared.types.Cell.{Cell}
+use Rattle.gb_domain.specs.Areas.{is_area, meets}
+use Rattle.gb_domain.specs.Rules.{IsChain, IsCell, after_cell}
 
 abbrev pub is_below : ℕ → Cell → Bool
 is_below a c = nat_lt c.address a

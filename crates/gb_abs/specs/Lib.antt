@@ -9,3 +9,4 @@ pub mod Sound
 pub mod Span
 pub mod Stack
 pub mod Storage
+pub mod Below

@@ -10,15 +10,15 @@ use Rattle.gb_ops.specs.Registers.{get}
 use Rattle.gb_ops.specs.Flags.{flags_byte}
 use Rattle.gb_ops.specs.Memory.{Storage}
 use Rattle.gb_ops.specs.Play.{MState}
-use Rattle.gb_states.specs.declared.types.Origin.{Origin}
-use Rattle.gb_states.specs.declared.types.Origin.TheVariants as origin
-use Rattle.gb_states.specs.declared.types.Val.{Val}
-use Rattle.gb_states.specs.declared.types.Flg.{Flg}
-use Rattle.gb_states.specs.declared.types.ImeSet.{ImeSet}
-use Rattle.gb_states.specs.declared.types.Ctl.{Ctl}
-use Rattle.gb_states.specs.declared.types.Item.{Item}
-use Rattle.gb_states.specs.declared.types.Core.{Core}
-use Rattle.gb_states.specs.Types.{AbsState}
+use Rattle.gb_domain.specs.declared.types.Origin.{Origin}
+use Rattle.gb_domain.specs.declared.types.Origin.TheVariants as origin
+use Rattle.gb_domain.specs.declared.types.Val.{Val}
+use Rattle.gb_domain.specs.declared.types.Flg.{Flg}
+use Rattle.gb_domain.specs.declared.types.ImeSet.{ImeSet}
+use Rattle.gb_domain.specs.declared.types.Ctl.{Ctl}
+use Rattle.gb_domain.specs.declared.types.Item.{Item}
+use Rattle.gb_domain.specs.declared.types.Core.{Core}
+use Rattle.gb_domain.specs.Types.{AbsState}
 use Rattle.gb_vals.specs.Meaning.{may_be}
 use Rattle.gb_vals.specs.Tests.{IsTested}
 use Rattle.gb_abs.specs.Storage.{peek}

@@ -3,10 +3,10 @@ use Rattle.std.specs.Prelude.{ℕ, ◌-◌, Bool, false, ◌||◌, if◌then◌e
 use Rattle.gb_ops.specs.declared.op.Register.{Register}
 use Rattle.gb_ops.specs.declared.op.Register.TheVariants.{A}
 use Rattle.gb_ops.specs.Registers.{get, set}
-use Rattle.gb_states.specs.declared.types.Val.{Val}
-use Rattle.gb_states.specs.declared.types.ImeSet.{ImeSet}
-use Rattle.gb_states.specs.declared.types.Core.{Core}
-use Rattle.gb_states.specs.Types.{AbsState}
+use Rattle.gb_domain.specs.declared.types.Val.{Val}
+use Rattle.gb_domain.specs.declared.types.ImeSet.{ImeSet}
+use Rattle.gb_domain.specs.declared.types.Core.{Core}
+use Rattle.gb_domain.specs.Types.{AbsState}
 
 -- a test doesn't outlive a change of A
 abbrev pub test_after : Register → Option ℕ → Option ℕ

@@ -11,11 +11,11 @@ use Rattle.gb_ops.specs.Machine.{loaded, settled}
 use Rattle.gb_ops.specs.Effects.{with_sp}
 use Rattle.gb_ops.specs.Faults.{no_faults, store_faults, load_faults}
 use Rattle.gb_ops.specs.Play.{MState}
-use Rattle.gb_states.specs.declared.types.Val.{Val}
-use Rattle.gb_states.specs.declared.types.Core.{Core}
-use Rattle.gb_states.specs.declared.types.Item.{Item}
-use Rattle.gb_states.specs.Types.{AbsState}
-use Rattle.gb_states.specs.Rules.{IsRegion, meets}
+use Rattle.gb_domain.specs.declared.types.Val.{Val}
+use Rattle.gb_domain.specs.declared.types.Core.{Core}
+use Rattle.gb_domain.specs.declared.types.Item.{Item}
+use Rattle.gb_domain.specs.Types.{AbsState}
+use Rattle.gb_domain.specs.Areas.{IsRegion, meets}
 use Rattle.gb_abs.specs.Meaning.{Holds, MeansCore, Means}
 use Rattle.gb_abs.specs.Cells.{IsPlaced, ArePlaced}
 use Rattle.gb_abs.specs.Poked.{IsPoked}

@@ -1,7 +1,7 @@
 -- The addresses that an access may meet (own: those of a pair run from both least bytes to both greatest).
 use Rattle.std.specs.Prelude.{ℕ, ◌≤◌, Bool, ◌&&◌, ◌==◌, nat_le}
 use Rattle.gb_ops.specs.Pairs.{word}
-use Rattle.gb_states.specs.declared.types.Val.{Val}
+use Rattle.gb_domain.specs.declared.types.Val.{Val}
 use Rattle.gb_abs.specs.declared.span.Span.{Span}
 
 -- an address alone

@@ -1,8 +1,8 @@
 -- The words that a procedure pushed, and where they stand (own; CPU instruction set: PUSH and POP).
 use Rattle.std.specs.Prelude.{ℕ, ◌+◌, ◌-◌, ◌*◌, ◌≤◌, [], ◌∷◌, ◌++◌, length, take, slice_get, Option}
 use Rattle.gb_ops.specs.declared.machine.Region.{Region}
-use Rattle.gb_states.specs.declared.types.Item.{Item}
-use Rattle.gb_states.specs.Types.{AbsState}
+use Rattle.gb_domain.specs.declared.types.Item.{Item}
+use Rattle.gb_domain.specs.Types.{AbsState}
 
 -- a number of words below the base lies in the declared region
 pub record AreInRegion (region : Region) (base words : ℕ) : Type 0 where

@@ -7,7 +7,7 @@ ghost use Rattle.gb_abs.specs.Cells.{is_below, is_above, is_at, is_outside, ente
 ghost use Rattle.gb_abs.specs.Sound.{IsSoundEntry, IsSoundDrop};
 
 use arrayvec::ArrayVec;
-use gb_states::types::{Abs, CELLS, Cell, Val};
+use gb_domain::types::{Abs, CELLS, Cell, Val};
 
 /// The state with other cells: its core and items stay.
 fn with_cells(state: &Abs, cells: ArrayVec<Cell, 32>) -> Abs

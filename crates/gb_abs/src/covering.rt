@@ -1,14 +1,12 @@
 //! Whether one abstract state stands for all that another one does.
 
 ghost use Rattle.std.specs.Prelude.{◌≡◌, ◌&&◌, true};
-ghost use Rattle.gb_abs.specs.Operations.{with_core};
 ghost use Rattle.gb_abs.specs.Sound.{IsPartOf};
 ghost use Rattle.gb_abs.specs.Covering.{origin_number, register_number, implied, covers_origin, covers_val, covers_may, covers_flags, covers_ime, covers_controller, covers_registers, covers_test, covers_core, covers_item, covers_items, cell_at, covers_cells, covers};
 
-use gb_cert::NodeRef;
+use gb_domain::types::{Abs, Cell, Core, Ctl, Flg, ImeSet, Item, May, Origin, Val};
 use gb_ops::op::Register;
 use gb_ops::registers::Registers;
-use gb_states::types::{Abs, Cell, Core, Ctl, Flg, ImeSet, Item, May, Origin, Val};
 use gb_vals::vals::any;
 
 /// A register's number, by which two registers are compared.
@@ -214,31 +212,9 @@ pub fn covers(s: &Abs, t: &Abs) -> bool
     covers_each(s, t)
 }
 
-/// Whether they do where the node may hold some: kept out of line, so that a state is decoded only then.
-#[inline(never)]
-fn covers_held(s: &Abs, node: &NodeRef<'_>) -> bool
-    ensures { result ≡ (covers_items s.now.items node.now.state.items && covers_cells s.now.cells node.now.state.cells) }
+/// Whether the items and the cells of t stand for what those of s do.
+pub fn covers_lists(s: &Abs, t: &Abs) -> bool
+    ensures { result ≡ (covers_items s.now.items t.now.items && covers_cells s.now.cells t.now.cells) }
 {
-    let t = node.state();
     covers_items(s.items(), t.items()) && covers_cells(s.cells(), t.cells())
-}
-
-/// Whether the items and the cells of a node's state stand for what these do.
-pub fn covers_lists(s: &Abs, node: &NodeRef<'_>) -> bool
-    ensures { result ≡ (covers_items s.now.items node.now.state.items && covers_cells s.now.cells node.now.state.cells) }
-{
-    if node.has_lists() {
-        covers_held(s, node)
-    } else {
-        s.items().is_empty()
-    }
-}
-
-/// Whether the state of a node stands for each machine state that one with this core, and the items and cells of
-/// another, stands for. Only its core is read where that doesn't, and where it holds no items and no cells.
-#[tactic(auto, unfolding(crate::specs::Covering::covers))]
-pub fn covers_parts(core: &Core, lists: &Abs, node: &NodeRef<'_>) -> bool
-    ensures { result ≡ covers (with_core lists.now core.now) node.now.state }
-{
-    covers_core(core, &node.core()) && covers_lists(lists, node)
 }

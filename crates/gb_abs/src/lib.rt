@@ -16,3 +16,12 @@ pub mod reason;
 pub mod span;
 pub mod stack;
 pub mod storage;
+
+// What lies below, for the crates above.
+pub use gb_domain::types::{
+    Abs, Cell, Core, Ctl, Flg, ITEMS, ImeSet, Item, May, Origin, Range, Val,
+};
+pub use gb_vals::bits::{may_enable, may_have_bit};
+pub use gb_vals::flags::known;
+pub use gb_vals::length_of;
+pub use gb_vals::vals::{any, single};

@@ -1,12 +1,12 @@
 //! Operations on the cores of abstract states: on all but pushed words and memory cells.
 
 ghost use Rattle.std.specs.Prelude.{◌≡◌, false};
-ghost use Rattle.gb_states.specs.Rules.{IsVal, IsCore};
+ghost use Rattle.gb_domain.specs.Rules.{IsVal, IsCore};
 ghost use Rattle.gb_abs.specs.Operations.{core_set_register, core_with_value, core_settle, core_end, ime_set_after};
 ghost use Rattle.gb_abs.specs.Sound.{IsSoundSet, IsSoundValue, IsSoundSettling, IsSoundEnd};
 
+use gb_domain::types::{Core, ImeSet, Val};
 use gb_ops::op::Register;
-use gb_states::types::{Core, ImeSet, Val};
 
 /// The M-cycles of an OAM transfer.
 const OAM_TRANSFER: u8 = 161;

@@ -3,7 +3,7 @@
 ghost use Rattle.std.specs.Prelude.{◌≡◌, ◌≤◌};
 ghost use Rattle.gb_abs.specs.Span.{one, pair_span, is_one, is_inside, may_meet};
 
-use gb_states::types::Val;
+use gb_domain::types::Val;
 
 /// Addresses, the last one included.
 #[derive(Clone, Copy, PartialEq, Eq)]

@@ -5,7 +5,7 @@ ghost use Rattle.gb_abs.specs.Stack.{pushed, youngest, popped};
 ghost use Rattle.gb_abs.specs.Sound.{IsSoundPush, IsSoundPop};
 
 use arrayvec::ArrayVec;
-use gb_states::types::{Abs, Cell, ITEMS, Item};
+use gb_domain::types::{Abs, Cell, ITEMS, Item};
 
 /// A word that was popped, and the state without it.
 #[derive(Drop)]

@@ -11,10 +11,10 @@ use Rattle.gb_ops.specs.declared.registers.Flags.{Flags}
 use Rattle.gb_ops.specs.Arithmetic.{alu_result, logical}
 use Rattle.gb_ops.specs.Effects as Effects
 use Rattle.gb_ops.specs.Play.{MState}
-use Rattle.gb_states.specs.declared.types.Origin.{Origin}
-use Rattle.gb_states.specs.declared.types.Val.{Val}
-use Rattle.gb_states.specs.declared.types.Core.{Core}
-use Rattle.gb_states.specs.Rules.{IsVal, IsCore}
+use Rattle.gb_domain.specs.declared.types.Origin.{Origin}
+use Rattle.gb_domain.specs.declared.types.Val.{Val}
+use Rattle.gb_domain.specs.declared.types.Core.{Core}
+use Rattle.gb_domain.specs.Rules.{IsVal, IsCore}
 use Rattle.gb_vals.specs.Vals.{single, is_single}
 use Rattle.gb_vals.specs.Meaning.{Gives}
 use Rattle.gb_vals.specs.Alu.{alu, alu_itself, alu_origin, itself_origin, result_with_itself}

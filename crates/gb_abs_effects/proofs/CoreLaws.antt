@@ -10,11 +10,11 @@ use Rattle.gb_ops.specs.declared.registers.Ime.{Ime}
 use Rattle.gb_ops.specs.Registers.{get, set}
 use Rattle.gb_ops.specs.Pairs.{word}
 use Rattle.gb_ops.specs.Play.{MState}
-use Rattle.gb_states.specs.declared.types.Val.{Val}
-use Rattle.gb_states.specs.declared.types.Flg.{Flg}
-use Rattle.gb_states.specs.declared.types.ImeSet.{ImeSet}
-use Rattle.gb_states.specs.declared.types.Core.{Core}
-use Rattle.gb_states.specs.Rules.{IsVal, IsFlg, IsCore, may_be_any}
+use Rattle.gb_domain.specs.declared.types.Val.{Val}
+use Rattle.gb_domain.specs.declared.types.Flg.{Flg}
+use Rattle.gb_domain.specs.declared.types.ImeSet.{ImeSet}
+use Rattle.gb_domain.specs.declared.types.Core.{Core}
+use Rattle.gb_domain.specs.Rules.{IsVal, IsFlg, IsCore, may_be_any}
 use Rattle.gb_vals.specs.Meaning.{In, FlagsIn}
 use Rattle.gb_vals.specs.Tests.{IsTested}
 use Rattle.gb_abs.specs.Span.{IsIn, pair_span}

@@ -17,11 +17,11 @@ use Rattle.gb_ops.specs.Arithmetic as arithmetic
 use Rattle.gb_ops.specs.Pairs as machine
 use Rattle.gb_ops.specs.Effects as Effects
 use Rattle.gb_ops.specs.Play.{MState}
-use Rattle.gb_states.specs.declared.types.Val.{Val}
-use Rattle.gb_states.specs.declared.types.Flg.{Flg}
-use Rattle.gb_states.specs.declared.types.ImeSet.{ImeSet}
-use Rattle.gb_states.specs.declared.types.Core.{Core}
-use Rattle.gb_states.specs.Rules.{IsVal, IsCore}
+use Rattle.gb_domain.specs.declared.types.Val.{Val}
+use Rattle.gb_domain.specs.declared.types.Flg.{Flg}
+use Rattle.gb_domain.specs.declared.types.ImeSet.{ImeSet}
+use Rattle.gb_domain.specs.declared.types.Core.{Core}
+use Rattle.gb_domain.specs.Rules.{IsVal, IsCore}
 use Rattle.gb_vals.specs.Meaning.{FlagsIn}
 use Rattle.gb_vals.specs.Sums.{increment, decrement}
 use Rattle.gb_vals.specs.Shifts.{shift_of, shift_result}

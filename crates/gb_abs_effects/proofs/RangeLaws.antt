@@ -11,11 +11,11 @@ use Rattle.gb_ops.specs.declared.op.Indirect.{Indirect}
 use Rattle.gb_ops.specs.declared.op.Indirect.TheVariants as indirect
 use Rattle.gb_ops.specs.declared.op.Op.{Op}
 use Rattle.gb_ops.specs.declared.op.Op.TheVariants as op
-use Rattle.gb_states.specs.declared.types.Val.{Val}
-use Rattle.gb_states.specs.declared.types.Flg.{Flg}
-use Rattle.gb_states.specs.declared.types.ImeSet.{ImeSet}
-use Rattle.gb_states.specs.declared.types.Core.{Core}
-use Rattle.gb_states.specs.Rules.{IsVal, IsFlg, IsCore, may_be_any}
+use Rattle.gb_domain.specs.declared.types.Val.{Val}
+use Rattle.gb_domain.specs.declared.types.Flg.{Flg}
+use Rattle.gb_domain.specs.declared.types.ImeSet.{ImeSet}
+use Rattle.gb_domain.specs.declared.types.Core.{Core}
+use Rattle.gb_domain.specs.Rules.{IsVal, IsFlg, IsCore, may_be_any}
 use Rattle.gb_vals.specs.Vals.{single, between, any_val}
 use Rattle.gb_ops.specs.Arithmetic as arithmetic
 use Rattle.gb_vals.specs.Flags.{known_flags, greatest_flags, flags_val, flags_of_val}

@@ -15,9 +15,9 @@ use Rattle.gb_ops.specs.Flags.{is_met}
 use Rattle.gb_ops.specs.Pairs.{pair_value}
 use Rattle.gb_ops.specs.Effects as Effects
 use Rattle.gb_ops.specs.Play.{MState}
-use Rattle.gb_states.specs.declared.types.Val.{Val}
-use Rattle.gb_states.specs.declared.types.Core.{Core}
-use Rattle.gb_states.specs.Rules.{IsVal, IsCore}
+use Rattle.gb_domain.specs.declared.types.Val.{Val}
+use Rattle.gb_domain.specs.declared.types.Core.{Core}
+use Rattle.gb_domain.specs.Rules.{IsVal, IsCore}
 use Rattle.gb_vals.specs.Vals.{single}
 use Rattle.gb_abs.specs.Span.{IsIn, one, pair_span}
 use Rattle.gb_abs.specs.Meaning.{MeansCore}

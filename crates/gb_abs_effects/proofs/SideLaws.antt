@@ -15,8 +15,8 @@ use Rattle.gb_ops.specs.Registers.{set}
 use Rattle.gb_ops.specs.Flags.{is_met}
 use Rattle.gb_ops.specs.Effects.{effect_of, only_if, jump, return_to, call, store_operand, update_operand, update_a, push}
 use Rattle.gb_ops.specs.Play.{MState}
-use Rattle.gb_states.specs.declared.types.Core.{Core}
-use Rattle.gb_states.specs.Rules.{IsVal, IsCore}
+use Rattle.gb_domain.specs.declared.types.Core.{Core}
+use Rattle.gb_domain.specs.Rules.{IsVal, IsCore}
 use Rattle.gb_vals.specs.declared.branch.Branch.{Branch}
 use Rattle.gb_vals.specs.Tests.{side, IsOnSide, IsKept, IsSide}
 use Rattle.gb_vals.proofs.BranchLaws.{side_sound, side_inhabited, side_kept}

@@ -21,8 +21,8 @@ use Rattle.gb_ops.specs.Flags.{is_met}
 use Rattle.gb_ops.specs.Pairs as machine
 use Rattle.gb_ops.specs.Effects as Effects
 use Rattle.gb_ops.specs.Play.{MState}
-use Rattle.gb_states.specs.declared.types.Core.{Core}
-use Rattle.gb_states.specs.Rules.{IsVal, IsCore}
+use Rattle.gb_domain.specs.declared.types.Core.{Core}
+use Rattle.gb_domain.specs.Rules.{IsVal, IsCore}
 use Rattle.gb_vals.specs.Vals.{is_single}
 use Rattle.gb_vals.proofs.MeaningLaws.{single-is}
 use Rattle.gb_abs.specs.Meaning.{MeansCore}

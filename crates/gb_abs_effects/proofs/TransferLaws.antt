@@ -13,10 +13,10 @@ use Rattle.gb_ops.specs.Pairs as machine
 use Rattle.gb_ops.specs.Flags.{is_met}
 use Rattle.gb_ops.specs.Effects as Effects
 use Rattle.gb_ops.specs.Play.{MState}
-use Rattle.gb_states.specs.declared.types.Val.{Val}
-use Rattle.gb_states.specs.declared.types.Flg.{Flg}
-use Rattle.gb_states.specs.declared.types.Core.{Core}
-use Rattle.gb_states.specs.Rules.{IsVal, IsCore}
+use Rattle.gb_domain.specs.declared.types.Val.{Val}
+use Rattle.gb_domain.specs.declared.types.Flg.{Flg}
+use Rattle.gb_domain.specs.declared.types.Core.{Core}
+use Rattle.gb_domain.specs.Rules.{IsVal, IsCore}
 use Rattle.gb_vals.specs.Vals.{single}
 use Rattle.gb_vals.specs.Logic.{complement, complement_result}
 use Rattle.gb_vals.specs.Shifts.{rotation_of_a, rotation_result}

@@ -6,7 +6,7 @@ use Rattle.gb_ops.specs.declared.op.Operand.{Operand}
 use Rattle.gb_ops.specs.declared.op.Operand.TheVariants as operand
 use Rattle.gb_ops.specs.declared.op.Op.{Op}
 use Rattle.gb_ops.specs.declared.op.Op.TheVariants as op
-use Rattle.gb_states.specs.declared.types.Core.{Core}
+use Rattle.gb_domain.specs.declared.types.Core.{Core}
 use Rattle.gb_vals.specs.Vals.{single}
 use Rattle.gb_abs.specs.declared.span.Span.{Span}
 use Rattle.gb_abs.specs.Span.{one, pair_span}

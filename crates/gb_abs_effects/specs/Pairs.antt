@@ -9,9 +9,9 @@ use Rattle.gb_ops.specs.declared.op.Indirect.{Indirect}
 use Rattle.gb_ops.specs.declared.op.Indirect.TheVariants as indirect
 use Rattle.gb_ops.specs.Pairs.{word}
 use Rattle.gb_ops.specs.Arithmetic as machine
-use Rattle.gb_states.specs.declared.types.Val.{Val}
-use Rattle.gb_states.specs.declared.types.Flg.{Flg}
-use Rattle.gb_states.specs.declared.types.Core.{Core}
+use Rattle.gb_domain.specs.declared.types.Val.{Val}
+use Rattle.gb_domain.specs.declared.types.Flg.{Flg}
+use Rattle.gb_domain.specs.declared.types.Core.{Core}
 use Rattle.gb_vals.specs.Vals.{between, single, any_val, is_single}
 use Rattle.gb_vals.specs.Flags.{known, either, known_flags, greatest_flags, flags_val, flags_of_val}
 use Rattle.gb_abs_effects.specs.declared.pairs.Halves.{Halves}

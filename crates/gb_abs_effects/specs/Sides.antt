@@ -6,7 +6,7 @@ use Rattle.gb_ops.specs.declared.op.Condition.TheVariants as condition
 use Rattle.gb_ops.specs.declared.op.Op.{Op}
 use Rattle.gb_ops.specs.declared.op.Op.TheVariants as op
 use Rattle.gb_ops.specs.Registers.{set}
-use Rattle.gb_states.specs.declared.types.Core.{Core}
+use Rattle.gb_domain.specs.declared.types.Core.{Core}
 use Rattle.gb_vals.specs.declared.branch.Branch.{Branch}
 use Rattle.gb_vals.specs.Tests.{side}
 use Rattle.gb_abs_effects.specs.declared.sides.Sides.{Sides}

@@ -3,12 +3,11 @@
 ghost use Rattle.std.specs.Prelude.{◌≡◌};
 ghost use Rattle.gb_abs_effects.specs.Pairs as Pairs;
 
-use gb_effects::arithmetic;
-use gb_effects::pairs::word;
+use gb_domain::types::{Core, Flg, Val};
 use gb_ops::op::{Indirect, Pair, StackPair};
-use gb_states::types::{Core, Flg, Val};
 use gb_vals::flags::{either, flags_of_val, flags_val, greatest_flags, known, known_flags};
 use gb_vals::vals::{any, between, is_single, single};
+use gb_vals::{arithmetic, word};
 
 /// A word, each byte an interval.
 #[derive(Clone, Copy, PartialEq, Eq)]

@@ -1,12 +1,12 @@
 //! The sides of an instruction: taken, and not taken.
 
 ghost use Rattle.std.specs.Prelude.{◌≡◌};
-ghost use Rattle.gb_states.specs.Rules.{IsCore};
+ghost use Rattle.gb_domain.specs.Rules.{IsCore};
 ghost use Rattle.gb_abs_effects.specs.Sides as Branching;
 ghost use Rattle.gb_abs_effects.specs.Sound.{AreSoundSides, AreSides};
 
+use gb_domain::types::Core;
 use gb_ops::op::{Condition, Op, Register};
-use gb_states::types::Core;
 use gb_vals::branch::side;
 
 /// The core on each side of an instruction, where that side is possible.

@@ -2,13 +2,13 @@
 
 ghost use Rattle.std.specs.Prelude.{◌≡◌};
 ghost use Rattle.gb_abs_effects.specs.Targets as Targets;
-ghost use Rattle.gb_states.specs.Rules.{IsCore};
+ghost use Rattle.gb_domain.specs.Rules.{IsCore};
 ghost use Rattle.gb_abs_effects.specs.Sound.{HasBytes, IsSoundTarget, IsTargetAt};
 
 use crate::pairs::{Halves, is_word_known, least_word, pair_halves};
-use gb_effects::arithmetic::displaced;
+use gb_domain::types::Core;
 use gb_ops::op::{Op, Pair};
-use gb_states::types::Core;
+use gb_vals::displaced;
 
 /// Where an instruction goes on.
 #[derive(Clone, Copy, PartialEq, Eq)]

@@ -1,7 +1,7 @@
 //! The transfer function: what instructions do to a core.
 
 ghost use Rattle.std.specs.Prelude.{◌≡◌};
-ghost use Rattle.gb_states.specs.Rules.{IsVal, IsCore};
+ghost use Rattle.gb_domain.specs.Rules.{IsVal, IsCore};
 ghost use Rattle.gb_abs_effects.specs.Transfer as Transfer;
 ghost use Rattle.gb_abs_effects.specs.Sound.{HasBytes, IsSoundTransfer, IsSoundUntaken, IsAbsEffect};
 
@@ -16,8 +16,8 @@ use crate::writes::{
 };
 use gb_abs::operations::set_register;
 use gb_abs::span::Span;
+use gb_domain::types::{Core, Flg, ImeSet, Val};
 use gb_ops::op::{AluOp, Op, Operand, Pair, Register};
-use gb_states::types::{Core, Flg, ImeSet, Val};
 use gb_vals::alu::{alu, alu_itself};
 use gb_vals::bits::{reset_bit, set_bit, test_bit};
 use gb_vals::branch::{test_of_immediate, test_of_itself};

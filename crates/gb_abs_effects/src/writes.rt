@@ -7,8 +7,8 @@ use crate::pairs::Halves;
 use crate::reads::hl_span;
 use gb_abs::operations::set_register;
 use gb_abs::span::Span;
+use gb_domain::types::{Core, Flg, ImeSet, Val};
 use gb_ops::op::Operand;
-use gb_states::types::{Core, Flg, ImeSet, Val};
 use gb_vals::outcome::Outcome;
 
 /// What an instruction writes.

@@ -12,15 +12,15 @@ use Rattle.gb_ops.specs.Memory.{View, mapped_at, is_high, is_closed, place_by, p
 use Rattle.gb_ops.specs.Machine.{Reading, read_by, read_at}
 use Rattle.gb_ops.specs.Faults.{no_faults, is_ram_closed, access_faults}
 use Rattle.gb_ops.specs.Play.{MState, within}
-use Rattle.gb_states.specs.declared.types.Val.{Val}
-use Rattle.gb_states.specs.declared.types.May.{May}
-use Rattle.gb_states.specs.declared.types.Ctl.{Ctl}
-use Rattle.gb_states.specs.declared.types.Cell.{Cell}
-use Rattle.gb_states.specs.declared.types.Core.{Core}
-use Rattle.gb_states.specs.Types.{AbsState}
-use Rattle.gb_states.specs.Rules.{IsVal}
-use Rattle.gb_vals.specs.Vals.{any_val, single}
-use Rattle.gb_vals.specs.Meaning.{may_be}
+use Rattle.gb_domain.specs.declared.types.Val.{Val}
+use Rattle.gb_domain.specs.declared.types.May.{May}
+use Rattle.gb_domain.specs.declared.types.Ctl.{Ctl}
+use Rattle.gb_domain.specs.declared.types.Cell.{Cell}
+use Rattle.gb_domain.specs.declared.types.Core.{Core}
+use Rattle.gb_domain.specs.Types.{AbsState}
+use Rattle.gb_domain.specs.Rules.{IsVal}
+use Rattle.gb_abs.specs.Below.gb_vals.Vals.{any_val, single}
+use Rattle.gb_abs.specs.Below.gb_vals.Meaning.{may_be}
 use Rattle.gb_abs.specs.declared.span.Span.{Span}
 use Rattle.gb_abs.specs.declared.reason.Reason.{Reason}
 use Rattle.gb_abs.specs.Span.{IsIn, is_one, is_inside, may_meet}

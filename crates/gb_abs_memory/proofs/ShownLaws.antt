@@ -8,9 +8,9 @@ use Rattle.gb_ops.specs.declared.machine.Banks.{Banks}
 use Rattle.gb_ops.specs.declared.machine.Kind.{Kind}
 use Rattle.gb_ops.specs.declared.machine.Kind.TheVariants as kind
 use Rattle.gb_ops.specs.Cartridge.{cut_to, kind_of, rom_banks, shown_bank, low_bank_number, high_bank_number}
-use Rattle.gb_states.specs.declared.types.Ctl.{Ctl}
-use Rattle.gb_states.specs.Rules.{IsCtl}
-use Rattle.gb_vals.specs.Meaning.{may_be}
+use Rattle.gb_domain.specs.declared.types.Ctl.{Ctl}
+use Rattle.gb_domain.specs.Rules.{IsCtl}
+use Rattle.gb_abs.specs.Below.gb_vals.Meaning.{may_be}
 use Rattle.gb_abs_memory.specs.Windows.{InCtl}
 use Rattle.gb_abs_memory.specs.Sound.{IsSize}
 use Rattle.gb_abs_memory.specs.Shown.{is_bank_single, is_second_known, is_mode_harmless, known_if, known_low_bank, known_high_bank, known_bank, AllShow}

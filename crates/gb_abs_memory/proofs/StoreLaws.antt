@@ -15,14 +15,14 @@ use Rattle.gb_ops.specs.Cartridge.{is_within, kind_of, kind_after, banks_after}
 use Rattle.gb_ops.specs.Memory.{Storage, View, mapped_at, is_closed, wrote, wrote_by}
 use Rattle.gb_ops.specs.Faults.{no_faults, is_ram_closed, access_faults, write_faults}
 use Rattle.gb_ops.specs.Play.{MState}
-use Rattle.gb_states.specs.declared.types.Val.{Val}
-use Rattle.gb_states.specs.declared.types.Ctl.{Ctl}
-use Rattle.gb_states.specs.declared.types.Core.{Core}
-use Rattle.gb_states.specs.declared.types.Item.{Item}
-use Rattle.gb_states.specs.declared.types.Cell.{Cell}
-use Rattle.gb_states.specs.declared.types.Range.{Range}
-use Rattle.gb_states.specs.Types.{AbsState}
-use Rattle.gb_states.specs.Rules.{IsRegion, is_area, meets}
+use Rattle.gb_domain.specs.declared.types.Val.{Val}
+use Rattle.gb_domain.specs.declared.types.Ctl.{Ctl}
+use Rattle.gb_domain.specs.declared.types.Core.{Core}
+use Rattle.gb_domain.specs.declared.types.Item.{Item}
+use Rattle.gb_domain.specs.declared.types.Cell.{Cell}
+use Rattle.gb_domain.specs.declared.types.Range.{Range}
+use Rattle.gb_domain.specs.Types.{AbsState}
+use Rattle.gb_domain.specs.Areas.{IsRegion, is_area, meets}
 use Rattle.gb_abs.specs.declared.span.Span.{Span}
 use Rattle.gb_abs.specs.Span.{IsIn, one, is_one, is_inside, may_meet}
 use Rattle.gb_abs.specs.Storage.{is_ram, peek}

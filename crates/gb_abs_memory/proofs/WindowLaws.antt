@@ -5,12 +5,12 @@ use Rattle.gb_ops.specs.declared.machine.Banks.{Banks}
 use Rattle.gb_ops.specs.declared.machine.Kind.{Kind}
 use Rattle.gb_ops.specs.declared.machine.Kind.TheVariants as kind
 use Rattle.gb_ops.specs.Cartridge.{at_least_one, kind_after}
-use Rattle.gb_states.specs.declared.types.Val.{Val}
-use Rattle.gb_states.specs.declared.types.May.{May}
-use Rattle.gb_states.specs.declared.types.Ctl.{Ctl}
-use Rattle.gb_states.specs.Rules.{IsVal, IsCtl, has_value}
-use Rattle.gb_vals.specs.Meaning.{In, may_be}
-use Rattle.gb_vals.proofs.MeaningLaws.{may_be-by}
+use Rattle.gb_domain.specs.declared.types.Val.{Val}
+use Rattle.gb_domain.specs.declared.types.May.{May}
+use Rattle.gb_domain.specs.declared.types.Ctl.{Ctl}
+use Rattle.gb_domain.specs.Rules.{IsVal, IsCtl, has_value}
+use Rattle.gb_abs.specs.Below.gb_vals.Meaning.{In, may_be}
+use Rattle.gb_abs.proofs.Below.gb_vals_laws.MeaningLaws.{may_be-by}
 use Rattle.gb_abs_memory.specs.declared.windows.ControllerRegister.{ControllerRegister}
 use Rattle.gb_abs_memory.specs.declared.windows.ControllerRegister.TheVariants as register
 use Rattle.gb_abs_memory.specs.declared.windows.Window.{Window}

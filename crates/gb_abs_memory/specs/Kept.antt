@@ -2,8 +2,8 @@
 use Rattle.std.specs.Prelude.{◌≡◌, ℕ, ◌≤◌, true, false, List}
 use Rattle.std.specs.List.{list_any}
 use Rattle.gb_ops.specs.declared.machine.Region.{Region}
-use Rattle.gb_states.specs.declared.types.Range.{Range}
-use Rattle.gb_states.specs.Rules.{meets}
+use Rattle.gb_domain.specs.declared.types.Range.{Range}
+use Rattle.gb_domain.specs.Areas.{meets}
 use Rattle.gb_abs.specs.Span.{one}
 use Rattle.gb_abs.specs.Storage.{is_ram}
 use Rattle.gb_abs_memory.specs.Access.{is_range}

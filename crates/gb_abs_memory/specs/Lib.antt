@@ -3,3 +3,4 @@ pub mod Kept
 pub mod Shown
 pub mod Sound
 pub mod Windows
+pub mod Below

@@ -4,7 +4,7 @@ use Rattle.gb_ops.specs.declared.machine.Banks.{Banks}
 use Rattle.gb_ops.specs.declared.machine.Kind.{Kind}
 use Rattle.gb_ops.specs.declared.machine.Kind.TheVariants as kind
 use Rattle.gb_ops.specs.Cartridge.{cut_to, kind_of, rom_banks, shown_bank}
-use Rattle.gb_states.specs.declared.types.Ctl.{Ctl}
+use Rattle.gb_domain.specs.declared.types.Ctl.{Ctl}
 use Rattle.gb_abs_memory.specs.Windows.{InCtl}
 
 -- one value

@@ -7,11 +7,12 @@ use Rattle.gb_ops.specs.Memory.{View, wrote}
 use Rattle.gb_ops.specs.Machine.{read_at}
 use Rattle.gb_ops.specs.Faults.{no_faults, access_faults, write_faults}
 use Rattle.gb_ops.specs.Play.{MState}
-use Rattle.gb_states.specs.declared.types.Val.{Val}
-use Rattle.gb_states.specs.declared.types.Cell.{Cell}
-use Rattle.gb_states.specs.declared.types.Range.{Range}
-use Rattle.gb_states.specs.Types.{AbsState}
-use Rattle.gb_states.specs.Rules.{IsVal, IsRegion, meets}
+use Rattle.gb_domain.specs.declared.types.Val.{Val}
+use Rattle.gb_domain.specs.declared.types.Cell.{Cell}
+use Rattle.gb_domain.specs.declared.types.Range.{Range}
+use Rattle.gb_domain.specs.Types.{AbsState}
+use Rattle.gb_domain.specs.Areas.{IsRegion, meets}
+use Rattle.gb_domain.specs.Rules.{IsVal}
 use Rattle.gb_abs.specs.declared.span.Span.{Span}
 use Rattle.gb_abs.specs.Span.{IsIn, one}
 use Rattle.gb_abs.specs.Cells.{ArePlaced}

@@ -13,3 +13,8 @@ pub mod refusals;
 pub mod shown;
 pub mod store;
 pub mod windows;
+
+// What lies below, for the crates above.
+pub use gb_abs::length_of;
+pub use gb_domain::types::{Abs, Val};
+pub use gb_header::Rom;

@@ -4,7 +4,7 @@ ghost use Rattle.std.specs.Prelude.{◌≡◌, ◌<◌, ◌≤◌, ℕ, IfSome, 
 ghost use Rattle.gb_ops.specs.Cartridge as Cartridge;
 ghost use Rattle.gb_abs.specs.Operations.{with_core};
 ghost use Rattle.gb_abs_memory.specs.Access as Access;
-ghost use Rattle.gb_states.specs.Rules.{IsVal};
+ghost use Rattle.gb_domain.specs.Rules.{IsVal};
 ghost use Rattle.gb_abs_memory.specs.Sound.{AreVals, IsRom, IsSoundLoad};
 
 use crate::refusals::{is_limited, meets_closed_ram};
@@ -13,9 +13,9 @@ use gb_abs::covering::cell_at;
 use gb_abs::reason::Reason;
 use gb_abs::span::Span;
 use gb_abs::storage::is_ram;
+use gb_abs::{any, single};
+use gb_domain::types::{Abs, Core, Val};
 use gb_header::Rom;
-use gb_states::types::{Abs, Core, Val};
-use gb_vals::vals::{any, single};
 
 /// Where the byte at an address is kept: the echo of work RAM is the same byte.
 fn home_of(address: u16) -> u16

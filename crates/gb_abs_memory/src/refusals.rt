@@ -4,8 +4,8 @@ ghost use Rattle.std.specs.Prelude.{◌≡◌};
 ghost use Rattle.gb_abs_memory.specs.Access as Access;
 
 use gb_abs::span::Span;
+use gb_domain::types::{Core, Val};
 use gb_header::Rom;
-use gb_states::types::{Core, Val};
 
 /// Whether the gate to cartridge RAM may be closed, or there is neither RAM nor a clock behind it.
 #[tactic(auto, unfolding(crate::specs::Access::may_be_closed, gb_ops::specs::Cartridge::has_ram_or_clock))]

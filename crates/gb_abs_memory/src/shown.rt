@@ -2,12 +2,12 @@
 
 ghost use Rattle.std.specs.Prelude.{◌≡◌, ◌*◌, ◌^◌, ◌<◌, ◌≤◌, ℕ, IfSome, None, slice_index};
 ghost use Rattle.gb_ops.specs.Cartridge as Cartridge;
-ghost use Rattle.gb_states.specs.Rules.{IsCtl};
+ghost use Rattle.gb_domain.specs.Rules.{IsCtl};
 ghost use Rattle.gb_abs_memory.specs.Shown as Shown;
 
+use gb_domain::types::Ctl;
 use gb_header::Rom;
 use gb_ops::machine::Kind;
-use gb_states::types::Ctl;
 
 /// Whether 32 times the second register, cut to so many banks, is one number.
 fn is_second_known(banks: u16, ctl: &Ctl) -> bool

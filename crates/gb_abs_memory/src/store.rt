@@ -10,9 +10,9 @@ use crate::windows::{ControllerRegister, ctl_after, window_of};
 use gb_abs::cells::{with_cell, without_cells};
 use gb_abs::reason::Reason;
 use gb_abs::span::Span;
+use gb_domain::types::{Abs, Core, Range, Val};
 use gb_header::Rom;
 use gb_ops::machine::{Kind, Region};
-use gb_states::types::{Abs, Core, Range, Val};
 
 /// Where a store may lie.
 #[derive(Clone, Copy, PartialEq, Eq)]

@@ -1,12 +1,12 @@
 //! The windows of a controller's registers, and what a store there leaves.
 
 ghost use Rattle.std.specs.Prelude.{◌≡◌, ◌<◌, ◌≤◌};
-ghost use Rattle.gb_states.specs.Rules.{IsVal, IsCtl};
+ghost use Rattle.gb_domain.specs.Rules.{IsVal, IsCtl};
 ghost use Rattle.gb_abs_memory.specs.Windows as Windows;
 
 use gb_abs::span::Span;
+use gb_domain::types::{Ctl, May, Val};
 use gb_ops::machine::Kind;
-use gb_states::types::{Ctl, May, Val};
 
 /// The registers of controllers that a store reaches. MBC5's bank has two windows.
 #[derive(Clone, Copy, PartialEq, Eq)]

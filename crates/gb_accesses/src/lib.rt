@@ -12,10 +12,15 @@ ghost use Rattle.gb_ops.specs.Accesses.{Joined, where_wanted, fetch_log, load_lo
 ghost use Rattle.gb_ops.specs.Accesses as access;
 ghost use Rattle.gb_accesses.specs.Access.{Gave, queued, queued_two, free_fetches, free_reads};
 
-use gb_bus::{Bus, Taken};
+use gb_bus::Taken;
 use gb_effects::advance::{length_of, second_address, third_address};
 use gb_ops::machine::{Loaded, Read, Write};
 use gb_ops::registers::Processor;
+
+// What lies below, for the crates above.
+pub use gb_bus::{Bus, FRAME_CYCLES, HEIGHT, Irqs, Keys, Memory, WIDTH, next_irq};
+pub use gb_effects::advance::{advance, cycles_of, mark_of, settled};
+pub use gb_effects::effect::{perform, read_of, with_pc, with_sp};
 
 /// Reads a byte.
 #[inline(always)]

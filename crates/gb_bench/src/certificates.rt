@@ -1,5 +1,11 @@
 //! Certificates of many nodes, each with the cartridge that it is for. In all of them each node is right. `Sample` names them.
 
+use gb_cert::{NodePlan, ProcedurePlan, Version, WriteFault, write_certificate};
+use gb_domain::types::{Abs, Core, Val};
+use gb_ops::machine::Region;
+use gb_ops::registers::Registers;
+use gb_verify::Rom;
+use gb_verify::check::core_at_power_up;
 use std::alloc::{AllocError, Global};
 
 /// The nodes of a certificate in version 1, at most.
@@ -13,21 +19,18 @@ const PROCEDURES: u32 = 32;
 
 const TWICE: u32 = 1_048_576 - PROCEDURES * ADDRESSES;
 
-/// A state up to its registers, as at power-up: IME is off, and no stack is set.
-const FRONT: &[u8] =
-    b"\x01\x00\x00\x00\x00\x01\x00\x01\x00\x00\x00\x01\x01\x01\xb4\x02\x00\x00\x09";
+/// The stack region of all of them.
+const REGION: Region = Region {
+    first: 0xDF00,
+    last: 0xDFFF,
+};
 
-/// The same where the stack is set, as in each procedure but main.
-const FRONT_BELOW: &[u8] =
-    b"\x01\x00\x01\x00\x00\x01\x00\x01\x00\x00\x00\x01\x01\x01\xb4\x02\x00\x00\x09";
-
-/// The registers at power-up, and no items and no cells.
-const KNOWN: &[u8] = b"\
-    \x01\x01\x01\x00\x00\x03\x13\x13\x04\x00\x00\x05\xd8\xd8\x06\x01\x01\x07\x4d\x4d\x08\x00\x00";
-
-/// All registers but L, each with any value.
-const ANY_BUT_L: &[u8] =
-    b"\x00\xff\x00\x00\xff\x00\x00\xff\x00\x00\xff\x00\x00\xff\x00\x00\xff\x00";
+/// Any byte.
+const ANY: Val = Val {
+    lo: 0,
+    hi: 255,
+    origin: None,
+};
 
 /// NOPs, with a jump over the header and one from the end back to behind the header.
 fn straight_line() -> [u8; 0x8000] {
@@ -76,119 +79,158 @@ fn address_of(place: u32) -> u16 {
     (address % 0x8000) as u16
 }
 
-/// The head of version 1 for 65,535 nodes of main alone, which begins at the node with this number.
-fn push_head(bytes: &mut Vec<u8>, entry: u16) -> Result<(), AllocError> {
-    bytes.extend_from_slice(b"GBBC\x01\x00\xDF\xFF\xDF\x01\xFF\xFF")?;
-    let [low, high] = entry.to_le_bytes();
-    bytes.extend_from_slice(&[low, high, 0, 0, 0, 0])
+/// A core with any value in each register but L.
+fn wide(start: Core, l: Val) -> Core {
+    Core {
+        registers: Registers {
+            a: ANY,
+            b: ANY,
+            c: ANY,
+            d: ANY,
+            e: ANY,
+            h: ANY,
+            l,
+        },
+        ..start
+    }
 }
 
-/// A node up to its state.
-fn push_key(bytes: &mut Vec<u8>, procedure: u8, address: u16) -> Result<(), AllocError> {
-    let [low, high] = address.to_le_bytes();
-    let bank = if address < 0x4000 { 0 } else { 1 };
-    bytes.extend_from_slice(&[procedure, low, high, bank, 0])
+/// A procedure that needs no stack, writes nothing and doesn't return.
+fn procedure(entry: u32) -> ProcedurePlan<'static> {
+    ProcedurePlan {
+        entry,
+        need: 0,
+        ranges: &[],
+        exit: None,
+    }
 }
 
-/// A node of main in the state of power-up.
-fn push_node(bytes: &mut Vec<u8>, address: u16) -> Result<(), AllocError> {
-    push_key(bytes, 0, address)?;
-    bytes.extend_from_slice(FRONT)?;
-    bytes.extend_from_slice(KNOWN)
+/// A node in the bank that is shown at its address.
+fn node(procedure: u8, address: u16, state: &Abs) -> NodePlan<'_> {
+    NodePlan {
+        procedure,
+        address,
+        bank: if address < 0x4000 { 0 } else { 1 },
+        state,
+    }
+}
+
+/// A certificate of main alone, version 1.
+fn main_alone(alloc: Global, entry: u32, nodes: &[NodePlan<'_>]) -> Result<Vec<u8>, WriteFault> {
+    write_certificate(alloc, Version::One, REGION, &[procedure(entry)], nodes)
 }
 
 /// Straight-line code, version 1: each address has two or three nodes, all in the same state.
-fn push_straight_line(bytes: &mut Vec<u8>) -> Result<(), AllocError> {
+fn straight(alloc: Global, start: Core) -> Result<Vec<u8>, WriteFault> {
+    let state = Abs::new(start);
     let thirds = FEW - 2 * ADDRESSES;
-    push_head(bytes, (2 * 0x100 + thirds.min(0x100)) as u16)?;
-    for node in 0..FEW {
-        let place = if node < 3 * thirds {
-            node / 3
+    let mut nodes = Vec::new(alloc);
+    for number in 0..FEW {
+        let place = if number < 3 * thirds {
+            number / 3
         } else {
-            thirds + (node - 3 * thirds) / 2
+            thirds + (number - 3 * thirds) / 2
         };
-        push_node(bytes, address_of(place))?;
+        nodes.push(node(0, address_of(place), &state))?;
     }
-    Ok(())
+    main_alone(alloc, 2 * 0x100 + thirds.min(0x100), nodes.as_slice())
 }
 
-/// A procedure of version 2 that needs no stack, writes nothing and doesn't return.
-fn push_procedure(bytes: &mut Vec<u8>, entry: u32) -> Result<(), AllocError> {
-    bytes.extend_from_slice(&entry.to_le_bytes())?;
-    bytes.extend_from_slice(&[0, 0, 0, 0])
-}
-
-/// The head of version 2 and its procedures.
-fn push_wide_head(bytes: &mut Vec<u8>) -> Result<(), AllocError> {
-    bytes.extend_from_slice(b"GBBC\x02\x00\xDF\xFF\xDF\x20\x00\x00\x10\x00")?;
-    push_procedure(bytes, 2 * 0x100)?;
-    for procedure in 1..PROCEDURES {
-        push_procedure(bytes, TWICE + procedure * ADDRESSES)?;
-    }
-    Ok(())
-}
-
-/// Main's nodes: the first addresses have two.
-fn push_mains(bytes: &mut Vec<u8>) -> Result<(), AllocError> {
+/// Adds main's nodes: the first addresses have two.
+fn push_mains<'a>(state: &'a Abs, nodes: &mut Vec<NodePlan<'a>>) -> Result<(), AllocError> {
     for place in 0..ADDRESSES {
-        push_node(bytes, address_of(place))?;
+        nodes.push(node(0, address_of(place), state))?;
         if place < TWICE {
-            push_node(bytes, address_of(place))?;
+            nodes.push(node(0, address_of(place), state))?;
         }
     }
     Ok(())
 }
 
-/// The nodes of a procedure that is called: each address has one.
-fn push_below(bytes: &mut Vec<u8>, procedure: u8) -> Result<(), AllocError> {
+/// Adds the nodes of a procedure that is called: each address has one.
+fn push_below<'a>(
+    number: u32,
+    state: &'a Abs,
+    nodes: &mut Vec<NodePlan<'a>>,
+) -> Result<(), AllocError> {
     for place in 0..ADDRESSES {
-        push_key(bytes, procedure, address_of(place))?;
-        bytes.extend_from_slice(FRONT_BELOW)?;
-        bytes.extend_from_slice(KNOWN)?;
+        nodes.push(node(number as u8, address_of(place), state))?;
     }
     Ok(())
 }
 
 /// Straight-line code, version 2, of as many nodes as there may be: in each of 32 procedures the same
-/// addresses have one node each, and in main the first of them two.
-fn push_procedures(bytes: &mut Vec<u8>) -> Result<(), AllocError> {
-    push_wide_head(bytes)?;
-    push_mains(bytes)?;
-    for procedure in 1..PROCEDURES {
-        push_below(bytes, procedure as u8)?;
+/// addresses have one node each, and in main the first of them two. Below main the stack is set.
+fn procedures(alloc: Global, start: Core) -> Result<Vec<u8>, WriteFault> {
+    let state = Abs::new(start);
+    let below = Abs::new(Core {
+        stack_set: true,
+        ..start
+    });
+    let mut procedures = Vec::new(alloc);
+    let mut nodes = Vec::new(alloc);
+    procedures.push(procedure(2 * 0x100))?;
+    push_mains(&state, &mut nodes)?;
+    for number in 1..PROCEDURES {
+        procedures.push(procedure(TWICE + number * ADDRESSES))?;
+        push_below(number, &below, &mut nodes)?;
     }
-    Ok(())
+    write_certificate(
+        alloc,
+        Version::Two,
+        REGION,
+        procedures.as_slice(),
+        nodes.as_slice(),
+    )
 }
 
 /// 65,535 nodes at 0100, all in the same state.
-fn push_one_address(bytes: &mut Vec<u8>) -> Result<(), AllocError> {
-    push_head(bytes, 0)?;
+fn one_address(alloc: Global, start: Core) -> Result<Vec<u8>, WriteFault> {
+    let state = Abs::new(start);
+    let mut nodes = Vec::new(alloc);
     for _ in 0..FEW {
-        push_node(bytes, 0x100)?;
+        nodes.push(node(0, 0x100, &state))?;
     }
-    Ok(())
+    main_alone(alloc, 0, nodes.as_slice())
 }
 
-/// A node of main with any value in each register but L.
-fn push_wide(bytes: &mut Vec<u8>, address: u16, l: [u8; 3]) -> Result<(), AllocError> {
-    push_key(bytes, 0, address)?;
-    bytes.extend_from_slice(FRONT)?;
-    bytes.extend_from_slice(ANY_BUT_L)?;
-    bytes.extend_from_slice(&l)?;
-    bytes.extend_from_slice(&[0, 0])
+/// For each byte the state with it alone in L, and any value in each other register.
+fn single_states(alloc: Global, start: Core) -> Result<Vec<Abs>, AllocError> {
+    let mut states = Vec::new(alloc);
+    for value in 0..=255u8 {
+        let l = Val {
+            lo: value,
+            hi: value,
+            origin: None,
+        };
+        states.push(Abs::new(wide(start, l)))?;
+    }
+    Ok(states)
+}
+
+/// Adds nodes at 0150 with the values 0 to 254 in turn, and one with 255.
+fn push_singles<'a>(states: &'a [Abs], nodes: &mut Vec<NodePlan<'a>>) -> Result<(), AllocError> {
+    for number in 3..FEW {
+        if let Some(state) = states.get((number % 255) as usize) {
+            nodes.push(node(0, 0x150, state))?;
+        }
+    }
+    if let Some(state) = states.last() {
+        nodes.push(node(0, 0x150, state))?;
+    }
+    Ok(())
 }
 
 /// 65,535 nodes, all but two of them at 0150, each with one value in L, and the last alone with 255:
 /// what comes from 0100 is covered there by L's values one by one.
-fn push_single_values(bytes: &mut Vec<u8>) -> Result<(), AllocError> {
-    push_head(bytes, 0)?;
-    push_wide(bytes, 0x100, [0, 255, 0])?;
-    for node in 3..FEW {
-        let value = (node % 255) as u8;
-        push_wide(bytes, 0x150, [value, value, 0])?;
-    }
-    push_wide(bytes, 0x150, [255, 255, 0])?;
-    push_wide(bytes, 0x160, [0, 255, 0])
+fn single_values(alloc: Global, start: Core) -> Result<Vec<u8>, WriteFault> {
+    let any = Abs::new(wide(start, ANY));
+    let states = single_states(alloc, start)?;
+    let mut nodes = Vec::new(alloc);
+    nodes.push(node(0, 0x100, &any))?;
+    push_singles(states.as_slice(), &mut nodes)?;
+    nodes.push(node(0, 0x160, &any))?;
+    main_alone(alloc, 0, nodes.as_slice())
 }
 
 /// A certificate of many nodes, and the cartridge that it is for.
@@ -228,15 +270,14 @@ impl Sample {
         }
     }
 
-    /// The certificate.
-    pub fn bytes(self, alloc: Global) -> Result<Vec<u8>, AllocError> {
-        let mut bytes = Vec::new(alloc);
+    /// The certificate, for its cartridge.
+    pub fn bytes(self, alloc: Global, rom: &Rom<'_>) -> Result<Vec<u8>, WriteFault> {
+        let start = core_at_power_up(rom, REGION);
         match self {
-            Sample::StraightLine => push_straight_line(&mut bytes),
-            Sample::Procedures => push_procedures(&mut bytes),
-            Sample::OneAddress => push_one_address(&mut bytes),
-            Sample::SingleValues => push_single_values(&mut bytes),
-        }?;
-        Ok(bytes)
+            Sample::StraightLine => straight(alloc, start),
+            Sample::Procedures => procedures(alloc, start),
+            Sample::OneAddress => one_address(alloc, start),
+            Sample::SingleValues => single_values(alloc, start),
+        }
     }
 }

@@ -10,10 +10,9 @@ mod picture;
 mod processor;
 
 use certificates::Sample;
-use gb_cert::Cert;
-use gb_header::Rom;
 use gb_verify::check::check;
 use gb_verify::verdict::Verdict;
+use gb_verify::{Cert, Rom};
 use std::io;
 use std::rt::Clock;
 use std::time::Instant;
@@ -88,14 +87,11 @@ fn tell<R: Print>(rt: &R, length: usize, sum: u8, verdict: Verdict) -> io::Resul
 /// Reads, parses and checks the bytes of a certificate, for a cartridge.
 fn measure<R: Print + Eprint + Clock + AllocGlobal>(
     rt: &R,
-    cartridge: &[u8],
+    rom: &Rom<'_>,
     bytes: &[u8],
 ) -> io::Result<()> {
     let sum = read_once(rt, bytes)?;
-    let Ok(rom) = Rom::parse(cartridge) else {
-        return println!(rt; "no cartridge");
-    };
-    match judged(rt, &rom, bytes)? {
+    match judged(rt, rom, bytes)? {
         Some(verdict) => tell(rt, bytes.len(), sum, verdict),
         None => println!(rt; "no certificate"),
     }
@@ -108,10 +104,14 @@ fn measure_sample<R: Print + Eprint + Clock + AllocGlobal>(
 ) -> io::Result<()> {
     let name = sample.name();
     eprintln!(rt; "{name}")?;
-    let bytes = sample.bytes(rt.alloc())?;
-    let measured = measure(rt, &sample.cartridge(), bytes.as_slice());
-    drop(bytes);
-    measured
+    let cartridge = sample.cartridge();
+    let Ok(rom) = Rom::parse(&cartridge) else {
+        return println!(rt; "no cartridge");
+    };
+    match sample.bytes(rt.alloc(), &rom) {
+        Ok(bytes) => measure(rt, &rom, bytes.as_slice()),
+        Err(_) => println!(rt; "no certificate is written"),
+    }
 }
 
 fn main(rt: HostRuntime) -> io::Result<()> {

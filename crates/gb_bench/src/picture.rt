@@ -1,8 +1,8 @@
 //! Frames of a full scene: background, window, and 40 objects.
 
 use crate::report;
-use gb_bus::{Bus, Memory};
-use gb_header::Rom;
+use gb_cpu::{Bus, Memory};
+use gb_verify::Rom;
 use std::io;
 use std::rt::Clock;
 use std::time::Instant;

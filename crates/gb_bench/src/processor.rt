@@ -1,9 +1,9 @@
 //! The processor on the console's memory: a loop of arithmetic.
 
 use crate::report;
-use gb_bus::Memory;
+use gb_cpu::Memory;
 use gb_cpu::step::Cpu;
-use gb_header::Rom;
+use gb_verify::Rom;
 use std::io;
 use std::rt::Clock;
 use std::time::Instant;

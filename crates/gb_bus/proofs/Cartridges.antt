@@ -3,7 +3,7 @@ use Rattle.std.proofs.Common.{◌≡◌, ℕ, ◌<◌, true, false, nat_lt, List
 use Rattle.std.proofs.lemmas.Bool.{lt-ltb}
 use Rattle.gb_ops.specs.declared.machine.Banks.{Banks}
 use Rattle.gb_ops.specs.Cartridge.{shown_bank, ram_banks, banks_after, kind_of}
-use Rattle.gb_header.proofs.Laws.{shown_bank-below, bank_inside}
+use Rattle.gb_mbc.proofs.Below.gb_header_laws.Laws.{shown_bank-below, bank_inside}
 use Rattle.gb_mbc.specs.Controllers.{Features, features_of, low_bank, high_bank, registers_after, is_latch}
 
 -- what a controller shows is what the machine's definitions show

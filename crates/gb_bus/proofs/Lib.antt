@@ -6,3 +6,4 @@ pub mod Reading
 pub mod ReadingBack
 pub mod Requests
 pub mod Screens
+pub mod Below

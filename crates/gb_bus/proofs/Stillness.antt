@@ -1,7 +1,7 @@
 -- The console's memory over M-cycles in which neither the timer nor the picture changes anything else.
 use Rattle.std.proofs.Common.{◌≡◌, ℕ, true, false, Bool, List, bit_or, refl}
 use Rattle.std.specs.Int.Bits.{or_zero_r}
-use Rattle.gb_timer.specs.Timer as Timer
+use Rattle.gb_ppu.specs.Below.gb_timer.Timer as Timer
 use Rattle.gb_ppu.specs.declared.picture.Picture.{Picture}
 use Rattle.gb_ppu.specs.Control.{is_on}
 use Rattle.gb_ppu.specs.Picture as Picture

@@ -9,7 +9,7 @@ use Rattle.gb_ops.specs.Memory.{mapped_at, is_closed, byte_by, wrote_by, passed}
 use Rattle.gb_ops.specs.Accesses.{Access, Reads, Writes, Passes, Acknowledges}
 use Rattle.gb_mbc.specs.Clock as Clock
 use Rattle.gb_mbc.specs.Controllers.{is_latch}
-use Rattle.gb_timer.specs.Timer as Timer
+use Rattle.gb_ppu.specs.Below.gb_timer.Timer as Timer
 use Rattle.gb_bus.specs.declared.hardware.Hardware.{Hardware}
 use Rattle.gb_bus.specs.declared.hardware.Hardware.TheVariants as hardware
 use Rattle.gb_ppu.specs.declared.mode.Mode.{Mode}

@@ -2,8 +2,8 @@
 use Rattle.std.specs.Prelude.{ℕ, List}
 use Rattle.gb_ops.specs.Memory.{View}
 use Rattle.gb_mbc.specs.Clock.{ClockState}
-use Rattle.gb_timer.specs.Timer.{Counters}
-use Rattle.gb_timer.specs.Joypad.{Pad}
+use Rattle.gb_ppu.specs.Below.gb_timer.Timer.{Counters}
+use Rattle.gb_ppu.specs.Below.gb_timer.Joypad.{Pad}
 use Rattle.gb_ppu.specs.declared.picture.Picture.{Picture}
 
 -- what the machine of the checker knows stands in the view: the cartridge, the controller's registers,

@@ -7,3 +7,4 @@ pub mod ReadsBack
 pub mod Registers
 pub mod Screen
 pub mod Waiting
+pub mod Below

@@ -4,7 +4,7 @@ use Rattle.std.specs.Prelude.{ℕ, ◌*◌, false, List, replicate}
 use Rattle.gb_ops.specs.Cartridge.{banks_at_power_up, ram_banks}
 use Rattle.gb_ops.specs.Memory.{View}
 use Rattle.gb_mbc.specs.Clock.{clock_at_power_up}
-use Rattle.gb_timer.specs.Timer as Timer
+use Rattle.gb_ppu.specs.Below.gb_timer.Timer as Timer
 use Rattle.gb_ppu.specs.PowerUp.{power_up}
 use Rattle.gb_bus.specs.Contents.{Contents}
 use Rattle.gb_bus.specs.Screen.{blank}

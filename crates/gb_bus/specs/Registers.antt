@@ -1,7 +1,7 @@
 -- The I/O registers (Pan Docs: Joypad Input; Timer and Divider Registers; Interrupts; OAM DMA Transfer).
 use Rattle.std.specs.Prelude.{ℕ, ◌+◌, ◌%◌, if◌then◌else◌, bit_and, bit_or}
-use Rattle.gb_timer.specs.Timer.{div_of}
-use Rattle.gb_timer.specs.Joypad.{Pad, joyp, is_requested}
+use Rattle.gb_ppu.specs.Below.gb_timer.Timer.{div_of}
+use Rattle.gb_ppu.specs.Below.gb_timer.Joypad.{Pad, joyp, is_requested}
 use Rattle.gb_bus.specs.declared.hardware.IoRegister.{IoRegister}
 use Rattle.gb_bus.specs.declared.hardware.IoRegister.TheVariants as io
 use Rattle.gb_bus.specs.Contents.{Contents}

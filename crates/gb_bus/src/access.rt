@@ -9,7 +9,7 @@ ghost use Rattle.gb_bus.specs.Hardware as Map;
 ghost use Rattle.gb_bus.specs.ReadsBack.{ReadsBack};
 ghost use Rattle.gb_bus.specs.Screen.{pictured};
 ghost use Rattle.gb_bus.specs.Waiting.{Waits};
-ghost use Rattle.gb_timer.specs.Joypad.{key_bits};
+ghost use Rattle.gb_ppu.specs.Below.gb_timer.Joypad.{key_bits};
 ghost use Rattle.gb_ops.specs.declared.machine.Mapped.TheVariants as mapped;
 
 use crate::hardware::{Hardware, hardware_at};
@@ -19,7 +19,7 @@ use bitflags::Flags;
 use gb_mbc::Mapper;
 use gb_ops::machine::{Mapped, Place};
 use gb_ops::map::mapped_at;
-use gb_timer::irqs::{Irqs, Keys};
+use gb_ppu::{Irqs, Keys};
 
 /// A byte of ROM or plain storage.
 fn fixed(byte: u8) -> Taken

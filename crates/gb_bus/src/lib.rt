@@ -25,6 +25,11 @@ pub use access::plain_storage_reads_back;
 use gb_ops::machine::Place;
 pub use memory::Memory;
 
+// What lies below, for the crates above.
+pub use gb_ppu::line::{HEIGHT, WIDTH};
+pub use gb_ppu::picture::FRAME_CYCLES;
+pub use gb_ppu::{Irqs, Keys, next_irq};
+
 /// A byte that was read, and whether it was free: whether the bus may give any byte there.
 #[derive(Clone, Copy, PartialEq, Eq)]
 pub struct Taken {

@@ -7,13 +7,11 @@ ghost use Rattle.gb_bus.specs.PowerUp.{at_power_up, zeros};
 use crate::picture::dark;
 use gb_devices::Devices;
 use gb_dma::Transfer;
-use gb_header::Rom;
-use gb_mbc::{Clock, Controller, Mapper};
+use gb_mbc::{Clock, Controller, Mapper, Rom};
 use gb_ops::map::{HIGH_RAM, WORK_RAM};
 use gb_ppu::line::{HEIGHT, WIDTH};
 use gb_ppu::scene::{OAM, VIDEO_RAM};
-use gb_timer::irqs::Irqs;
-use gb_timer::joypad::Joypad;
+use gb_ppu::{Irqs, Joypad};
 use std::alloc::{AllocError, Global};
 use std::marker::Model;
 
@@ -49,12 +47,12 @@ pub struct Memory<'a> {
 
 impl<'a> Model for Memory<'a> {
     ghost use Rattle.std.specs.Prelude.{◌≡◌, ◌<◌, ◌*◌, vec_len, length};
-    ghost use Rattle.gb_header.specs.Header.{IsCartridge};
+    ghost use Rattle.gb_mbc.specs.Below.gb_header.Header.{IsCartridge};
     ghost use Rattle.gb_mbc.specs.Controller.{features, registers};
     ghost use Rattle.gb_mbc.specs.Controllers.{features_of};
     ghost use Rattle.gb_mbc.specs.Controllers as Shown;
     ghost use Rattle.gb_ops.specs.Cartridge.{ram_banks};
-    ghost use Rattle.gb_timer.specs.Interrupts.{irq_bits};
+    ghost use Rattle.gb_ppu.specs.Below.gb_timer.Interrupts.{irq_bits};
     ghost use Rattle.gb_bus.specs.Contents.{Contents};
 
     ghost Value = { Contents };

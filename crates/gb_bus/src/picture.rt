@@ -1,7 +1,7 @@
 //! The picture behind the bus.
 
 ghost use Rattle.std.specs.Prelude.{◌≡◌, ◌<◌, ◌≤◌, ◌+◌, ◌%◌, true, bit_or, slice_set, IfSome, IsSome, IsNone};
-ghost use Rattle.gb_timer.specs.Interrupts.{irq_bits};
+ghost use Rattle.gb_ppu.specs.Below.gb_timer.Interrupts.{irq_bits};
 ghost use Rattle.gb_ppu.specs.Control.{is_on};
 ghost use Rattle.gb_ppu.specs.Picture.{line_of, mode_of, advanced, requested_in, IsNextDrawing};
 ghost use Rattle.gb_ppu.specs.Requests.{request_bits};

@@ -2,14 +2,14 @@
 
 ghost use Rattle.std.specs.Prelude.{◌≡◌, ◌<◌, bit_or};
 ghost use Rattle.gb_mbc.specs.Clock as Clock;
-ghost use Rattle.gb_timer.specs.Interrupts.{irq_bits};
-ghost use Rattle.gb_timer.specs.Joypad.{key_bits};
+ghost use Rattle.gb_ppu.specs.Below.gb_timer.Interrupts.{irq_bits};
+ghost use Rattle.gb_ppu.specs.Below.gb_timer.Joypad.{key_bits};
 ghost use Rattle.gb_bus.specs.Registers as Registers;
 
 use crate::hardware::IoRegister;
 use crate::memory::Memory;
 use bitflags::Flags;
-use gb_timer::irqs::{Irqs, Keys};
+use gb_ppu::{Irqs, Keys};
 
 impl Memory<'_> {
     /// More interrupts are requested.

@@ -2,7 +2,7 @@
 use Rattle.std.proofs.Common.{◌≡◌, ℕ, zero, suc, ◌+◌, ◌≤◌, ◌<◌, Bool, true, false, nat_lt, cond, List, [], ◌∷◌, ◌++◌, length, map, take, drop, insert, get_or, refl, sym, ◌∙◌, ap, arith}
 use Rattle.std.proofs.lemmas.List.{take-take, take_all, at_drop_more}
 use Rattle.std.specs.List.{AllByRecursion, filter}
-use Rattle.gb_states.specs.declared.types.Cell.{Cell}
+use Rattle.gb_domain.specs.declared.types.Cell.{Cell}
 use Rattle.gb_calls.specs.Calls.{cell_without_origin, inserted, merged}
 
 -- ---- what holds of each

@@ -3,3 +3,4 @@ pub mod CalleeLaws
 pub mod RangeLaws
 pub mod CellLaws
 pub mod ResumingLaws
+pub mod Below

@@ -4,7 +4,7 @@ use Rattle.std.proofs.lemmas.Bool.{and_parts, or_parts, or_from}
 use Rattle.std.proofs.lemmas.Bool.Decides.{nat_tests}
 use Rattle.std.specs.List.{list_any, list_all}
 use Rattle.gb_ops.specs.declared.machine.Region.{Region}
-use Rattle.gb_states.specs.declared.types.Range.{Range}
+use Rattle.gb_domain.specs.declared.types.Range.{Range}
 use Rattle.gb_abs.specs.Span.{one}
 use Rattle.gb_abs_memory.specs.Access.{is_range}
 use Rattle.gb_abs_memory.specs.Kept.{IsKept}

@@ -12,18 +12,18 @@ use Rattle.gb_ops.specs.declared.registers.Flags.{Flags}
 use Rattle.gb_ops.specs.Registers.{get}
 use Rattle.gb_ops.specs.Memory.{Storage}
 use Rattle.gb_ops.specs.Play.{MState}
-use Rattle.gb_states.specs.declared.types.Origin.{Origin}
-use Rattle.gb_states.specs.declared.types.Origin.TheVariants as origin
-use Rattle.gb_states.specs.declared.types.Val.{Val}
-use Rattle.gb_states.specs.declared.types.Flg.{Flg}
-use Rattle.gb_states.specs.declared.types.Ctl.{Ctl}
-use Rattle.gb_states.specs.declared.types.Cell.{Cell}
-use Rattle.gb_states.specs.declared.types.Core.{Core}
-use Rattle.gb_states.specs.declared.types.Range.{Range}
-use Rattle.gb_states.specs.Types.{AbsState}
-use Rattle.gb_states.specs.Rules.{IsRegion, meets}
-use Rattle.gb_vals.specs.Vals.{any_val}
-use Rattle.gb_vals.specs.Tests.{IsTested}
+use Rattle.gb_domain.specs.declared.types.Origin.{Origin}
+use Rattle.gb_domain.specs.declared.types.Origin.TheVariants as origin
+use Rattle.gb_domain.specs.declared.types.Val.{Val}
+use Rattle.gb_domain.specs.declared.types.Flg.{Flg}
+use Rattle.gb_domain.specs.declared.types.Ctl.{Ctl}
+use Rattle.gb_domain.specs.declared.types.Cell.{Cell}
+use Rattle.gb_domain.specs.declared.types.Core.{Core}
+use Rattle.gb_domain.specs.declared.types.Range.{Range}
+use Rattle.gb_domain.specs.Types.{AbsState}
+use Rattle.gb_domain.specs.Areas.{IsRegion, meets}
+use Rattle.gb_abs.specs.Below.gb_vals.Vals.{any_val}
+use Rattle.gb_abs.specs.Below.gb_vals.Tests.{IsTested}
 use Rattle.gb_abs.specs.Span.{one}
 use Rattle.gb_abs.specs.Covering.{covers_origin, covers_val}
 use Rattle.gb_abs.specs.Cells.{IsPlaced, ArePlaced}

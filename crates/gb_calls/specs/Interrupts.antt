@@ -1,11 +1,11 @@
 -- What an interrupt's handler begins from, and which one is entered (Interrupts: interrupt handling; own rules).
 use Rattle.std.specs.Prelude.{ℕ, Bool, true, false, ◌&&◌, Option}
 use Rattle.gb_ops.specs.Machine.{vector}
-use Rattle.gb_states.specs.declared.types.ImeSet.{ImeSet}
-use Rattle.gb_states.specs.declared.types.Core.{Core}
-use Rattle.gb_states.specs.Types.{AbsState}
-use Rattle.gb_states.specs.Certificate.{Certificate}
-use Rattle.gb_vals.specs.Bits.{may_have_bit}
+use Rattle.gb_domain.specs.declared.types.ImeSet.{ImeSet}
+use Rattle.gb_domain.specs.declared.types.Core.{Core}
+use Rattle.gb_domain.specs.Types.{AbsState}
+use Rattle.gb_domain.specs.Certificate.{Certificate}
+use Rattle.gb_abs.specs.Below.gb_vals.Bits.{may_have_bit}
 use Rattle.gb_abs.specs.Operations.{core_end, with_core}
 use Rattle.gb_calls.specs.Calls.{callee_of}
 

@@ -1,3 +1,4 @@
 pub mod Calls
 pub mod Interrupts
 pub mod Sound
+pub mod Below

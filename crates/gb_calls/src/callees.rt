@@ -6,7 +6,7 @@ ghost use Rattle.gb_calls.specs.Calls as Calls;
 use crate::entering::enter;
 use gb_abs::covering::covers;
 use gb_cert::{Cert, ProcedureRef};
-use gb_states::types::Abs;
+use gb_domain::types::Abs;
 
 /// Whether a procedure begins at the address, in a state that stands for these. The state is decoded only where
 /// the address is right.

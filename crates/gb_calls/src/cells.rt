@@ -7,7 +7,7 @@ ghost use Rattle.gb_calls.specs.Calls as Calls;
 use crate::entering::cell_without_origin;
 use arrayvec::ArrayVec;
 use gb_abs::span::Span;
-use gb_states::types::{CELLS, Cell, Range};
+use gb_domain::types::{CELLS, Cell, Range};
 
 fn is_in_ranges(ranges: &[Range], cell: &Cell) -> bool
     ensures { result ≡ Calls.is_in_ranges ranges.now cell.now }

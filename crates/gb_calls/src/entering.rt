@@ -5,9 +5,9 @@ ghost use Rattle.gb_calls.specs.Calls as Calls;
 ghost use Rattle.gb_calls.specs.Sound.{IsSoundEntering};
 
 use arrayvec::ArrayVec;
+use gb_domain::types::{Abs, Cell, Core, Ctl, Flg, Origin, Val};
 use gb_ops::op::Register;
 use gb_ops::registers::Registers;
-use gb_states::types::{Abs, Cell, Core, Ctl, Flg, Origin, Val};
 
 /// The value, a copy of what this held at entry.
 pub(crate) fn own(origin: Origin, val: Val) -> Val

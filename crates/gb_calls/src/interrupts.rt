@@ -4,10 +4,10 @@ ghost use Rattle.std.specs.Prelude.{◌≡◌, ◌<◌};
 ghost use Rattle.gb_calls.specs.Interrupts as Interrupts;
 
 use crate::callees::callee;
+use gb_abs::may_have_bit;
 use gb_abs::operations::end;
 use gb_cert::Cert;
-use gb_states::types::{Abs, Core, ImeSet};
-use gb_vals::bits::may_have_bit;
+use gb_domain::types::{Abs, Core, ImeSet};
 
 /// The M-cycles of a dispatch (Interrupts: interrupt handling).
 const DISPATCH: u8 = 5;

@@ -17,3 +17,6 @@ pub mod entering;
 pub mod interrupts;
 pub mod ranges;
 pub mod resuming;
+
+// What lies below, for the crates above.
+pub use gb_cert::{Cert, Found, NodeRef, ProcedureRef};

@@ -8,9 +8,9 @@ use crate::cells::cells_back;
 use crate::entering::without_origin;
 use arrayvec::ArrayVec;
 use gb_abs::covering::covers_origin;
+use gb_domain::types::{Abs, Core, Origin, Range, Val};
 use gb_ops::op::Register;
 use gb_ops::registers::Registers;
-use gb_states::types::{Abs, Core, Origin, Range, Val};
 
 /// Whether a value is what this held at entry.
 fn is_own(origin: Origin, val: Val) -> bool

@@ -7,10 +7,11 @@ use Rattle.gb_fields.specs.declared.fault.CertFault.{CertFault}
 use Rattle.gb_fields.specs.declared.fault.CertFault.TheVariants as fault
 use Rattle.gb_fields.specs.declared.head.Head.{Head}
 use Rattle.gb_fields.specs.Limits.{procedure_limit, node_limit}
-use Rattle.gb_states.specs.Types.{ProcedureParts, Node}
-use Rattle.gb_states.specs.Certificate.{Certificate}
+use Rattle.gb_domain.specs.Types.{ProcedureParts, Node}
+use Rattle.gb_domain.specs.Certificate.{Certificate}
 use Rattle.gb_fields.specs.Format.{Read, go_on, both, checked, followed, ended, byte}
-use Rattle.gb_states.specs.Rules.{IsRegion, IsProcedure, IsNode, IsCertificate, is_area, is_after, is_version, key}
+use Rattle.gb_domain.specs.Areas.{IsRegion, is_area}
+use Rattle.gb_states.specs.Rules.{IsProcedure, IsNode, IsCertificate, is_after, is_version, key}
 use Rattle.gb_fields.specs.Reading.{word, is_between, node_number, count_within, is_magic, magic_at, is_region, to_region, region_at, is_any, to_head, version_at, node_count_at, head_at}
 use Rattle.gb_states.specs.Reading.{procedure_at, node_at, procedures_at, nodes_at, have_entries_in, to_certificate, certificate_at, read_certificate}
 use Rattle.gb_states.specs.Spelling as spelled

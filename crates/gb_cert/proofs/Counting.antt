@@ -4,7 +4,7 @@ use Rattle.std.specs.Prelude.{min}
 use Rattle.std.proofs.Math.Nat.{min-le_left}
 use Rattle.std.proofs.lemmas.List.{length-map}
 use Rattle.gb_rows.specs.Rows.{AskedAtMost}
-use Rattle.gb_states.specs.Types.{Node}
+use Rattle.gb_domain.specs.Types.{Node}
 use Rattle.gb_states.specs.Rules.{key}
 
 -- the count, where so many at most were asked for among the nodes

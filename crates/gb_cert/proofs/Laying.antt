@@ -7,10 +7,11 @@ use Rattle.gb_fields.specs.declared.fault.CertFault.{CertFault}
 use Rattle.gb_fields.specs.declared.fault.CertFault.TheVariants as fault
 use Rattle.gb_fields.specs.declared.head.Head.{Head}
 use Rattle.gb_fields.specs.Limits.{node_limit}
-use Rattle.gb_states.specs.Types.{ProcedureParts, Node}
-use Rattle.gb_states.specs.Certificate.{Certificate}
+use Rattle.gb_domain.specs.Types.{ProcedureParts, Node}
+use Rattle.gb_domain.specs.Certificate.{Certificate}
 use Rattle.gb_fields.specs.Format.{go_on, if_passes, ended}
-use Rattle.gb_states.specs.Rules.{IsChain, IsProcedure, is_after, have_entries}
+use Rattle.gb_domain.specs.Rules.{IsChain}
+use Rattle.gb_states.specs.Rules.{IsProcedure, is_after, have_entries}
 use Rattle.gb_fields.specs.Reading.{head_at}
 use Rattle.gb_states.specs.Reading.{procedures_at, nodes_at, to_certificate, certificate_at, read_certificate}
 use Rattle.gb_states.specs.Spelling as spelled

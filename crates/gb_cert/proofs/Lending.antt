@@ -7,16 +7,17 @@ use Rattle.std.proofs.lemmas.List.Concat.{flat_map-cons}
 use Rattle.std.proofs.Math.Seq.{drop-append_seam}
 use Rattle.gb_ops.specs.declared.machine.Region.{Region}
 use Rattle.gb_fields.specs.declared.fault.CertFault.{CertFault}
-use Rattle.gb_states.specs.declared.types.Core.{Core}
-use Rattle.gb_states.specs.declared.types.Item.{Item}
-use Rattle.gb_states.specs.declared.types.Cell.{Cell}
+use Rattle.gb_domain.specs.declared.types.Core.{Core}
+use Rattle.gb_domain.specs.declared.types.Item.{Item}
+use Rattle.gb_domain.specs.declared.types.Cell.{Cell}
 use Rattle.gb_states.specs.declared.role.Role.{Role}
 use Rattle.gb_states.specs.declared.role.Role.TheVariants as role
-use Rattle.gb_states.specs.Types.{AbsState, ProcedureParts, Node, state_of}
-use Rattle.gb_states.specs.Certificate.{Certificate}
+use Rattle.gb_domain.specs.Types.{AbsState, ProcedureParts, Node, state_of}
+use Rattle.gb_domain.specs.Certificate.{Certificate}
 use Rattle.gb_fields.specs.Format.{Read, go_on, both, byte}
 use Rattle.gb_fields.specs.Limits.{node_limit}
-use Rattle.gb_states.specs.Rules.{IsChain, IsState, IsProcedure, IsNode, IsCertificate, is_after, is_from, key, role_of}
+use Rattle.gb_domain.specs.Rules.{IsChain}
+use Rattle.gb_states.specs.Rules.{IsState, IsProcedure, IsNode, IsCertificate, is_after, is_from, key, role_of}
 use Rattle.gb_rows.specs.Rows.{is_before, AreInOrder}
 use Rattle.gb_fields.specs.Reading.{word, node_number}
 use Rattle.gb_states.specs.Reading.{core_at, ranges_at, exit_at}

@@ -6,3 +6,4 @@ pub mod Laying
 pub mod Lending
 pub mod Placing
 pub mod Skipping
+pub mod Written

@@ -2,10 +2,10 @@
 use Rattle.std.proofs.Common.{◌≡◌, ℕ, suc, ◌-◌, ◌+◌, ◌≤◌, ◌<◌, Bool, true, false, List, ◌∷◌, Some, Result, Ok, Err, refl, sym, ◌∙◌, arith}
 use Rattle.gb_ops.specs.declared.machine.Region.{Region}
 use Rattle.gb_fields.specs.declared.fault.CertFault.{CertFault}
-use Rattle.gb_states.specs.declared.types.Core.{Core}
+use Rattle.gb_domain.specs.declared.types.Core.{Core}
 use Rattle.gb_states.specs.declared.role.Role.{Role}
 use Rattle.gb_states.specs.declared.role.Role.TheVariants as role
-use Rattle.gb_states.specs.Types.{AbsState, Node}
+use Rattle.gb_domain.specs.Types.{AbsState, Node}
 use Rattle.gb_fields.specs.Format.{Read, go_on, followed, both, mapped, optional, several}
 use Rattle.gb_cert.specs.Skipping.{skipped, past}
 use Rattle.gb_states.specs.Rules.{role_of, key}

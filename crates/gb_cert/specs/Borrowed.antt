@@ -2,10 +2,10 @@
 use Rattle.std.specs.Prelude.{◌≡◌, ℕ, true, false, List, [], ◌++◌, Option, None, Result, Ok, Err}
 use Rattle.gb_ops.specs.declared.machine.Region.{Region}
 use Rattle.gb_fields.specs.declared.fault.CertFault.{CertFault}
-use Rattle.gb_states.specs.declared.types.Core.{Core}
-use Rattle.gb_states.specs.declared.types.Range.{Range}
+use Rattle.gb_domain.specs.declared.types.Core.{Core}
+use Rattle.gb_domain.specs.declared.types.Range.{Range}
 use Rattle.gb_states.specs.declared.role.Role.{Role}
-use Rattle.gb_states.specs.Types.{AbsState, ProcedureParts, any_val, state_of}
+use Rattle.gb_domain.specs.Types.{AbsState, ProcedureParts, any_val, state_of}
 use Rattle.gb_fields.specs.Format.{Read, both}
 use Rattle.gb_states.specs.Rules.{IsState}
 use Rattle.gb_fields.specs.Reading.{word}

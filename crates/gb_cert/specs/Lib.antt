@@ -1,3 +1,5 @@
 pub mod Borrowed
 pub mod Places
 pub mod Skipping
+pub mod Written
+pub mod Below

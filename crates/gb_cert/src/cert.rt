@@ -25,7 +25,7 @@ pub struct Cert<'a> {
 }
 
 impl<'a> Model for Cert<'a> {
-    ghost use Rattle.gb_states.specs.Certificate.{Certificate};
+    ghost use Rattle.gb_domain.specs.Certificate.{Certificate};
 
     ghost Value = { Certificate };
 

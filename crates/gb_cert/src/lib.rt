@@ -2,7 +2,8 @@
 //! field and keeps where each node stands; a `Cert` then lends its nodes and procedures. The key
 //! contract is `Cert::parse`: bytes are accepted exactly where they spell a certificate
 //! (`specs/Rules.antt` and `specs/Spelling.antt` of `gb_states`), with the first fault else (its
-//! `specs/Reading.antt`).
+//! `specs/Reading.antt`). `write_certificate` gives the bytes of a certificate that is made up from plain
+//! values: the one spelling of these (`specs/Written.antt`), or the limit that they don't keep.
 //!
 //! To be read in this order: walk (passing over states, ranges, procedures and nodes, over the readers
 //! of `gb_states`), parse, then cert with node and procedure, and find.
@@ -13,7 +14,9 @@ mod find;
 mod node;
 mod parse;
 mod procedure;
+mod spelled;
 mod walk;
+mod writer;
 
 pub use cert::{Cert, encode};
 pub use find::Search;
@@ -22,3 +25,4 @@ pub use gb_rows::Found;
 pub use node::NodeRef;
 pub use parse::one_spelling;
 pub use procedure::ProcedureRef;
+pub use writer::{NodePlan, ProcedurePlan, Version, WriteFault, write_certificate};

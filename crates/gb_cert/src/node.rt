@@ -4,12 +4,12 @@ ghost use Rattle.std.specs.Prelude.{◌≡◌, false, []};
 ghost use Rattle.std.specs.List.{flat_map};
 ghost use Rattle.gb_states.specs.Spelling as spelled;
 
+use gb_domain::types::{Abs, Core};
 use gb_fields::numbers::{counted, from_place};
 use gb_ops::machine::Region;
 use gb_states::fields::{are_none, core_in};
 use gb_states::role::Role;
 use gb_states::states::state_at;
-use gb_states::types::{Abs, Core};
 use std::marker::Model;
 
 /// The bytes of a state before its items.
@@ -33,7 +33,7 @@ pub struct NodeRef<'a> {
 }
 
 impl<'a> Model for NodeRef<'a> {
-    ghost use Rattle.gb_states.specs.Types.{Node};
+    ghost use Rattle.gb_domain.specs.Types.{Node};
 
     ghost Value = { Node };
 

@@ -1,7 +1,7 @@
 //! Certificates from their bytes.
 
 ghost use Rattle.std.specs.Prelude.{◌≡◌, ◌≤◌, ℕ, List, IfOk, Ok};
-ghost use Rattle.gb_states.specs.Certificate.{Certificate};
+ghost use Rattle.gb_domain.specs.Certificate.{Certificate};
 ghost use Rattle.gb_fields.specs.Format.{GivesUnlessMemory};
 ghost use Rattle.gb_fields.specs.Limits.{node_limit};
 ghost use Rattle.gb_cert.specs.Places.{IsLeft, ArePlaced, FindsUnlessMemory, has_entry_at, have_entries_at};

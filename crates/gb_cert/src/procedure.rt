@@ -7,13 +7,13 @@ ghost use Rattle.gb_states.specs.Spelling as spelled;
 
 use crate::walk::{skip_exit, skip_ranges};
 use arrayvec::ArrayVec;
+use gb_domain::types::{Abs, Range};
 use gb_fields::CertFault;
 use gb_fields::numbers::word;
 use gb_fields::parts::returns_at;
 use gb_ops::machine::Region;
 use gb_states::role::Role;
 use gb_states::states::{ranges_at, state_at};
-use gb_states::types::{Abs, Range};
 use std::marker::Model;
 
 /// A procedure: where it begins, how many words of stack it needs, what it may write, and in
@@ -26,7 +26,7 @@ pub struct ProcedureRef<'a> {
 }
 
 impl<'a> Model for ProcedureRef<'a> {
-    ghost use Rattle.gb_states.specs.Types.{ProcedureParts};
+    ghost use Rattle.gb_domain.specs.Types.{ProcedureParts};
 
     ghost Value = { ProcedureParts };
 

@@ -4,7 +4,8 @@ ghost use Rattle.std.specs.Prelude.{◌≡◌, ◌≤◌};
 ghost use Rattle.gb_fields.specs.Format.{Gives, mapped, several};
 ghost use Rattle.gb_fields.specs.Limits.{item_limit, cell_limit, range_limit};
 ghost use Rattle.gb_cert.specs.Skipping.{skipped};
-ghost use Rattle.gb_states.specs.Rules.{after_cell, after_range, role_of, key};
+ghost use Rattle.gb_domain.specs.Rules.{after_cell};
+ghost use Rattle.gb_states.specs.Rules.{after_range, role_of, key};
 ghost use Rattle.gb_states.specs.Reading.{item_at, items_at, cell_at, cells_at, state_at, range_at, ranges_at, exit_at, procedure_at, node_at};
 
 use gb_fields::CertFault;

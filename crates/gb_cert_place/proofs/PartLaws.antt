@@ -1,13 +1,14 @@
 -- Where a walk over a state, a procedure or a node stops, by its parts.
 use Rattle.std.proofs.Common.{◌≡◌, ℕ, Bool, true, List, Some, Ok, ◌∙◌, ap, subst}
 use Rattle.gb_ops.specs.declared.machine.Region.{Region}
-use Rattle.gb_states.specs.declared.types.Core.{Core}
+use Rattle.gb_domain.specs.declared.types.Core.{Core}
 use Rattle.gb_states.specs.declared.role.Role.{Role}
 use Rattle.gb_states.specs.declared.role.Role.TheVariants as role
 use Rattle.gb_fields.specs.Limits.{range_limit, cell_limit}
 use Rattle.gb_fields.specs.Format.{Read, followed, both, mapped, optional, several}
 use Rattle.gb_cert.specs.Skipping.{skipped, past}
-use Rattle.gb_states.specs.Rules.{role_of, key, after_cell, after_range}
+use Rattle.gb_domain.specs.Rules.{after_cell}
+use Rattle.gb_states.specs.Rules.{role_of, key, after_range}
 use Rattle.gb_fields.specs.Reading.{count_within, word_between, returns_at, entry_at, need_at, key_at}
 use Rattle.gb_states.specs.Reading.{core_at, item_at, items_at, cell_at, cells_at, to_state, state_at, range_at, ranges_at, exit_at, to_procedure, procedure_at, to_node, node_at}
 use Rattle.gb_cert.proofs.Skipping.{skipped-mapped, core_then, exit_then, no_exit, need_then, bank_then}

@@ -1,6 +1,6 @@
 -- A walk that stops in a part of a certificate stops where that part stands.
 use Rattle.std.proofs.Common.{◌≡◌, ℕ, ◌+◌, ◌-◌, Bool, false, List, length, Ok, refl, sym, subst}
-use Rattle.gb_states.specs.Types.{ProcedureParts}
+use Rattle.gb_domain.specs.Types.{ProcedureParts}
 use Rattle.gb_fields.specs.Format.{Read}
 use Rattle.gb_cert.specs.Skipping.{skipped}
 use Rattle.gb_states.specs.Rules.{is_after}

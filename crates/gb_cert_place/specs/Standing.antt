@@ -2,14 +2,15 @@
 -- is one of a part, a block of it, and the bytes from that block on.
 use Rattle.std.specs.Prelude.{◌≡◌, ℕ, ◌+◌, ◌<◌, Bool, true, List, Ok, slice_index_or}
 use Rattle.gb_ops.specs.declared.machine.Region.{Region}
-use Rattle.gb_states.specs.declared.types.Core.{Core}
+use Rattle.gb_domain.specs.declared.types.Core.{Core}
 use Rattle.gb_states.specs.declared.role.Role.{Role}
 use Rattle.gb_states.specs.declared.role.Role.TheVariants as role
 use Rattle.gb_fields.specs.declared.head.Head.{Head}
 use Rattle.gb_fields.specs.Limits.{range_limit, cell_limit}
 use Rattle.gb_fields.specs.Format.{Read, mapped}
 use Rattle.gb_cert.specs.Skipping.{skipped}
-use Rattle.gb_states.specs.Rules.{after_cell, after_range, role_of, is_after, key}
+use Rattle.gb_domain.specs.Rules.{after_cell}
+use Rattle.gb_states.specs.Rules.{after_range, role_of, is_after, key}
 use Rattle.gb_fields.specs.Reading.{head_at, entry_at, need_at, count_within, returns_at, key_at, word_between}
 use Rattle.gb_states.specs.Reading.{range_at, ranges_at, core_at, item_at, items_at, cell_at, procedure_at, procedures_at, node_at}
 use Rattle.gb_cert_place.specs.declared.block.Part.{Part}

@@ -3,8 +3,8 @@ use Rattle.std.specs.Prelude.{◌≡◌, ℕ, Bool, true, false, ◌-◌, ◌≤
 use Rattle.gb_fields.specs.declared.fault.CertFault.{CertFault}
 use Rattle.gb_fields.specs.declared.fault.CertFault.TheVariants as fault
 use Rattle.gb_fields.specs.declared.head.Head.{Head}
-use Rattle.gb_states.specs.Types.{ProcedureParts, Node}
-use Rattle.gb_states.specs.Certificate.{Certificate}
+use Rattle.gb_domain.specs.Types.{ProcedureParts, Node}
+use Rattle.gb_domain.specs.Certificate.{Certificate}
 use Rattle.gb_fields.specs.Format.{Read, followed, both}
 use Rattle.gb_fields.specs.Reading.{head_at}
 use Rattle.gb_states.specs.Reading.{procedures_at, nodes_at, read_certificate}

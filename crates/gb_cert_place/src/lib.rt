@@ -12,3 +12,7 @@ pub mod field;
 pub mod place;
 mod text;
 mod walk;
+
+// What lies below, for the crates above.
+pub use gb_cert::Cert;
+pub use gb_fields::CertFault;

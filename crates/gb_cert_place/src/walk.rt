@@ -2,7 +2,8 @@
 
 ghost use Rattle.std.specs.Prelude.{◌≡◌, slice_index_or, IfErr};
 ghost use Rattle.gb_fields.specs.Format.{mapped, several};
-ghost use Rattle.gb_states.specs.Rules.{after_cell, after_range, key};
+ghost use Rattle.gb_domain.specs.Rules.{after_cell};
+ghost use Rattle.gb_states.specs.Rules.{after_range, key};
 ghost use Rattle.gb_states.specs.Reading.{item_at, items_at, cell_at, cells_at, state_at, range_at, ranges_at, exit_at, procedure_at, node_at, procedures_at, nodes_at};
 ghost use Rattle.gb_cert_place.specs.declared.block.Part.TheVariants as the_part;
 ghost use Rattle.gb_cert_place.specs.Standing.{Of, AmongItems, InItems, AmongCells, InCells, InState, AmongRanges, InRanges, InExit, InProcedure, InProcedures, InNode, InNodes, InCertificate};

@@ -1,7 +1,7 @@
 //! Files of symbols, read whole, and certificates, written whole.
 
 use crate::messages::{PROGRAM, tell_written};
-use gb_files::{Trouble, read_file};
+use gb_command_line::{Trouble, read_file};
 use std::fs;
 use std::io::Input;
 use std::rt::Files;

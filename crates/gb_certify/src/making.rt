@@ -6,12 +6,8 @@ use crate::progress::Shown;
 use crate::words::Task;
 use gb_command_line::messages::{tell_output, verify};
 use gb_command_line::status::Status;
-use gb_files::Trouble;
-use gb_header::Rom;
-use gb_refine::{Limits, Made, make};
-use gb_reports::{Obstacle, Symbols, Told, obstacle_json};
-use gb_text::sink::Plain;
-use gb_verify::verify::{Outcome, verify_bytes};
+use gb_command_line::{Outcome, Plain, Rom, Trouble, verify_bytes};
+use gb_refine::{Limits, Made, Obstacle, Symbols, Told, make, obstacle_json};
 use std::io;
 use std::rt::Files;
 

@@ -1,8 +1,8 @@
 //! What the program alone says on standard error.
 
+use gb_command_line::shown_name;
 use gb_command_line::status::Status;
-use gb_files::shown_name;
-use gb_reports::SymbolFault;
+use gb_refine::SymbolFault;
 use std::io;
 
 /// The program's name, in what it says to a person.

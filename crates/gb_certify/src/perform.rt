@@ -7,8 +7,8 @@ use crate::reading::{explain_file, list_file};
 use crate::words::{Task, Work, read_words};
 use gb_command_line::status::Status;
 use gb_command_line::words::{explain, tell_words, words_of};
-use gb_files::{Trouble, is_input, read_cartridge};
-use gb_reports::Symbols;
+use gb_command_line::{Trouble, is_input, read_cartridge};
+use gb_refine::Symbols;
 use std::io::Input;
 use std::rt::{Env, Files};
 

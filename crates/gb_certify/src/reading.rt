@@ -3,14 +3,10 @@
 use crate::making::{made, tell_obstacles};
 use crate::messages::PROGRAM;
 use crate::words::Task;
-use gb_cert::Cert;
 use gb_command_line::messages::{tell_fault, tell_output, verify};
 use gb_command_line::status::Status;
-use gb_explain::explain;
-use gb_files::{Trouble, read_certificate, shown_name};
-use gb_header::Rom;
-use gb_refine::Made;
-use gb_reports::{Listing, Symbols};
+use gb_command_line::{Cert, Rom, Trouble, read_certificate, shown_name};
+use gb_refine::{Listing, Made, Symbols, explain};
 use std::io::Input;
 use std::rt::Files;
 

@@ -7,12 +7,12 @@ use Rattle.gb_ops.specs.Memory.{is_free, byte_at}
 use Rattle.gb_ops.specs.Machine.{read_at, read_by}
 use Rattle.gb_ops.specs.Faults.{no_faults, fetch_faults, is_code_address}
 use Rattle.gb_ops.specs.Play.{MState, within}
-use Rattle.gb_states.specs.declared.types.Core.{Core}
-use Rattle.gb_states.specs.declared.types.Val.{Val}
-use Rattle.gb_states.specs.Types.{AbsState}
-use Rattle.gb_states.specs.Rules.{IsVal}
-use Rattle.gb_abs.specs.Span.{one, is_one}
-use Rattle.gb_abs.specs.Meaning.{Holds, Means}
+use Rattle.gb_abs_memory.specs.Below.gb_domain.declared.types.Core.{Core}
+use Rattle.gb_abs_memory.specs.Below.gb_domain.declared.types.Val.{Val}
+use Rattle.gb_abs_memory.specs.Below.gb_domain.Types.{AbsState}
+use Rattle.gb_abs_memory.specs.Below.gb_domain.Rules.{IsVal}
+use Rattle.gb_abs_memory.specs.Below.gb_abs.Span.{one, is_one}
+use Rattle.gb_abs_memory.specs.Below.gb_abs.Meaning.{Holds, Means}
 use Rattle.gb_abs_memory.specs.Access.{val_at, loaded_val, meets_closed_ram, is_limited}
 use Rattle.gb_abs_memory.specs.Sound.{IsRom, IsLoaded, view}
 use Rattle.gb_abs_memory.proofs.LoadLaws.{IsLoaded-loaded_val}

@@ -12,12 +12,12 @@ use Rattle.gb_ops.specs.Memory.{View, is_free, byte_at}
 use Rattle.gb_ops.specs.Machine.{Reading, read_at, read_where, fetched, length_of, mark_of}
 use Rattle.gb_ops.specs.Faults.{no_faults, either_faults, fetch_faults, all_fetch_faults, fetch_addresses, address_where, code_place}
 use Rattle.gb_ops.specs.Play.{MState, within}
-use Rattle.gb_states.specs.declared.types.Core.{Core}
-use Rattle.gb_states.specs.declared.types.Ctl.{Ctl}
-use Rattle.gb_states.specs.Types.{AbsState, Node}
-use Rattle.gb_states.specs.Rules.{IsVal}
-use Rattle.gb_abs.specs.Span.{one, is_inside}
-use Rattle.gb_abs.specs.Meaning.{Means}
+use Rattle.gb_abs_memory.specs.Below.gb_domain.declared.types.Core.{Core}
+use Rattle.gb_abs_memory.specs.Below.gb_domain.declared.types.Ctl.{Ctl}
+use Rattle.gb_abs_memory.specs.Below.gb_domain.Types.{AbsState, Node}
+use Rattle.gb_abs_memory.specs.Below.gb_domain.Rules.{IsVal}
+use Rattle.gb_abs_memory.specs.Below.gb_abs.Span.{one, is_inside}
+use Rattle.gb_abs_memory.specs.Below.gb_abs.Meaning.{Means}
 use Rattle.gb_abs_memory.specs.Access.{is_limited}
 use Rattle.gb_abs_memory.specs.Shown.{known_bank}
 use Rattle.gb_abs_memory.specs.Sound.{IsRom}

@@ -1,2 +1,3 @@
 pub mod ByteLaws
 pub mod CodeLaws
+pub mod Below

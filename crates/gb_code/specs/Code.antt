@@ -3,8 +3,8 @@ use Rattle.std.specs.Prelude.{ℕ, ◌+◌, ◌%◌, Bool, true, false, not, ◌
 use Rattle.gb_ops.specs.Cartridge.{is_within}
 use Rattle.gb_ops.specs.Machine.{length_of}
 use Rattle.gb_ops.specs.Faults.{address_where, is_code_address}
-use Rattle.gb_states.specs.declared.types.Val.{Val}
-use Rattle.gb_states.specs.Types.{AbsState}
+use Rattle.gb_abs_memory.specs.Below.gb_domain.declared.types.Val.{Val}
+use Rattle.gb_abs_memory.specs.Below.gb_domain.Types.{AbsState}
 use Rattle.gb_abs_memory.specs.Access.{val_at}
 
 -- ---- areas

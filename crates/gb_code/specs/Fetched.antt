@@ -5,7 +5,7 @@ use Rattle.gb_ops.specs.Memory.{is_free, byte_at}
 use Rattle.gb_ops.specs.Machine.{fetched}
 use Rattle.gb_ops.specs.Faults.{no_faults, fetch_faults, all_fetch_faults, fetch_addresses, code_place}
 use Rattle.gb_ops.specs.Play.{MState, within}
-use Rattle.gb_states.specs.Types.{Node}
+use Rattle.gb_abs_memory.specs.Below.gb_domain.Types.{Node}
 use Rattle.gb_code.specs.Places.{IsCertifiedBy}
 
 -- the byte at PC, as the machine fetches it: it is read in any case, without a fault, from a place that the node certifies

@@ -1,3 +1,4 @@
 pub mod Code
 pub mod Fetched
 pub mod Places
+pub mod Below

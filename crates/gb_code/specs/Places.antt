@@ -3,8 +3,8 @@ use Rattle.std.specs.Prelude.{◌≡◌, ℕ, List, Some}
 use Rattle.std.specs.List.{Contains}
 use Rattle.gb_ops.specs.declared.machine.CodePlace.{CodePlace}
 use Rattle.gb_ops.specs.Machine.{length_of}
-use Rattle.gb_states.specs.Types.{Node}
-use Rattle.gb_states.specs.Certificate.{Certificate}
+use Rattle.gb_abs_memory.specs.Below.gb_domain.Types.{Node}
+use Rattle.gb_abs_memory.specs.Below.gb_domain.Certificate.{Certificate}
 use Rattle.gb_code.specs.Code.{known_byte, addresses_of}
 
 -- a node has the place's bank, and one of its instruction's bytes stands at the place's address

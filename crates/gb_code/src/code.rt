@@ -5,9 +5,7 @@ ghost use Rattle.gb_ops.specs.Faults.{is_code_address};
 ghost use Rattle.gb_code.specs.Code.{area_end, leaves_area, is_other_bank, lies_in_high_ram, single_of, known_byte, known_where, known_bytes};
 
 use gb_abs_memory::load::val_at;
-use gb_effects::advance::length_of;
-use gb_header::Rom;
-use gb_states::types::{Abs, Val};
+use gb_abs_memory::{Abs, Rom, Val, length_of};
 
 /// The address behind the area of an address, where code may lie: the two halves of ROM, work RAM,
 /// high RAM (Memory map). None elsewhere.

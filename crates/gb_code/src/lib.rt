@@ -6,3 +6,9 @@
 #![tactic(auto)]
 
 pub mod code;
+
+// What lies below, for the crates above.
+pub use gb_abs_memory::Rom;
+pub use gb_abs_memory::load::holds_bytes;
+pub use gb_abs_memory::refusals::{is_limited, meets_closed_ram};
+pub use gb_abs_memory::shown::known_bank;

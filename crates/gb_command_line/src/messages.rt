@@ -6,7 +6,7 @@ ghost use Rattle.gb_command_line.specs.declared.status.Status.TheVariants as sta
 use crate::status::{Status, verify_status};
 use gb_cert_place::place::{Sought, fault_place};
 use gb_files::{Trouble, shown_name};
-use gb_text::sink::Plain;
+use gb_verify::Plain;
 use gb_verify::verify::verify_bytes;
 use std::io;
 

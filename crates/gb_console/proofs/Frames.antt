@@ -8,8 +8,8 @@ use Rattle.gb_ops.specs.declared.machine.Event.TheVariants as event
 use Rattle.gb_ops.specs.Machine.{BusState, waited, is_running, is_possible, happened, only}
 use Rattle.gb_ops.specs.Machine as Machine
 use Rattle.gb_ops.specs.Accesses.{event_cycles}
-use Rattle.gb_timer.specs.declared.irqs.Keys.{Keys}
-use Rattle.gb_bus.specs.Contents.{Contents}
+use Rattle.gb_cpu.specs.Below.gb_timer.declared.irqs.Keys.{Keys}
+use Rattle.gb_cpu.specs.Below.gb_bus.Contents.{Contents}
 use Rattle.gb_cpu.specs.declared.step.Cpu.{Cpu}
 use Rattle.gb_cpu.specs.Choice.{is_idle}
 use Rattle.gb_console.specs.declared.frame.Ending.{Ending}

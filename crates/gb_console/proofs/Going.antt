@@ -12,18 +12,18 @@ use Rattle.gb_ops.specs.Play.{MState, within, outside}
 use Rattle.gb_ops.specs.Play as Play
 use Rattle.gb_ops.specs.declared.registers.Ime.TheVariants as ime
 use Rattle.gb_ops.specs.declared.registers.Processor.{Processor}
-use Rattle.gb_mbc.specs.Clock.{ClockState, seconds_later}
-use Rattle.gb_mbc.specs.Clock as Clock
-use Rattle.gb_timer.specs.declared.irqs.Keys.{Keys}
-use Rattle.gb_timer.specs.Interrupts.{next_irq, highest_pending}
-use Rattle.gb_timer.specs.Joypad.{Pad, key_bits, is_requested}
-use Rattle.gb_timer.proofs.Holding.{unchanged}
-use Rattle.gb_abs_memory.specs.Sound.{IsRom}
-use Rattle.gb_bus.specs.Contents.{Contents}
-use Rattle.gb_bus.specs.Registers.{with_pad}
-use Rattle.gb_bus.specs.Screen.{pictured}
-use Rattle.gb_bus.specs.Access.{IsAccessed, shared, advanced}
-use Rattle.gb_bus.specs.Waiting.{Waits}
+use Rattle.gb_cpu.specs.Below.gb_mbc.Clock.{ClockState, seconds_later}
+use Rattle.gb_cpu.specs.Below.gb_mbc.Clock as Clock
+use Rattle.gb_cpu.specs.Below.gb_timer.declared.irqs.Keys.{Keys}
+use Rattle.gb_cpu.specs.Below.gb_timer.Interrupts.{next_irq, highest_pending}
+use Rattle.gb_cpu.specs.Below.gb_timer.Joypad.{Pad, key_bits, is_requested}
+use Rattle.gb_cpu.proofs.Below.gb_timer_laws.Holding.{unchanged}
+use Rattle.gb_verify.specs.Below.gb_abs_memory.Sound.{IsRom}
+use Rattle.gb_cpu.specs.Below.gb_bus.Contents.{Contents}
+use Rattle.gb_cpu.specs.Below.gb_bus.Registers.{with_pad}
+use Rattle.gb_cpu.specs.Below.gb_bus.Screen.{pictured}
+use Rattle.gb_cpu.specs.Below.gb_bus.Access.{IsAccessed, shared, advanced}
+use Rattle.gb_cpu.specs.Below.gb_bus.Waiting.{Waits}
 use Rattle.gb_cpu.specs.declared.step.Cpu.{Cpu}
 use Rattle.gb_cpu.specs.Choice.{IsChoice, is_idle}
 use Rattle.gb_cpu.specs.Run as Run

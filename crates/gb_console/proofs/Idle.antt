@@ -10,8 +10,8 @@ use Rattle.gb_ops.specs.Accesses.{accesses_of, event_cycles}
 use Rattle.gb_ops.specs.Play.{MState, within, outside}
 use Rattle.gb_ops.specs.Play as Play
 use Rattle.gb_ops.specs.declared.registers.Processor.{Processor}
-use Rattle.gb_timer.specs.declared.irqs.Keys.{Keys}
-use Rattle.gb_bus.specs.Contents.{Contents}
+use Rattle.gb_cpu.specs.Below.gb_timer.declared.irqs.Keys.{Keys}
+use Rattle.gb_cpu.specs.Below.gb_bus.Contents.{Contents}
 use Rattle.gb_cpu.specs.declared.step.Cpu.{Cpu}
 use Rattle.gb_cpu.specs.Choice.{IsChoice, is_idle}
 use Rattle.gb_console.specs.Console.{ConsoleState, IsConsoleStep, IsChosen, interrupt, taken, rom_of, machine_of}

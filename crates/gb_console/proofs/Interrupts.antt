@@ -16,10 +16,10 @@ use Rattle.gb_cpu.specs.declared.step.Cpu.{Cpu}
 use Rattle.gb_cpu.specs.Choice.{is_idle}
 use Rattle.gb_console.specs.Console.{IsChosen, interrupt}
 use Rattle.gb_cpu.specs.Step.{state, IsDispatchable}
-use Rattle.gb_timer.specs.Bits.{is_set}
-use Rattle.gb_timer.specs.Interrupts.{highest_pending, next_irq}
-use Rattle.gb_bus.specs.Contents.{Contents}
-use Rattle.gb_bus.specs.Access.{shared}
+use Rattle.gb_cpu.specs.Below.gb_timer.Bits.{is_set}
+use Rattle.gb_cpu.specs.Below.gb_timer.Interrupts.{highest_pending, next_irq}
+use Rattle.gb_cpu.specs.Below.gb_bus.Contents.{Contents}
+use Rattle.gb_cpu.specs.Below.gb_bus.Access.{shared}
 
 times : (b m : ℕ) → b < 2 → 0 < m → not (b * m == 0) ≡ (b == 1)
 times b m h p = grind (arith, nat_tests)

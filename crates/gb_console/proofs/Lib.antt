@@ -7,3 +7,4 @@ pub mod Frames
 pub mod Going
 pub mod Running
 pub mod Whole
+pub mod Below

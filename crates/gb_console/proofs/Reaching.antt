@@ -6,11 +6,11 @@ use Rattle.gb_ops.specs.declared.machine.Region.{Region}
 use Rattle.gb_ops.specs.declared.machine.Event.{Event}
 use Rattle.gb_ops.specs.Play.{MState, IsStart, play, next, processor_at_power_up}
 use Rattle.gb_ops.specs.declared.registers.Processor.{Processor}
-use Rattle.gb_ppu.specs.Picture.{frame_cycles}
-use Rattle.gb_bus.specs.Contents.{Contents}
-use Rattle.gb_bus.specs.PowerUp as PowerUp
-use Rattle.gb_bus.specs.PowerUp.{zeros}
-use Rattle.gb_abs_memory.specs.Sound.{IsRom}
+use Rattle.gb_cpu.specs.Below.gb_ppu.Picture.{frame_cycles}
+use Rattle.gb_cpu.specs.Below.gb_bus.Contents.{Contents}
+use Rattle.gb_cpu.specs.Below.gb_bus.PowerUp as PowerUp
+use Rattle.gb_cpu.specs.Below.gb_bus.PowerUp.{zeros}
+use Rattle.gb_verify.specs.Below.gb_abs_memory.Sound.{IsRom}
 use Rattle.gb_console.specs.Console.{IsReachable, at_power_up, machine_of}
 
 play_more : (rom : List ℕ) (region : Region) (events : List Event) (s : MState) (e : Event) → (play rom region s (events ++ e ∷ [])).state ≡ next rom (play rom region s events).state e

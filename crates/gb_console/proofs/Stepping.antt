@@ -6,14 +6,14 @@ use Rattle.gb_ops.specs.Accesses.{Joined, accesses_of, event_cycles}
 use Rattle.gb_ops.specs.Machine.{BusState}
 use Rattle.gb_ops.specs.Play.{IsStep, MState, outside}
 use Rattle.gb_ops.specs.declared.registers.Processor.{Processor}
-use Rattle.gb_timer.specs.declared.irqs.Keys.{Keys}
-use Rattle.gb_ppu.specs.Picture.{frame_cycles}
-use Rattle.gb_bus.specs.Contents.{Contents}
-use Rattle.gb_bus.specs.Access.{IsAccessed}
+use Rattle.gb_cpu.specs.Below.gb_timer.declared.irqs.Keys.{Keys}
+use Rattle.gb_cpu.specs.Below.gb_ppu.Picture.{frame_cycles}
+use Rattle.gb_cpu.specs.Below.gb_bus.Contents.{Contents}
+use Rattle.gb_cpu.specs.Below.gb_bus.Access.{IsAccessed}
 use Rattle.gb_cpu.specs.Step.{state}
-use Rattle.gb_accesses.specs.Access.{HasFreeBytes}
+use Rattle.gb_cpu.specs.Below.gb_accesses.Access.{HasFreeBytes}
 use Rattle.gb_cpu.specs.Choice.{is_idle, waits_after}
-use Rattle.gb_abs_memory.specs.Sound.{IsRom}
+use Rattle.gb_verify.specs.Below.gb_abs_memory.Sound.{IsRom}
 use Rattle.gb_console.specs.Console.{ConsoleState, IsConsoleStep, IsChosen, IsReachable, interrupt, taken, told, shown}
 use Rattle.gb_console.proofs.Reaching.{next_reachable}
 

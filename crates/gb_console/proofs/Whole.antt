@@ -1,8 +1,8 @@
 -- Where some certificate is right for the cartridge, each frame is whole.
 use Rattle.std.proofs.Common.{ℕ, zero, suc, ◌≡◌, Bool, true, false, refl, ◌∙◌, List, Some}
 use Rattle.gb_ops.specs.Play.{MState}
-use Rattle.gb_timer.specs.declared.irqs.Keys.{Keys}
-use Rattle.gb_abs_memory.specs.Sound.{IsRom}
+use Rattle.gb_cpu.specs.Below.gb_timer.declared.irqs.Keys.{Keys}
+use Rattle.gb_verify.specs.Below.gb_abs_memory.Sound.{IsRom}
 use Rattle.gb_verify.specs.Headline.{IsSafe}
 use Rattle.gb_verify.proofs.RunLaws.{IsSafe-right}
 use Rattle.gb_console.specs.declared.frame.Ending.{Ending}

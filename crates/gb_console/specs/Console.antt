@@ -9,18 +9,18 @@ use Rattle.gb_ops.specs.Machine.{BusState, is_ime}
 use Rattle.gb_ops.specs.Accesses.{Joined, accesses_of, event_cycles}
 use Rattle.gb_ops.specs.Play.{MState, IsReached, processor_at_power_up}
 use Rattle.gb_ops.specs.Play as Play
-use Rattle.gb_mbc.specs.Clock as Clock
-use Rattle.gb_timer.specs.declared.irqs.Keys.{Keys}
-use Rattle.gb_timer.specs.Joypad.{key_bits}
-use Rattle.gb_timer.specs.Interrupts.{next_irq}
-use Rattle.gb_ppu.specs.Picture.{frame_cycles}
-use Rattle.gb_bus.specs.Contents.{Contents}
-use Rattle.gb_bus.specs.Registers.{with_pad}
-use Rattle.gb_bus.specs.PowerUp as PowerUp
-use Rattle.gb_bus.specs.Access.{IsAccessed, shared}
+use Rattle.gb_cpu.specs.Below.gb_mbc.Clock as Clock
+use Rattle.gb_cpu.specs.Below.gb_timer.declared.irqs.Keys.{Keys}
+use Rattle.gb_cpu.specs.Below.gb_timer.Joypad.{key_bits}
+use Rattle.gb_cpu.specs.Below.gb_timer.Interrupts.{next_irq}
+use Rattle.gb_cpu.specs.Below.gb_ppu.Picture.{frame_cycles}
+use Rattle.gb_cpu.specs.Below.gb_bus.Contents.{Contents}
+use Rattle.gb_cpu.specs.Below.gb_bus.Registers.{with_pad}
+use Rattle.gb_cpu.specs.Below.gb_bus.PowerUp as PowerUp
+use Rattle.gb_cpu.specs.Below.gb_bus.Access.{IsAccessed, shared}
 use Rattle.gb_cpu.specs.declared.step.Cpu.{Cpu}
 use Rattle.gb_cpu.specs.Step.{state}
-use Rattle.gb_accesses.specs.Access.{HasFreeBytes}
+use Rattle.gb_cpu.specs.Below.gb_accesses.Access.{HasFreeBytes}
 use Rattle.gb_cpu.specs.Choice.{IsChoice, is_idle, waits_after}
 
 -- the processor and whether it waits, the memory, and the M-cycles since power-up, modulo a frame's

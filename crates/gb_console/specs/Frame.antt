@@ -3,10 +3,10 @@
 use Rattle.std.specs.Prelude.{◌≡◌, ℕ, zero, suc, ◌+◌, nat_le, Bool, true, false, Option, Some, None}
 use Rattle.gb_ops.specs.declared.machine.Event.{Event}
 use Rattle.gb_ops.specs.Accesses.{event_cycles}
-use Rattle.gb_timer.specs.declared.irqs.Keys.{Keys}
+use Rattle.gb_cpu.specs.Below.gb_timer.declared.irqs.Keys.{Keys}
 use Rattle.gb_console.specs.declared.frame.Ending.{Ending}
 use Rattle.gb_console.specs.declared.frame.Ending.TheVariants as ending
-use Rattle.gb_ppu.specs.Picture.{frame_cycles}
+use Rattle.gb_cpu.specs.Below.gb_ppu.Picture.{frame_cycles}
 use Rattle.gb_console.specs.Console.{ConsoleState, IsConsoleStep, shown}
 
 -- how a step ends a frame: locked and stopped win over whole

@@ -5,18 +5,17 @@ ghost use Rattle.gb_ops.specs.Accesses.{Joined, accesses_of, event_cycles};
 ghost use Rattle.gb_ops.specs.Machine.{is_ime};
 ghost use Rattle.gb_ops.specs.Play.{IsStep};
 ghost use Rattle.gb_ops.specs.declared.registers.Ime.TheVariants as ime;
-ghost use Rattle.gb_timer.specs.Interrupts.{next_irq};
-ghost use Rattle.gb_bus.specs.Access.{IsAccessed};
-ghost use Rattle.gb_accesses.specs.Access.{HasFreeBytes};
+ghost use Rattle.gb_cpu.specs.Below.gb_timer.Interrupts.{next_irq};
+ghost use Rattle.gb_cpu.specs.Below.gb_bus.Access.{IsAccessed};
+ghost use Rattle.gb_cpu.specs.Below.gb_accesses.Access.{HasFreeBytes};
 ghost use Rattle.gb_cpu.specs.Choice.{waits_after, is_idle};
 ghost use Rattle.gb_cpu.specs.Step.{state, IsDispatchable};
 ghost use Rattle.gb_console.specs.Console.{IsChosen, interrupt, told};
 
 use bitflags::Flags;
-use gb_bus::{Bus, Memory};
 use gb_cpu::step::{Cpu, Stepped};
+use gb_cpu::{Bus, Irqs, Keys, Memory, next_irq};
 use gb_ops::registers::Ime;
-use gb_timer::irqs::{Irqs, Keys, next_irq};
 
 /// The keys that are held from now on, and so many seconds that passed.
 fn tell(memory: &mut Memory<'_>, keys: Keys, seconds: u32)

@@ -7,19 +7,15 @@ ghost use Rattle.gb_ops.specs.declared.machine.Event.TheVariants as event;
 ghost use Rattle.gb_cpu.specs.Choice.{is_idle};
 ghost use Rattle.gb_console.specs.Console.{IsConsoleStep, IsReachable, at_power_up, machine_of, rom_of, shown};
 ghost use Rattle.gb_console.specs.Frame.{HasGoneOn, IsSomeStep};
-ghost use Rattle.gb_ppu.specs.Picture.{frame_cycles};
-ghost use Rattle.gb_abs_memory.specs.Sound.{IsRom};
+ghost use Rattle.gb_cpu.specs.Below.gb_ppu.Picture.{frame_cycles};
+ghost use Rattle.gb_verify.specs.Below.gb_abs_memory.Sound.{IsRom};
 
 use crate::choice::{act, take};
-use gb_abs_memory::load::holds_bytes;
-use gb_bus::{Bus, Memory};
 use gb_cpu::step::{Cpu, Stepped};
-use gb_header::Rom;
+use gb_cpu::{Bus, FRAME_CYCLES, HEIGHT, Keys, Memory, WIDTH};
 use gb_ops::machine::Event;
 use gb_ops::registers::Processor;
-use gb_ppu::line::{HEIGHT, WIDTH};
-use gb_ppu::picture::FRAME_CYCLES;
-use gb_timer::irqs::Keys;
+use gb_verify::{Rom, holds_bytes};
 use std::alloc::{AllocError, Global};
 use std::marker::Model;
 
@@ -34,9 +30,9 @@ pub struct Console<'a> {
 
 impl<'a> Model for Console<'a> {
     ghost use Rattle.std.specs.Prelude.{◌≡◌, ◌<◌, false};
-    ghost use Rattle.gb_ppu.specs.Picture.{frame_cycles};
+    ghost use Rattle.gb_cpu.specs.Below.gb_ppu.Picture.{frame_cycles};
     ghost use Rattle.gb_console.specs.Console.{ConsoleState, IsReachable};
-    ghost use Rattle.gb_abs_memory.specs.Sound.{IsRom};
+    ghost use Rattle.gb_verify.specs.Below.gb_abs_memory.Sound.{IsRom};
 
     ghost Value = { ConsoleState };
 

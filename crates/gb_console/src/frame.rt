@@ -4,13 +4,12 @@ ghost use Rattle.std.specs.Prelude.{◌≡◌, ◌+◌, ◌<◌, nat_le, true, f
 ghost use Rattle.gb_cpu.specs.Choice.{is_idle};
 ghost use Rattle.gb_console.specs.Console.{rom_of};
 ghost use Rattle.gb_console.specs.Frame.{HasGone, IsFrame, IsFrameStep, ending_by, idle_ending};
-ghost use Rattle.gb_ppu.specs.Picture.{frame_cycles};
+ghost use Rattle.gb_cpu.specs.Below.gb_ppu.Picture.{frame_cycles};
 ghost use Rattle.gb_console.specs.Verified.{IsVerified};
 ghost use Rattle.gb_console.specs.declared.frame.Ending.TheVariants as ending;
 
 use crate::console::Console;
-use gb_ppu::picture::FRAME_CYCLES;
-use gb_timer::irqs::Keys;
+use gb_cpu::{FRAME_CYCLES, Keys};
 
 /// How a frame ended.
 #[derive(Clone, Copy, PartialEq, Eq)]

@@ -3,7 +3,7 @@
 ghost use Rattle.gb_console.specs.Run.{IsRun, StepsArePlayed};
 
 use crate::console::Console;
-use gb_timer::irqs::Keys;
+use gb_cpu::Keys;
 
 /// What one step takes.
 #[derive(Clone, Copy, PartialEq, Eq)]

@@ -2,3 +2,4 @@ pub mod Halting
 pub mod Kept
 pub mod Pending
 pub mod Running
+pub mod Below

@@ -9,3 +9,6 @@
 mod opcodes;
 mod power_up;
 pub mod step;
+
+// What lies below, for the crates above.
+pub use gb_accesses::{Bus, FRAME_CYCLES, HEIGHT, Irqs, Keys, Memory, WIDTH, next_irq};

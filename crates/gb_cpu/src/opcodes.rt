@@ -5,8 +5,7 @@ ghost use Rattle.gb_ops.specs.Table.{decoded};
 ghost use Rattle.gb_cpu.specs.Run.{IsRowRun};
 
 use crate::step::{Cpu, run_row};
-use gb_accesses::fetch;
-use gb_bus::Bus;
+use gb_accesses::{Bus, fetch};
 use gb_ops::decode::decode;
 use gb_ops::registers::Processor;
 

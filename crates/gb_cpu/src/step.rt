@@ -10,10 +10,10 @@ ghost use Rattle.gb_ops.specs.Play.{IsStep};
 ghost use Rattle.gb_accesses.specs.Access.{row_free_reads, HasFreeBytes};
 ghost use Rattle.gb_cpu.specs.Step.{state, IsSpecial, IsDispatchable};
 
-use gb_accesses::{fetch, load, store};
-use gb_bus::Bus;
-use gb_effects::advance::{advance, cycles_of, mark_of, settled};
-use gb_effects::effect::{perform, read_of, with_pc, with_sp};
+use gb_accesses::{
+    Bus, advance, cycles_of, fetch, load, mark_of, perform, read_of, settled, store, with_pc,
+    with_sp,
+};
 use gb_ops::decode::decode;
 use gb_ops::machine::{Event, Write};
 use gb_ops::op::Row;

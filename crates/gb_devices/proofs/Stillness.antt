@@ -1,9 +1,9 @@
 -- The timer and the picture over M-cycles in which nothing happens.
 use Rattle.std.proofs.Common.{◌≡◌, ℕ, zero, ◌+◌, ◌-◌, ◌<◌, ◌≤◌, true, false, Bool, List, bit_or, refl, sym, ap, ◌∙◌, arith}
 use Rattle.std.specs.Int.Bits.{or_zero_r}
-use Rattle.gb_timer.specs.Timer.{Counters, IsInRange, counts, overflows}
-use Rattle.gb_timer.specs.Timer as Timer
-use Rattle.gb_timer.proofs.Passing.{in_range_advanced, advanced_append, advanced_zero, quiet_first, quiet_behind}
+use Rattle.gb_ppu.specs.Below.gb_timer.Timer.{Counters, IsInRange, counts, overflows}
+use Rattle.gb_ppu.specs.Below.gb_timer.Timer as Timer
+use Rattle.gb_ppu.proofs.Below.gb_timer_laws.Passing.{in_range_advanced, advanced_append, advanced_zero, quiet_first, quiet_behind}
 use Rattle.gb_ppu.specs.declared.picture.Picture.{Picture}
 use Rattle.gb_ppu.specs.Control.{is_on}
 use Rattle.gb_ppu.specs.Picture as Picture

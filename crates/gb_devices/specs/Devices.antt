@@ -1,7 +1,7 @@
 -- The timer and the picture as M-cycles pass (own: both as one record).
 use Rattle.std.specs.Prelude.{◌≡◌, ℕ}
-use Rattle.gb_timer.specs.Timer.{Counters, IsInRange, counts, overflows}
-use Rattle.gb_timer.specs.Timer as Timer
+use Rattle.gb_ppu.specs.Below.gb_timer.Timer.{Counters, IsInRange, counts, overflows}
+use Rattle.gb_ppu.specs.Below.gb_timer.Timer as Timer
 use Rattle.gb_ppu.specs.declared.picture.Picture.{Picture}
 use Rattle.gb_ppu.specs.Picture as Picture
 use Rattle.gb_ppu.specs.QuietCycles.{IsQuietFor}

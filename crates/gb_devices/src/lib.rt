@@ -6,12 +6,12 @@
 #![tactic(auto)]
 
 ghost use Rattle.std.specs.Prelude.{◌≡◌, ◌≤◌, true, false};
-ghost use Rattle.gb_timer.specs.Timer.{at_power_up};
+ghost use Rattle.gb_ppu.specs.Below.gb_timer.Timer.{at_power_up};
 ghost use Rattle.gb_ppu.specs.PowerUp.{power_up};
 ghost use Rattle.gb_devices.specs.Devices.{IsStill, after};
 
+use gb_ppu::Timer;
 use gb_ppu::ppu::Ppu;
-use gb_timer::timer::Timer;
 use std::marker::Model;
 
 /// The timer and the picture, and the M-cycles that they have not seen.

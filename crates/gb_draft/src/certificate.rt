@@ -1,14 +1,10 @@
 //! The certificate of a finished run.
 
 use crate::order::order;
-use crate::writing::Writing;
-use gb_abs::covering::covers;
-use gb_abs_memory::shown::known_bank;
+use gb_cert::{NodePlan, ProcedurePlan, Version, WriteFault, write_certificate};
 use gb_fixpoint::types::{Node, Procedure, Run};
+use gb_fixpoint::{Abs, covers, known_bank};
 use std::alloc::{AllocError, Global};
-
-/// The most nodes of version 1.
-const VERSION_1: usize = 65_535;
 
 /// The most nodes of an address that are compared with one another.
 const COMPARED: usize = 400;
@@ -23,70 +19,106 @@ struct Standing {
 
 /// The bytes of the certificate of a finished run, whose needs were found: in version 1, or in version 2 where it
 /// has more than 65,535 nodes.
-pub fn certificate_of(alloc: Global, run: &Run<'_>) -> Result<Vec<u8>, AllocError> {
-    let procedures = order(alloc, run)?;
-    certificate_in_order(alloc, run, procedures.as_slice())
+///
+/// # Errors
+///
+/// The limit of certificates that the run doesn't keep, or Memory where memory ran out.
+pub fn certificate_of(alloc: Global, run: &Run<'_>) -> Result<Vec<u8>, WriteFault> {
+    let order = order(alloc, run)?;
+    let standings = standings(alloc, run, order.as_slice())?;
+    let places = places(alloc, run, standings.as_slice())?;
+    let procedures = procedures(alloc, run, order.as_slice(), places.as_slice())?;
+    let nodes = nodes(alloc, run, standings.as_slice())?;
+    let version = version_of(nodes.len());
+    let region = run.configuration.region;
+    write_certificate(
+        alloc,
+        version,
+        region,
+        procedures.as_slice(),
+        nodes.as_slice(),
+    )
 }
 
-fn certificate_in_order(
+/// The version of a certificate with so many nodes.
+fn version_of(nodes: usize) -> Version {
+    if nodes > Version::One.node_limit() as usize {
+        Version::Two
+    } else {
+        Version::One
+    }
+}
+
+/// The procedures, in the order of a certificate, by the numbers of all nodes in it.
+fn procedures<'a>(
     alloc: Global,
-    run: &Run<'_>,
-    procedures: &[usize],
-) -> Result<Vec<u8>, AllocError> {
-    let nodes = standings(alloc, run, procedures)?;
-    let places = places(alloc, run, nodes.as_slice())?;
-    let parts = Parts {
-        run,
-        procedures,
-        nodes: nodes.as_slice(),
-        places: places.as_slice(),
+    run: &'a Run<'_>,
+    order: &[usize],
+    places: &[usize],
+) -> Result<Vec<ProcedurePlan<'a>>, AllocError> {
+    let mut procedures = Vec::new(alloc);
+    for number in order {
+        if let Some(procedure) = run.procedures.get(*number) {
+            procedures.push(procedure_plan(procedure, places))?;
+        }
+    }
+    Ok(procedures)
+}
+
+/// A procedure. What is too large for its field is above the limit that the writer names.
+fn procedure_plan<'a>(procedure: &'a Procedure, places: &[usize]) -> ProcedurePlan<'a> {
+    let entry = match procedure.entry {
+        Some(number) => places.get(number).copied().unwrap_or(0),
+        None => 0,
     };
-    parts.bytes(alloc)
+    ProcedurePlan {
+        entry: u32::try_from(entry).unwrap_or(u32::MAX),
+        need: u16::try_from(procedure.need).unwrap_or(u16::MAX),
+        ranges: procedure.ranges.as_slice(),
+        exit: exit_of(procedure),
+    }
 }
 
-/// What a certificate is written from.
-#[derive(Drop)]
-struct Parts<'a, 'r> {
-    run: &'a Run<'r>,
-    /// The numbers of the procedures, in its order.
-    procedures: &'a [usize],
-    nodes: &'a [Standing],
-    /// For each node of the run its number in the certificate.
-    places: &'a [usize],
+/// In what state a procedure returns, if it does.
+fn exit_of(procedure: &Procedure) -> Option<&Abs> {
+    match &procedure.exit {
+        Some(state) => Some(state),
+        None => None,
+    }
 }
 
-impl Parts<'_, '_> {
-    fn bytes(&self, alloc: Global) -> Result<Vec<u8>, AllocError> {
-        let version = if self.nodes.len() > VERSION_1 { 2 } else { 1 };
-        let mut writing = Writing::new(alloc, version);
-        self.write(&mut writing)?;
-        Ok(writing.into_bytes())
-    }
-
-    fn write(&self, writing: &mut Writing) -> Result<(), AllocError> {
-        let region = self.run.configuration.region;
-        writing.head(region, self.procedures.len(), self.nodes.len())?;
-        self.write_procedures(writing)?;
-        self.write_nodes(writing)
-    }
-
-    fn write_procedures(&self, writing: &mut Writing) -> Result<(), AllocError> {
-        for number in self.procedures {
-            if let Some(procedure) = self.run.procedures.get(*number) {
-                write_procedure(writing, procedure, self.places)?;
-            }
+/// The nodes, in the order of a certificate.
+fn nodes<'a>(
+    alloc: Global,
+    run: &'a Run<'_>,
+    standings: &[Standing],
+) -> Result<Vec<NodePlan<'a>>, WriteFault> {
+    let mut nodes = Vec::new(alloc);
+    for standing in standings {
+        if let Some(node) = run.nodes.get(standing.node) {
+            nodes.push(node_plan(run, standing.procedure, node)?)?;
         }
-        Ok(())
     }
+    Ok(nodes)
+}
 
-    fn write_nodes(&self, writing: &mut Writing) -> Result<(), AllocError> {
-        for standing in self.nodes {
-            if let Some(node) = self.run.nodes.get(standing.node) {
-                write_node(self.run, writing, standing.procedure, node)?;
-            }
-        }
-        Ok(())
-    }
+/// A node of the procedure with a number.
+fn node_plan<'a>(
+    run: &Run<'_>,
+    procedure: usize,
+    node: &'a Node,
+) -> Result<NodePlan<'a>, WriteFault> {
+    let Ok(procedure) = u8::try_from(procedure) else {
+        return Err(WriteFault::Procedures);
+    };
+    let address = node.key.address;
+    let bank = known_bank(run.rom, &node.state.core().ctl, address);
+    Ok(NodePlan {
+        procedure,
+        address,
+        bank: bank.unwrap_or(0),
+        state: &node.state,
+    })
 }
 
 /// The nodes that a certificate needs, in its order, by the order of procedures.
@@ -199,32 +231,4 @@ fn is_above(run: &Run<'_>, node: &Node, number: usize) -> bool {
         Some(other) => covers(&other.state, &node.state),
         None => false,
     }
-}
-
-fn write_node(
-    run: &Run<'_>,
-    writing: &mut Writing,
-    procedure: usize,
-    node: &Node,
-) -> Result<(), AllocError> {
-    writing.count(procedure)?;
-    writing.word(node.key.address)?;
-    let bank = known_bank(run.rom, &node.state.core().ctl, node.key.address);
-    writing.word(bank.unwrap_or(0))?;
-    writing.state(&node.state)
-}
-
-fn write_procedure(
-    writing: &mut Writing,
-    procedure: &Procedure,
-    places: &[usize],
-) -> Result<(), AllocError> {
-    let entry = match procedure.entry {
-        Some(number) => places.get(number).copied().unwrap_or(0),
-        None => 0,
-    };
-    writing.node_number(entry)?;
-    writing.word(u16::try_from(procedure.need).unwrap_or(u16::MAX))?;
-    writing.ranges(procedure.ranges.as_slice())?;
-    writing.exit(&procedure.exit)
 }

@@ -2,13 +2,20 @@
 //! which calls find their own procedures, the nodes that are not spare, and the bytes. The checker judges what comes
 //! out. Every function is proved safe and to return.
 //!
-//! Read `needs`, `order` and `certificate`, and last `writing`.
+//! Read `needs`, `order` and `certificate`; the bytes are `gb_cert`'s `write_certificate`.
 #![tactic(auto)]
 
 mod certificate;
 mod needs;
 mod order;
-mod writing;
 
 pub use certificate::certificate_of;
 pub use needs::find_needs;
+
+// What lies below, for the crates above.
+pub use gb_cert::WriteFault;
+pub use gb_fixpoint::cause::{Cause, Failure, Outcome};
+pub use gb_fixpoint::configuration::{Configuration, Place};
+pub use gb_fixpoint::register_set::REGISTERS;
+pub use gb_fixpoint::types::{Run, Spot};
+pub use gb_fixpoint::{CELLS, Cert, Rom, Verdict, check, is_ram};

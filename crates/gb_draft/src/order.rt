@@ -1,11 +1,10 @@
 //! The order of procedures in a certificate. The checker takes the first procedure that stands for what is entered, so
 //! each call must find its own one before others.
 
-use gb_abs::covering::covers;
 use gb_fixpoint::entries::Entered;
 use gb_fixpoint::register_set::REGISTERS;
 use gb_fixpoint::types::Run;
-use gb_states::types::{Abs, CELLS, Core, ImeSet, Val};
+use gb_fixpoint::{Abs, CELLS, Core, ImeSet, Val, covers};
 use std::alloc::{AllocError, Global};
 use std::collections::{BTreeMap, BTreeSet};
 

@@ -1,11 +1,11 @@
 //! Whole programs on the console, by steps and frames. An example is a list of steps, which one function plays.
 
 use bitflags::Flags;
-use gb_console::{Console, Ending};
-use gb_header::Rom;
 use gb_ops::machine::Event;
+use gb_printed::{Console, Ending};
 use gb_samples::cartridges::{PLAIN, put, small};
 use gb_samples::programs::{LOCKS_AT_A, WAITS};
+use gb_text::Rom;
 use gb_timer::irqs::Keys;
 use std::alloc::Global;
 use std::process::Abort;

@@ -3,11 +3,11 @@
 use gb_bus::{Bus, Memory};
 use gb_cpu::step::{Cpu, Stepped};
 use gb_effects::flags::{flags_byte, flags_of};
-use gb_header::Rom;
 use gb_ops::machine::Event;
 use gb_ops::registers::Ime;
 use gb_samples::cartridges::{PLAIN, small};
 use gb_samples::states::processor;
+use gb_text::Rom;
 use std::alloc::Global;
 use std::process::Abort;
 use std::test::Fail;

@@ -1,6 +1,5 @@
 //! Sinks, and the lines that are written of headers.
 
-use gb_header::{HeaderFault, Rom};
 use gb_printed::{header_bytes, header_line};
 use gb_samples::cartridges::{PLAIN, Sizes, file, put, small};
 use gb_samples::programs::LOOP;
@@ -8,6 +7,7 @@ use gb_samples::streams::FailingWriter;
 use gb_text::kept_bytes::KeptBytes;
 use gb_text::put::put_all;
 use gb_text::sink::{OutFault, Plain, Sink};
+use gb_text::{HeaderFault, Rom};
 use std::test::Fail;
 
 #[test]

@@ -1,16 +1,15 @@
 //! Certificates, read and written again.
 
 use gb_cert::{Cert, CertFault, Found, encode, one_spelling};
-use gb_header::Rom;
 use gb_ops::machine::Region;
 use gb_ops::op::Register;
 use gb_samples::cartridges::{PLAIN, put, small};
 use gb_samples::certificates::{least, least_in_version_2, write_nodes};
 use gb_samples::programs::LOOP;
 use gb_samples::states::{ANY, copy_of};
-use gb_states::types::{Cell, Item};
 use gb_verify::check::{check, verdict_ignores_version};
 use gb_verify::verdict::Verdict;
+use gb_verify::{Cell, Item, Rom};
 use std::alloc::{AllocError, Global};
 use std::test::Fail;
 

@@ -3,11 +3,10 @@
 use gb_abs::span::Span;
 use gb_abs_memory::shown::known_bank;
 use gb_abs_memory::windows::{ControllerRegister, ctl_after, window_of, windows};
-use gb_header::Rom;
 use gb_ops::machine::Kind;
 use gb_samples::cartridges::{PLAIN, file, small};
 use gb_samples::states::{CLEAR, EITHER, SET, START, from_to};
-use gb_states::types::{Ctl, May};
+use gb_verify::{Ctl, May, Rom};
 use std::test::Fail;
 
 const BANK: ControllerRegister = ControllerRegister::Bank;

@@ -2,7 +2,7 @@
 //! implementation's verdicts), what no contract says (text, want of memory, failing sinks), and each public call once.
 //! The functions here promise nothing but to be safe.
 //!
-//! Read controllers.rt and memory.rt first (loads and stores), then certificates.rt, verdicts.rt and copies.rt. Whole
+//! Read controllers.rt and memory.rt first (loads and stores), then certificates.rt, written.rt, verdicts.rt and copies.rt. Whole
 //! programs with their certificates stand in `gb_verdicts`.
 #![tactic(auto)]
 
@@ -16,3 +16,5 @@ mod copies;
 mod memory;
 #[cfg(test)]
 mod verdicts;
+#[cfg(test)]
+mod written;

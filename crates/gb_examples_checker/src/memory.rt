@@ -10,11 +10,10 @@ use gb_abs_memory::refusals::{
 };
 use gb_abs_memory::store::{Area, area_of, is_storable, store};
 use gb_abs_memory::windows::ControllerRegister;
-use gb_header::Rom;
 use gb_ops::machine::{Kind, Region};
 use gb_samples::cartridges::{PLAIN, SMALLEST, Sizes, put, small};
 use gb_samples::states::{ANY, EITHER, SET, START, entered, from_to};
-use gb_states::types::{Abs, Core, Ctl, May, Origin, Range, Val};
+use gb_verify::{Abs, Core, Ctl, May, Origin, Range, Rom, Val};
 use std::test::Fail;
 
 /// MBC3 with 8 KiB of RAM.

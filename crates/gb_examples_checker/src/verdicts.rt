@@ -2,8 +2,6 @@
 
 use gb_abs::reason::Reason;
 use gb_cert::Cert;
-use gb_header::Rom;
-use gb_rules::rules::check_node;
 use gb_samples::cartridges::{PLAIN, SMALLEST, replace, small};
 use gb_samples::certificates::{least, write_nodes};
 use gb_samples::programs::LOOP;
@@ -14,6 +12,7 @@ use gb_text::sink::{OutFault, Plain, Sink};
 use gb_verify::check::check;
 use gb_verify::verdict::Verdict;
 use gb_verify::verify::{Outcome, verify_bytes};
+use gb_verify::{Rom, check_node};
 use std::alloc::Global;
 use std::process::Abort;
 use std::test::Fail;

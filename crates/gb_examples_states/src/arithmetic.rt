@@ -1,13 +1,13 @@
 //! Operations on intervals, against the machine's on each of their values. The bounds and the flags that are found by
 //! trying are the least that can be, which no contract says.
 
+use gb_domain::types::{Flg, May, Origin, Val};
 use gb_effects::arithmetic::{alu_result, decremented, incremented};
 use gb_effects::flags::flags_of;
 use gb_ops::machine::Computed;
 use gb_ops::op::{AluOp, Register, Shift};
 use gb_ops::registers::Flags;
 use gb_samples::states::{ANY, CLEAR, EITHER, NO_FLAGS, SET, copy_of, from_to, with_carry};
-use gb_states::types::{Flg, May, Origin, Val};
 use gb_vals::alu::{alu, alu_itself};
 use gb_vals::bits::{may_have_bit, reset_bit, set_bit, test_bit};
 use gb_vals::carry::{complement_carry, set_carry};

@@ -3,9 +3,9 @@
 use gb_abs_effects::sides::{Sides, sides_of};
 use gb_abs_effects::transfer::untaken;
 use gb_abs_effects::writes::AbsWrite;
+use gb_domain::types::{Core, Flg};
 use gb_ops::op::{AluOp, Condition, Op, Register};
 use gb_samples::states::{CLEAR, EITHER, SET, copy_of, entered, with_carry};
-use gb_states::types::{Core, Flg};
 use gb_vals::branch::{Branch, side, test_of_immediate, test_of_itself};
 use std::process::Abort;
 

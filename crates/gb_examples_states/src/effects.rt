@@ -4,9 +4,9 @@ use gb_abs::span::Span;
 use gb_abs_effects::reads::{AbsRead, read_of};
 use gb_abs_effects::transfer::transfer;
 use gb_abs_effects::writes::{AbsEffect, AbsWrite};
+use gb_domain::types::{Core, Flg, ImeSet, May, Origin, Val};
 use gb_ops::op::{AluOp, Condition, Indirect, Op, Operand, Pair, Register, Shift, StackPair};
 use gb_samples::states::{ANY, CLEAR, EITHER, OFF, SET, from_to, own, with_carry};
-use gb_states::types::{Core, Flg, ImeSet, May, Origin, Val};
 use gb_vals::vals::single;
 use std::process::Abort;
 

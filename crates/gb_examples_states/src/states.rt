@@ -5,9 +5,9 @@ use gb_abs::covering::{cell_at, covers, covers_val};
 use gb_abs::operations::{end, settle, with_value};
 use gb_abs::span::Span;
 use gb_abs::stack::{pop, push};
+use gb_domain::types::{Abs, Cell, Core, ImeSet, Item, Val};
 use gb_ops::op::Register;
 use gb_samples::states::{ANY, copy_of, entered, from_to, own};
-use gb_states::types::{Abs, Cell, Core, ImeSet, Item, Val};
 
 fn up_to(hi: u8) -> Val {
     from_to(0, hi)

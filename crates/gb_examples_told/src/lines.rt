@@ -1,8 +1,8 @@
 //! The printed lines of a refused node.
 
 use gb_abs::reason::Reason;
-use gb_explain::{Code, Explanation};
 use gb_ops::decode::decode;
+use gb_reports::{Code, Explanation};
 use gb_spelling::Spelling;
 use std::test::Fail;
 

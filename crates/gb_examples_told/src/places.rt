@@ -1,6 +1,6 @@
 //! Places of faults. An example is a list of steps, which one function plays.
 
-use gb_cert::CertFault;
+use gb_cert_place::CertFault;
 use gb_cert_place::block::Part;
 use gb_cert_place::field::{Field, Owner};
 use gb_cert_place::place::{FaultPlace, Sought, fault_place};

@@ -2,7 +2,7 @@
 
 use crate::spelled::{EMPTY, Node, Procedure, certificate};
 use gb_abs::reason::Reason;
-use gb_explain::explain;
+use gb_reports::explain;
 use gb_samples::cartridges::{PLAIN, small};
 use std::alloc::Global;
 use std::test::Fail;

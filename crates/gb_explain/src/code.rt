@@ -1,10 +1,9 @@
 //! What is known of a node's instruction.
 
-use gb_code::code::{known_byte, known_bytes};
-use gb_header::Rom;
+use gb_abs::Abs;
 use gb_ops::decode::decode;
 use gb_spelling::Spelling;
-use gb_states::types::Abs;
+use gb_verify::{Rom, known_byte, known_bytes};
 use std::fmt;
 
 /// What is known of the instruction at an address. It prints the instruction, or says what isn't known.

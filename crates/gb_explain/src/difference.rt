@@ -1,7 +1,7 @@
 //! A part of a state that another state doesn't stand for.
 
+use gb_abs::{ImeSet, May, Origin, Val};
 use gb_ops::op::Register;
-use gb_states::types::{ImeSet, May, Origin, Val};
 use std::fmt;
 
 /// A part of a state.

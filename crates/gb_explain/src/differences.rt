@@ -6,9 +6,9 @@ ghost use Rattle.gb_explain.specs.Noted.{IsNoted};
 
 use crate::difference::{Difference, Known, Part};
 use gb_abs::covering::{cell_at, covers_ime, covers_may, covers_origin, covers_test, covers_val};
+use gb_abs::{Abs, Cell, Core, Ctl, Flg, Item, May, Val};
 use gb_ops::op::Register;
 use gb_ops::registers::Registers;
-use gb_states::types::{Abs, Cell, Core, Ctl, Flg, Item, May, Val};
 
 /// The parts of a state that another doesn't stand for. It prints a line for each of the first of them, behind an end of
 /// line.

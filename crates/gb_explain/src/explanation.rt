@@ -1,15 +1,14 @@
 //! What there is to say of a refused node.
 
 ghost use Rattle.std.specs.Prelude.{◌≡◌, ◌<◌, length, slice_get, Some};
-ghost use Rattle.gb_states.specs.Types.{Node};
+ghost use Rattle.gb_abs.specs.Below.gb_domain.Types.{Node};
 
 use crate::advice::advice_on;
 use crate::code::Code;
 use crate::finding::finding_of;
 use crate::obstacle::Finding;
 use gb_abs::reason::Reason;
-use gb_cert::Cert;
-use gb_header::Rom;
+use gb_verify::{Cert, Rom};
 use std::fmt;
 
 /// A refused node with its place, its instruction and the reason. It prints three lines, the last without its end: the

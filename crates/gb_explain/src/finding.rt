@@ -6,20 +6,13 @@ use crate::Differences;
 use crate::obstacle::{Claim, Finding, Obstacle, Way, Words};
 use gb_abs::covering::covers;
 use gb_abs::reason::Reason;
-use gb_abs_effects::targets::Target;
-use gb_calls::entering::enter;
-use gb_calls::ranges::are_ranges_inside;
-use gb_calls::resuming::resume;
-use gb_cert::{Cert, NodeRef};
-use gb_code::code::known_bytes;
-use gb_header::Rom;
+use gb_abs::{Abs, ITEMS, Range};
 use gb_ops::decode::decode;
 use gb_ops::op::Op;
-use gb_rules::covered::covered_at;
-use gb_rules::procedures::{callee_at, exit_of, need_of, ranges_of};
-use gb_states::types::{Abs, ITEMS, Range};
-use gb_successors::successor::Successor;
-use gb_successors::successors::successors_of;
+use gb_verify::{
+    Cert, NodeRef, Rom, Successor, Target, are_ranges_inside, callee_at, covered_at, enter,
+    exit_of, known_bytes, need_of, ranges_of, resume, successors_of,
+};
 
 /// A finding without compared states.
 fn plain(obstacle: Obstacle) -> Finding {

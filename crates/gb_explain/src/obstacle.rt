@@ -1,7 +1,7 @@
 //! What is in the way, where a reason has to do with other nodes or with procedures.
 
 use crate::{Difference, Differences};
-use gb_states::types::Range;
+use gb_abs::Range;
 use std::fmt;
 
 /// So many words on the stack.

@@ -7,10 +7,9 @@ ghost use Rattle.gb_verify.specs.declared.verify.Answer.TheVariants.{Judged};
 ghost use Rattle.gb_verify.specs.declared.verdict.Verdict.TheVariants.{Refused};
 
 use crate::explanation::Explanation;
-use gb_cert::Cert;
-use gb_header::Rom;
 use gb_verify::check::check;
 use gb_verify::verdict::Verdict;
+use gb_verify::{Cert, Rom};
 use std::alloc::Global;
 
 fn explain_verdict(rom: &Rom<'_>, cert: &Cert<'_>) -> Option<Explanation>

@@ -5,7 +5,8 @@ use Rattle.gb_fields.specs.declared.fault.CertFault.TheVariants as fault
 use Rattle.gb_fields.specs.declared.head.Head.{Head}
 use Rattle.gb_fields.specs.Limits.{procedure_limit, node_limit}
 use Rattle.gb_fields.specs.Format.{Read, followed, both, mapped, checked, byte}
-use Rattle.gb_fields.specs.Rules.{is_area, fits, is_from, is_version}
+use Rattle.gb_domain.specs.Areas.{is_area}
+use Rattle.gb_fields.specs.Rules.{fits, is_from, is_version}
 
 -- ---- numbers
 

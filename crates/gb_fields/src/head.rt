@@ -3,7 +3,7 @@
 ghost use Rattle.std.specs.Prelude.{◌≡◌, ◌&&◌, ◌-◌, ◌%◌, nat_le};
 ghost use Rattle.gb_fields.specs.Format.{Gives};
 ghost use Rattle.gb_fields.specs.Limits.{node_limit};
-ghost use Rattle.gb_fields.specs.Rules.{is_area};
+ghost use Rattle.gb_domain.specs.Areas.{is_area};
 ghost use Rattle.gb_fields.specs.Reading.{is_region, region_at, node_count_at, head_at};
 
 use crate::fault::CertFault;

@@ -7,9 +7,7 @@ use crate::run::PROCEDURES;
 use crate::stop::Stop;
 use crate::tracking::keep_tracked;
 use crate::types::{Call, Procedure, Run};
-use gb_calls::entering::enter;
-use gb_calls::resuming::resume;
-use gb_states::types::{Abs, Core, Range};
+use gb_verify::{Abs, Core, Range, enter, resume};
 use std::collections::BTreeSet;
 use std::mem;
 

@@ -1,8 +1,7 @@
 //! Why a run stopped.
 
 use crate::register_set::RegisterSet;
-use gb_abs::reason::Reason;
-use gb_abs::span::Span;
+use gb_verify::{Reason, Span};
 
 /// What an instruction does to the stack that no rule allows.
 #[derive(Clone, Copy, PartialEq, Eq)]

@@ -4,12 +4,7 @@ use crate::instruction::decoded;
 use crate::stepping::FIRST_VECTOR;
 use crate::tracking::keep_tracked;
 use crate::types::Run;
-use gb_abs_effects::targets::Target;
-use gb_calls::entering::enter;
-use gb_calls::interrupts::{dispatched, may_come};
-use gb_states::types::Abs;
-use gb_successors::successor::Successor;
-use gb_successors::successors::successors_of;
+use gb_verify::{Abs, Successor, Target, dispatched, enter, may_come, successors_of};
 use std::alloc::AllocError;
 
 /// What a node enters, and where.

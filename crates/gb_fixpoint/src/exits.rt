@@ -4,10 +4,9 @@ use crate::joining::join;
 use crate::stop::Stop;
 use crate::types::Run;
 use arrayvec::ArrayVec;
-use gb_abs::covering::covers;
 use gb_ops::op::Register;
 use gb_ops::registers::Registers;
-use gb_states::types::{Abs, Cell, Core, Ctl, Flg, May, Origin, Range, Val};
+use gb_verify::{Abs, Cell, Core, Ctl, Flg, May, Origin, Range, Val, covers};
 
 /// How often an exit grows before it is widened.
 const GROWTHS: u32 = 40;

@@ -8,10 +8,8 @@ use crate::stop::Stop;
 use crate::tracking::keep_tracked;
 use crate::types::{CellValue, Edge, Node, Run, Spot};
 use arrayvec::ArrayVec;
-use gb_abs::covering::{cell_at, covers};
-use gb_abs::operations::with_value;
 use gb_ops::op::Register;
-use gb_states::types::{Abs, Cell, Core};
+use gb_verify::{Abs, Cell, Core, cell_at, covers, with_value};
 
 /// How often a node grows by joins alone.
 const GROWTHS: u32 = 60;

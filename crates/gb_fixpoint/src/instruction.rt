@@ -1,13 +1,11 @@
 //! The instruction at an address, or why there is none that can be executed.
 
 use crate::cause::{Cause, StackMisuse};
-use gb_abs_memory::shown::known_bank;
-use gb_code::code::{area_end, known_byte, known_bytes, leaves_area};
-use gb_header::Rom;
 use gb_ops::decode::decode;
 use gb_ops::op::{Op, Pair, Row};
-use gb_rules::rules::is_nop_behind;
-use gb_states::types::Abs;
+use gb_verify::{
+    Abs, Rom, area_end, is_nop_behind, known_bank, known_byte, known_bytes, leaves_area,
+};
 
 /// The first byte of the instruction at an address that isn't known.
 fn unknown_byte(rom: &Rom<'_>, state: &Abs, address: u16) -> u16 {

@@ -2,8 +2,7 @@
 
 use arrayvec::ArrayVec;
 use gb_ops::registers::Registers;
-use gb_states::types::{Abs, Cell, Core, Ctl, Flg, ImeSet, Item, May, Origin, Val};
-use gb_vals::vals::any;
+use gb_verify::{Abs, Cell, Core, Ctl, Flg, ImeSet, Item, May, Origin, Val, any};
 
 /// The origin of both, if it is one.
 fn join_origin(a: Option<Origin>, b: Option<Origin>) -> Option<Origin> {

@@ -3,7 +3,7 @@
 use crate::register_set::RegisterSet;
 use gb_ops::op::Register;
 use gb_ops::registers::Registers;
-use gb_states::types::{Core, Ctl, Val};
+use gb_verify::{Core, Ctl, Val};
 
 /// The values of registers that have one alone, in the order of their letters.
 #[derive(Clone, Copy, PartialEq, Eq, Hash)]

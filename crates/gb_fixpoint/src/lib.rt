@@ -29,3 +29,11 @@ mod steps;
 mod stop;
 mod tracking;
 pub mod types;
+
+// What lies below, for the crates above.
+pub use gb_verify::check::check;
+pub use gb_verify::verdict::Verdict;
+pub use gb_verify::{
+    Abs, CELLS, Cell, Cert, Core, Ctl, Flg, ImeSet, May, NodeRef, Range, Rom, Span, Val, covers,
+    is_ram, known_bank, known_bytes,
+};

@@ -2,7 +2,7 @@
 
 use arrayvec::ArrayVec;
 use gb_ops::machine::Region;
-use gb_states::types::{RANGES, Range};
+use gb_verify::{RANGES, Range};
 
 /// At most eight intervals of RAM outside the stack region, in order, with a gap between each and the next.
 #[derive(Drop)]

@@ -6,9 +6,8 @@ use crate::register_set::RegisterSet;
 use crate::steps::Steps;
 use crate::stop::Stop;
 use crate::types::Run;
-use gb_code::code::known_byte;
-use gb_effects::advance::length_of;
 use gb_ops::op::{AluOp, Op, Operand, Pair, Register, Row};
+use gb_verify::{known_byte, length_of};
 
 impl<'a> Run<'a> {
     /// The instruction at a node. The code bytes in RAM, the values that it compares with or loads, and what LD SP,n16

@@ -2,13 +2,8 @@
 
 use crate::stop::Stop;
 use crate::types::{CellStore, Run, Spot};
-use gb_abs::span::Span;
-use gb_abs::storage::is_ram;
-use gb_abs_effects::reads::AbsRead;
-use gb_abs_effects::writes::AbsWrite;
 use gb_ops::op::{Op, Operand, Register};
-use gb_states::types::{Range, Val};
-use gb_successors::successors::Successors;
+use gb_verify::{AbsRead, AbsWrite, Range, Span, Successors, Val, is_ram};
 
 /// Where the byte at an address is kept: the echo of work RAM is the same byte.
 fn home_of(address: u16) -> u16 {

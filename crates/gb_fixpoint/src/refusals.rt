@@ -3,18 +3,12 @@
 
 use crate::cause::{Cause, TransferMisuse};
 use crate::register_set::RegisterSet;
-use gb_abs::span::Span;
-use gb_abs_effects::reads::AbsRead;
-use gb_abs_effects::writes::AbsWrite;
-use gb_abs_memory::refusals::{is_limited, meets_closed_ram};
-use gb_calls::interrupts::may_come;
-use gb_code::code::lies_in_high_ram;
-use gb_header::Rom;
 use gb_ops::machine::Region;
 use gb_ops::op::{Indirect, Op, Operand, Register, Row};
-use gb_states::types::{Abs, Core, ITEMS, Range};
-use gb_successors::refused::is_stack_limited;
-use gb_successors::successors::Successors;
+use gb_verify::{
+    Abs, AbsRead, AbsWrite, Core, ITEMS, Range, Rom, Span, Successors, is_limited,
+    is_stack_limited, lies_in_high_ram, may_come, meets_closed_ram,
+};
 
 /// All that a procedure could declare: work RAM and high RAM. The region is asked for apart.
 const RAM: [Range; 2] = [

@@ -8,11 +8,9 @@ use crate::register_set::RegisterSet;
 use crate::steps::Steps;
 use crate::stop::Stop;
 use crate::types::{Procedure, Run, Spot, Turn};
-use gb_code::code::known_bytes;
-use gb_header::Rom;
 use gb_ops::op::Register;
-use gb_states::types::Abs;
 use gb_verify::check::core_at_power_up;
+use gb_verify::{Abs, Rom, known_bytes};
 use std::alloc::{AllocError, Global};
 use std::collections::{BTreeSet, HashMap, HashSet};
 

@@ -6,11 +6,7 @@ use crate::register_set::RegisterSet;
 use crate::stop::Stop;
 use crate::tracking::keep_tracked;
 use crate::types::Run;
-use gb_abs_effects::targets::Target;
-use gb_calls::interrupts::{dispatched, may_come};
-use gb_states::types::Abs;
-use gb_successors::successor::Successor;
-use gb_successors::successors::successors_of;
+use gb_verify::{Abs, Successor, Target, dispatched, may_come, successors_of};
 
 /// The address that interrupt 0 calls; those of the others follow it, 8 bytes apart.
 pub(crate) const FIRST_VECTOR: u16 = 0x40;

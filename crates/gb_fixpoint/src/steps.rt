@@ -2,10 +2,8 @@
 
 use crate::joining::join;
 use arrayvec::ArrayVec;
-use gb_abs::covering::cell_at;
 use gb_ops::registers::Registers;
-use gb_states::types::{Abs, Cell, Core, Item, Val};
-use gb_vals::vals::any;
+use gb_verify::{Abs, Cell, Core, Item, Val, any, cell_at};
 use std::collections::BTreeSet;
 
 /// The values at which growing bounds stop: 0, 255 and some more.

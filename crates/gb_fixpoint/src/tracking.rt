@@ -1,8 +1,7 @@
 //! States that keep some memory cells alone.
 
 use arrayvec::ArrayVec;
-use gb_states::types::{Abs, Cell};
-use gb_vals::vals::any;
+use gb_verify::{Abs, Cell, any};
 
 /// The cells that say something and whose addresses are among these. Both are in order of address.
 fn tracked_cells(cells: &[Cell], tracked: &[u16]) -> ArrayVec<Cell, 32> {

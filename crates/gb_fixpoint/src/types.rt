@@ -5,8 +5,7 @@ use crate::configuration::Configuration;
 use crate::keys::{NodeKey, ProcedureKey};
 use crate::ranges::RangeSet;
 use crate::steps::Steps;
-use gb_header::Rom;
-use gb_states::types::Abs;
+use gb_verify::{Abs, Rom};
 use std::alloc::Global;
 use std::collections::{BTreeSet, HashMap, HashSet};
 

@@ -1,3 +1,4 @@
 pub mod Halted
 pub mod Featured
 pub mod Seconds
+pub mod Below

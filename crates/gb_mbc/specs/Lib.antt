@@ -2,3 +2,4 @@ pub mod Clock
 pub mod Controller
 pub mod Controllers
 pub mod Counting
+pub mod Below

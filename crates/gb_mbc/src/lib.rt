@@ -20,3 +20,6 @@ pub use mapper::Mapper;
 pub use mbc1::Mbc1;
 pub use mbc3::Mbc3;
 pub use mbc5::Mbc5;
+
+// What lies below, for the crates above.
+pub use gb_header::Rom;

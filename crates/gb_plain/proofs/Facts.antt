@@ -4,10 +4,10 @@ use Rattle.std.proofs.lemmas.List.{get_or-replicate}
 use Rattle.std.proofs.lemmas.Bool.{lt-ltb}
 use Rattle.gb_ops.specs.declared.machine.Banks.{Banks}
 use Rattle.gb_ops.specs.Cartridge.{kind_of, kind_of_type, rom_banks, rom_banks_of_size, ram_banks, type_has_ram, has_clock, type_has_clock, type_has_rumble, shown_bank, banks_after, has_ram_or_clock}
-use Rattle.gb_header.specs.declared.fault.HeaderFault.{HeaderFault}
-use Rattle.gb_header.specs.Header.{parsed, taken_or, fault_of}
+use Rattle.gb_cpu.specs.Below.gb_header.declared.fault.HeaderFault.{HeaderFault}
+use Rattle.gb_cpu.specs.Below.gb_header.Header.{parsed, taken_or, fault_of}
 use Rattle.gb_plain.specs.Shown.{zeros}
-use Rattle.gb_mbc.specs.Controllers.{Features, features_of, flat_features, low_bank, high_bank, registers_after}
+use Rattle.gb_cpu.specs.Below.gb_mbc.Controllers.{Features, features_of, flat_features, low_bank, high_bank, registers_after}
 
 -- what a controller shows is what the machine's definitions show
 pub low_is_shown : (f : Features) (rom : List ℕ) (r : Banks) (a : ℕ) → f ≡ features_of rom → nat_lt a 0x4000 ≡ true → low_bank f r ≡ shown_bank rom r a

@@ -8,7 +8,7 @@ use Rattle.gb_ops.specs.Accesses.{Joined, accesses_of, event_cycles}
 use Rattle.gb_ops.specs.Machine as Machine
 use Rattle.gb_ops.specs.Machine.{BusState}
 use Rattle.gb_ops.specs.Play.{IsStep, MState}
-use Rattle.gb_accesses.specs.Access.{HasFreeBytes}
+use Rattle.gb_cpu.specs.Below.gb_accesses.Access.{HasFreeBytes}
 use Rattle.gb_cpu.specs.Choice.{IsChoice, is_idle}
 use Rattle.gb_cpu.specs.Step.{state}
 use Rattle.gb_cpu.specs.declared.step.Stepped.{Stepped}

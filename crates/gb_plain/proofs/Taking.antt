@@ -14,7 +14,7 @@ use Rattle.gb_ops.specs.Effects.{read_of}
 use Rattle.gb_ops.specs.Machine.{BusState, Reading, read_at, read_where, fetched, loaded, length_of, second_address, third_address, advanced, effect_at, cycles_of, is_bytes}
 use Rattle.gb_ops.specs.Memory.{View, is_free}
 use Rattle.gb_ops.specs.Table.{decoded}
-use Rattle.gb_accesses.specs.Access.{queued, queued_two, free_fetches, free_reads, row_free_reads, HasFreeBytes}
+use Rattle.gb_cpu.specs.Below.gb_accesses.Access.{queued, queued_two, free_fetches, free_reads, row_free_reads, HasFreeBytes}
 use Rattle.gb_plain.proofs.Ordering.{left_is}
 use Rattle.gb_plain.specs.Handed.{view_of, left, Takes, left_by_fetches, TookRun, Took}
 use Rattle.gb_plain.specs.declared.machine.PlainMachine.{PlainMachine}

@@ -2,7 +2,7 @@
 
 ghost use Rattle.std.specs.Prelude.{◌≡◌, ◌≢◌, ◌<◌, true, false, length, slice_set, IfOk, IfSome};
 ghost use Rattle.gb_ops.specs.Cartridge as Spec;
-ghost use Rattle.gb_mbc.specs.Controllers.{features_of};
+ghost use Rattle.gb_cpu.specs.Below.gb_mbc.Controllers.{features_of};
 ghost use Rattle.gb_ops.specs.Memory.{rom_byte};
 ghost use Rattle.gb_plain.specs.Shown.{blank, zeros};
 
@@ -28,8 +28,8 @@ pub struct Cartridge {
 
 impl Model for Cartridge {
     ghost use Rattle.std.specs.Prelude.{◌≡◌};
-    ghost use Rattle.gb_mbc.specs.Controller.{features, registers};
-    ghost use Rattle.gb_mbc.specs.Controllers.{features_of};
+    ghost use Rattle.gb_cpu.specs.Below.gb_mbc.Controller.{features, registers};
+    ghost use Rattle.gb_cpu.specs.Below.gb_mbc.Controllers.{features_of};
     ghost use Rattle.gb_ops.specs.Cartridge as Spec;
     ghost use Rattle.gb_plain.specs.Shown.{CartridgeState};
 

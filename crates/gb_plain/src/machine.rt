@@ -17,7 +17,7 @@ use crate::fetch::fetched;
 use crate::memory::{byte_at, is_free, place_of, write};
 use crate::possible::{is_possible, is_running};
 use crate::state::MachineState;
-use gb_bus::Bus;
+use gb_cpu::Bus;
 use gb_cpu::step::{Cpu, Stepped};
 use gb_effects::advance::{length_of, second_address, third_address};
 use gb_ops::machine::{Event, Place};

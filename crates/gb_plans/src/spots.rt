@@ -1,12 +1,12 @@
 //! What a run knows of the registers at a spot, over all nodes there.
 
 use crate::sources;
+use gb_fixpoint::Val;
 use gb_fixpoint::configuration::Place;
 use gb_fixpoint::register_set::{REGISTERS, RegisterSet};
 use gb_fixpoint::types::{Node, Run, Spot};
 use gb_ops::decode::decode;
 use gb_ops::op::{Op, Register};
-use gb_states::types::Val;
 
 /// The value of a register at a node.
 pub fn value_of(node: &Node, register: Register) -> Val {

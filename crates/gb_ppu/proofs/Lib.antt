@@ -17,3 +17,4 @@ pub mod SameRegisters
 pub mod WindowLine
 pub mod InFrame
 pub mod FrontObject
+pub mod Below

@@ -17,3 +17,4 @@ pub mod SameRegisters
 pub mod Frames
 pub mod FrontObject
 pub mod FrontLine
+pub mod Below

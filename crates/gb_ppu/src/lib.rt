@@ -24,3 +24,8 @@ pub mod picture;
 pub mod ppu;
 pub mod registers;
 pub mod scene;
+
+// What lies below, for the crates above.
+pub use gb_timer::irqs::{Irqs, Keys, next_irq};
+pub use gb_timer::joypad::Joypad;
+pub use gb_timer::timer::Timer;

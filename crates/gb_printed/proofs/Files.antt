@@ -1,8 +1,8 @@
 -- What reading a cartridge's file says of what is written for it.
 use Rattle.std.proofs.Common.{◌≡◌, ℕ, List, Option, Some, None, Ok, Err, inr, refl, ◌∙◌, ap, subst}
-use Rattle.gb_header.specs.declared.fault.HeaderFault.{HeaderFault}
-use Rattle.gb_header.specs.Header.{IsCartridge, IsLowestFault, fault_of, taken_or}
-use Rattle.gb_header.specs.Header as Header
+use Rattle.gb_text.specs.Below.gb_header.declared.fault.HeaderFault.{HeaderFault}
+use Rattle.gb_text.specs.Below.gb_header.Header.{IsCartridge, IsLowestFault, fault_of, taken_or}
+use Rattle.gb_text.specs.Below.gb_header.Header as Header
 use Rattle.gb_console.specs.declared.frame.Ending.{Ending}
 use Rattle.gb_console.specs.Console.{ConsoleState, at_power_up}
 use Rattle.gb_printed.specs.HeaderLine.{header_text}

@@ -3,3 +3,4 @@ pub mod HeaderLine
 pub mod Screen
 pub mod Script
 pub mod Show
+pub mod Below

@@ -1,7 +1,7 @@
 -- The lines of a certificate (own texts).
 use Rattle.std.specs.Prelude.{ℕ, ◌+◌, List, [], ◌∷◌, ◌++◌, length, drop, codes, decimal, is_some}
-use Rattle.gb_states.specs.Types.{ProcedureParts, Node}
-use Rattle.gb_states.specs.Certificate.{Certificate}
+use Rattle.gb_console.specs.Below.gb_domain.Types.{ProcedureParts, Node}
+use Rattle.gb_console.specs.Below.gb_domain.Certificate.{Certificate}
 use Rattle.gb_text.specs.Text.{line_feed, hex_word}
 use Rattle.gb_printed.specs.HeaderLine.{yes_or_no}
 

@@ -2,23 +2,21 @@
 
 ghost use Rattle.std.specs.Prelude.{◌≡◌, false, is_err, IfOk, OnOk, OnErr};
 ghost use Rattle.gb_text.specs.Sink.{Gains};
-ghost use Rattle.gb_header.specs.Header.{fault_of};
+ghost use Rattle.gb_text.specs.Below.gb_header.Header.{fault_of};
 ghost use Rattle.gb_text.specs.Text.{GainsBeginning};
-ghost use Rattle.gb_verify.specs.CertificateFile.{HasBeginning};
+ghost use Rattle.gb_console.specs.Below.gb_verify.CertificateFile.{HasBeginning};
 ghost use Rattle.gb_printed.specs.Show.{show_text};
 ghost use Rattle.gb_printed.specs.Commands.{file_text, written_lines, IsCertificateFault, IsRunWritten, IsRunBegun};
 
 use crate::header::text_of;
 use crate::script::{Progress, run_script_shown};
 use crate::show::show_cert;
-use gb_cert::{Cert, CertFault};
-use gb_console::{Console, Ending};
-use gb_header::{HeaderFault, Rom};
+use gb_console::{Cert, CertFault, Console, Ending, certificate_line};
 use gb_text::cartridge::cartridge_line;
 use gb_text::line::Line;
 use gb_text::put::put_all;
 use gb_text::sink::{OutFault, Sink};
-use gb_verify::verify::certificate_line;
+use gb_text::{HeaderFault, Rom};
 use std::alloc::Global;
 
 /// What became of a run.

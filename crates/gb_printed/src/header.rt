@@ -5,8 +5,8 @@ ghost use Rattle.gb_text.specs.Sink.{Gains};
 ghost use Rattle.gb_text.specs.Text.{GainsBeginning};
 ghost use Rattle.gb_printed.specs.HeaderLine.{kind_name, yes_or_no, header_text};
 
-use gb_header::Rom;
 use gb_ops::machine::Kind;
+use gb_text::Rom;
 use gb_text::line::Line;
 use gb_text::put::put_all;
 use gb_text::sink::{OutFault, Sink};

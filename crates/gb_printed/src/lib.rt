@@ -15,3 +15,8 @@ pub use commands::{RunOutcome, header_bytes, run_bytes, show_bytes};
 pub use header::header_line;
 pub use script::{Progress, run_script, run_script_shown};
 pub use show::show_cert;
+
+// What lies below, for the crates above.
+pub use gb_console::{
+    Console, Ending, Outcome, Upgraded, Verdict, check, upgrade_bytes, verify_bytes,
+};

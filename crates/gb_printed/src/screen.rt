@@ -5,7 +5,7 @@ ghost use Rattle.gb_text.specs.Sink.{Gains};
 ghost use Rattle.gb_text.specs.Text.{GainsBeginning};
 ghost use Rattle.gb_printed.specs.Screen.{byte_of, packed, line_text, screen_text};
 
-use gb_ppu::line::{HEIGHT, WIDTH};
+use gb_console::{HEIGHT, WIDTH};
 use gb_text::line::Line;
 use gb_text::put::put_all;
 use gb_text::sink::{OutFault, Sink};

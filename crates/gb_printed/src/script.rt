@@ -7,11 +7,10 @@ ghost use Rattle.gb_printed.specs.Script.{keys_at, seconds_of, IsRun, ending_tex
 
 use crate::screen::put_screen;
 use bitflags::Flags;
-use gb_console::{Console, Ending};
+use gb_console::{Console, Ending, Keys};
 use gb_text::line::Line;
 use gb_text::put::put_all;
 use gb_text::sink::{OutFault, Sink};
-use gb_timer::irqs::Keys;
 
 /// Hears how far a run has come.
 pub trait Progress {

@@ -1,6 +1,6 @@
 -- Which commands have standard input twice (own).
 use Rattle.std.specs.Prelude.{Bool, false, ◌&&◌}
-use Rattle.gb_files.specs.Input.{is_input}
+use Rattle.gb_command_line.specs.Below.gb_files.Input.{is_input}
 use Rattle.gb_words.specs.declared.words.Task.{Task}
 use Rattle.gb_words.specs.declared.words.Task.TheVariants as task
 

@@ -1,18 +1,18 @@
 -- What the program ends with, by what became of a command.
 use Rattle.std.specs.Prelude.{Option, Some, None, Result, Ok, Err}
-use Rattle.gb_header.specs.declared.fault.HeaderFault.{HeaderFault}
-use Rattle.gb_console.specs.declared.frame.Ending.{Ending}
-use Rattle.gb_console.specs.declared.frame.Ending.TheVariants as ending
-use Rattle.gb_fields.specs.declared.fault.CertFault.{CertFault}
-use Rattle.gb_fields.specs.declared.fault.CertFault.TheVariants.{Memory}
-use Rattle.gb_verify.specs.declared.upgrade.Upgraded.{Upgraded}
-use Rattle.gb_verify.specs.declared.upgrade.Upgraded.TheVariants as upgrade
+use Rattle.gb_command_line.specs.Below.gb_header.declared.fault.HeaderFault.{HeaderFault}
+use Rattle.gb_printed.specs.Below.gb_console.declared.frame.Ending.{Ending}
+use Rattle.gb_printed.specs.Below.gb_console.declared.frame.Ending.TheVariants as ending
+use Rattle.gb_explain.specs.Below.gb_fields.declared.fault.CertFault.{CertFault}
+use Rattle.gb_explain.specs.Below.gb_fields.declared.fault.CertFault.TheVariants.{Memory}
+use Rattle.gb_command_line.specs.Below.gb_verify.declared.upgrade.Upgraded.{Upgraded}
+use Rattle.gb_command_line.specs.Below.gb_verify.declared.upgrade.Upgraded.TheVariants as upgrade
 use Rattle.gb_printed.specs.declared.commands.RunOutcome.{RunOutcome}
 use Rattle.gb_printed.specs.declared.commands.RunOutcome.TheVariants as played
 use Rattle.gb_command_line.specs.declared.status.Status.{Status}
 use Rattle.gb_command_line.specs.declared.status.Status.TheVariants as status
-use Rattle.gb_files.specs.declared.trouble.Trouble.{Trouble}
-use Rattle.gb_files.specs.declared.trouble.Trouble.TheVariants as trouble
+use Rattle.gb_command_line.specs.Below.gb_files.declared.trouble.Trouble.{Trouble}
+use Rattle.gb_command_line.specs.Below.gb_files.declared.trouble.Trouble.TheVariants as trouble
 
 -- of a file with this fault, or none
 abbrev pub header_status : Option HeaderFault → Status

@@ -3,7 +3,7 @@
 ghost use Rattle.std.specs.Prelude.{◌≡◌};
 ghost use Rattle.gb_program.specs.Input.{has_input_twice};
 
-use gb_files::is_input;
+use gb_command_line::is_input;
 use gb_words::Task;
 
 /// Whether two files of a task are standard input, which can be read only once.

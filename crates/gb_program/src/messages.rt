@@ -1,7 +1,7 @@
 //! What the program alone says on standard error.
 
+use gb_command_line::shown_name;
 use gb_explain::explain;
-use gb_files::shown_name;
 
 /// The program's name, in what it says to a person.
 pub const PROGRAM: &str = "gulmyrek";

@@ -8,11 +8,10 @@ use crate::stored;
 use gb_command_line::messages::{tell_fault, tell_output, verify};
 use gb_command_line::status::Status;
 use gb_command_line::words::{explain, tell_words, words_of};
-use gb_files::{Trouble, read_cartridge, read_certificate, read_file};
-use gb_header::Rom;
+use gb_command_line::{
+    Plain, Rom, Trouble, read_cartridge, read_certificate, read_file, upgrade_bytes,
+};
 use gb_printed::{header_bytes, run_bytes, show_bytes};
-use gb_text::sink::Plain;
-use gb_verify::upgrade::upgrade_bytes;
 use gb_words::{Task, read_words};
 use std::io::{self, Input};
 use std::rt::{Env, Files};

@@ -3,13 +3,9 @@
 ghost use Rattle.std.specs.Prelude.{◌≡◌};
 ghost use Rattle.gb_program.specs.Status.{header_status, show_status, upgrade_status, run_status};
 
-use gb_cert::CertFault;
 use gb_command_line::status::Status;
-use gb_console::Ending;
-use gb_files::Trouble;
-use gb_header::HeaderFault;
-use gb_printed::RunOutcome;
-use gb_verify::upgrade::Upgraded;
+use gb_command_line::{CertFault, HeaderFault, Trouble, Upgraded};
+use gb_printed::{Ending, RunOutcome};
 
 /// The status of a header's line, or of the fault in its place.
 pub fn header_status(fault: Option<HeaderFault>) -> Status

@@ -1,8 +1,6 @@
 //! What there is to tell of failures.
 
-use gb_fixpoint::cause::{Cause, Failure};
-use gb_fixpoint::configuration::Place;
-use gb_fixpoint::types::{Run, Spot};
+use gb_draft::{Cause, Failure, Place, Run, Spot};
 use gb_plans::pointer_cells;
 use gb_reports::{Obstacle, Standing};
 use std::alloc::{AllocError, Global};

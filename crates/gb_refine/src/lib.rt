@@ -10,11 +10,17 @@ mod failures;
 mod rounds;
 mod shrink;
 mod tracking;
+mod written;
 
-use gb_header::Rom;
+use gb_draft::Rom;
 use rounds::Refinement;
 pub use rounds::{Limits, Made, Progress};
 use std::alloc::{AllocError, Global};
+
+// What lies below, for the crates above.
+pub use gb_reports::{
+    Listing, Obstacle, Standing, SymbolFault, Symbols, Told, explain, obstacle_json,
+};
 
 /// A certificate of a cartridge, or what is in the way. The certificate isn't checked as a last step: that is left to who
 /// calls.

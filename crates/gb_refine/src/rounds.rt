@@ -2,11 +2,8 @@
 
 use crate::failures::{add_failure, add_failures, tell, told};
 use crate::tracking::Cells;
-use gb_draft::{certificate_of, find_needs};
-use gb_fixpoint::cause::{Cause, Failure, Outcome};
-use gb_fixpoint::configuration::{Configuration, Place};
-use gb_fixpoint::types::Run;
-use gb_header::Rom;
+use crate::written::written;
+use gb_draft::{Cause, Configuration, Failure, Outcome, Place, Rom, Run, find_needs};
 use gb_ops::machine::Region;
 use gb_plans::{Plan, plan_for};
 use gb_reports::{Crowd, Obstacle, Standing};
@@ -364,13 +361,19 @@ impl<'a> Refinement<'a> {
         };
         let region = self.configuration.region;
         match region_of(words, region.last) {
-            Some(needed) if region.first <= needed.first => {
-                Ok(Lesson::Certificate(certificate_of(self.alloc, run)?))
-            }
+            Some(needed) if region.first <= needed.first => { self.learn_certificate(run) }
             Some(needed) if self.limits.region.is_none() && is_in_ram(needed) => {
                 Ok(Lesson::Change(Change::Region(needed)))
             }
             _ => end_by(self.alloc, Obstacle::StackTooDeep { words, region }),
+        }
+    }
+
+    /// The certificate of a run. Where a limit stands against it, it is told as one that the checker refuses.
+    fn learn_certificate(&self, run: &Run<'_>) -> Result<Lesson, AllocError> {
+        match written(self.alloc, run)? {
+            Some(bytes) => Ok(Lesson::Certificate(bytes)),
+            None => end_by(self.alloc, Obstacle::Refused),
         }
     }
 

@@ -1,17 +1,12 @@
 //! Shrinking: what a certificate doesn't need is taken back while the checker accepts what is left.
 
 use crate::rounds::{Progress, Refinement};
-use gb_cert::Cert;
-use gb_draft::{certificate_of, find_needs};
-use gb_fixpoint::cause::Outcome;
-use gb_fixpoint::configuration::{Configuration, Place};
-use gb_fixpoint::register_set::REGISTERS;
-use gb_fixpoint::types::Run;
-use gb_header::Rom;
+use crate::written::written;
+use gb_draft::{
+    Cert, Configuration, Outcome, Place, REGISTERS, Rom, Run, Verdict, check, find_needs,
+};
 use gb_ops::op::Register;
 use gb_plans::{parted_by, without};
-use gb_verify::check::check;
-use gb_verify::verdict::Verdict;
 use std::alloc::{AllocError, Global};
 
 /// About how many steps of nodes all attempts together may take.
@@ -47,11 +42,9 @@ fn accepted(
     if !is_clean(alloc, run)? {
         return Ok(None);
     }
-    let bytes = certificate_of(alloc, run)?;
-    if is_accepted(alloc, rom, &bytes) {
-        Ok(Some(bytes))
-    } else {
-        Ok(None)
+    match written(alloc, run)? {
+        Some(bytes) if is_accepted(alloc, rom, &bytes) => Ok(Some(bytes)),
+        _ => Ok(None),
     }
 }
 

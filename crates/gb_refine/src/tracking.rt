@@ -1,10 +1,7 @@
 //! Which memory cells are tracked: at most 32, code and what keys go by first.
 
-use gb_abs::storage::is_ram;
-use gb_fixpoint::configuration::Configuration;
-use gb_fixpoint::types::Run;
+use gb_draft::{CELLS, Configuration, Run, is_ram};
 use gb_ops::machine::Region;
-use gb_states::types::CELLS;
 use std::alloc::{AllocError, Global};
 use std::collections::BTreeSet;
 

@@ -1,7 +1,7 @@
 //! What happens where a failure stands, in a sentence.
 
 use crate::obstacle::Standing;
-use gb_abs::span::Span;
+use gb_fixpoint::Span;
 use gb_fixpoint::cause::{Cause, StackMisuse, TransferMisuse};
 use std::fmt;
 

@@ -9,8 +9,8 @@ use crate::path::{Path, Segment, Start};
 use crate::state::{gate_text, ime_text};
 use crate::told::Other;
 use crate::topic::{advice_on, standing_advice};
+use gb_fixpoint::{Abs, Cell, Val};
 use gb_ops::registers::Registers;
-use gb_states::types::{Abs, Cell, Val};
 use serde_json::Value;
 use std::alloc::{AllocError, Global};
 

@@ -33,3 +33,6 @@ pub use obstacle::{Obstacle, Standing};
 pub use path::{Path, Segment, Start};
 pub use symbols::{Place, Symbol, Symbols};
 pub use told::Told;
+
+// What lies below, for the crates above.
+pub use gb_explain::{Code, Explanation, explain};

@@ -4,10 +4,8 @@
 use crate::Symbols;
 use crate::named::Named;
 use crate::state::{ShownCell, ShownFlags, ShownRegisters, fmt_core};
-use gb_cert::{Cert, NodeRef};
 use gb_explain::Code;
-use gb_header::Rom;
-use gb_states::types::{Abs, Cell, Range};
+use gb_fixpoint::{Abs, Cell, Cert, NodeRef, Range, Rom};
 use std::fmt;
 
 /// A certificate with its cartridge, and symbols.

@@ -3,16 +3,15 @@
 use crate::crowd::Crowd;
 use crate::handlers::switching_handlers;
 use crate::path::{Path, bank_of};
-use gb_code::code::known_bytes;
 use gb_explain::Code;
 use gb_fixpoint::cause::{Cause, Failure};
 use gb_fixpoint::configuration::Place;
 use gb_fixpoint::register_set::RegisterSet;
 use gb_fixpoint::types::{Node, Run};
+use gb_fixpoint::{Abs, known_bytes};
 use gb_ops::decode::decode;
 use gb_ops::machine::Region;
 use gb_ops::op::Op;
-use gb_states::types::Abs;
 use std::alloc::{AllocError, Global};
 
 /// A failure at an instruction.

@@ -1,6 +1,6 @@
 //! The way by which a node was first reached.
 
-use gb_abs_memory::shown::known_bank;
+use gb_fixpoint::known_bank;
 use gb_fixpoint::types::{Node, Run};
 use std::alloc::{AllocError, Global};
 

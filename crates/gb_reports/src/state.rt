@@ -1,6 +1,6 @@
 //! A state as a person reads it: registers, flags, banks, the stack and cells.
 
-use gb_states::types::{Abs, Cell, Core, Ctl, Flg, ImeSet, May, Val};
+use gb_fixpoint::{Abs, Cell, Core, Ctl, Flg, ImeSet, May, Val};
 use std::fmt;
 
 /// A value, or an interval of values.

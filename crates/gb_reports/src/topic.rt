@@ -2,7 +2,7 @@
 
 use crate::advice::{self, Advice};
 use crate::obstacle::{Obstacle, Standing};
-use gb_abs::span::Span;
+use gb_fixpoint::Span;
 use gb_fixpoint::cause::{Cause, StackMisuse, TransferMisuse};
 use gb_ops::op::{Op, Pair};
 

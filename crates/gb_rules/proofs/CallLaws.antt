@@ -5,10 +5,10 @@ use Rattle.gb_ops.specs.declared.machine.Region.{Region}
 use Rattle.gb_ops.specs.Memory.{Storage}
 use Rattle.gb_ops.specs.Pairs.{word}
 use Rattle.gb_ops.specs.Play.{MState}
-use Rattle.gb_states.specs.declared.types.Core.{Core}
-use Rattle.gb_states.specs.declared.types.Item.{Item}
-use Rattle.gb_states.specs.Types.{AbsState}
-use Rattle.gb_states.specs.Rules.{IsRegion}
+use Rattle.gb_domain.specs.declared.types.Core.{Core}
+use Rattle.gb_domain.specs.declared.types.Item.{Item}
+use Rattle.gb_domain.specs.Types.{AbsState}
+use Rattle.gb_domain.specs.Areas.{IsRegion}
 use Rattle.gb_abs.specs.Meaning.{Holds, MeansCore, AreItems, Means}
 use Rattle.gb_abs.specs.Stack.{pushed}
 use Rattle.gb_abs.specs.Storage.{peek}

@@ -15,13 +15,13 @@ use Rattle.gb_ops.specs.Machine as Machine
 use Rattle.gb_ops.specs.Machine.{is_possible, happened, is_ime, vector}
 use Rattle.gb_ops.specs.Faults.{no_faults, store_faults, event_faults, event_places}
 use Rattle.gb_ops.specs.Play.{MState, within, outside}
-use Rattle.gb_states.specs.declared.types.Core.{Core}
-use Rattle.gb_states.specs.Types.{AbsState, Node}
-use Rattle.gb_states.specs.Certificate.{Certificate}
+use Rattle.gb_domain.specs.declared.types.Core.{Core}
+use Rattle.gb_domain.specs.Types.{AbsState, Node}
+use Rattle.gb_domain.specs.Certificate.{Certificate}
 use Rattle.gb_states.specs.Rules.{IsCertificate}
-use Rattle.gb_vals.specs.Vals.{single}
-use Rattle.gb_vals.specs.Bits.{has_bit, may_have_bit}
-use Rattle.gb_vals.proofs.BitLaws.{may_have_bit_sound}
+use Rattle.gb_abs.specs.Below.gb_vals.Vals.{single}
+use Rattle.gb_abs.specs.Below.gb_vals.Bits.{has_bit, may_have_bit}
+use Rattle.gb_abs.proofs.Below.gb_vals_laws.BitLaws.{may_have_bit_sound}
 use Rattle.gb_abs.specs.Cells.{ArePlaced}
 use Rattle.gb_abs.specs.Mark.{IsMarkHarmless}
 use Rattle.gb_abs.specs.Meaning.{Holds, MeansCore, Means, ime_may_be}
@@ -30,8 +30,8 @@ use Rattle.gb_abs.specs.Stack.{pushed}
 use Rattle.gb_abs.specs.Storage.{peek}
 use Rattle.gb_abs.proofs.OperationLaws.{Holds-single}
 use Rattle.gb_abs.proofs.StackLaws.{IsRegionOpen-bound, Means-pushed, Means-with_core}
-use Rattle.gb_abs_memory.specs.Kept.{IsKept}
-use Rattle.gb_abs_memory.specs.Sound.{view}
+use Rattle.gb_code.specs.Below.gb_abs_memory.Kept.{IsKept}
+use Rattle.gb_code.specs.Below.gb_abs_memory.Sound.{view}
 use Rattle.gb_calls.specs.Calls.{entered, callee_of, are_ranges_inside, resumed}
 use Rattle.gb_calls.specs.Interrupts.{only_off, dispatched, may_come, handler_of}
 use Rattle.gb_calls.proofs.CalleeLaws.{IsCallee-found, IsEntryNode-entry}

@@ -25,30 +25,30 @@ use Rattle.gb_ops.specs.Machine as Machine
 use Rattle.gb_ops.specs.Machine.{BusState, fetched, length_of, mark_of, run, run_row, executed, happened, is_possible, only, has_halt, has_enabled, is_ime, is_running, is_bytes, halt_stay, halt_bug}
 use Rattle.gb_ops.specs.Faults.{no_faults, either_faults, fetch_faults, all_fetch_faults, fetch_addresses, row_faults, run_faults, event_faults, event_places, code_place}
 use Rattle.gb_ops.specs.Play.{MState, within, outside, next, faults, places, faults_where, places_where}
-use Rattle.gb_states.specs.Types.{AbsState, Node}
-use Rattle.gb_states.specs.Certificate.{Certificate}
+use Rattle.gb_domain.specs.Types.{AbsState, Node}
+use Rattle.gb_domain.specs.Certificate.{Certificate}
 use Rattle.gb_states.specs.Rules.{IsCertificate}
 use Rattle.gb_abs.specs.Mark.{IsMarkHarmless}
 use Rattle.gb_ops.specs.declared.machine.Mapped.{Mapped}
 use Rattle.gb_ops.specs.declared.machine.Mapped.TheVariants as mapped
 use Rattle.gb_ops.specs.declared.registers.Registers.{Registers}
 use Rattle.gb_ops.specs.Registers.{get}
-use Rattle.gb_vals.specs.Tests.{IsTested}
+use Rattle.gb_abs.specs.Below.gb_vals.Tests.{IsTested}
 use Rattle.gb_abs.specs.Meaning.{Holds, HoldsFlags, HoldsController, Means, ime_may_be}
 use Rattle.gb_abs.specs.Storage.{peek}
 use Rattle.gb_abs.proofs.OperationLaws.{counted}
 use Rattle.gb_abs.proofs.StackLaws.{Means-with_core}
-use Rattle.gb_abs_memory.specs.Sound.{IsRom}
+use Rattle.gb_code.specs.Below.gb_abs_memory.Sound.{IsRom}
 use Rattle.gb_code.specs.Places.{IsCertified, IsCertifiedBy}
 use Rattle.gb_code.specs.Code.{area_end, known_byte}
 use Rattle.gb_code.proofs.ByteLaws.{Reads-known}
 use Rattle.gb_code.proofs.CodeLaws.{IsInside, clear_byte, area_small, FetchesFirst-known, FetchesAll-known}
 use Rattle.gb_abs.specs.Operations.{core_settle}
-use Rattle.gb_states.specs.declared.types.Core.{Core}
-use Rattle.gb_abs_effects.specs.declared.targets.Target.TheVariants as target
-use Rattle.gb_abs_effects.specs.Targets.{target_of}
-use Rattle.gb_abs_effects.specs.Sides.{sides_of}
-use Rattle.gb_abs_memory.specs.Kept.{IsKept}
+use Rattle.gb_domain.specs.declared.types.Core.{Core}
+use Rattle.gb_successors.specs.Below.gb_abs_effects.declared.targets.Target.TheVariants as target
+use Rattle.gb_successors.specs.Below.gb_abs_effects.Targets.{target_of}
+use Rattle.gb_successors.specs.Below.gb_abs_effects.Sides.{sides_of}
+use Rattle.gb_code.specs.Below.gb_abs_memory.Kept.{IsKept}
 use Rattle.gb_successors.specs.Way.{Successor}
 use Rattle.gb_successors.specs.Successors.{successors_of, taken_successor}
 use Rattle.gb_successors.specs.Sound.{IsHalt}

@@ -3,8 +3,8 @@ use Rattle.std.proofs.Common.{◌≡◌, ℕ, ◌+◌, ◌*◌, ◌≤◌, ◌<�
 use Rattle.gb_ops.specs.declared.machine.Event.{Event}
 use Rattle.gb_ops.specs.Pairs.{word}
 use Rattle.gb_ops.specs.Play.{MState, next}
-use Rattle.gb_states.specs.Types.{AbsState, Node}
-use Rattle.gb_states.specs.Certificate.{Certificate}
+use Rattle.gb_domain.specs.Types.{AbsState, Node}
+use Rattle.gb_domain.specs.Certificate.{Certificate}
 use Rattle.gb_states.specs.Rules.{IsCertificate}
 use Rattle.gb_abs.specs.Covering.{covers}
 use Rattle.gb_abs.specs.Meaning.{Means}
@@ -12,7 +12,7 @@ use Rattle.gb_abs.specs.Stack.{AreInRegion}
 use Rattle.gb_abs.specs.Storage.{peek}
 use Rattle.gb_abs.proofs.CoveringLaws.{Means-covered}
 use Rattle.gb_abs.proofs.StorageLaws.{region_in_ram}
-use Rattle.gb_abs_memory.specs.Kept.{IsKept}
+use Rattle.gb_code.specs.Below.gb_abs_memory.Kept.{IsKept}
 use Rattle.gb_calls.specs.Calls.{entered, are_ranges_inside, resumed}
 use Rattle.gb_calls.specs.Sound.{without_word, ComesBack}
 use Rattle.gb_calls.proofs.EnteringLaws.{Means-entered}

@@ -7,12 +7,12 @@ use Rattle.gb_ops.specs.declared.machine.Event.{Event}
 use Rattle.gb_ops.specs.declared.machine.Event.TheVariants as event
 use Rattle.gb_ops.specs.Machine.{is_possible}
 use Rattle.gb_ops.specs.Play.{MState, within}
-use Rattle.gb_states.specs.Types.{Node}
-use Rattle.gb_states.specs.Certificate.{Certificate}
+use Rattle.gb_domain.specs.Types.{Node}
+use Rattle.gb_domain.specs.Certificate.{Certificate}
 use Rattle.gb_states.specs.Rules.{IsCertificate}
 use Rattle.gb_abs.specs.declared.reason.Reason.{Reason}
 use Rattle.gb_abs.specs.declared.reason.Reason.TheVariants as reasons
-use Rattle.gb_abs_memory.specs.Sound.{IsRom}
+use Rattle.gb_code.specs.Below.gb_abs_memory.Sound.{IsRom}
 use Rattle.gb_successors.proofs.AccessLaws.{clear_stack}
 use Rattle.gb_rules.specs.Rules.{reason_of, reason_at, lacks_handler, lacks_in, lacks_handler_at}
 use Rattle.gb_rules.specs.Safety.{IsAt, IsSafeEvent, IsWhollySafeAt}

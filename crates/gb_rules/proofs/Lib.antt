@@ -13,3 +13,4 @@ pub mod InterruptLaws
 pub mod AnswerLaws
 pub mod FrameLaws
 pub mod FrameRunLaws
+pub mod Below

@@ -13,21 +13,23 @@ use Rattle.gb_ops.specs.declared.op.Op.TheVariants as op
 use Rattle.gb_ops.specs.declared.op.Row.{Row}
 use Rattle.gb_ops.specs.Table.{decoded}
 use Rattle.gb_ops.specs.Machine.{length_of}
-use Rattle.gb_states.specs.declared.types.Val.{Val}
-use Rattle.gb_states.specs.declared.types.Cell.{Cell}
-use Rattle.gb_states.specs.declared.types.Item.{Item}
-use Rattle.gb_states.specs.Types.{AbsState, Node}
-use Rattle.gb_states.specs.Certificate.{Certificate}
-use Rattle.gb_states.specs.Rules.{IsVal, IsCell, IsChain, IsNode, IsState, IsCore, IsItem, IsRegion, IsCertificate, after_cell, key, role_of, needs_stack}
+use Rattle.gb_domain.specs.declared.types.Val.{Val}
+use Rattle.gb_domain.specs.declared.types.Cell.{Cell}
+use Rattle.gb_domain.specs.declared.types.Item.{Item}
+use Rattle.gb_domain.specs.Types.{AbsState, Node}
+use Rattle.gb_domain.specs.Certificate.{Certificate}
+use Rattle.gb_domain.specs.Areas.{IsRegion}
+use Rattle.gb_domain.specs.Rules.{IsVal, IsCell, IsChain, IsCore, IsItem, after_cell}
+use Rattle.gb_states.specs.Rules.{IsNode, IsState, IsCertificate, key, role_of, needs_stack}
 use Rattle.gb_abs.specs.Cells.{ArePlaced}
 use Rattle.gb_abs.specs.Stack.{AreInRegion}
-use Rattle.gb_abs_effects.specs.declared.targets.Target.{Target}
-use Rattle.gb_abs_effects.specs.declared.targets.Target.TheVariants as target
-use Rattle.gb_abs_effects.proofs.DecodingLaws.{HasBytes-decoded, length-decoded}
-use Rattle.gb_abs_memory.specs.Access.{val_at}
-use Rattle.gb_abs_memory.specs.Shown.{known_bank}
-use Rattle.gb_abs_memory.specs.Sound.{IsRom, AreVals}
-use Rattle.gb_abs_memory.proofs.LoadLaws.{IsVal-val_at}
+use Rattle.gb_successors.specs.Below.gb_abs_effects.declared.targets.Target.{Target}
+use Rattle.gb_successors.specs.Below.gb_abs_effects.declared.targets.Target.TheVariants as target
+use Rattle.gb_successors.proofs.Below.gb_abs_effects_laws.DecodingLaws.{HasBytes-decoded, length-decoded}
+use Rattle.gb_code.specs.Below.gb_abs_memory.Access.{val_at}
+use Rattle.gb_code.specs.Below.gb_abs_memory.Shown.{known_bank}
+use Rattle.gb_code.specs.Below.gb_abs_memory.Sound.{IsRom, AreVals}
+use Rattle.gb_code.proofs.Below.gb_abs_memory_laws.LoadLaws.{IsVal-val_at}
 use Rattle.gb_code.specs.Code.{area_end, known_byte, known_where, single_of}
 use Rattle.gb_code.proofs.ByteLaws.{chosen}
 use Rattle.gb_code.proofs.CodeLaws.{KnownBytes, KnownBytes-known_bytes, IsKnown, end_of, bank_of, clear_of}

@@ -6,15 +6,17 @@ use Rattle.std.proofs.lemmas.Option.{same_Some}
 use Rattle.std.specs.Prelude.{IfSome}
 use Rattle.std.specs.List.{AllByRecursion, list_any}
 use Rattle.gb_ops.specs.declared.machine.Region.{Region}
-use Rattle.gb_states.specs.declared.types.Range.{Range}
-use Rattle.gb_states.specs.declared.types.Item.{Item}
+use Rattle.gb_domain.specs.declared.types.Range.{Range}
+use Rattle.gb_domain.specs.declared.types.Item.{Item}
 use Rattle.gb_states.specs.declared.role.Role.TheVariants as role
-use Rattle.gb_states.specs.Types.{AbsState, ProcedureParts}
-use Rattle.gb_states.specs.Certificate.{Certificate}
-use Rattle.gb_states.specs.Rules.{IsChain, IsRange, IsProcedure, IsState, IsRegion, IsCertificate, after_range, is_after, meets, words}
+use Rattle.gb_domain.specs.Types.{AbsState, ProcedureParts}
+use Rattle.gb_domain.specs.Certificate.{Certificate}
+use Rattle.gb_domain.specs.Areas.{IsRegion, meets}
+use Rattle.gb_domain.specs.Rules.{IsChain}
+use Rattle.gb_states.specs.Rules.{IsRange, IsProcedure, IsState, IsCertificate, after_range, is_after, words}
 use Rattle.gb_abs.specs.Span.{one}
 use Rattle.gb_abs.specs.Stack.{AreInRegion}
-use Rattle.gb_abs_memory.specs.Access.{is_range}
+use Rattle.gb_code.specs.Below.gb_abs_memory.Access.{is_range}
 use Rattle.gb_rules.specs.Procedures.{ranges_in, need_in, exit_in, ranges_of, need_of, exit_of}
 
 -- ---- the procedure with a number

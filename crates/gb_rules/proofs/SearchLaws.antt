@@ -5,8 +5,8 @@ use Rattle.std.proofs.lemmas.Bool.Decides.{nat_tests}
 use Rattle.std.proofs.lemmas.Option.{slice_get_within, get_or_from_slice_get, slice_get-map}
 use Rattle.std.specs.Prelude.{option_map}
 use Rattle.std.specs.List.{Contains, list_any}
-use Rattle.gb_rows.specs.Rows.{IsFound}
-use Rattle.gb_states.specs.Types.{AbsState, Node}
+use Rattle.gb_calls.specs.Below.gb_rows.Rows.{IsFound}
+use Rattle.gb_domain.specs.Types.{AbsState, Node}
 use Rattle.gb_states.specs.Rules.{key}
 use Rattle.gb_abs.specs.Covering.{covers}
 use Rattle.gb_rules.specs.Covered.{is_cover, is_covered_by_one}

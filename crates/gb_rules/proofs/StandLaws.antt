@@ -11,22 +11,22 @@ use Rattle.gb_ops.specs.declared.op.Op.TheVariants as op
 use Rattle.gb_ops.specs.declared.op.Row.{Row}
 use Rattle.gb_ops.specs.Registers.{get}
 use Rattle.gb_ops.specs.Play.{MState}
-use Rattle.gb_states.specs.declared.types.Item.{Item}
-use Rattle.gb_states.specs.declared.types.Core.{Core}
-use Rattle.gb_states.specs.Types.{AbsState, Node}
-use Rattle.gb_states.specs.Certificate.{Certificate}
+use Rattle.gb_domain.specs.declared.types.Item.{Item}
+use Rattle.gb_domain.specs.declared.types.Core.{Core}
+use Rattle.gb_domain.specs.Types.{AbsState, Node}
+use Rattle.gb_domain.specs.Certificate.{Certificate}
 use Rattle.gb_abs.specs.Covering.{covers, covers_items}
 use Rattle.gb_abs.specs.Mark.{IsMarkHarmless}
 use Rattle.gb_abs.specs.Meaning.{Holds, Means}
 use Rattle.gb_abs.specs.Stack.{AreInRegion}
 use Rattle.gb_abs.proofs.CoveringLaws.{Means-covered}
 use Rattle.gb_abs.proofs.OperationLaws.{Means-with_value}
-use Rattle.gb_abs_effects.specs.declared.targets.Target.{Target}
-use Rattle.gb_abs_effects.specs.declared.targets.Target.TheVariants as target
-use Rattle.gb_abs_effects.specs.Targets.{moves_sp, target_of}
-use Rattle.gb_abs_effects.specs.Pairs.{is_word_known, pair_halves}
-use Rattle.gb_abs_effects.specs.Sound.{HoldsTarget}
-use Rattle.gb_abs_memory.specs.Sound.{IsRom}
+use Rattle.gb_successors.specs.Below.gb_abs_effects.declared.targets.Target.{Target}
+use Rattle.gb_successors.specs.Below.gb_abs_effects.declared.targets.Target.TheVariants as target
+use Rattle.gb_successors.specs.Below.gb_abs_effects.Targets.{moves_sp, target_of}
+use Rattle.gb_successors.specs.Below.gb_abs_effects.Pairs.{is_word_known, pair_halves}
+use Rattle.gb_successors.specs.Below.gb_abs_effects.Sound.{HoldsTarget}
+use Rattle.gb_code.specs.Below.gb_abs_memory.Sound.{IsRom}
 use Rattle.gb_code.proofs.CodeLaws.{IsKnown, IsAt as IsAtCode}
 use Rattle.gb_successors.specs.Way.{Successor}
 use Rattle.gb_successors.specs.Successors.{successors_of, taken_successor, untaken_successor, staying_successor, stays}

@@ -1,6 +1,6 @@
 -- Covering with one value in a register: the values with which a node covers are those of an interval, or none.
 use Rattle.std.proofs.Common.{◌≡◌, ℕ, ◌+◌, ◌≤◌, ◌<◌, Bool, true, false, ◌&&◌, ◌||◌, List, map, slice_get, Some, refl, sym, ◌∙◌, ap, subst, nat_le, arith}
-use Rattle.gb_rows.specs.Rows.{IsFound}
+use Rattle.gb_calls.specs.Below.gb_rows.Rows.{IsFound}
 use Rattle.gb_states.specs.Rules.{key}
 use Rattle.gb_rules.proofs.SearchLaws.{NoneBefore, none_before, none_yet, none_covers, one_covers}
 use Rattle.std.proofs.lemmas.Bool.Decides.{nat_tests}
@@ -8,8 +8,8 @@ use Rattle.gb_ops.specs.declared.op.Register.{Register}
 use Rattle.gb_ops.specs.declared.op.Register.TheVariants.{A, B, C, D, E, H, L}
 use Rattle.gb_ops.specs.declared.registers.Registers.{Registers}
 use Rattle.gb_ops.specs.Registers.{get, set}
-use Rattle.gb_states.specs.declared.types.Val.{Val}
-use Rattle.gb_states.specs.Types.{AbsState, Node}
+use Rattle.gb_domain.specs.declared.types.Val.{Val}
+use Rattle.gb_domain.specs.Types.{AbsState, Node}
 use Rattle.gb_abs.specs.Covering.{implied, covers_origin, covers_val, covers_flags, covers_ime, covers_controller, covers_registers, covers_test, covers_core, covers_items, covers_cells, covers}
 use Rattle.gb_abs.specs.Operations.{core_with_value}
 use Rattle.gb_rules.specs.Covered.{is_cover, is_covered_by_one, with_value}

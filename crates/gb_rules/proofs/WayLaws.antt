@@ -5,17 +5,17 @@ use Rattle.std.proofs.lemmas.Bool.Decides.{nat_tests}
 use Rattle.std.proofs.lemmas.Option.{same_Some}
 use Rattle.gb_ops.specs.declared.op.Op.{Op}
 use Rattle.gb_ops.specs.Play.{MState}
-use Rattle.gb_states.specs.Types.{AbsState, ProcedureParts, Node}
-use Rattle.gb_states.specs.Certificate.{Certificate}
+use Rattle.gb_domain.specs.Types.{AbsState, ProcedureParts, Node}
+use Rattle.gb_domain.specs.Certificate.{Certificate}
 use Rattle.gb_states.specs.Rules.{IsCertificate, is_of, have_entries}
 use Rattle.gb_abs.specs.Covering.{covers}
 use Rattle.gb_abs.specs.Mark.{IsMarkHarmless}
 use Rattle.gb_abs.specs.Meaning.{Means}
 use Rattle.gb_abs.specs.Stack.{AreInRegion}
 use Rattle.gb_abs.proofs.CoveringLaws.{Means-covered}
-use Rattle.gb_abs_effects.specs.declared.targets.Target.{Target}
-use Rattle.gb_abs_effects.specs.declared.targets.Target.TheVariants as target
-use Rattle.gb_abs_effects.specs.Targets.{is_push}
+use Rattle.gb_successors.specs.Below.gb_abs_effects.declared.targets.Target.{Target}
+use Rattle.gb_successors.specs.Below.gb_abs_effects.declared.targets.Target.TheVariants as target
+use Rattle.gb_successors.specs.Below.gb_abs_effects.Targets.{is_push}
 use Rattle.gb_calls.specs.Calls.{entered, callee_of, are_ranges_inside, resumed}
 use Rattle.gb_calls.proofs.CalleeLaws.{IsCallee-found, IsEntryNode-entry}
 use Rattle.gb_successors.specs.Way.{Successor}

@@ -5,8 +5,8 @@ use Rattle.std.specs.List.{list_any}
 use Rattle.gb_ops.specs.declared.op.Register.{Register}
 use Rattle.gb_ops.specs.declared.op.Register.TheVariants.{A, B, C, D, E, H, L}
 use Rattle.gb_ops.specs.Registers.{get}
-use Rattle.gb_states.specs.declared.types.Val.{Val}
-use Rattle.gb_states.specs.Types.{AbsState, Node}
+use Rattle.gb_domain.specs.declared.types.Val.{Val}
+use Rattle.gb_domain.specs.Types.{AbsState, Node}
 use Rattle.gb_abs.specs.Covering.{covers}
 use Rattle.gb_abs.specs.Operations.{core_with_value, with_core}
 

@@ -2,10 +2,10 @@
 -- procedure above it was entered (own; abstract interpretation: calls by summary).
 use Rattle.std.specs.Prelude.{◌≡◌, ℕ, ◌+◌, ◌≤◌, ◌<◌, List, [], ◌∷◌}
 use Rattle.gb_ops.specs.Play.{MState}
-use Rattle.gb_states.specs.Certificate.{Certificate}
+use Rattle.gb_domain.specs.Certificate.{Certificate}
 use Rattle.gb_abs.specs.Stack.{AreInRegion}
 use Rattle.gb_abs.specs.Storage.{peek}
-use Rattle.gb_abs_memory.specs.Kept.{IsKept}
+use Rattle.gb_code.specs.Below.gb_abs_memory.Kept.{IsKept}
 use Rattle.gb_rules.specs.Procedures.{ranges_of, need_of}
 use Rattle.gb_rules.specs.Safety.{IsMeant, Calls}
 

@@ -3,3 +3,4 @@ pub mod Procedures
 pub mod Rules
 pub mod Safety
 pub mod Frames
+pub mod Below

@@ -1,8 +1,8 @@
 -- What a certificate claims of its procedures (own format).
 use Rattle.std.specs.Prelude.{ℕ, List, [], slice_get, Option, Some, None}
-use Rattle.gb_states.specs.declared.types.Range.{Range}
-use Rattle.gb_states.specs.Types.{AbsState, ProcedureParts}
-use Rattle.gb_states.specs.Certificate.{Certificate}
+use Rattle.gb_domain.specs.declared.types.Range.{Range}
+use Rattle.gb_domain.specs.Types.{AbsState, ProcedureParts}
+use Rattle.gb_domain.specs.Certificate.{Certificate}
 
 abbrev pub ranges_in : Option ProcedureParts → List Range
 ranges_in None = []

@@ -7,17 +7,17 @@ use Rattle.gb_ops.specs.declared.op.Op.TheVariants as op
 use Rattle.gb_ops.specs.declared.op.Row.{Row}
 use Rattle.gb_ops.specs.Cartridge.{kind_of}
 use Rattle.gb_ops.specs.Table.{decoded}
-use Rattle.gb_states.specs.declared.types.Core.{Core}
-use Rattle.gb_states.specs.declared.types.Range.{Range}
-use Rattle.gb_states.specs.Types.{AbsState, Node}
-use Rattle.gb_states.specs.Certificate.{Certificate}
+use Rattle.gb_domain.specs.declared.types.Core.{Core}
+use Rattle.gb_domain.specs.declared.types.Range.{Range}
+use Rattle.gb_domain.specs.Types.{AbsState, Node}
+use Rattle.gb_domain.specs.Certificate.{Certificate}
 use Rattle.gb_abs.specs.declared.reason.Reason.{Reason}
 use Rattle.gb_abs.specs.declared.reason.Reason.TheVariants as reason
 use Rattle.gb_abs.specs.Covering.{covers}
-use Rattle.gb_abs_effects.specs.declared.targets.Target.{Target}
-use Rattle.gb_abs_effects.specs.declared.targets.Target.TheVariants as target
-use Rattle.gb_abs_effects.specs.Targets.{moves_sp, is_push}
-use Rattle.gb_abs_memory.specs.Shown.{known_bank}
+use Rattle.gb_successors.specs.Below.gb_abs_effects.declared.targets.Target.{Target}
+use Rattle.gb_successors.specs.Below.gb_abs_effects.declared.targets.Target.TheVariants as target
+use Rattle.gb_successors.specs.Below.gb_abs_effects.Targets.{moves_sp, is_push}
+use Rattle.gb_code.specs.Below.gb_abs_memory.Shown.{known_bank}
 use Rattle.gb_code.specs.Code.{area_end, leaves_area, is_other_bank, lies_in_high_ram, known_byte, known_bytes}
 use Rattle.gb_successors.specs.Way.{Successor}
 use Rattle.gb_successors.specs.declared.successors.Successors.{Successors}

@@ -6,15 +6,15 @@ use Rattle.gb_ops.specs.declared.machine.Event.TheVariants as event
 use Rattle.gb_ops.specs.Pairs.{word}
 use Rattle.gb_ops.specs.Faults.{no_faults}
 use Rattle.gb_ops.specs.Play.{MState, next, faults, places}
-use Rattle.gb_states.specs.Types.{AbsState, Node}
-use Rattle.gb_states.specs.Certificate.{Certificate}
+use Rattle.gb_domain.specs.Types.{AbsState, Node}
+use Rattle.gb_domain.specs.Certificate.{Certificate}
 use Rattle.gb_abs.specs.Cells.{ArePlaced}
 use Rattle.gb_abs.specs.Covering.{covers}
 use Rattle.gb_abs.specs.Mark.{IsMarkHarmless}
 use Rattle.gb_abs.specs.Meaning.{Means}
 use Rattle.gb_abs.specs.Stack.{AreInRegion, pushed}
 use Rattle.gb_abs.specs.Storage.{peek}
-use Rattle.gb_abs_memory.specs.Kept.{IsKept}
+use Rattle.gb_code.specs.Below.gb_abs_memory.Kept.{IsKept}
 use Rattle.gb_calls.specs.Calls.{entered, are_ranges_inside, resumed}
 use Rattle.gb_code.specs.Places.{IsCertified}
 use Rattle.gb_successors.specs.Words.{word_item}

@@ -1,18 +1,46 @@
 //! Covering at an address.
 
 ghost use Rattle.std.specs.Prelude.{◌≡◌, ◌<◌, ◌&&◌, ◌||◌, ℕ, false, nat_le, slice_index_or, IfSome, IfNone, map};
-ghost use Rattle.gb_rows.specs.Rows.{IsFound};
+ghost use Rattle.gb_calls.specs.Below.gb_rows.Rows.{IsFound};
 ghost use Rattle.gb_states.specs.Rules.{key};
-ghost use Rattle.gb_abs.specs.Covering.{covers};
+ghost use Rattle.gb_abs.specs.Covering.{covers_items, covers_cells, covers};
 ghost use Rattle.gb_abs.specs.Operations.{with_core};
 ghost use Rattle.gb_rules.specs.Covered as Covered;
 
-use gb_abs::covering::{covers_core, covers_lists, covers_parts};
+use gb_abs::covering::{covers_core, covers_lists};
 use gb_abs::operations::with_value;
-use gb_cert::{Cert, NodeRef};
+use gb_calls::{Cert, Found, NodeRef};
+use gb_domain::types::{Abs, Core, Val};
 use gb_ops::op::Register;
-use gb_rows::Found;
-use gb_states::types::{Abs, Core, Val};
+
+/// Whether the items and the cells of a node's state stand for those of others, where it may hold some: kept out of line,
+/// so that a state is decoded only then.
+#[inline(never)]
+fn covers_decoded(s: &Abs, node: &NodeRef<'_>) -> bool
+    ensures { result ≡ (covers_items s.now.items node.now.state.items && covers_cells s.now.cells node.now.state.cells) }
+{
+    covers_lists(s, &node.state())
+}
+
+/// Whether the items and the cells of a node's state stand for what these do.
+fn covers_held(s: &Abs, node: &NodeRef<'_>) -> bool
+    ensures { result ≡ (covers_items s.now.items node.now.state.items && covers_cells s.now.cells node.now.state.cells) }
+{
+    if node.has_lists() {
+        covers_decoded(s, node)
+    } else {
+        s.items().is_empty()
+    }
+}
+
+/// Whether the state of a node stands for each machine state that one with this core, and the items and cells of
+/// another, stands for. Only its core is read where that doesn't, and where it holds no items and no cells.
+#[tactic(auto, unfolding(gb_abs::specs::Covering::covers))]
+fn covers_parts(core: &Core, lists: &Abs, node: &NodeRef<'_>) -> bool
+    ensures { result ≡ covers (with_core lists.now core.now) node.now.state }
+{
+    covers_core(core, &node.core()) && covers_held(lists, node)
+}
 
 /// Whether one of the nodes that were found stands for these states.
 fn is_covered_by_one(
@@ -49,7 +77,7 @@ fn covers_value(
     requires { claimed.now ≡ node.now.state.core }
     ensures { result ≡ covers (Covered.with_value register (with_core lists.now core.now) value) node.now.state }
 {
-    covers_core(&with_value(register, value, core), claimed) && covers_lists(lists, node)
+    covers_core(&with_value(register, value, core), claimed) && covers_held(lists, node)
 }
 
 /// The values of a register with which the state of a node stands for these states: those of its

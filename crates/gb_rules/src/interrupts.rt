@@ -9,12 +9,11 @@ ghost use Rattle.gb_rules.specs.Safety.{IsWhollySafeAt};
 
 use crate::procedures::{is_back_uncovered, is_outside_of, is_over, need_of};
 use gb_abs::reason::Reason;
-use gb_abs_memory::load::holds_bytes;
 use gb_calls::interrupts::{dispatched, handler, may_come};
-use gb_cert::{Cert, NodeRef};
-use gb_header::Rom;
+use gb_calls::{Cert, NodeRef};
+use gb_code::{Rom, holds_bytes};
+use gb_domain::types::{Abs, Core};
 use gb_ops::machine::Region;
-use gb_states::types::{Abs, Core};
 use gb_successors::refused::is_stack_limited;
 
 /// Whether interrupt `i`, 0 to 4, may come, and its handler would need more words than there are.

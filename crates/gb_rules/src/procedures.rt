@@ -11,12 +11,12 @@ ghost use Rattle.gb_rules.specs.Rules as Rules;
 use crate::covered::{covered_at, covered_near};
 use arrayvec::ArrayVec;
 use gb_abs::covering::covers;
-use gb_abs_effects::targets::Target;
+use gb_calls::Cert;
 use gb_calls::callees::callee;
 use gb_calls::ranges::are_ranges_inside;
 use gb_calls::resuming::resume;
-use gb_cert::Cert;
-use gb_states::types::{Abs, Range};
+use gb_domain::types::{Abs, Range};
+use gb_successors::Target;
 use gb_successors::successor::Successor;
 use gb_successors::successors::Successors;
 

@@ -1,7 +1,7 @@
 //! The rules of one node.
 
 ghost use Rattle.std.specs.Prelude.{◌≡◌, ◌<◌, length, find, Option, Some, None, MatchResult, OnOk};
-ghost use Rattle.gb_abs_effects.specs.Targets as Targets;
+ghost use Rattle.gb_successors.specs.Below.gb_abs_effects.Targets as Targets;
 ghost use Rattle.gb_successors.specs.Successors.{successors_of};
 ghost use Rattle.gb_rules.specs.Rules as Rules;
 ghost use Rattle.gb_rules.specs.Rules.{callees_of, row_reasons, way_reasons, target_reasons, reason_at};
@@ -13,17 +13,15 @@ use crate::procedures::{
     ranges_of,
 };
 use gb_abs::reason::Reason;
-use gb_abs_memory::load::holds_bytes;
-use gb_abs_memory::shown::known_bank;
-use gb_cert::{Cert, NodeRef};
+use gb_calls::{Cert, NodeRef};
 use gb_code::code::{
     area_end, is_other_bank, known_byte, known_bytes, leaves_area, lies_in_high_ram,
 };
-use gb_header::Rom;
+use gb_code::{Rom, holds_bytes, known_bank};
+use gb_domain::types::{Abs, Core, ITEMS};
 use gb_ops::decode::decode;
 use gb_ops::machine::Region;
 use gb_ops::op::{Op, Pair, Row};
-use gb_states::types::{Abs, Core, ITEMS};
 use gb_successors::successors::{Successors, successors_of};
 
 fn is_stop(op: Op) -> bool

@@ -1,8 +1,8 @@
 //! Values and states of the machine and of the checker.
 
+use gb_domain::types::{Core, Ctl, Flg, ImeSet, May, Origin, Val};
 use gb_ops::op::Register;
 use gb_ops::registers::{Flags, Ime, Processor, Registers};
-use gb_states::types::{Core, Ctl, Flg, ImeSet, May, Origin, Val};
 
 pub const EITHER: May = May {
     clear: true,

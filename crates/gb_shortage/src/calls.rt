@@ -2,14 +2,13 @@
 
 use bitflags::Flags;
 use clap::error::ErrorKind;
-use gb_bus::memory::Memory;
-use gb_cert::{Cert, CertFault, encode};
-use gb_console::{Console, Ending};
+use gb_bus::Memory;
+use gb_cert::{
+    Cert, CertFault, NodePlan, ProcedurePlan, Version, WriteFault, encode, write_certificate,
+};
+use gb_console::{Console, Ending, Keys, Outcome, Upgraded, upgrade_bytes, verify_bytes};
 use gb_header::Rom;
 use gb_text::kept_bytes::KeptBytes;
-use gb_timer::irqs::Keys;
-use gb_verify::upgrade::{Upgraded, upgrade_bytes};
-use gb_verify::verify::{Outcome, verify_bytes};
 use gb_words::{Task, read_words};
 use std::alloc::Global;
 
@@ -47,6 +46,9 @@ pub struct Files<'a> {
     pub longer: &'a [u8],
     /// The same in version 2.
     pub upgraded: &'a [u8],
+    /// The certificate's procedures and nodes, as plain values.
+    pub procedures: &'a [ProcedurePlan<'a>],
+    pub nodes: &'a [NodePlan<'a>],
 }
 
 /// A call.
@@ -55,6 +57,7 @@ pub enum Call {
     Parse,
     ParseLonger,
     Encode,
+    WriteCertificate,
     Upgrade,
     Verify,
     VerifyNoCartridge,
@@ -87,6 +90,16 @@ fn write(alloc: Global, files: &Files<'_>) -> Answer {
         Ok(bytes) if bytes.as_slice() == files.cert.bytes() => Answer::Right,
         Ok(_) => Answer::Other,
         Err(_) => Answer::Refused,
+    }
+}
+
+/// Whether plain values were written as the certificate.
+fn write_plain(alloc: Global, files: &Files<'_>) -> Answer {
+    let region = files.cert.region();
+    match write_certificate(alloc, Version::One, region, files.procedures, files.nodes) {
+        Ok(bytes) if bytes.as_slice() == files.cert.bytes() => Answer::Right,
+        Err(WriteFault::Memory) => Answer::Refused,
+        _ => Answer::Other,
     }
 }
 
@@ -157,6 +170,7 @@ impl Call {
             Call::Parse => parse(alloc, files),
             Call::ParseLonger => parse_longer(alloc, files),
             Call::Encode => write(alloc, files),
+            Call::WriteCertificate => write_plain(alloc, files),
             Call::Upgrade => upgrade(alloc, files),
             Call::Verify => verify(alloc, files),
             Call::VerifyNoCartridge => verify_no_cartridge(alloc, files),

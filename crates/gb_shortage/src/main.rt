@@ -12,7 +12,7 @@ mod calls;
 mod hoard;
 
 use calls::{Answer, Call, Files, NODES};
-use gb_cert::Cert;
+use gb_cert::{Cert, NodePlan, ProcedurePlan};
 use gb_header::Rom;
 use gb_samples::cartridges::{PLAIN, put, small};
 use gb_samples::certificates::write_nodes;
@@ -32,6 +32,14 @@ struct Row {
 
 /// The bytes of the certificate: head and main, and 47 a node.
 const LENGTH: usize = 18 + 47 * NODES;
+
+/// Main, which begins at the first node.
+const MAIN: ProcedurePlan<'static> = ProcedurePlan {
+    entry: 0,
+    need: 0,
+    ranges: &[],
+    exit: None,
+};
 
 const VERIFY: Task<'static> = Task::Verify {
     rom: "A",
@@ -61,6 +69,12 @@ const ROWS: &[Row] = &[
         name: "encode",
         call: Call::Encode,
         holes: 96,
+        step: 64,
+    },
+    Row {
+        name: "write_certificate",
+        call: Call::WriteCertificate,
+        holes: 512,
         step: 64,
     },
     Row {
@@ -194,8 +208,8 @@ fn write_met<W: io::Write>(out: &mut W, row: &Row, met: &Met) -> io::Result<()> 
     )
 }
 
-/// Writes the certificate of a cartridge whose program is 97 times NOP and then a loop: `NODES` nodes in a row.
-fn write_certificate(bytes: &mut [u8]) {
+/// The addresses of the nodes of a cartridge whose program is 97 times NOP and then a loop: `NODES` in a row.
+fn addresses() -> [u16; NODES] {
     let mut addresses = [0x0100; NODES];
     for (i, address) in addresses.iter_mut().enumerate() {
         *address = match i {
@@ -204,7 +218,7 @@ fn write_certificate(bytes: &mut [u8]) {
             _ => 0x014E + i as u16,
         };
     }
-    write_nodes(bytes, &addresses);
+    addresses
 }
 
 /// Writes the same certificate in version 2: the number of nodes and main's entry take four bytes.
@@ -215,12 +229,40 @@ fn write_upgraded(bytes: &mut [u8], cert: &[u8]) {
     put(bytes, 18, cert.get(14..).unwrap_or(&[]));
 }
 
+/// Nodes as this one, one at each of the addresses.
+fn plans(node: NodePlan<'_>) -> [NodePlan<'_>; NODES] {
+    let mut plans = [node; NODES];
+    for (plan, address) in plans.iter_mut().zip(addresses()) {
+        plan.address = address;
+    }
+    plans
+}
+
+/// The first call whose answer isn't right with all memory.
+fn first_wrong(alloc: Global, files: &Files<'_>) -> Option<&'static str> {
+    for row in ROWS {
+        if row.call.answer(alloc, files) != Answer::Right {
+            return Some(row.name);
+        }
+    }
+    None
+}
+
+/// Makes each call with its holes, and says what they met.
+fn sweep_all<W: io::Write>(alloc: Global, files: &Files<'_>, out: &mut W) -> io::Result<()> {
+    for row in ROWS {
+        let met = sweep(alloc, row, files)?;
+        write_met(out, row, &met)?;
+    }
+    Ok(())
+}
+
 fn main(rt: HostRuntime) -> io::Result<()> {
     let mut program = [0; 99];
     put(&mut program, 97, LOOP);
     let bytes = small(PLAIN, &program);
     let mut longer = [0; LENGTH + 1];
-    write_certificate(&mut longer);
+    write_nodes(&mut longer, &addresses());
     let mut upgraded = [0; LENGTH + 4];
     write_upgraded(&mut upgraded, &longer[..LENGTH]);
     let (Ok(rom), Ok(cert)) = (
@@ -229,25 +271,29 @@ fn main(rt: HostRuntime) -> io::Result<()> {
     ) else {
         return println!(rt; "the files can't be read");
     };
+    if cert.nodes() == 0 {
+        return println!(rt; "there are no nodes");
+    }
+    let state = cert.node(0).state();
+    let nodes = plans(NodePlan {
+        procedure: 0,
+        address: 0x0100,
+        bank: 0,
+        state: &state,
+    });
     let files = Files {
         rom: &rom,
         cert: &cert,
         longer: &longer,
         upgraded: &upgraded,
+        procedures: &[MAIN],
+        nodes: &nodes,
     };
     if use_stack(cert.nodes() as usize, cert.procedures() as usize) != 0 {
         return println!(rt; "the stack can't be used");
     }
-    for row in ROWS {
-        if row.call.answer(rt.alloc(), &files) != Answer::Right {
-            let name = row.name;
-            return println!(rt; "{name}: wrong with all memory");
-        }
+    if let Some(name) = first_wrong(rt.alloc(), &files) {
+        return println!(rt; "{name}: wrong with all memory");
     }
-    let mut out = io::writer(&rt);
-    for row in ROWS {
-        let met = sweep(rt.alloc(), row, &files)?;
-        write_met(&mut out, row, &met)?;
-    }
-    Ok(())
+    sweep_all(rt.alloc(), &files, &mut io::writer(&rt))
 }

@@ -7,17 +7,17 @@ use Rattle.gb_ops.specs.declared.op.Register.TheVariants.{A, B, C, D, E, H, L}
 use Rattle.gb_ops.specs.declared.registers.Registers.{Registers}
 use Rattle.gb_ops.specs.Registers.{get}
 use Rattle.gb_fields.specs.declared.fault.CertFault.TheVariants as fault
-use Rattle.gb_states.specs.declared.types.Origin.{Origin}
-use Rattle.gb_states.specs.declared.types.Origin.TheVariants.{Register as Of, F, Ie}
-use Rattle.gb_states.specs.declared.types.Val.{Val}
-use Rattle.gb_states.specs.declared.types.May.{May}
-use Rattle.gb_states.specs.declared.types.Flg.{Flg}
-use Rattle.gb_states.specs.declared.types.ImeSet.{ImeSet}
-use Rattle.gb_states.specs.declared.types.Ctl.{Ctl}
-use Rattle.gb_states.specs.declared.types.Core.{Core}
+use Rattle.gb_domain.specs.declared.types.Origin.{Origin}
+use Rattle.gb_domain.specs.declared.types.Origin.TheVariants.{Register as Of, F, Ie}
+use Rattle.gb_domain.specs.declared.types.Val.{Val}
+use Rattle.gb_domain.specs.declared.types.May.{May}
+use Rattle.gb_domain.specs.declared.types.Flg.{Flg}
+use Rattle.gb_domain.specs.declared.types.ImeSet.{ImeSet}
+use Rattle.gb_domain.specs.declared.types.Ctl.{Ctl}
+use Rattle.gb_domain.specs.declared.types.Core.{Core}
 use Rattle.gb_states.specs.declared.role.Role.{Role}
 use Rattle.gb_fields.specs.Format.{both, mapped, checked, byte}
-use Rattle.gb_states.specs.Rules.{has_value, IsVal, IsFlg, IsCtl, may_be_any, IsCore}
+use Rattle.gb_domain.specs.Rules.{has_value, IsVal, IsFlg, IsCtl, may_be_any, IsCore}
 use Rattle.gb_fields.specs.Reading.{is_between, is_ordered, word_of, word, quad_of, quad, node_number_by, node_number, byte_between, word_between, count_within, is_one, yes_no}
 use Rattle.gb_states.specs.Reading.{origin_of, origin_at, to_val, val_at, to_may, may_at, to_ime, ime_at, is_test, to_test, test_at, to_flags, have_values, is_own_number, is_two, to_flg, flg_at, to_ctl, ctl_at, to_vals, vals_at, to_core, is_stack_right, core_at}
 use Rattle.gb_states.specs.Spelling as spelled

@@ -5,17 +5,19 @@ use Rattle.std.specs.List.{AllByRecursion}
 use Rattle.std.proofs.lemmas.Bool.Decides.{nat_tests}
 use Rattle.gb_ops.specs.declared.machine.Region.{Region}
 use Rattle.gb_fields.specs.declared.fault.CertFault.TheVariants as fault
-use Rattle.gb_states.specs.declared.types.Val.{Val}
-use Rattle.gb_states.specs.declared.types.Core.{Core}
-use Rattle.gb_states.specs.declared.types.Item.{Item}
-use Rattle.gb_states.specs.declared.types.Cell.{Cell}
-use Rattle.gb_states.specs.declared.types.Range.{Range}
+use Rattle.gb_domain.specs.declared.types.Val.{Val}
+use Rattle.gb_domain.specs.declared.types.Core.{Core}
+use Rattle.gb_domain.specs.declared.types.Item.{Item}
+use Rattle.gb_domain.specs.declared.types.Cell.{Cell}
+use Rattle.gb_domain.specs.declared.types.Range.{Range}
 use Rattle.gb_states.specs.declared.role.Role.{Role}
 use Rattle.gb_states.specs.declared.role.Role.TheVariants as role
 use Rattle.gb_fields.specs.Limits.{node_limit_by, node_limit, range_limit, cell_limit, item_limit}
-use Rattle.gb_states.specs.Types.{AbsState, ProcedureParts, Node}
+use Rattle.gb_domain.specs.Types.{AbsState, ProcedureParts, Node}
 use Rattle.gb_fields.specs.Format.{both, checked, followed, optional, byte}
-use Rattle.gb_states.specs.Rules.{IsChain, IsVal, IsItem, IsCell, IsRange, IsState, IsProcedure, IsNode, is_area, meets, after_cell, after_range, role_of, may_be_pushed, fits, key, is_from}
+use Rattle.gb_domain.specs.Areas.{is_area, meets}
+use Rattle.gb_domain.specs.Rules.{IsChain, IsVal, IsItem, IsCell, after_cell}
+use Rattle.gb_states.specs.Rules.{IsRange, IsState, IsProcedure, IsNode, after_range, role_of, may_be_pushed, fits, key, is_from}
 use Rattle.gb_fields.specs.Reading.{is_between, word, word_between, node_number, count_within, yes_no, may_return, returns_at, is_below, entry_at, need_at, key_at}
 use Rattle.gb_states.specs.Reading.{core_at, to_item, item_at, items_at, is_free, is_free_byte, to_cell, cell_at, cells_at, to_state, state_at, to_range, range_at, ranges_at, exit_at, to_procedure, procedure_at, to_node, node_at}
 use Rattle.gb_states.specs.Spelling as spelled

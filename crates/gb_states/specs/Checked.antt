@@ -1,10 +1,10 @@
 -- The core at the front of bytes that have been checked, each field at its place (own format).
 use Rattle.std.specs.Prelude.{ℕ, ◌+◌, Bool, false, ◌&&◌, ◌==◌, List, [], ◌∷◌, slice_index}
 use Rattle.gb_ops.specs.declared.registers.Registers.{Registers}
-use Rattle.gb_states.specs.declared.types.Val.{Val}
-use Rattle.gb_states.specs.declared.types.Flg.{Flg}
-use Rattle.gb_states.specs.declared.types.Ctl.{Ctl}
-use Rattle.gb_states.specs.declared.types.Core.{Core}
+use Rattle.gb_domain.specs.declared.types.Val.{Val}
+use Rattle.gb_domain.specs.declared.types.Flg.{Flg}
+use Rattle.gb_domain.specs.declared.types.Ctl.{Ctl}
+use Rattle.gb_domain.specs.declared.types.Core.{Core}
 use Rattle.gb_fields.specs.Reading.{word_of, is_one}
 use Rattle.gb_states.specs.Reading.{origin_of, to_may, to_ime, to_test, to_flags, to_flg, is_two}
 

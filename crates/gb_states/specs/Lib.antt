@@ -1,6 +1,5 @@
-pub mod Certificate
 pub mod Checked
 pub mod Reading
 pub mod Rules
 pub mod Spelling
-pub mod Types
+pub mod Below

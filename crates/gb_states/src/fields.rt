@@ -2,12 +2,12 @@
 
 ghost use Rattle.std.specs.Prelude.{◌≡◌, ◌+◌, ◌≤◌, ◌&&◌, ◌||◌, nat_le, length};
 ghost use Rattle.gb_fields.specs.Format.{Gives};
-ghost use Rattle.gb_states.specs.Rules.{has_value};
+ghost use Rattle.gb_domain.specs.Rules.{has_value};
 ghost use Rattle.gb_states.specs.Checked.{val_in, flg_in, ctl_in, vals_in, core_in, begins_with_zero, are_none};
 ghost use Rattle.gb_states.specs.Reading.{to_may, origin_of, origin_at, val_at, may_at, ime_at, test_at, flg_at, ctl_at, vals_at, core_at};
 
 use crate::role::Role;
-use crate::types::{Core, Ctl, Flg, ImeSet, May, Origin, Val};
+use gb_domain::types::{Core, Ctl, Flg, ImeSet, May, Origin, Val};
 use gb_fields::CertFault;
 use gb_fields::numbers::{byte, byte_between, word_between, yes_no};
 use gb_ops::op::Register;

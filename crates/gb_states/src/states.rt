@@ -3,13 +3,15 @@
 ghost use Rattle.std.specs.Prelude.{◌≡◌, ◌≤◌, ◌&&◌, ◌||◌, true, nat_le};
 ghost use Rattle.gb_fields.specs.Format.{Gives, several};
 ghost use Rattle.gb_fields.specs.Limits.{item_limit, cell_limit, range_limit};
-ghost use Rattle.gb_states.specs.Rules.{is_area, meets, after_cell, after_range};
+ghost use Rattle.gb_domain.specs.Areas.{is_area, meets};
+ghost use Rattle.gb_domain.specs.Rules.{after_cell};
+ghost use Rattle.gb_states.specs.Rules.{after_range};
 ghost use Rattle.gb_states.specs.Reading.{item_at, items_at, is_free, cell_at, cells_at, state_at, range_at, ranges_at};
 
 use crate::fields::{core_at, val_at};
 use crate::role::Role;
-use crate::types::{Abs, Cell, Item, Range};
 use arrayvec::ArrayVec;
+use gb_domain::types::{Abs, Cell, Item, Range};
 use gb_fields::CertFault;
 use gb_fields::limits::{CELL_LIMIT, ITEM_LIMIT, RANGE_LIMIT};
 use gb_fields::numbers::{count_within, word};

@@ -4,12 +4,10 @@
 use crate::random::Random;
 use crate::tally::Tally;
 use bitflags::Flags;
-use gb_console::{Console, Ending};
 use gb_header::{HeaderFault, Rom};
-use gb_printed::header_bytes;
+use gb_printed::{Console, Ending, Outcome, header_bytes, verify_bytes};
 use gb_text::kept_bytes::KeptBytes;
 use gb_timer::irqs::Keys;
-use gb_verify::verify::{Outcome, verify_bytes};
 use std::alloc::Global;
 
 /// The most bytes that are changed in one cartridge.

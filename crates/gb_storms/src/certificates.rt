@@ -6,10 +6,8 @@ use crate::random::Random;
 use crate::tally::Tally;
 use gb_cert::{Cert, CertFault, encode};
 use gb_cert_place::place::{Sought, fault_place};
-use gb_printed::show_bytes;
+use gb_printed::{Outcome, Upgraded, show_bytes, upgrade_bytes, verify_bytes};
 use gb_text::kept_bytes::KeptBytes;
-use gb_verify::upgrade::{Upgraded, upgrade_bytes};
-use gb_verify::verify::{Outcome, verify_bytes};
 use std::alloc::Global;
 use std::io;
 

@@ -3,15 +3,12 @@
 use crate::random::Random;
 use bitflags::Flags;
 use gb_cert::Cert;
-use gb_console::{Console, Ending};
 use gb_header::Rom;
+use gb_printed::{Console, Ending, Verdict, check, verify_bytes};
 use gb_samples::cartridges::put;
 use gb_samples::spelled::Example;
 use gb_text::kept_bytes::KeptBytes;
 use gb_timer::irqs::Keys;
-use gb_verify::check::check;
-use gb_verify::verdict::Verdict;
-use gb_verify::verify::verify_bytes;
 use std::alloc::Global;
 use std::io::{self, Write};
 

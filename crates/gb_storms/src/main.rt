@@ -17,9 +17,9 @@ mod tally;
 mod words;
 
 use gb_header::Rom;
+use gb_printed::{Outcome, verify_bytes};
 use gb_samples::spelled::{Example, word_of};
 use gb_text::kept_bytes::KeptBytes;
-use gb_verify::verify::{Outcome, verify_bytes};
 use random::Random;
 use std::alloc::Global;
 use std::env;

@@ -13,12 +13,13 @@ use Rattle.gb_ops.specs.Memory.{View, wrote, stored}
 use Rattle.gb_ops.specs.Machine.{loaded}
 use Rattle.gb_ops.specs.Faults.{no_faults, either_faults, write_faults, load_faults, store_faults}
 use Rattle.gb_ops.specs.Play.{MState}
-use Rattle.gb_states.specs.declared.types.Val.{Val}
-use Rattle.gb_states.specs.declared.types.Core.{Core}
-use Rattle.gb_states.specs.declared.types.Range.{Range}
-use Rattle.gb_states.specs.Types.{AbsState}
-use Rattle.gb_states.specs.Rules.{IsVal, IsRegion}
-use Rattle.gb_vals.specs.Vals.{any_val}
+use Rattle.gb_domain.specs.declared.types.Val.{Val}
+use Rattle.gb_domain.specs.declared.types.Core.{Core}
+use Rattle.gb_domain.specs.declared.types.Range.{Range}
+use Rattle.gb_domain.specs.Types.{AbsState}
+use Rattle.gb_domain.specs.Areas.{IsRegion}
+use Rattle.gb_domain.specs.Rules.{IsVal}
+use Rattle.gb_abs.specs.Below.gb_vals.Vals.{any_val}
 use Rattle.gb_abs.specs.declared.span.Span.{Span}
 use Rattle.gb_abs.specs.Span.{IsIn, one}
 use Rattle.gb_abs.specs.Storage.{is_ram, peek}

@@ -6,3 +6,4 @@ pub mod SuccessorLaws
 pub mod StackWayLaws
 pub mod MarkLaws
 pub mod WayLaws
+pub mod Below

@@ -15,10 +15,10 @@ use Rattle.gb_ops.specs.declared.op.Operand.TheVariants as operand
 use Rattle.gb_ops.specs.declared.op.AluOp.{AluOp}
 use Rattle.gb_ops.specs.declared.op.Op.{Op}
 use Rattle.gb_ops.specs.declared.op.Op.TheVariants as op
-use Rattle.gb_states.specs.declared.types.Val.{Val}
-use Rattle.gb_states.specs.declared.types.Core.{Core}
-use Rattle.gb_states.specs.Rules.{IsVal, IsCore}
-use Rattle.gb_vals.specs.declared.branch.Branch.{Branch}
+use Rattle.gb_domain.specs.declared.types.Val.{Val}
+use Rattle.gb_domain.specs.declared.types.Core.{Core}
+use Rattle.gb_domain.specs.Rules.{IsVal, IsCore}
+use Rattle.gb_abs.specs.Below.gb_vals.declared.branch.Branch.{Branch}
 use Rattle.gb_abs.specs.declared.span.Span.{Span}
 use Rattle.gb_abs.specs.Span.{pair_span}
 use Rattle.gb_abs.specs.Operations.{core_set_register, core_settle}

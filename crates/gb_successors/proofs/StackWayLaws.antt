@@ -21,13 +21,14 @@ use Rattle.gb_ops.specs.Memory.{Storage, View, stored, passed}
 use Rattle.gb_ops.specs.Machine.{executed, advanced, loaded}
 use Rattle.gb_ops.specs.Faults.{no_faults, load_faults, store_faults, row_faults}
 use Rattle.gb_ops.specs.Play.{MState, within, outside}
-use Rattle.gb_states.specs.declared.types.Val.{Val}
-use Rattle.gb_states.specs.declared.types.Core.{Core}
-use Rattle.gb_states.specs.declared.types.Item.{Item}
-use Rattle.gb_states.specs.declared.types.Range.{Range}
-use Rattle.gb_states.specs.Types.{AbsState, any_item}
-use Rattle.gb_states.specs.Rules.{IsVal, IsRegion, meets}
-use Rattle.gb_vals.specs.Vals.{single, any_val}
+use Rattle.gb_domain.specs.declared.types.Val.{Val}
+use Rattle.gb_domain.specs.declared.types.Core.{Core}
+use Rattle.gb_domain.specs.declared.types.Item.{Item}
+use Rattle.gb_domain.specs.declared.types.Range.{Range}
+use Rattle.gb_domain.specs.Types.{AbsState, any_item}
+use Rattle.gb_domain.specs.Areas.{IsRegion, meets}
+use Rattle.gb_domain.specs.Rules.{IsVal}
+use Rattle.gb_abs.specs.Below.gb_vals.Vals.{single, any_val}
 use Rattle.gb_abs.specs.Storage.{is_ram, peek}
 use Rattle.gb_abs.specs.Operations.{core_end, with_core}
 use Rattle.gb_abs.specs.Meaning.{Holds, MeansCore, Means, IsMemory}

@@ -16,13 +16,14 @@ use Rattle.gb_ops.specs.Effects as Effects
 use Rattle.gb_ops.specs.Machine.{executed, advanced, way_of, mark_of, loaded, cycles_of}
 use Rattle.gb_ops.specs.Faults.{no_faults, either_faults, row_faults, load_faults, store_faults}
 use Rattle.gb_ops.specs.Play.{MState, within, outside}
-use Rattle.gb_states.specs.declared.types.Val.{Val}
-use Rattle.gb_states.specs.declared.types.Core.{Core}
-use Rattle.gb_states.specs.declared.types.Range.{Range}
-use Rattle.gb_states.specs.Types.{AbsState, any_item}
-use Rattle.gb_states.specs.Rules.{IsVal, IsCore, IsItem, IsRegion}
-use Rattle.gb_vals.specs.Vals.{any_val}
-use Rattle.gb_states.specs.declared.types.Item.{Item}
+use Rattle.gb_domain.specs.declared.types.Val.{Val}
+use Rattle.gb_domain.specs.declared.types.Core.{Core}
+use Rattle.gb_domain.specs.declared.types.Range.{Range}
+use Rattle.gb_domain.specs.Types.{AbsState, any_item}
+use Rattle.gb_domain.specs.Areas.{IsRegion}
+use Rattle.gb_domain.specs.Rules.{IsVal, IsCore, IsItem}
+use Rattle.gb_abs.specs.Below.gb_vals.Vals.{any_val}
+use Rattle.gb_domain.specs.declared.types.Item.{Item}
 use Rattle.gb_abs.specs.Storage.{peek}
 use Rattle.gb_abs.specs.Operations.{core_settle, core_end, with_core}
 use Rattle.gb_abs.specs.Cells.{ArePlaced}

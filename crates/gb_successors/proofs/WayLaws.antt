@@ -16,13 +16,13 @@ use Rattle.gb_ops.specs.Memory.{View, stored, passed}
 use Rattle.gb_ops.specs.Machine.{executed, advanced, cycles_of, mark_of, halt_stay, halt_bug, has_enabled}
 use Rattle.gb_ops.specs.Faults.{no_faults, row_faults, load_faults, store_faults}
 use Rattle.gb_ops.specs.Play.{MState, within, outside}
-use Rattle.gb_states.specs.declared.types.Val.{Val}
-use Rattle.gb_states.specs.declared.types.ImeSet.{ImeSet}
-use Rattle.gb_states.specs.declared.types.Core.{Core}
-use Rattle.gb_states.specs.declared.types.Range.{Range}
-use Rattle.gb_states.specs.Types.{AbsState}
-use Rattle.gb_states.specs.Rules.{IsCore}
-use Rattle.gb_vals.specs.Bits.{may_enable}
+use Rattle.gb_domain.specs.declared.types.Val.{Val}
+use Rattle.gb_domain.specs.declared.types.ImeSet.{ImeSet}
+use Rattle.gb_domain.specs.declared.types.Core.{Core}
+use Rattle.gb_domain.specs.declared.types.Range.{Range}
+use Rattle.gb_domain.specs.Types.{AbsState}
+use Rattle.gb_domain.specs.Rules.{IsCore}
+use Rattle.gb_abs.specs.Below.gb_vals.Bits.{may_enable}
 use Rattle.gb_abs.specs.Operations.{core_settle, with_core, ime_set_after}
 use Rattle.gb_abs.specs.Meaning.{Holds, MeansCore, Means, ime_may_be}
 use Rattle.gb_abs.specs.Stack.{AreInRegion}

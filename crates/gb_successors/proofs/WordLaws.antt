@@ -4,11 +4,11 @@ use Rattle.gb_ops.specs.declared.op.Pair.{Pair}
 use Rattle.gb_ops.specs.declared.op.Pair.TheVariants as pair
 use Rattle.gb_ops.specs.declared.op.Op.{Op}
 use Rattle.gb_ops.specs.declared.op.Op.TheVariants as op
-use Rattle.gb_states.specs.declared.types.Val.{Val}
-use Rattle.gb_states.specs.declared.types.Core.{Core}
-use Rattle.gb_states.specs.declared.types.Item.{Item}
-use Rattle.gb_states.specs.Types.{AbsState}
-use Rattle.gb_vals.specs.Vals.{single}
+use Rattle.gb_domain.specs.declared.types.Val.{Val}
+use Rattle.gb_domain.specs.declared.types.Core.{Core}
+use Rattle.gb_domain.specs.declared.types.Item.{Item}
+use Rattle.gb_domain.specs.Types.{AbsState}
+use Rattle.gb_abs.specs.Below.gb_vals.Vals.{single}
 use Rattle.gb_abs.specs.Stack.{pushed, popped}
 use Rattle.gb_abs_effects.specs.declared.reads.AbsRead.TheVariants as read
 use Rattle.gb_abs_effects.specs.declared.writes.AbsWrite.{AbsWrite}

@@ -4,3 +4,4 @@ pub mod Refused
 pub mod Sound
 pub mod Words
 pub mod Way
+pub mod Below

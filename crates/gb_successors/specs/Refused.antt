@@ -3,8 +3,8 @@
 use Rattle.std.specs.Prelude.{ℕ, Bool, true, false, not, ◌&&◌, ◌||◌, ◌==◌, nat_le, List}
 use Rattle.gb_ops.specs.declared.machine.Kind.{Kind}
 use Rattle.gb_ops.specs.declared.machine.Region.{Region}
-use Rattle.gb_states.specs.declared.types.Core.{Core}
-use Rattle.gb_states.specs.declared.types.Range.{Range}
+use Rattle.gb_domain.specs.declared.types.Core.{Core}
+use Rattle.gb_domain.specs.declared.types.Range.{Range}
 use Rattle.gb_abs.specs.Span.{one}
 use Rattle.gb_abs_effects.specs.declared.reads.AbsRead.{AbsRead}
 use Rattle.gb_abs_effects.specs.declared.reads.AbsRead.TheVariants as read

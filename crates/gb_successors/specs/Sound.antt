@@ -12,10 +12,11 @@ use Rattle.gb_ops.specs.Pairs.{word}
 use Rattle.gb_ops.specs.Machine.{executed, halt_stay, halt_bug, has_enabled}
 use Rattle.gb_ops.specs.Faults.{no_faults, row_faults}
 use Rattle.gb_ops.specs.Play.{MState, within, outside}
-use Rattle.gb_states.specs.declared.types.Core.{Core}
-use Rattle.gb_states.specs.declared.types.Range.{Range}
-use Rattle.gb_states.specs.Types.{AbsState}
-use Rattle.gb_states.specs.Rules.{IsRegion, IsCore, IsItem}
+use Rattle.gb_domain.specs.declared.types.Core.{Core}
+use Rattle.gb_domain.specs.declared.types.Range.{Range}
+use Rattle.gb_domain.specs.Types.{AbsState}
+use Rattle.gb_domain.specs.Areas.{IsRegion}
+use Rattle.gb_domain.specs.Rules.{IsCore, IsItem}
 use Rattle.gb_abs.specs.Storage.{peek}
 use Rattle.gb_abs.specs.Cells.{ArePlaced}
 use Rattle.gb_abs.specs.Stack.{AreInRegion, pushed}

@@ -4,9 +4,9 @@ use Rattle.gb_ops.specs.declared.op.Op.{Op}
 use Rattle.gb_ops.specs.declared.op.Op.TheVariants as op
 use Rattle.gb_ops.specs.declared.op.Row.{Row}
 use Rattle.gb_ops.specs.Cartridge.{kind_of}
-use Rattle.gb_states.specs.declared.types.Core.{Core}
-use Rattle.gb_states.specs.Types.{AbsState}
-use Rattle.gb_vals.specs.Bits.{may_enable}
+use Rattle.gb_domain.specs.declared.types.Core.{Core}
+use Rattle.gb_domain.specs.Types.{AbsState}
+use Rattle.gb_abs.specs.Below.gb_vals.Bits.{may_enable}
 use Rattle.gb_abs.specs.Span.{one}
 use Rattle.gb_abs.specs.Operations.{core_settle, with_core}
 use Rattle.gb_abs_effects.specs.declared.reads.AbsRead.TheVariants as read

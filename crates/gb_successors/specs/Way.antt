@@ -1,6 +1,6 @@
 -- One way on from an instruction, as contracts see it.
 use Rattle.std.specs.Prelude.{ℕ}
-use Rattle.gb_states.specs.Types.{AbsState}
+use Rattle.gb_domain.specs.Types.{AbsState}
 use Rattle.gb_abs_effects.specs.declared.reads.AbsRead.{AbsRead}
 use Rattle.gb_abs_effects.specs.declared.writes.AbsWrite.{AbsWrite}
 use Rattle.gb_abs_effects.specs.declared.targets.Target.{Target}

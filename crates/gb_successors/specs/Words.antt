@@ -1,8 +1,8 @@
 -- Words on the stack as abstract states hold them (own).
 use Rattle.std.specs.Prelude.{ℕ, ◌/◌, ◌%◌, Option, Some, None}
-use Rattle.gb_states.specs.declared.types.Item.{Item}
-use Rattle.gb_states.specs.Types.{any_item}
-use Rattle.gb_vals.specs.Vals.{single}
+use Rattle.gb_domain.specs.declared.types.Item.{Item}
+use Rattle.gb_domain.specs.Types.{any_item}
+use Rattle.gb_abs.specs.Below.gb_vals.Vals.{single}
 
 -- a word that is known
 abbrev pub word_item : ℕ → Item

@@ -11,3 +11,8 @@ pub mod refused;
 pub mod successor;
 pub mod successors;
 pub mod way;
+
+// What lies below, for the crates above.
+pub use gb_abs_effects::reads::AbsRead;
+pub use gb_abs_effects::targets::Target;
+pub use gb_abs_effects::writes::AbsWrite;

@@ -10,13 +10,13 @@ use gb_abs::span::Span;
 use gb_abs_effects::reads::AbsRead;
 use gb_abs_effects::targets::Target;
 use gb_abs_effects::writes::AbsWrite;
+use gb_abs_memory::Rom;
 use gb_abs_memory::refusals::{
     is_limited, is_store_limited, meets_closed_ram, store_meets_closed_ram,
 };
 use gb_abs_memory::store::is_storable;
-use gb_header::Rom;
+use gb_domain::types::{Core, Range};
 use gb_ops::machine::{Kind, Region};
-use gb_states::types::{Core, Range};
 
 /// Whether a write may lie where no store is allowed. Both bytes of a word are asked for.
 #[tactic(auto, unfolding(crate::specs::Refused::is_unstorable))]

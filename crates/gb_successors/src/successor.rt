@@ -1,7 +1,7 @@
 //! How the successors of an instruction come about.
 
 ghost use Rattle.std.specs.Prelude.{◌≡◌};
-ghost use Rattle.gb_states.specs.Types.{any_item};
+ghost use Rattle.gb_domain.specs.Types.{any_item};
 ghost use Rattle.gb_abs.specs.Operations.{with_core};
 ghost use Rattle.gb_abs.specs.Stack.{youngest};
 ghost use Rattle.gb_successors.specs.Behind as Behind;
@@ -9,19 +9,19 @@ ghost use Rattle.gb_successors.specs.Successors as Succession;
 ghost use Rattle.gb_successors.specs.Words.{item_or_any};
 
 pub use crate::way::{Moved, Successor};
+use gb_abs::any;
 use gb_abs::operations::end;
 use gb_abs::span::Span;
 use gb_abs_effects::reads::{AbsRead, read_of};
 use gb_abs_effects::targets::{Target, target_of};
 use gb_abs_effects::transfer::transfer;
 use gb_abs_effects::writes::AbsWrite;
+use gb_abs_memory::Rom;
 use gb_abs_memory::load::loaded_by;
 use gb_abs_memory::store::{Area, area_of, starts_oam_transfer, stored_core};
-use gb_header::Rom;
+use gb_domain::types::{Abs, Core, ImeSet, Item};
 use gb_ops::machine::Kind;
 use gb_ops::op::{Op, Pair, Row};
-use gb_states::types::{Abs, Core, ImeSet, Item};
-use gb_vals::vals::any;
 
 /// Any word.
 fn any_item() -> Item

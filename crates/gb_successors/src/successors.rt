@@ -5,12 +5,12 @@ ghost use Rattle.gb_successors.specs.Successors as Succession;
 ghost use Rattle.gb_successors.specs.Sound.{AreSoundSuccessors};
 
 use crate::successor::{Successor, staying_successor, taken_successor, untaken_successor};
+use gb_abs::may_enable;
 use gb_abs::operations::settle;
 use gb_abs_effects::sides::sides_of;
-use gb_header::Rom;
+use gb_abs_memory::Rom;
+use gb_domain::types::{Abs, Core};
 use gb_ops::op::{Op, Row};
-use gb_states::types::{Abs, Core};
-use gb_vals::bits::may_enable;
 
 /// The possible successors of an instruction.
 #[derive(Drop)]

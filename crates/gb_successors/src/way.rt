@@ -12,9 +12,9 @@ use gb_abs_effects::reads::AbsRead;
 use gb_abs_effects::targets::Target;
 use gb_abs_effects::writes::AbsWrite;
 use gb_abs_memory::store::store_in;
+use gb_domain::types::{Abs, Core, Item};
 use gb_ops::machine::Kind;
 use gb_ops::op::{Op, Pair};
-use gb_states::types::{Abs, Core, Item};
 use std::marker::Model;
 
 /// One way on from an instruction: what it reads and writes besides its own bytes, where it goes on,

@@ -3,3 +3,4 @@ pub mod KeptBytes
 pub mod Plain
 pub mod Sink
 pub mod Text
+pub mod Below

@@ -9,3 +9,6 @@ pub mod kept_bytes;
 pub mod line;
 pub mod put;
 pub mod sink;
+
+// What lies below, for the crates above.
+pub use gb_header::{HeaderFault, Rom};

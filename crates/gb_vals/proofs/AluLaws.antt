@@ -7,9 +7,9 @@ use Rattle.gb_ops.specs.declared.op.AluOp.TheVariants as op
 use Rattle.gb_ops.specs.declared.registers.Flags.{Flags}
 use Rattle.gb_ops.specs.Flags.{bit_of}
 use Rattle.gb_ops.specs.Arithmetic.{alu_result, subtracted, logical}
-use Rattle.gb_states.specs.declared.types.Val.{Val}
-use Rattle.gb_states.specs.declared.types.Flg.{Flg}
-use Rattle.gb_states.specs.Rules.{IsVal, IsFlg}
+use Rattle.gb_domain.specs.declared.types.Val.{Val}
+use Rattle.gb_domain.specs.declared.types.Flg.{Flg}
+use Rattle.gb_domain.specs.Rules.{IsVal, IsFlg}
 use Rattle.gb_vals.specs.declared.outcome.Outcome.{Outcome}
 use Rattle.gb_vals.specs.Vals.{single}
 use Rattle.gb_vals.specs.Flags.{known}

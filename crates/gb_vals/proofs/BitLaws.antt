@@ -5,9 +5,9 @@ use Rattle.std.proofs.lemmas.Nat.{and_le_l, le_or_l, or_lt}
 use Rattle.std.proofs.Math.Pow.{pow-lt}
 use Rattle.gb_ops.specs.declared.registers.Flags.{Flags}
 use Rattle.gb_ops.specs.Arithmetic as machine
-use Rattle.gb_states.specs.declared.types.Val.{Val}
-use Rattle.gb_states.specs.declared.types.Flg.{Flg}
-use Rattle.gb_states.specs.Rules.{IsVal, IsFlg}
+use Rattle.gb_domain.specs.declared.types.Val.{Val}
+use Rattle.gb_domain.specs.declared.types.Flg.{Flg}
+use Rattle.gb_domain.specs.Rules.{IsVal, IsFlg}
 use Rattle.gb_vals.specs.Vals.{between, single, is_single}
 use Rattle.gb_vals.specs.Flags.{known, greatest_flags}
 use Rattle.gb_vals.specs.Meaning.{In, FlagsIn, may_be, IsSoundOfVal, IsSoundOfTest, IsSoundAnswer, HasOne}

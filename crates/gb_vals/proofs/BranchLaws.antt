@@ -9,9 +9,9 @@ use Rattle.gb_ops.specs.declared.op.Condition.TheVariants as condition
 use Rattle.gb_ops.specs.declared.registers.Flags.{Flags}
 use Rattle.gb_ops.specs.Flags.{is_met}
 use Rattle.gb_ops.specs.Arithmetic.{alu_result, subtracted, logical}
-use Rattle.gb_states.specs.declared.types.Val.{Val}
-use Rattle.gb_states.specs.declared.types.Flg.{Flg}
-use Rattle.gb_states.specs.Rules.{IsVal, IsFlg}
+use Rattle.gb_domain.specs.declared.types.Val.{Val}
+use Rattle.gb_domain.specs.declared.types.Flg.{Flg}
+use Rattle.gb_domain.specs.Rules.{IsVal, IsFlg}
 use Rattle.gb_vals.specs.declared.branch.Branch.{Branch}
 use Rattle.gb_vals.specs.Logic.{smaller, larger}
 use Rattle.gb_vals.specs.Meaning.{In, FlagsIn, may_be}

@@ -1,9 +1,9 @@
 -- SCF and CCF stand for those of the machine.
 use Rattle.std.proofs.Common.{◌≡◌, Bool, true, false, not, if◌then◌else◌, cond, refl, sym, ap, subst}
 use Rattle.gb_ops.specs.declared.registers.Flags.{Flags}
-use Rattle.gb_states.specs.declared.types.May.{May}
-use Rattle.gb_states.specs.declared.types.Flg.{Flg}
-use Rattle.gb_states.specs.Rules.{IsFlg}
+use Rattle.gb_domain.specs.declared.types.May.{May}
+use Rattle.gb_domain.specs.declared.types.Flg.{Flg}
+use Rattle.gb_domain.specs.Rules.{IsFlg}
 use Rattle.gb_vals.specs.Flags.{known, either, is_known, greatest_flags}
 use Rattle.gb_vals.specs.Meaning.{FlagsIn, may_be, IsSoundOfFlags}
 use Rattle.gb_vals.specs.Carry.{set_carry, complement_carry, set_carry_result, complement_carry_result}

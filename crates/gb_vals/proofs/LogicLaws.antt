@@ -7,9 +7,9 @@ use Rattle.std.proofs.lemmas.Nat.{and_le_l, and_le_r, le_or_l, le_or_r, or_lt}
 use Rattle.std.specs.Int.Bits.{or_add_and, xor_add_and}
 use Rattle.gb_ops.specs.declared.registers.Flags.{Flags}
 use Rattle.gb_ops.specs.Arithmetic as machine
-use Rattle.gb_states.specs.declared.types.Val.{Val}
-use Rattle.gb_states.specs.declared.types.Flg.{Flg}
-use Rattle.gb_states.specs.Rules.{IsVal, IsFlg}
+use Rattle.gb_domain.specs.declared.types.Val.{Val}
+use Rattle.gb_domain.specs.declared.types.Flg.{Flg}
+use Rattle.gb_domain.specs.Rules.{IsVal, IsFlg}
 use Rattle.gb_vals.specs.declared.outcome.Outcome.{Outcome}
 use Rattle.gb_vals.specs.Vals.{between, any_val, is_single}
 use Rattle.gb_vals.specs.Outcomes.{exact}

@@ -6,10 +6,10 @@ use Rattle.gb_ops.specs.declared.op.Shift.TheVariants as shift
 use Rattle.gb_ops.specs.declared.registers.Flags.{Flags}
 use Rattle.gb_ops.specs.Flags.{bit_of}
 use Rattle.gb_ops.specs.Arithmetic as machine
-use Rattle.gb_states.specs.declared.types.Val.{Val}
-use Rattle.gb_states.specs.declared.types.May.{May}
-use Rattle.gb_states.specs.declared.types.Flg.{Flg}
-use Rattle.gb_states.specs.Rules.{IsVal, IsFlg}
+use Rattle.gb_domain.specs.declared.types.Val.{Val}
+use Rattle.gb_domain.specs.declared.types.May.{May}
+use Rattle.gb_domain.specs.declared.types.Flg.{Flg}
+use Rattle.gb_domain.specs.Rules.{IsVal, IsFlg}
 use Rattle.gb_vals.specs.declared.outcome.Outcome.{Outcome}
 use Rattle.gb_vals.specs.Vals.{is_single}
 use Rattle.gb_vals.specs.Outcomes.{exact}

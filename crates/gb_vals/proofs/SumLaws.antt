@@ -3,9 +3,9 @@ use Rattle.std.proofs.Common.{◌≡◌, ℕ, ◌+◌, ◌-◌, ◌/◌, ◌%◌
 use Rattle.std.proofs.lemmas.Bool.{and_parts}
 use Rattle.std.proofs.lemmas.Bool.Decides.{nat_tests}
 use Rattle.gb_ops.specs.declared.registers.Flags.{Flags}
-use Rattle.gb_states.specs.declared.types.Val.{Val}
-use Rattle.gb_states.specs.declared.types.May.{May}
-use Rattle.gb_states.specs.declared.types.Flg.{Flg}
+use Rattle.gb_domain.specs.declared.types.Val.{Val}
+use Rattle.gb_domain.specs.declared.types.May.{May}
+use Rattle.gb_domain.specs.declared.types.Flg.{Flg}
 use Rattle.gb_ops.specs.Flags.{bit_of}
 use Rattle.gb_ops.specs.Arithmetic.{added, subtracted, incremented, decremented}
 use Rattle.gb_vals.specs.declared.outcome.Outcome.{Outcome}
@@ -13,7 +13,7 @@ use Rattle.gb_vals.specs.Vals.{between, any_val, is_single}
 use Rattle.gb_vals.specs.Flags.{is_known, greatest_flags}
 use Rattle.gb_vals.specs.Outcomes.{exact}
 use Rattle.gb_vals.specs.Meaning.{In, FlagsIn, may_be, Gives, IsSound, IsOutcome}
-use Rattle.gb_states.specs.Rules.{IsVal, IsFlg}
+use Rattle.gb_domain.specs.Rules.{IsVal, IsFlg}
 use Rattle.gb_vals.specs.Sums.{cut, zero_of, sum_of, difference_of, least_bit, greatest_bit, are_known, sum, difference, counted, keeping_carry, next_val, previous_val, increment, decrement}
 use Rattle.gb_vals.proofs.MeaningLaws.{In-any, bit-least, bit-greatest, IsOutcome-sound, known-may_be, either-may_be, may_be-by, known-is, single-is, In-single, zero_by-may_be, Gives-exact}
 

@@ -1,8 +1,8 @@
 -- BIT, RES and SET on intervals, and whether a value may have a bit (CPU instruction set: single bits; own).
 use Rattle.std.specs.Prelude.{ℕ, ◌/◌, ◌%◌, ◌^◌, Bool, false, true, not, ◌||◌, ◌==◌, nat_lt, if◌then◌else◌}
-use Rattle.gb_states.specs.declared.types.Val.{Val}
-use Rattle.gb_states.specs.declared.types.May.{May}
-use Rattle.gb_states.specs.declared.types.Flg.{Flg}
+use Rattle.gb_domain.specs.declared.types.Val.{Val}
+use Rattle.gb_domain.specs.declared.types.May.{May}
+use Rattle.gb_domain.specs.declared.types.Flg.{Flg}
 use Rattle.gb_ops.specs.Arithmetic as machine
 use Rattle.gb_vals.specs.Vals.{between, single, is_single}
 use Rattle.gb_vals.specs.Flags.{known, either, known_flags, greatest_flags}

@@ -1,8 +1,8 @@
 -- SCF and CCF on sets of flags (CPU instruction set; own).
 use Rattle.std.specs.Prelude.{true, false, not, if◌then◌else◌}
 use Rattle.gb_ops.specs.declared.registers.Flags.{Flags}
-use Rattle.gb_states.specs.declared.types.May.{May}
-use Rattle.gb_states.specs.declared.types.Flg.{Flg}
+use Rattle.gb_domain.specs.declared.types.May.{May}
+use Rattle.gb_domain.specs.declared.types.Flg.{Flg}
 use Rattle.gb_vals.specs.Flags.{known, either, is_known}
 
 -- C becomes this, N and H clear, Z as it was

@@ -1,7 +1,7 @@
 -- DAA on intervals (CPU instruction set; own).
 use Rattle.std.specs.Prelude.{Bool, false, ◌&&◌, if◌then◌else◌}
-use Rattle.gb_states.specs.declared.types.Val.{Val}
-use Rattle.gb_states.specs.declared.types.Flg.{Flg}
+use Rattle.gb_domain.specs.declared.types.Val.{Val}
+use Rattle.gb_domain.specs.declared.types.Flg.{Flg}
 use Rattle.gb_ops.specs.Arithmetic as machine
 use Rattle.gb_vals.specs.declared.outcome.Outcome.{Outcome}
 use Rattle.gb_vals.specs.Vals.{any_val, is_single}

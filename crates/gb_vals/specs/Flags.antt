@@ -2,11 +2,11 @@
 use Rattle.std.specs.Prelude.{Bool, true, false, not, ◌==◌, if◌then◌else◌, Option, Some, None}
 use Rattle.gb_ops.specs.declared.registers.Flags.{Flags}
 use Rattle.gb_ops.specs.Flags.{flags_byte, flags_of}
-use Rattle.gb_states.specs.declared.types.Origin.{Origin}
-use Rattle.gb_states.specs.declared.types.Origin.TheVariants as origin
-use Rattle.gb_states.specs.declared.types.Val.{Val}
-use Rattle.gb_states.specs.declared.types.May.{May}
-use Rattle.gb_states.specs.declared.types.Flg.{Flg}
+use Rattle.gb_domain.specs.declared.types.Origin.{Origin}
+use Rattle.gb_domain.specs.declared.types.Origin.TheVariants as origin
+use Rattle.gb_domain.specs.declared.types.Val.{Val}
+use Rattle.gb_domain.specs.declared.types.May.{May}
+use Rattle.gb_domain.specs.declared.types.Flg.{Flg}
 use Rattle.gb_vals.specs.Vals.{is_single}
 
 abbrev pub known : Bool → May

@@ -2,8 +2,8 @@
 use Rattle.std.specs.Prelude.{ℕ, ◌-◌, Bool, true, false, ◌&&◌, if◌then◌else◌, nat_le, bit_and, bit_or, bit_xor}
 use Rattle.gb_ops.specs.declared.registers.Flags.{Flags}
 use Rattle.gb_ops.specs.declared.machine.Computed.{Computed}
-use Rattle.gb_states.specs.declared.types.Val.{Val}
-use Rattle.gb_states.specs.declared.types.Flg.{Flg}
+use Rattle.gb_domain.specs.declared.types.Val.{Val}
+use Rattle.gb_domain.specs.declared.types.Flg.{Flg}
 use Rattle.gb_ops.specs.Arithmetic as machine
 use Rattle.gb_vals.specs.declared.outcome.Outcome.{Outcome}
 use Rattle.gb_vals.specs.Vals.{between, any_val, is_single}

@@ -4,9 +4,9 @@ use Rattle.gb_ops.specs.declared.op.Shift.{Shift}
 use Rattle.gb_ops.specs.declared.op.Shift.TheVariants as shift
 use Rattle.gb_ops.specs.declared.registers.Flags.{Flags}
 use Rattle.gb_ops.specs.declared.machine.Computed.{Computed}
-use Rattle.gb_states.specs.declared.types.Val.{Val}
-use Rattle.gb_states.specs.declared.types.May.{May}
-use Rattle.gb_states.specs.declared.types.Flg.{Flg}
+use Rattle.gb_domain.specs.declared.types.Val.{Val}
+use Rattle.gb_domain.specs.declared.types.May.{May}
+use Rattle.gb_domain.specs.declared.types.Flg.{Flg}
 use Rattle.gb_ops.specs.Effects.{without_zero}
 use Rattle.gb_ops.specs.Arithmetic as machine
 use Rattle.gb_vals.specs.declared.outcome.Outcome.{Outcome}

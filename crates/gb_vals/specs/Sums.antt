@@ -1,8 +1,8 @@
 -- ADD, ADC, SUB, SBC, CP, INC and DEC on intervals (abstract interpretation: interval arithmetic modulo 256; own).
 use Rattle.std.specs.Prelude.{ℕ, ◌+◌, ◌-◌, ◌*◌, ◌/◌, ◌%◌, Bool, true, false, not, ◌&&◌, ◌||◌, ◌==◌, if◌then◌else◌, nat_lt, nat_le}
-use Rattle.gb_states.specs.declared.types.Val.{Val}
-use Rattle.gb_states.specs.declared.types.May.{May}
-use Rattle.gb_states.specs.declared.types.Flg.{Flg}
+use Rattle.gb_domain.specs.declared.types.Val.{Val}
+use Rattle.gb_domain.specs.declared.types.May.{May}
+use Rattle.gb_domain.specs.declared.types.Flg.{Flg}
 use Rattle.gb_ops.specs.Flags.{bit_of}
 use Rattle.gb_ops.specs.Arithmetic as machine
 use Rattle.gb_vals.specs.declared.outcome.Outcome.{Outcome}

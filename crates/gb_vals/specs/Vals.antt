@@ -1,6 +1,6 @@
 -- Intervals of bytes (abstract interpretation: the interval domain; own).
 use Rattle.std.specs.Prelude.{ℕ, Bool, ◌==◌, None}
-use Rattle.gb_states.specs.declared.types.Val.{Val}
+use Rattle.gb_domain.specs.declared.types.Val.{Val}
 
 -- a computed interval is no copy of anything
 abbrev pub between : ℕ → ℕ → Val

@@ -1,7 +1,7 @@
 //! The eight operations of A with an operand.
 
 ghost use Rattle.std.specs.Prelude.{◌≡◌, false};
-ghost use Rattle.gb_states.specs.Rules.{IsVal, IsFlg};
+ghost use Rattle.gb_domain.specs.Rules.{IsVal, IsFlg};
 ghost use Rattle.gb_ops.specs.Arithmetic.{alu_result};
 ghost use Rattle.gb_vals.specs.Meaning.{IsSound, IsSoundOfTwo, IsOutcome};
 ghost use Rattle.gb_vals.specs.Alu as Alu;
@@ -11,8 +11,8 @@ use crate::logic::{conjunction, disjunction, exclusion, of_itself};
 use crate::outcome::Outcome;
 use crate::sums::{difference, sum};
 use crate::vals::single;
+use gb_domain::types::{Flg, Val};
 use gb_ops::op::AluOp;
-use gb_states::types::{Flg, Val};
 
 /// An operation of A with another operand. Known operands, with a known carry where it is read,
 /// give the machine's outcome. Else sums and differences go from the least to the greatest where

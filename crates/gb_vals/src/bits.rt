@@ -2,14 +2,14 @@
 
 ghost use Rattle.std.specs.Prelude.{◌≡◌, ◌<◌, true, false};
 ghost use Rattle.gb_ops.specs.Arithmetic as machine;
-ghost use Rattle.gb_states.specs.Rules.{IsVal, IsFlg};
+ghost use Rattle.gb_domain.specs.Rules.{IsVal, IsFlg};
 ghost use Rattle.gb_vals.specs.Meaning.{IsSoundOfVal, IsSoundOfTest, IsSoundAnswer, HasOne};
 ghost use Rattle.gb_vals.specs.Bits as Bits;
 
 use crate::flags::{either, greatest_flags, known, known_flags};
 use crate::vals::{between, is_single, single};
+use gb_domain::types::{Flg, May, Val};
 use gb_effects::arithmetic::{bit_reset, bit_set, bit_tested};
-use gb_states::types::{Flg, May, Val};
 
 /// The flags that BIT leaves of a byte that isn't known.
 fn tested_any(carry: May) -> Flg

@@ -1,14 +1,14 @@
 //! What a conditional instruction learns from its condition.
 
 ghost use Rattle.std.specs.Prelude.{◌≡◌};
-ghost use Rattle.gb_states.specs.Rules.{IsVal, IsFlg};
+ghost use Rattle.gb_domain.specs.Rules.{IsVal, IsFlg};
 ghost use Rattle.gb_vals.specs.Alu.{result_with, result_with_itself};
 ghost use Rattle.gb_vals.specs.Tests as Tests;
 ghost use Rattle.gb_vals.specs.Tests.{IsTestOf, IsSoundSide, IsSide, IsKept};
 
 use crate::flags::known;
+use gb_domain::types::{Flg, Val};
 use gb_ops::op::{AluOp, Condition};
-use gb_states::types::{Flg, Val};
 
 /// A and the flags where a condition is met.
 #[derive(Clone, Copy, PartialEq, Eq)]

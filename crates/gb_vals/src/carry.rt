@@ -1,12 +1,12 @@
 //! SCF and CCF on sets of flags.
 
 ghost use Rattle.std.specs.Prelude.{◌≡◌, false};
-ghost use Rattle.gb_states.specs.Rules.{IsFlg};
+ghost use Rattle.gb_domain.specs.Rules.{IsFlg};
 ghost use Rattle.gb_vals.specs.Meaning.{IsSoundOfFlags};
 ghost use Rattle.gb_vals.specs.Carry as Carry;
 
 use crate::flags::{either, is_known, known};
-use gb_states::types::{Flg, May};
+use gb_domain::types::{Flg, May};
 
 fn with_carry(carry: May, flags: Flg) -> Flg
     ensures { result ≡ Carry.with_carry carry flags }

@@ -2,15 +2,15 @@
 
 ghost use Rattle.std.specs.Prelude.{◌≡◌};
 ghost use Rattle.gb_ops.specs.Arithmetic as machine;
-ghost use Rattle.gb_states.specs.Rules.{IsVal, IsFlg};
+ghost use Rattle.gb_domain.specs.Rules.{IsVal, IsFlg};
 ghost use Rattle.gb_vals.specs.Meaning.{IsSound, IsOutcome, IsComputed};
 ghost use Rattle.gb_vals.specs.Daa as Daa;
 
 use crate::flags::{either, greatest_flags, is_known, known};
 use crate::outcome::{Outcome, exact};
 use crate::vals::{any, is_single};
+use gb_domain::types::{Flg, Val};
 use gb_effects::arithmetic::adjusted;
-use gb_states::types::{Flg, Val};
 
 /// Whether all the flags that DAA reads are known.
 fn are_read_known(flags: Flg) -> bool

@@ -2,14 +2,14 @@
 
 ghost use Rattle.std.specs.Prelude.{◌≡◌, ℕ};
 ghost use Rattle.gb_ops.specs.Flags.{flags_byte, flags_of};
-ghost use Rattle.gb_states.specs.Rules.{IsVal, IsFlg};
+ghost use Rattle.gb_domain.specs.Rules.{IsVal, IsFlg};
 ghost use Rattle.gb_vals.specs.Meaning.{In, FlagsIn};
 ghost use Rattle.gb_vals.specs.Flags as Sets;
 
 use crate::vals::is_single;
+use gb_domain::types::{Flg, May, Origin, Val};
 use gb_effects::flags::{flags_byte, flags_of};
 use gb_ops::registers::Flags;
-use gb_states::types::{Flg, May, Origin, Val};
 
 /// A bit that is known.
 pub fn known(bit: bool) -> May

@@ -20,3 +20,9 @@ pub mod outcome;
 pub mod shifts;
 pub mod sums;
 pub mod vals;
+
+// What lies below, for the crates above.
+pub use gb_effects::advance::length_of;
+pub use gb_effects::arithmetic;
+pub use gb_effects::arithmetic::displaced;
+pub use gb_effects::pairs::word;

@@ -1,15 +1,15 @@
 //! Bitwise operations on intervals.
 
 ghost use Rattle.std.specs.Prelude.{◌≡◌};
-ghost use Rattle.gb_states.specs.Rules.{IsVal, IsFlg};
+ghost use Rattle.gb_domain.specs.Rules.{IsVal, IsFlg};
 ghost use Rattle.gb_vals.specs.Meaning.{IsSound, IsOutcome, IsComputed};
 ghost use Rattle.gb_vals.specs.Logic as Logic;
 
 use crate::flags::{known, zero_by};
 use crate::outcome::{Outcome, exact};
 use crate::vals::{any, between, is_single};
+use gb_domain::types::{Flg, Val};
 use gb_effects::arithmetic;
-use gb_states::types::{Flg, Val};
 
 /// A value with the flags of AND, XOR and OR.
 fn logical(val: Val, half_carry: bool) -> Outcome

@@ -5,8 +5,8 @@ ghost use Rattle.gb_vals.specs.Outcomes.{exact};
 
 use crate::flags::known_flags;
 use crate::vals::single;
+use gb_domain::types::{Flg, Val};
 use gb_ops::machine::Computed;
-use gb_states::types::{Flg, Val};
 
 /// What an operation may give: an interval of values, and the flags after it.
 #[derive(Clone, Copy, PartialEq, Eq)]

@@ -1,16 +1,16 @@
 //! Rotations and shifts of intervals.
 
 ghost use Rattle.std.specs.Prelude.{◌≡◌};
-ghost use Rattle.gb_states.specs.Rules.{IsVal, IsFlg};
+ghost use Rattle.gb_domain.specs.Rules.{IsVal, IsFlg};
 ghost use Rattle.gb_vals.specs.Meaning.{IsSound, IsOutcome, IsComputed};
 ghost use Rattle.gb_vals.specs.Shifts as Shifts;
 
 use crate::flags::{either, is_known, known};
 use crate::outcome::{Outcome, exact};
 use crate::vals::{any, between, is_single};
+use gb_domain::types::{Flg, May, Val};
 use gb_effects::arithmetic::shifted;
 use gb_ops::op::Shift;
-use gb_states::types::{Flg, May, Val};
 
 fn is_carry_known(how: Shift, carry: May) -> bool
     ensures { result ≡ Shifts.is_carry_known how carry }

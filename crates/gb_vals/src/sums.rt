@@ -2,16 +2,16 @@
 
 ghost use Rattle.std.specs.Prelude.{◌≡◌, ◌≤◌};
 ghost use Rattle.gb_ops.specs.Arithmetic as machine;
-ghost use Rattle.gb_states.specs.Rules.{IsVal, IsFlg};
+ghost use Rattle.gb_domain.specs.Rules.{IsVal, IsFlg};
 ghost use Rattle.gb_vals.specs.Meaning.{IsSound, IsOutcome, IsComputed};
 ghost use Rattle.gb_vals.specs.Sums as Sums;
 
 use crate::flags::{either, greatest_flags, is_known, known, zero_by};
 use crate::outcome::{Outcome, exact};
 use crate::vals::{any, between, is_single};
+use gb_domain::types::{Flg, May, Val};
 use gb_effects::arithmetic::{added, decremented, incremented, subtracted};
 use gb_effects::flags::bit_of;
-use gb_states::types::{Flg, May, Val};
 
 /// The low bytes of the numbers from least to most, where they lie in one block of 256.
 fn cut(least: u16, most: u16) -> Val

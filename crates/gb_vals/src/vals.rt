@@ -3,7 +3,7 @@
 ghost use Rattle.std.specs.Prelude.{◌≡◌};
 ghost use Rattle.gb_vals.specs.Vals.{between, single, any_val, is_single};
 
-use gb_states::types::Val;
+use gb_domain::types::Val;
 
 /// The values from the least to the greatest, no copy of another.
 pub fn between(lo: u8, hi: u8) -> Val

@@ -1,8 +1,8 @@
 //! The checker's verdicts.
 
+use gb_console::verify_bytes;
 use gb_text::kept_bytes::KeptBytes;
 use gb_text::line::Line;
-use gb_verify::verify::verify_bytes;
 use std::alloc::Global;
 use std::io::{self, Write};
 

@@ -1,9 +1,8 @@
 //! Certificates are made of cartridges, or it is told what is in the way.
 
 use crate::judging::{Ceiling, judge_made};
-use gb_header::Rom;
-use gb_refine::{Limits, Made, Progress, make};
-use gb_reports::{Obstacle, Standing, Symbols, Told, obstacle_json};
+use gb_refine::{Limits, Made, Obstacle, Progress, Standing, Symbols, Told, make, obstacle_json};
+use gb_text::Rom;
 use std::alloc::Global;
 use std::io::{self, Write};
 

@@ -1,10 +1,10 @@
 //! A cartridge is run by the console.
 
 use bitflags::Flags;
+use gb_console::Keys;
 use gb_console::console::Console;
 use gb_console::frame::Ending;
-use gb_header::Rom;
-use gb_timer::irqs::Keys;
+use gb_text::Rom;
 use std::alloc::Global;
 use std::io::{self, Write};
 

@@ -1,11 +1,11 @@
 -- From the parts' contracts to the answer of two files.
 use Rattle.std.proofs.Common.{◌≡◌, ℕ, List, Option, Some, None, Result, Ok, Err, inl, inr, refl, sym, ◌∙◌, ap, subst}
 use Rattle.std.specs.Result.{IsOk}
-use Rattle.gb_header.specs.declared.fault.HeaderFault.{HeaderFault}
-use Rattle.gb_header.specs.Header as Header
-use Rattle.gb_fields.specs.declared.fault.CertFault.{CertFault}
-use Rattle.gb_fields.specs.declared.fault.CertFault.TheVariants as fault
-use Rattle.gb_states.specs.Certificate.{Certificate}
+use Rattle.gb_text.specs.Below.gb_header.declared.fault.HeaderFault.{HeaderFault}
+use Rattle.gb_text.specs.Below.gb_header.Header as Header
+use Rattle.gb_states.specs.Below.gb_fields.declared.fault.CertFault.{CertFault}
+use Rattle.gb_states.specs.Below.gb_fields.declared.fault.CertFault.TheVariants as fault
+use Rattle.gb_domain.specs.Certificate.{Certificate}
 use Rattle.gb_states.specs.Reading.{read_certificate}
 use Rattle.gb_states.specs.Spelling.{Spells}
 use Rattle.gb_text.specs.Text.{GainsBeginning}

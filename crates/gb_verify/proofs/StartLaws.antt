@@ -12,20 +12,20 @@ use Rattle.gb_ops.specs.declared.machine.Mapped.TheVariants as mapped
 use Rattle.gb_ops.specs.Registers.{get}
 use Rattle.gb_ops.specs.Memory.{mapped_at}
 use Rattle.gb_ops.specs.Play.{MState, IsStart, processor_at_power_up}
-use Rattle.gb_states.specs.declared.types.Origin.{Origin}
-use Rattle.gb_states.specs.declared.types.Origin.TheVariants as origin
-use Rattle.gb_states.specs.declared.types.Val.{Val}
-use Rattle.gb_states.specs.Types.{AbsState, ProcedureParts, Node}
+use Rattle.gb_domain.specs.declared.types.Origin.{Origin}
+use Rattle.gb_domain.specs.declared.types.Origin.TheVariants as origin
+use Rattle.gb_domain.specs.declared.types.Val.{Val}
+use Rattle.gb_domain.specs.Types.{AbsState, ProcedureParts, Node}
 use Rattle.gb_states.specs.Rules.{IsCertificate, is_of, have_entries}
-use Rattle.gb_states.specs.Certificate.{Certificate}
-use Rattle.gb_abs.specs.Storage.{peek, peek_by}
-use Rattle.gb_abs.specs.Meaning.{Holds, HoldsFlags, MeansCore, Means, IsMemory, origin_value, ime_may_be}
-use Rattle.gb_vals.specs.Flags.{known}
-use Rattle.gb_vals.specs.Meaning.{may_be}
-use Rattle.gb_vals.proofs.MeaningLaws.{known-may_be}
-use Rattle.gb_abs.specs.Covering.{covers}
-use Rattle.gb_abs.specs.Stack.{AreInRegion}
-use Rattle.gb_abs.proofs.CoveringLaws.{Means-covered}
+use Rattle.gb_domain.specs.Certificate.{Certificate}
+use Rattle.gb_rules.specs.Below.gb_abs.Storage.{peek, peek_by}
+use Rattle.gb_rules.specs.Below.gb_abs.Meaning.{Holds, HoldsFlags, MeansCore, Means, IsMemory, origin_value, ime_may_be}
+use Rattle.gb_rules.specs.Below.gb_vals.Flags.{known}
+use Rattle.gb_rules.specs.Below.gb_vals.Meaning.{may_be}
+use Rattle.gb_rules.proofs.Below.gb_vals_laws.MeaningLaws.{known-may_be}
+use Rattle.gb_rules.specs.Below.gb_abs.Covering.{covers}
+use Rattle.gb_rules.specs.Below.gb_abs.Stack.{AreInRegion}
+use Rattle.gb_rules.proofs.Below.gb_abs_laws.CoveringLaws.{Means-covered}
 use Rattle.gb_rules.specs.Procedures.{need_of}
 use Rattle.gb_rules.specs.Safety.{IsMeant}
 use Rattle.gb_rules.proofs.SearchLaws.{Contains-slice_get}

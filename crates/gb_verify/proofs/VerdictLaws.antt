@@ -2,21 +2,21 @@
 use Rattle.std.proofs.Common.{◌≡◌, ℕ, zero, suc, ◌+◌, ◌≤◌, ◌<◌, Bool, true, false, cond, ◌&&◌, ◌||◌, ◌⊎◌, inl, inr, List, [], ◌∷◌, Option, Some, None, length, drop, slice_get, refl, sym, ◌∙◌, ap, subst, arith}
 use Rattle.std.specs.Prelude.{option_and_then}
 use Rattle.std.proofs.lemmas.Option.{slice_get-get_or}
-use Rattle.gb_states.specs.Types.{AbsState, ProcedureParts, Node}
-use Rattle.gb_states.specs.Certificate.{Certificate}
-use Rattle.gb_abs.specs.declared.reason.Reason.{Reason}
-use Rattle.gb_abs.specs.declared.reason.Reason.TheVariants as reason
+use Rattle.gb_domain.specs.Types.{AbsState, ProcedureParts, Node}
+use Rattle.gb_domain.specs.Certificate.{Certificate}
+use Rattle.gb_rules.specs.Below.gb_abs.declared.reason.Reason.{Reason}
+use Rattle.gb_rules.specs.Below.gb_abs.declared.reason.Reason.TheVariants as reason
 use Rattle.std.specs.List.{find, list_any}
 use Rattle.gb_ops.specs.Machine.{vector}
-use Rattle.gb_calls.specs.Interrupts.{dispatched, may_come, handler_of}
+use Rattle.gb_rules.specs.Below.gb_calls.Interrupts.{dispatched, may_come, handler_of}
 use Rattle.gb_ops.specs.declared.op.Row.{Row}
 use Rattle.gb_ops.specs.Table.{decoded}
-use Rattle.gb_states.specs.declared.types.Range.{Range}
-use Rattle.gb_abs_effects.specs.declared.targets.Target.{Target}
-use Rattle.gb_abs_effects.specs.declared.targets.Target.TheVariants as target
-use Rattle.gb_calls.specs.Calls.{entered, is_entry, or_later, entry_from, entry_behind_main, callee_of}
-use Rattle.gb_successors.specs.Way.{Successor}
-use Rattle.gb_successors.specs.Successors.{has, any_successor, successors_of}
+use Rattle.gb_domain.specs.declared.types.Range.{Range}
+use Rattle.gb_rules.specs.Below.gb_abs_effects.declared.targets.Target.{Target}
+use Rattle.gb_rules.specs.Below.gb_abs_effects.declared.targets.Target.TheVariants as target
+use Rattle.gb_rules.specs.Below.gb_calls.Calls.{entered, is_entry, or_later, entry_from, entry_behind_main, callee_of}
+use Rattle.gb_rules.specs.Below.gb_successors.Way.{Successor}
+use Rattle.gb_rules.specs.Below.gb_successors.Successors.{has, any_successor, successors_of}
 use Rattle.gb_rules.specs.Procedures.{ranges_of, need_of, exit_of}
 use Rattle.gb_rules.specs.Rules.{pushes_too_deep, callee_by, callee_at, is_over, calls_too_deep, is_resumed_uncovered, is_back_uncovered, is_uncovered_at, is_uncovered, is_outside_of, is_uncallable_at, is_uncallable, is_unreturnable_at, is_unreturnable, interrupts, handles_too_deep, is_unhandled, lacks_handler, test_row, test_instruction, node_bytes, any_of, grows_too_deep, stores_outside, leads_uncovered, calls_wrongly, returns_wrongly, applies_to_row, applies, reasons, reason_of}
 use Rattle.gb_verify.specs.declared.verdict.Verdict.TheVariants.{Refused}

@@ -4,3 +4,4 @@ pub mod CertificateFile
 pub mod Text
 pub mod Upgrade
 pub mod Verdict
+pub mod Below

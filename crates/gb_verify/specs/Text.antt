@@ -1,14 +1,14 @@
 -- What the program says of two files (own texts).
 use Rattle.std.specs.Prelude.{◌≡◌, ℕ, List, ◌++◌, codes, decimal, Result, Ok, Err, IsOk, Option, ◌⊎◌}
-use Rattle.gb_header.specs.declared.fault.HeaderFault.{HeaderFault}
-use Rattle.gb_header.specs.Header as Header
-use Rattle.gb_fields.specs.declared.fault.CertFault.{CertFault}
-use Rattle.gb_fields.specs.declared.fault.CertFault.TheVariants.{Memory}
-use Rattle.gb_fields.specs.Fault as CertFaults
-use Rattle.gb_states.specs.Certificate.{Certificate}
+use Rattle.gb_text.specs.Below.gb_header.declared.fault.HeaderFault.{HeaderFault}
+use Rattle.gb_text.specs.Below.gb_header.Header as Header
+use Rattle.gb_states.specs.Below.gb_fields.declared.fault.CertFault.{CertFault}
+use Rattle.gb_states.specs.Below.gb_fields.declared.fault.CertFault.TheVariants.{Memory}
+use Rattle.gb_states.specs.Below.gb_fields.Fault as CertFaults
+use Rattle.gb_domain.specs.Certificate.{Certificate}
 use Rattle.gb_states.specs.Reading.{read_certificate}
 use Rattle.gb_states.specs.Spelling.{Spells}
-use Rattle.gb_abs.specs.Reason.{reason_number}
+use Rattle.gb_rules.specs.Below.gb_abs.Reason.{reason_number}
 use Rattle.gb_text.specs.Cartridge.{cartridge_text}
 use Rattle.gb_text.specs.Text.{line_feed, GainsBeginning}
 use Rattle.gb_verify.specs.Verdict.{verdict_of, IsRight}

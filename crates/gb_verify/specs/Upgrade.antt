@@ -1,8 +1,8 @@
 -- A certificate in version 2 of the format (own).
 use Rattle.std.specs.Prelude.{◌≡◌, ℕ, List, Option, Result, Ok, Err}
-use Rattle.gb_fields.specs.declared.fault.CertFault.{CertFault}
-use Rattle.gb_fields.specs.declared.fault.CertFault.TheVariants.{Memory}
-use Rattle.gb_states.specs.Certificate.{Certificate}
+use Rattle.gb_states.specs.Below.gb_fields.declared.fault.CertFault.{CertFault}
+use Rattle.gb_states.specs.Below.gb_fields.declared.fault.CertFault.TheVariants.{Memory}
+use Rattle.gb_domain.specs.Certificate.{Certificate}
 use Rattle.gb_states.specs.Reading.{read_certificate}
 use Rattle.gb_states.specs.Spelling.{Spells, spelling}
 use Rattle.gb_text.specs.Sink.{Gains}

@@ -1,11 +1,11 @@
 -- When a certificate is right for a cartridge, and the verdict (own rules).
 use Rattle.std.specs.Prelude.{◌≡◌, ℕ, ◌+◌, ◌<◌, Bool, true, false, not, ◌&&◌, ◌||◌, ◌==◌, if◌then◌else◌, List, [], ◌∷◌, length, ◌⊎◌, slice_get, Option, Some, None, option_and_then}
 use Rattle.std.specs.List.{All}
-use Rattle.gb_states.specs.Types.{ProcedureParts, Node}
-use Rattle.gb_states.specs.Certificate.{Certificate}
-use Rattle.gb_abs.specs.declared.reason.Reason.{Reason}
-use Rattle.gb_abs.specs.declared.reason.Reason.TheVariants as reason
-use Rattle.gb_abs.specs.Covering.{covers}
+use Rattle.gb_domain.specs.Types.{ProcedureParts, Node}
+use Rattle.gb_domain.specs.Certificate.{Certificate}
+use Rattle.gb_rules.specs.Below.gb_abs.declared.reason.Reason.{Reason}
+use Rattle.gb_rules.specs.Below.gb_abs.declared.reason.Reason.TheVariants as reason
+use Rattle.gb_rules.specs.Below.gb_abs.Covering.{covers}
 use Rattle.gb_rules.specs.Rules.{reason_of, lacks_handler}
 use Rattle.gb_verify.specs.PowerUp.{state_at_power_up}
 use Rattle.gb_verify.specs.declared.verdict.Verdict.{Verdict}

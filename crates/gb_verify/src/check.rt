@@ -7,18 +7,14 @@ ghost use Rattle.gb_verify.specs.Verdict.{IsVerdict, verdict_of, IgnoresVersion,
 ghost use Rattle.gb_verify.specs.Headline.{IfAccepted, IsSafe};
 
 use crate::verdict::Verdict;
-use gb_abs::covering::covers;
-use gb_abs::reason::Reason;
-use gb_abs_memory::load::holds_bytes;
-use gb_cert::Cert;
-use gb_header::Rom;
+use gb_domain::types::{Abs, Core, Ctl, Flg, ImeSet, Origin, Val};
 use gb_ops::machine::Region;
 use gb_ops::op::Register;
 use gb_ops::registers::Registers;
 use gb_rules::interrupts::lacks_handler;
 use gb_rules::rules::reason_near;
-use gb_states::types::{Abs, Core, Ctl, Flg, ImeSet, Origin, Val};
-use gb_vals::flags::known;
+use gb_rules::{Cert, Reason, covers, holds_bytes, known};
+use gb_text::Rom;
 
 /// A register's value at power-up, which is its own origin.
 fn own(register: Register, value: u8) -> Val

@@ -10,3 +10,20 @@ pub mod check;
 pub mod upgrade;
 pub mod verdict;
 pub mod verify;
+
+// What lies below, for the crates above.
+pub use gb_domain::types::{
+    Abs, CELLS, Cell, Core, Ctl, Flg, ITEMS, ImeSet, Item, May, Origin, RANGES, Range, Val,
+};
+pub use gb_rules::covered::covered_at;
+pub use gb_rules::procedures::{callee_at, exit_of, need_of, ranges_of};
+pub use gb_rules::rules::{check_node, is_nop_behind};
+pub use gb_rules::{
+    AbsRead, AbsWrite, Cert, NodeRef, ProcedureRef, Reason, Span, Successor, Successors, Target,
+    any, are_ranges_inside, area_end, cell_at, covers, dispatched, enter, holds_bytes, is_limited,
+    is_ram, is_stack_limited, known_bank, known_byte, known_bytes, leaves_area, length_of,
+    lies_in_high_ram, may_come, meets_closed_ram, resume, successors_of, with_value,
+};
+pub use gb_states::CertFault;
+pub use gb_text::sink::Plain;
+pub use gb_text::{HeaderFault, Rom};

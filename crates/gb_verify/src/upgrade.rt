@@ -9,7 +9,7 @@ ghost use Rattle.gb_verify.specs.CertificateFile.{HasBeginning};
 ghost use Rattle.gb_verify.specs.Upgrade.{upgraded_text, written, fault_outcome, IsOutcome, IfWritten, GainsUpgrade, GainsSame};
 
 use crate::verify::certificate_line;
-use gb_cert::{Cert, CertFault, ProcedureRef};
+use gb_rules::{Cert, CertFault, ProcedureRef};
 use gb_text::put::put_all;
 use gb_text::sink::{OutFault, Sink};
 use std::alloc::Global;

@@ -1,6 +1,6 @@
 //! What a check answers.
 
-use gb_abs::reason::Reason;
+use gb_rules::Reason;
 
 /// The verdict on a certificate.
 #[derive(Clone, Copy, PartialEq, Eq)]

@@ -6,12 +6,12 @@ ghost use Rattle.gb_verify.specs.Text.{certificate_text, IsAnswer, IfAcceptedAns
 
 use crate::check::check;
 use crate::verdict::Verdict;
-use gb_cert::{Cert, CertFault};
-use gb_header::{HeaderFault, Rom};
+use gb_rules::{Cert, CertFault};
 use gb_text::cartridge::cartridge_line;
 use gb_text::line::Line;
 use gb_text::put::put_all;
 use gb_text::sink::{OutFault, Sink};
+use gb_text::{HeaderFault, Rom};
 use std::alloc::Global;
 
 /// What there is to say of a cartridge and a certificate.

@@ -1,6 +1,6 @@
 use Rattle.std.proofs.Common.{◌+◌, ◌≤◌, [], length, sym, ◌∙◌, ap, arith}
 use Rattle.std.specs.List.{filter}
-use Rattle.gb_states.specs.declared.types.Cell.{Cell}
+use Rattle.gb_domain.specs.declared.types.Cell.{Cell}
 use Rattle.gb_abs.specs.Cells.{is_outside}
 use Rattle.gb_abs.proofs.CellLaws.{blank, length-where, room_left}
 use Rattle.gb_abs.proofs.cells.dropped.Goals as goal

@@ -1,7 +1,7 @@
 use Rattle.std.proofs.Common.{◌≡◌, ◌+◌, length, take, drop, get_or, sym, ◌∙◌, ap, arith, length-take, take_all}
 use Rattle.std.proofs.lemmas.List.{drop_all}
 use Rattle.arrayvec.specs.ArrayVec.{ArrayVec}
-use Rattle.gb_states.specs.declared.types.Cell.{Cell}
+use Rattle.gb_domain.specs.declared.types.Cell.{Cell}
 use Rattle.gb_abs.proofs.CellLaws.{blank, length-where}
 use Rattle.gb_calls.specs.Calls.{is_in_ranges, is_out_of_ranges, cell_without_origin, inserted, merged, cells_back}
 use Rattle.gb_calls.proofs.CellLaws.{written, merged-put, merged-passed}

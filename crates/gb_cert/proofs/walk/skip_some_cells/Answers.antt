@@ -1,7 +1,7 @@
 use Rattle.std.proofs.lemmas.Result.{err_from_is_err_and}
 use Rattle.gb_fields.specs.Format.{several}
 use Rattle.gb_cert.specs.Skipping.{skipped}
-use Rattle.gb_states.specs.Rules.{after_cell}
+use Rattle.gb_domain.specs.Rules.{after_cell}
 use Rattle.gb_states.specs.Reading.{cell_at}
 use Rattle.gb_cert.proofs.Skipping.{skips_on, skip_ends, skip_done}
 use Rattle.gb_cert.proofs.walk.skip_some_cells.Goals as goal

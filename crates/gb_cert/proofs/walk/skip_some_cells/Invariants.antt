@@ -1,7 +1,7 @@
 use Rattle.std.proofs.Common.{◌≡◌, ◌-◌}
 use Rattle.gb_fields.specs.Format.{several}
 use Rattle.gb_cert.specs.Skipping.{skipped}
-use Rattle.gb_states.specs.Rules.{after_cell}
+use Rattle.gb_domain.specs.Rules.{after_cell}
 use Rattle.gb_states.specs.Reading.{cell_at}
 use Rattle.gb_cert.proofs.walk.skip_some_cells.Given as goal
 

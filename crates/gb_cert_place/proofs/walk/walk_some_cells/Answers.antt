@@ -1,6 +1,6 @@
 use Rattle.std.proofs.Common.{refl}
 use Rattle.gb_fields.specs.Format.{several}
-use Rattle.gb_states.specs.Rules.{after_cell}
+use Rattle.gb_domain.specs.Rules.{after_cell}
 use Rattle.gb_states.specs.Reading.{cell_at}
 use Rattle.gb_cert_place.specs.declared.block.Block.TheVariants as block
 use Rattle.gb_cert_place.specs.Standing.{NonePassed, Of, AmongCells, AtCell}

@@ -1,8 +1,8 @@
 use Rattle.std.proofs.Common.{◌≡◌, true, false, ◌&&◌, nat_le, sym, ◌∙◌, ap}
 use Rattle.gb_abs.specs.Operations.{with_core}
 use Rattle.gb_ops.specs.Registers.{get}
-use Rattle.gb_states.specs.declared.types.Val.{Val}
-use Rattle.gb_states.specs.declared.types.Core.{Core}
+use Rattle.gb_domain.specs.declared.types.Val.{Val}
+use Rattle.gb_domain.specs.declared.types.Core.{Core}
 use Rattle.gb_abs.specs.Covering.{covers}
 use Rattle.gb_rules.specs.Covered as Covered
 use Rattle.gb_rules.proofs.ValueLaws.{interval-covered, none-covered}

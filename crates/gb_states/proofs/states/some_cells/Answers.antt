@@ -1,7 +1,7 @@
 use Rattle.std.proofs.Common.{arith}
 use Rattle.std.proofs.lemmas.Result.{err_from_is_err_and}
 use Rattle.gb_fields.specs.Format.{several}
-use Rattle.gb_states.specs.Rules.{after_cell}
+use Rattle.gb_domain.specs.Rules.{after_cell}
 use Rattle.gb_states.specs.Reading.{cell_at}
 use Rattle.gb_states.proofs.Several.{goes_on, ends, is_done}
 use Rattle.gb_states.proofs.states.some_cells.Goals as goal

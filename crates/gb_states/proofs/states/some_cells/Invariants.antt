@@ -1,7 +1,7 @@
 use Rattle.std.proofs.Common.{◌≡◌, ◌-◌}
 use Rattle.arrayvec.specs.ArrayVec.{array_vec_len}
 use Rattle.gb_fields.specs.Format.{several}
-use Rattle.gb_states.specs.Rules.{after_cell}
+use Rattle.gb_domain.specs.Rules.{after_cell}
 use Rattle.gb_states.specs.Reading.{cell_at}
 use Rattle.gb_states.proofs.Several.{with_front}
 use Rattle.gb_states.proofs.states.some_cells.Given as goal

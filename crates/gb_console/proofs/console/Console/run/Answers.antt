@@ -1,6 +1,6 @@
 use Rattle.std.proofs.Common.{◌≡◌, ℕ, rules, arith}
 use Rattle.gb_ops.specs.Play.{outside}
-use Rattle.gb_bus.specs.Access.{shared}
+use Rattle.gb_cpu.specs.Below.gb_bus.Access.{shared}
 use Rattle.gb_console.proofs.Going.{some_step, run_keeps}
 use Rattle.gb_console.proofs.console.Console.run.Goals as goal
 

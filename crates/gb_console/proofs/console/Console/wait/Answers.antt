@@ -1,5 +1,5 @@
 use Rattle.std.proofs.Common.{◌≡◌, ◌+◌, ◌<◌, ℕ, Bool, true, false, rules, arith}
-use Rattle.gb_bus.specs.Access.{shared}
+use Rattle.gb_cpu.specs.Below.gb_bus.Access.{shared}
 use Rattle.gb_cpu.specs.Choice.{is_idle}
 use Rattle.gb_console.proofs.Going.{some_wait, wait_keeps}
 use Rattle.gb_console.proofs.console.Console.wait.Goals as goal

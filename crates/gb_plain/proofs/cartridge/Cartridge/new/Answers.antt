@@ -1,5 +1,5 @@
 use Rattle.std.proofs.Common.{◌≡◌, ap, ◌∙◌}
-use Rattle.gb_mbc.specs.Controllers.{features_of}
+use Rattle.gb_cpu.specs.Below.gb_mbc.Controllers.{features_of}
 use Rattle.gb_plain.proofs.Facts.{parsed_is, ram_or_clock_by_features}
 use Rattle.gb_plain.proofs.cartridge.Cartridge.new.Goals as goal
 

@@ -1,10 +1,10 @@
 -- What contracts see of states, procedures and nodes: plain lists.
 use Rattle.std.specs.Prelude.{ℕ, List, [], Option, None}
-use Rattle.gb_states.specs.declared.types.Val.{Val}
-use Rattle.gb_states.specs.declared.types.Core.{Core}
-use Rattle.gb_states.specs.declared.types.Item.{Item}
-use Rattle.gb_states.specs.declared.types.Cell.{Cell}
-use Rattle.gb_states.specs.declared.types.Range.{Range}
+use Rattle.gb_domain.specs.declared.types.Val.{Val}
+use Rattle.gb_domain.specs.declared.types.Core.{Core}
+use Rattle.gb_domain.specs.declared.types.Item.{Item}
+use Rattle.gb_domain.specs.declared.types.Cell.{Cell}
+use Rattle.gb_domain.specs.declared.types.Range.{Range}
 
 -- an abstract state
 pub record AbsState : Type 0 where

@@ -1,7 +1,7 @@
 //! Abstract states.
 
 ghost use Rattle.std.specs.Prelude.{◌≡◌, ◌≤◌, length};
-ghost use Rattle.gb_states.specs.Types.{state_of};
+ghost use Rattle.gb_domain.specs.Types.{state_of};
 
 use crate::types::{Cell, Core, Item};
 use arrayvec::ArrayVec;
@@ -17,7 +17,7 @@ pub struct Abs {
 }
 
 impl Model for Abs {
-    ghost use Rattle.gb_states.specs.Types.{AbsState};
+    ghost use Rattle.gb_domain.specs.Types.{AbsState};
 
     ghost Value = { AbsState };
 

@@ -1,7 +1,7 @@
 //! What a certificate is made of: values, the core of a state, items, cells and ranges.
 
 ghost use Rattle.std.specs.Prelude.{◌≡◌};
-ghost use Rattle.gb_states.specs.Types.{any_item, any_cell, least_range};
+ghost use Rattle.gb_domain.specs.Types.{any_item, any_cell, least_range};
 
 pub use crate::abs::Abs;
 use gb_ops::op::Register;

@@ -1,7 +1,7 @@
 -- What contracts see of a certificate.
 use Rattle.std.specs.Prelude.{ℕ, List}
 use Rattle.gb_ops.specs.declared.machine.Region.{Region}
-use Rattle.gb_states.specs.Types.{ProcedureParts, Node}
+use Rattle.gb_domain.specs.Types.{ProcedureParts, Node}
 
 -- a certificate; its version is 1 or 2
 pub record Certificate : Type 0 where

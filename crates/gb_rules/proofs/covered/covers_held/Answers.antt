@@ -1,6 +1,6 @@
 use Rattle.std.proofs.Common.{◌≡◌, ◌==◌, length, ◌∙◌, ap}
 use Rattle.gb_abs.proofs.ListLaws.{covers-no_lists}
-use Rattle.gb_abs.proofs.covering.covers_lists.Goals as goal
+use Rattle.gb_rules.proofs.covered.covers_held.Goals as goal
 
 pub returns-else-has_lists : goal.returns-else-has_lists
 returns-else-has_lists c =

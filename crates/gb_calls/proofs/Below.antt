@@ -1,0 +1,2 @@
+-- Laws of the crates below, for those above.
+pub use Rattle.gb_cert.proofs as gb_cert_laws

@@ -1,0 +1,7 @@
+use Rattle.std.proofs.Common.{◌≡◌, ◌++◌, take}
+use Rattle.std.specs.List.{flat_map}
+use Rattle.gb_states.specs.Spelling as spelled
+use Rattle.gb_cert.proofs.spelled.put_items.Given as goal
+
+abbrev pub invariant-loop-item : goal.invariant-loop-item
+invariant-loop-item l = l.out.items ≡ l.initial.out.items ++ flat_map spelled.item (take l.item-index l.items)

@@ -1,0 +1,310 @@
+//! Certificates written from plain values.
+
+ghost use Rattle.std.specs.Prelude.{◌≡◌, ◌≤◌, ◌<◌, ◌++◌, ◌||◌, true, false, length, map, OnOk, IfOk, IfErr};
+ghost use Rattle.std.specs.List.{flat_map, list_any};
+ghost use Rattle.gb_fields.specs.Limits.{node_limit};
+ghost use Rattle.gb_states.specs.Rules.{IsCertificate};
+ghost use Rattle.gb_states.specs.Spelling as spelled;
+ghost use Rattle.gb_states.specs.Spelling.{Spells};
+ghost use Rattle.gb_cert.specs.declared.writer.WriteFault.TheVariants.{Memory};
+ghost use Rattle.gb_cert.specs.Written.{number_of, exit_of, procedure_of, node_of, certificate_of, is_wide, is_deep, has_no_entry, head_of, IsProcedureFault, IsWriteFault, KeepsLimits};
+
+use crate::spelled::{put, put_state, word};
+use gb_domain::types::{Abs, Range};
+use gb_fields::limits::{PROCEDURE_LIMIT, RANGE_LIMIT};
+use gb_ops::machine::Region;
+use std::alloc::{AllocError, AllocFailed, Global};
+
+/// The most words of stack that a procedure needs.
+const MOST_WORDS: u16 = 4096;
+
+/// The version of a certificate's format.
+#[derive(Clone, Copy, Debug, PartialEq, Eq)]
+pub enum Version {
+    One,
+    Two,
+}
+
+/// A procedure of a certificate that is to be written.
+#[derive(Clone, Copy)]
+pub struct ProcedurePlan<'a> {
+    /// The number of its first node.
+    pub entry: u32,
+    /// The words of stack that it needs.
+    pub need: u16,
+    /// Where it may write.
+    pub ranges: &'a [Range],
+    /// In what state it returns, if it does.
+    pub exit: Option<&'a Abs>,
+}
+
+/// A node of a certificate that is to be written.
+#[derive(Clone, Copy)]
+pub struct NodePlan<'a> {
+    /// The number of its procedure.
+    pub procedure: u8,
+    pub address: u16,
+    pub bank: u16,
+    pub state: &'a Abs,
+}
+
+/// Why no certificate was written.
+#[derive(Clone, Copy, Debug, PartialEq, Eq)]
+pub enum WriteFault {
+    /// Memory ran out.
+    Memory,
+    /// There are more than 255 procedures.
+    Procedures,
+    /// There are more nodes than the version takes: 65,535, or 1,048,576.
+    Nodes,
+    /// A procedure has more than 8 ranges.
+    Ranges,
+    /// A procedure needs more than 4,096 words of stack.
+    Need,
+    /// A procedure begins at a node that isn't there.
+    Entry,
+}
+
+impl Version {
+    /// Its number: 1 or 2.
+    pub fn number(self) -> u8
+        ensures { result ≡ number_of self }
+    {
+        match self {
+            Version::One => 1,
+            Version::Two => 2,
+        }
+    }
+
+    /// The most nodes that it takes.
+    #[tactic(auto, unfolding(gb_fields::specs::Limits::node_limit))]
+    pub fn node_limit(self) -> u32
+        ensures { result ≡ node_limit (number_of self) }
+    {
+        match self {
+            Version::One => 65_535,
+            Version::Two => 1_048_576,
+        }
+    }
+}
+
+impl From<AllocError> for WriteFault {
+    ghost from_gives = { λ _ e. e ≡ Memory };
+
+    fn from(_e: AllocError) -> WriteFault {
+        WriteFault::Memory
+    }
+}
+
+impl<T: Drop> From<AllocFailed<T>> for WriteFault {
+    ghost from_gives = { λ _ e. e ≡ Memory };
+
+    fn from(_e: AllocFailed<T>) -> WriteFault {
+        WriteFault::Memory
+    }
+}
+
+/// Adds the number of a node, or of all nodes: two bytes in version 1, else four.
+#[tactic(auto, unfolding(gb_states::specs::Spelling::node_number, gb_fields::specs::Limits::node_limit))]
+fn put_node_number(version: Version, number: u32, out: &mut Vec<u8>) -> Result<(), AllocError>
+    requires { number ≤ node_limit (number_of version) }
+    ensures { OnOk result (out.new.items ≡ out.old.items ++ spelled.node_number (number_of version) number) }
+{
+    match version {
+        Version::One => put(&word(number as u16), out),
+        Version::Two => {
+            put(&word((number % 65536) as u16), out)?;
+            put(&word((number / 65536) as u16), out)
+        }
+    }
+}
+
+/// Adds what stands before the procedures.
+#[tactic(auto, unfolding(gb_states::specs::Spelling::head))]
+fn put_head(
+    version: Version,
+    region: Region,
+    procedures: u8,
+    nodes: u32,
+    out: &mut Vec<u8>,
+) -> Result<(), AllocError>
+    requires { nodes ≤ node_limit (number_of version) }
+    ensures { OnOk result (out.new.items ≡ out.old.items ++ head_of version region procedures nodes) }
+{
+    put(b"GBBC", out)?;
+    put(&[version.number()], out)?;
+    put(&word(region.first), out)?;
+    put(&word(region.last), out)?;
+    put(&[procedures], out)?;
+    put_node_number(version, nodes, out)
+}
+
+/// Adds a range.
+#[tactic(auto, unfolding(gb_states::specs::Spelling::range))]
+fn put_range(range: &Range, out: &mut Vec<u8>) -> Result<(), AllocError>
+    ensures { OnOk result (out.new.items ≡ out.old.items ++ spelled.range range.now) }
+{
+    put(&word(range.first), out)?;
+    put(&word(range.last), out)
+}
+
+/// Adds ranges behind their count.
+fn put_ranges(ranges: &[Range], out: &mut Vec<u8>) -> Result<(), AllocError>
+    requires { length ranges.now ≤ 8 }
+    ensures { OnOk result (out.new.items ≡ out.old.items ++ spelled.counted spelled.range ranges.now) }
+{
+    put(&[ranges.len() as u8], out)?;
+    for range in ranges {
+        put_range(range, out)?;
+    }
+    Ok(())
+}
+
+/// Adds whether a procedure returns, and in what state.
+#[tactic(auto, unfolding(gb_states::specs::Spelling::exit))]
+fn put_exit(exit: Option<&Abs>, out: &mut Vec<u8>) -> Result<(), AllocError>
+    ensures { OnOk result (out.new.items ≡ out.old.items ++ spelled.exit (exit_of exit.entry)) }
+{
+    match exit {
+        None => put(&[0], out),
+        Some(state) => {
+            put(&[1], out)?;
+            put_state(state, out)
+        }
+    }
+}
+
+/// Adds all of a procedure but its entry.
+#[tactic(auto, unfolding(gb_states::specs::Spelling::body))]
+fn put_body(procedure: &ProcedurePlan<'_>, out: &mut Vec<u8>) -> Result<(), AllocError>
+    requires { length procedure.now.ranges.now ≤ 8 }
+    ensures { OnOk result (out.new.items ≡ out.old.items ++ spelled.body (procedure_of procedure.now)) }
+{
+    put(&word(procedure.need), out)?;
+    put_ranges(procedure.ranges, out)?;
+    put_exit(procedure.exit, out)
+}
+
+/// Adds a procedure.
+#[tactic(auto, unfolding(gb_states::specs::Spelling::procedure))]
+fn put_procedure(
+    version: Version,
+    procedure: &ProcedurePlan<'_>,
+    out: &mut Vec<u8>,
+) -> Result<(), AllocError>
+    requires entry { procedure.now.entry ≤ node_limit (number_of version) }
+    requires ranges { length procedure.now.ranges.now ≤ 8 }
+    ensures { OnOk result (out.new.items ≡ out.old.items ++ spelled.procedure (number_of version) (procedure_of procedure.now)) }
+{
+    put_node_number(version, procedure.entry, out)?;
+    put_body(procedure, out)
+}
+
+/// Adds a node.
+#[tactic(auto, unfolding(gb_states::specs::Spelling::node))]
+fn put_node(node: &NodePlan<'_>, out: &mut Vec<u8>) -> Result<(), AllocError>
+    ensures { OnOk result (out.new.items ≡ out.old.items ++ spelled.node (node_of node.now)) }
+{
+    put(&[node.procedure], out)?;
+    put(&word(node.address), out)?;
+    put(&word(node.bank), out)?;
+    put_state(node.state, out)
+}
+
+/// Adds all nodes.
+fn put_nodes(nodes: &[NodePlan<'_>], out: &mut Vec<u8>) -> Result<(), AllocError>
+    ensures { OnOk result (out.new.items ≡ out.old.items ++ flat_map (λ n. spelled.node (node_of n)) nodes.now) }
+{
+    for node in nodes {
+        put_node(node, out)?;
+    }
+    Ok(())
+}
+
+/// Adds all procedures, where they keep their limits.
+fn put_procedures(
+    version: Version,
+    nodes: u32,
+    procedures: &[ProcedurePlan<'_>],
+    out: &mut Vec<u8>,
+) -> Result<(), WriteFault>
+    requires { nodes ≤ node_limit (number_of version) }
+    ensures written { OnOk result (out.new.items ≡ out.old.items ++ flat_map (λ p. spelled.procedure (number_of version) (procedure_of p)) procedures.now) }
+    ensures ranges { OnOk result (list_any is_wide procedures.now ≡ false) }
+    ensures needs { OnOk result (list_any is_deep procedures.now ≡ false) }
+    ensures entries { OnOk result (list_any (has_no_entry nodes) procedures.now ≡ false) }
+    ensures fault { IfErr result (IsProcedureFault nodes procedures.now) }
+{
+    for procedure in procedures {
+        if procedure.ranges.len() > RANGE_LIMIT as usize {
+            return Err(WriteFault::Ranges);
+        }
+        if procedure.need > MOST_WORDS {
+            return Err(WriteFault::Need);
+        }
+        if procedure.entry >= nodes {
+            return Err(WriteFault::Entry);
+        }
+        put_procedure(version, procedure, out)?;
+    }
+    Ok(())
+}
+
+/// Adds a certificate, where its procedures keep their limits.
+#[tactic(auto, using(crate::proofs::Written::certificate_written), unfolding(gb_fields::specs::Limits::node_limit))]
+fn put_certificate(
+    version: Version,
+    region: Region,
+    procedures: &[ProcedurePlan<'_>],
+    nodes: &[NodePlan<'_>],
+    out: &mut Vec<u8>,
+) -> Result<(), WriteFault>
+    requires procedures { length procedures.now ≤ 255 }
+    requires nodes { length nodes.now ≤ node_limit (number_of version) }
+    ensures written { OnOk result (out.new.items ≡ out.old.items ++ spelled.spelling (certificate_of version region procedures.now nodes.now)) }
+    ensures ranges { OnOk result (list_any is_wide procedures.now ≡ false) }
+    ensures needs { OnOk result (list_any is_deep procedures.now ≡ false) }
+    ensures entries { OnOk result (list_any (has_no_entry (length nodes.now)) procedures.now ≡ false) }
+    ensures fault { IfErr result (IsProcedureFault (length nodes.now) procedures.now) }
+{
+    let count = nodes.len() as u32;
+    put_head(version, region, procedures.len() as u8, count, out)?;
+    put_procedures(version, count, procedures, out)?;
+    put_nodes(nodes, out)?;
+    Ok(())
+}
+
+/// The bytes of the certificate of these parts, in a version of the format: its one spelling.
+///
+/// # Errors
+///
+/// The limit that isn't kept, by its name, or Memory where memory ran out.
+#[tactic(auto, using(crate::proofs::Written::refused_by))]
+pub fn write_certificate(
+    alloc: Global,
+    version: Version,
+    region: Region,
+    procedures: &[ProcedurePlan<'_>],
+    nodes: &[NodePlan<'_>],
+) -> Result<Vec<u8>, WriteFault>
+    // The bytes are the spelling of these parts.
+    ensures spelling { IfOk result (λ bytes. bytes.items ≡ spelled.spelling (certificate_of version region procedures.now nodes.now)) }
+    // They are a certificate where the parts are one.
+    ensures spells { IsCertificate (certificate_of version region procedures.now nodes.now) → IfOk result (λ bytes. Spells bytes.items (certificate_of version region procedures.now nodes.now)) }
+    // Bytes only where each limit is kept.
+    ensures limits { OnOk result (KeepsLimits version procedures.now nodes.now) }
+    // A limit is named only where it is not kept.
+    ensures fault { IfErr result (IsWriteFault version procedures.now nodes.now) }
+    // Where the parts are a certificate only memory may be wanting.
+    ensures complete { IsCertificate (certificate_of version region procedures.now nodes.now) → IfErr result (λ fault. fault ≡ Memory) }
+{
+    if procedures.len() > PROCEDURE_LIMIT as usize {
+        return Err(WriteFault::Procedures);
+    }
+    if nodes.len() > version.node_limit() as usize {
+        return Err(WriteFault::Nodes);
+    }
+    let mut bytes = Vec::new(alloc);
+    put_certificate(version, region, procedures, nodes, &mut bytes)?;
+    Ok(bytes)
+}

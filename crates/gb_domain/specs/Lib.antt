@@ -1,0 +1,4 @@
+pub mod Areas
+pub mod Certificate
+pub mod Rules
+pub mod Types

@@ -1,0 +1,8 @@
+//! What abstract states are made of (abstract interpretation: an abstract domain), and what a certificate claims with them:
+//! values, cores, items, memory cells and ranges, as data alone. How they are spelled in bytes, what they mean and what is done
+//! with them stands in the crates above. `specs/Rules.antt` says which of them there are, `specs/Areas.antt` which areas of
+//! memory they speak of, and `specs/Types.antt` and `specs/Certificate.antt` what contracts see.
+#![tactic(auto)]
+
+mod abs;
+pub mod types;

@@ -1,0 +1,496 @@
+//! Certificates written from plain values.
+
+use gb_abs::cells::with_cell;
+use gb_abs::stack::push;
+use gb_cert::{
+    Cert, NodePlan, NodeRef, ProcedurePlan, ProcedureRef, Version, WriteFault, write_certificate,
+};
+use gb_domain::types::{Abs, Cell, Core, Ctl, Flg, ImeSet, Item, Origin, Range, Val};
+use gb_ops::machine::Region;
+use gb_ops::op::Register;
+use gb_ops::registers::Registers;
+use gb_samples::cartridges::{PLAIN, small};
+use gb_samples::certificates::{least, least_in_version_2};
+use gb_samples::programs::LOOP;
+use gb_samples::states::{ANY, CLEAR, EITHER, SET, copy_of, entered, from_to};
+use gb_verify::Rom;
+use gb_verify::check::core_at_power_up;
+use std::alloc::{AllocError, Global};
+use std::test::Fail;
+
+const REGION: Region = Region {
+    first: 0xDF00,
+    last: 0xDFFF,
+};
+
+fn full_registers() -> Registers<Val> {
+    Registers {
+        a: copy_of(Register::L, 0x10, 0x11),
+        b: Val {
+            origin: Some(Origin::F),
+            ..from_to(0x20, 0x21)
+        },
+        c: copy_of(Register::A, 0x30, 0x31),
+        d: copy_of(Register::B, 0x40, 0x41),
+        e: copy_of(Register::C, 0x50, 0x51),
+        h: copy_of(Register::D, 0x60, 0x61),
+        l: copy_of(Register::E, 0x70, 0x71),
+    }
+}
+
+/// A core whose parts all differ from one another: a test, and all origins but H, which a word has.
+fn full() -> Core {
+    Core {
+        ime: ImeSet {
+            off: true,
+            pending: false,
+            on: true,
+        },
+        bound: 0x51,
+        stack_set: true,
+        test: Some(0x77),
+        ctl: Ctl {
+            bank_lo: 0x0102,
+            bank_hi: 0x01F3,
+            second_lo: 0x04,
+            second_hi: 0x05,
+            gate: EITHER,
+            mode: SET,
+            is_kept: false,
+        },
+        flags: Flg {
+            zero: SET,
+            subtract: CLEAR,
+            half_carry: EITHER,
+            carry: SET,
+            is_own: true,
+        },
+        ie: Val {
+            origin: Some(Origin::Ie),
+            ..from_to(0x02, 0x1D)
+        },
+        registers: full_registers(),
+    }
+}
+
+/// A copy of what H held.
+const OF_H: Val = Val {
+    lo: 0x80,
+    hi: 0x8F,
+    origin: Some(Origin::Register(Register::H)),
+};
+
+const WORDS: &[Item] = &[
+    Item {
+        high: OF_H,
+        low: ANY,
+    },
+    Item {
+        high: ANY,
+        low: OF_H,
+    },
+];
+
+const CELLS: &[Cell] = &[
+    Cell {
+        address: 0xC123,
+        val: OF_H,
+    },
+    Cell {
+        address: 0xFFFE,
+        val: ANY,
+    },
+];
+
+/// A state: whether its core is the one above or a procedure's entry, its words, and its cells.
+struct State {
+    is_full: bool,
+    items: &'static [Item],
+    cells: &'static [Cell],
+}
+
+struct Procedure {
+    entry: u32,
+    need: u16,
+    ranges: &'static [Range],
+    exit: Option<State>,
+}
+
+struct Node {
+    procedure: u8,
+    address: u16,
+    bank: u16,
+    state: State,
+}
+
+const PROCEDURES: &[Procedure] = &[
+    Procedure {
+        entry: 1,
+        need: 0x0003,
+        ranges: &[],
+        exit: None,
+    },
+    Procedure {
+        entry: 2,
+        need: 0x0123,
+        ranges: &[
+            Range {
+                first: 0xC001,
+                last: 0xC0FE,
+            },
+            Range {
+                first: 0xFF80,
+                last: 0xFF81,
+            },
+        ],
+        exit: Some(State {
+            is_full: true,
+            items: &[],
+            cells: CELLS,
+        }),
+    },
+];
+
+const NODES: &[Node] = &[
+    Node {
+        procedure: 0,
+        address: 0x0038,
+        bank: 0x0000,
+        state: State {
+            is_full: true,
+            items: WORDS,
+            cells: &[],
+        },
+    },
+    Node {
+        procedure: 0,
+        address: 0x0100,
+        bank: 0x0000,
+        state: State {
+            is_full: false,
+            items: &[],
+            cells: CELLS,
+        },
+    },
+    Node {
+        procedure: 1,
+        address: 0x4567,
+        bank: 0x01F2,
+        state: State {
+            is_full: true,
+            items: WORDS,
+            cells: CELLS,
+        },
+    },
+];
+
+fn core_of(state: &State) -> Core {
+    if state.is_full { full() } else { entered() }
+}
+
+fn made(plain: &State) -> Abs {
+    let mut state = Abs::new(core_of(plain));
+    for item in plain.items {
+        if let Some(above) = push(&state, *item) {
+            state = above;
+        }
+    }
+    for cell in plain.cells {
+        state = with_cell(&state, cell.address, cell.val);
+    }
+    state
+}
+
+/// The states of the nodes.
+fn states_of_nodes(alloc: Global) -> Result<Vec<Abs>, AllocError> {
+    let mut states = Vec::new(alloc);
+    for node in NODES {
+        states.push(made(&node.state))?;
+    }
+    Ok(states)
+}
+
+/// The states in which procedures return.
+fn exits(alloc: Global) -> Result<Vec<Option<Abs>>, AllocError> {
+    let mut exits = Vec::new(alloc);
+    for procedure in PROCEDURES {
+        exits.push(match &procedure.exit {
+            Some(state) => Some(made(state)),
+            None => None,
+        })?;
+    }
+    Ok(exits)
+}
+
+fn procedure_plans(
+    alloc: Global,
+    exits: &[Option<Abs>],
+) -> Result<Vec<ProcedurePlan<'_>>, AllocError> {
+    let mut plans = Vec::new(alloc);
+    for (procedure, exit) in PROCEDURES.iter().zip(exits) {
+        plans.push(ProcedurePlan {
+            entry: procedure.entry,
+            need: procedure.need,
+            ranges: procedure.ranges,
+            exit: exit.as_ref(),
+        })?;
+    }
+    Ok(plans)
+}
+
+fn node_plans(alloc: Global, states: &[Abs]) -> Result<Vec<NodePlan<'_>>, AllocError> {
+    let mut plans = Vec::new(alloc);
+    for (node, state) in NODES.iter().zip(states) {
+        plans.push(NodePlan {
+            procedure: node.procedure,
+            address: node.address,
+            bank: node.bank,
+            state,
+        })?;
+    }
+    Ok(plans)
+}
+
+/// The certificate of the procedures and the nodes.
+fn written(alloc: Global, version: Version) -> Result<Vec<u8>, WriteFault> {
+    let exits = exits(alloc)?;
+    let states = states_of_nodes(alloc)?;
+    let procedures = procedure_plans(alloc, exits.as_slice())?;
+    let nodes = node_plans(alloc, states.as_slice())?;
+    write_certificate(
+        alloc,
+        version,
+        REGION,
+        procedures.as_slice(),
+        nodes.as_slice(),
+    )
+}
+
+fn is_state(state: &Abs, plain: &State) -> bool {
+    *state.core() == core_of(plain) && state.items() == plain.items && state.cells() == plain.cells
+}
+
+fn is_exit(exit: &Option<Abs>, plain: &Option<State>) -> bool {
+    match (exit, plain) {
+        (Some(state), Some(plain)) => is_state(state, plain),
+        (None, None) => true,
+        _ => false,
+    }
+}
+
+fn is_procedure(read: &ProcedureRef<'_>, procedure: &Procedure) -> bool {
+    read.entry() == procedure.entry
+        && read.need() == procedure.need
+        && read.ranges().as_slice() == procedure.ranges
+        && is_exit(&read.exit(), &procedure.exit)
+}
+
+fn is_node(read: &NodeRef<'_>, node: &Node) -> bool {
+    read.procedure() == node.procedure
+        && read.address() == node.address
+        && read.bank() == node.bank
+        && is_state(&read.state(), &node.state)
+}
+
+fn has_procedures(cert: &Cert<'_>) -> bool {
+    if cert.procedures() != 2 {
+        return false;
+    }
+    is_procedure(&cert.procedure(0), &PROCEDURES[0])
+        && is_procedure(&cert.procedure(1), &PROCEDURES[1])
+}
+
+fn has_nodes(cert: &Cert<'_>) -> bool {
+    if cert.nodes() != 3 {
+        return false;
+    }
+    is_node(&cert.node(0), &NODES[0])
+        && is_node(&cert.node(1), &NODES[1])
+        && is_node(&cert.node(2), &NODES[2])
+}
+
+const VERSIONS: [(Version, u8); 2] = [(Version::One, 1), (Version::Two, 2)];
+
+/// Each value is read as it was written.
+#[test]
+fn what_is_written_is_read(rt: HostRuntime) -> Result<(), Fail> {
+    for (version, number) in VERSIONS {
+        let bytes = written(rt.alloc(), version)?;
+        let cert = Cert::parse(rt.alloc(), &bytes)?;
+        assert!(rt; cert.version() == number);
+        assert!(rt; cert.region() == REGION, "version {number}");
+        assert!(rt; has_procedures(&cert), "version {number}");
+        assert!(rt; has_nodes(&cert), "version {number}");
+    }
+    Ok(())
+}
+
+/// Of each thing that has a limit how much there is.
+#[derive(Clone, Copy)]
+struct Amounts {
+    version: Version,
+    procedures: usize,
+    nodes: usize,
+    ranges: usize,
+    need: u16,
+    entry: u32,
+}
+
+const LEAST: Amounts = Amounts {
+    version: Version::One,
+    procedures: 1,
+    nodes: 1,
+    ranges: 0,
+    need: 0,
+    entry: 0,
+};
+
+const LEAST_IN_VERSION_2: Amounts = Amounts {
+    version: Version::Two,
+    ..LEAST
+};
+
+/// Amounts at a limit or above it, and what stands against them.
+const LIMITS: &[(Amounts, Option<WriteFault>)] = &[
+    (
+        Amounts {
+            procedures: 255,
+            ..LEAST
+        },
+        None,
+    ),
+    (
+        Amounts {
+            procedures: 256,
+            ..LEAST
+        },
+        Some(WriteFault::Procedures),
+    ),
+    (
+        Amounts {
+            nodes: 65_535,
+            ..LEAST
+        },
+        None,
+    ),
+    (
+        Amounts {
+            nodes: 65_536,
+            ..LEAST
+        },
+        Some(WriteFault::Nodes),
+    ),
+    (
+        Amounts {
+            nodes: 65_536,
+            ..LEAST_IN_VERSION_2
+        },
+        None,
+    ),
+    (
+        Amounts {
+            nodes: 1_048_577,
+            ..LEAST_IN_VERSION_2
+        },
+        Some(WriteFault::Nodes),
+    ),
+    (Amounts { ranges: 8, ..LEAST }, None),
+    (Amounts { ranges: 9, ..LEAST }, Some(WriteFault::Ranges)),
+    (
+        Amounts {
+            need: 4_096,
+            ..LEAST
+        },
+        None,
+    ),
+    (
+        Amounts {
+            need: 4_097,
+            ..LEAST
+        },
+        Some(WriteFault::Need),
+    ),
+    (
+        Amounts {
+            entry: 1,
+            nodes: 2,
+            ..LEAST
+        },
+        None,
+    ),
+    (Amounts { entry: 1, ..LEAST }, Some(WriteFault::Entry)),
+];
+
+/// A node of main at 0100.
+fn main_node(state: &Abs) -> NodePlan<'_> {
+    NodePlan {
+        procedure: 0,
+        address: 0x0100,
+        bank: 0,
+        state,
+    }
+}
+
+/// What stands against so many equal procedures and nodes.
+fn fault_of(alloc: Global, amounts: &Amounts) -> Result<Option<WriteFault>, AllocError> {
+    let ranges = vec![in alloc; Range {
+        first: 0xC000,
+        last: 0xC000
+    }; amounts.ranges]?;
+    let state = Abs::new(entered());
+    let procedure = ProcedurePlan {
+        entry: amounts.entry,
+        need: amounts.need,
+        ranges: ranges.as_slice(),
+        exit: None,
+    };
+    let procedures = vec![in alloc; procedure; amounts.procedures]?;
+    let nodes = vec![in alloc; main_node(&state); amounts.nodes]?;
+    let (procedures, nodes) = (procedures.as_slice(), nodes.as_slice());
+    match write_certificate(alloc, amounts.version, REGION, procedures, nodes) {
+        Ok(_) => Ok(None),
+        Err(fault) => Ok(Some(fault)),
+    }
+}
+
+#[test]
+fn limits_are_named(rt: HostRuntime) -> Result<(), Fail> {
+    for (i, (amounts, fault)) in LIMITS.iter().enumerate() {
+        assert!(rt; fault_of(rt.alloc(), amounts)? == *fault, "limit {i}");
+    }
+    Ok(())
+}
+
+/// Whether main's nodes at 0100, 0101 and 0150 in this state are written in these bytes, or memory ran out.
+fn is_least(alloc: Global, version: Version, state: &Abs, expected: &[u8]) -> bool {
+    let main = ProcedurePlan {
+        entry: 0,
+        need: 0,
+        ranges: &[],
+        exit: None,
+    };
+    let first = main_node(state);
+    let second = NodePlan {
+        address: 0x0101,
+        ..first
+    };
+    let third = NodePlan {
+        address: 0x0150,
+        ..first
+    };
+    match write_certificate(alloc, version, REGION, &[main], &[first, second, third]) {
+        Ok(bytes) => bytes.as_slice() == expected,
+        Err(fault) => fault == WriteFault::Memory,
+    }
+}
+
+/// Where an allocation is refused, the answer is that memory ran out and no other.
+#[test]
+fn is_written_or_wants_memory(rt: HostRuntime) -> Result<(), Fail> {
+    let file = small(PLAIN, LOOP);
+    let rom = Rom::parse(&file)?;
+    let state = Abs::new(core_at_power_up(&rom, REGION));
+    assert!(rt; is_least(rt.alloc(), Version::One, &state, &least()));
+    assert!(rt; is_least(rt.alloc(), Version::Two, &state, &least_in_version_2()));
+    Ok(())
+}

@@ -1,0 +1,2 @@
+-- Definitions of the crates below, for those above.
+pub use Rattle.gb_verify.specs.Below.gb_fields as gb_fields
