@@ -15,9 +15,9 @@ const FEW: u32 = 65_535;
 const ADDRESSES: u32 = 0x102 + 0x7FFE - 0x150;
 
 /// The procedures of the largest certificate, and how many addresses of its main have two nodes.
-const PROCEDURES: u32 = 32;
+const PROCEDURES: u8 = 32;
 
-const TWICE: u32 = 1_048_576 - PROCEDURES * ADDRESSES;
+const TWICE: u32 = 1_048_576 - PROCEDURES as u32 * ADDRESSES;
 
 /// The stack region of all of them.
 const REGION: Region = Region {
@@ -149,12 +149,12 @@ fn push_mains<'a>(state: &'a Abs, nodes: &mut Vec<NodePlan<'a>>) -> Result<(), A
 
 /// Adds the nodes of a procedure that is called: each address has one.
 fn push_below<'a>(
-    number: u32,
+    number: u8,
     state: &'a Abs,
     nodes: &mut Vec<NodePlan<'a>>,
 ) -> Result<(), AllocError> {
     for place in 0..ADDRESSES {
-        nodes.push(node(number as u8, address_of(place), state))?;
+        nodes.push(node(number, address_of(place), state))?;
     }
     Ok(())
 }
@@ -172,7 +172,7 @@ fn procedures(alloc: Global, start: Core) -> Result<Vec<u8>, WriteFault> {
     procedures.push(procedure(2 * 0x100))?;
     push_mains(&state, &mut nodes)?;
     for number in 1..PROCEDURES {
-        procedures.push(procedure(TWICE + number * ADDRESSES))?;
+        procedures.push(procedure(TWICE + u32::from(number) * ADDRESSES))?;
         push_below(number, &below, &mut nodes)?;
     }
     write_certificate(
