@@ -1,5 +1,5 @@
 -- What covers an abstract state stands for its machine states, part by part.
-use Rattle.std.proofs.Common.{◌≡◌, ℕ, suc, length, ◌+◌, ◌*◌, ◌-◌, ◌≤◌, Bool, true, false, ◌==◌, if◌then◌else◌, cond, List, [], ◌∷◌, Option, Some, None, refl, sym, ◌∙◌, ap, subst, arith}
+use Rattle.std.proofs.Common.{◌≡◌, ℕ, suc, length, ◌+◌, ◌-◌, ◌≤◌, Bool, true, false, ◌==◌, if◌then◌else◌, cond, List, [], ◌∷◌, Option, Some, None, refl, sym, ◌∙◌, ap, subst, arith}
 use Rattle.std.proofs.lemmas.Bool.{and_parts, eqb-true, leb-true}
 use Rattle.std.specs.List.{AllByRecursion, list_all}
 use Rattle.gb_ops.specs.declared.op.Register.{Register}
@@ -19,7 +19,6 @@ use Rattle.gb_domain.specs.declared.types.May.{May}
 use Rattle.gb_domain.specs.declared.types.Flg.{Flg}
 use Rattle.gb_domain.specs.declared.types.ImeSet.{ImeSet}
 use Rattle.gb_domain.specs.declared.types.Ctl.{Ctl}
-use Rattle.gb_domain.specs.declared.types.Item.{Item}
 use Rattle.gb_domain.specs.declared.types.Cell.{Cell}
 use Rattle.gb_domain.specs.declared.types.Core.{Core}
 use Rattle.gb_domain.specs.Types.{AbsState}
@@ -182,14 +181,13 @@ stack_covered s t h e =
 
 -- ---- items and cells
 
-items_covered : (ss ts : List Item) (entry : MState) (top : ℕ) (m : Storage) → covers_items ss ts ≡ true → AreItems ss entry top m → AreItems ts entry top m
+items_covered : (ss ts : List Val) (entry : MState) (top : ℕ) (m : Storage) → covers_items ss ts ≡ true → AreItems ss entry top m → AreItems ts entry top m
 items_covered [] [] entry top m h a = tt
 items_covered [] (t ∷ ts) entry top m h a = cc
 items_covered (s ∷ ss) [] entry top m h a = cc
 items_covered (s ∷ ss) (t ∷ ts) entry top m h a =
     let p = and_parts _ _ h in
-    let q = and_parts _ _ p.0 in
-    (Holds-covered _ _ _ _ q.0 a.0, Holds-covered _ _ _ _ q.1 a.1, items_covered ss ts entry (top - 2) m p.1 a.2)
+    (Holds-covered _ _ _ _ p.0 a.0, items_covered ss ts entry (top - 1) m p.1 a.1)
 
 abbrev pub AreCells : List Cell → MState → Storage → Type 0
 AreCells cells entry m = AllByRecursion (λ c. Holds c.val entry (peek m c.address)) cells
@@ -223,12 +221,12 @@ Means-covered s t entry base x h m =
       core = core_covered s.core t.core entry x items.0 m.core;
       memory = m.memory;
       sp = m.sp;
-      stack = λ e. ap (λ n. x.processor.sp + 2 * n) (sym (lengths s.items t.items items.1)) ∙ m.stack (stack_covered s.core t.core items.0 e);
+      stack = λ e. ap (λ n. x.processor.sp + n) (sym (lengths s.items t.items items.1)) ∙ m.stack (stack_covered s.core t.core items.0 e);
       items = items_covered s.items t.items entry base x.storage items.1 m.items;
       cells = cells_covered s.cells t.cells entry x.storage m.memory cells.1 m.cells;
     }
   where
-    lengths : (ss ts : List Item) → covers_items ss ts ≡ true → length ss ≡ length ts
+    lengths : (ss ts : List Val) → covers_items ss ts ≡ true → length ss ≡ length ts
     lengths [] [] h = refl
     lengths [] (t ∷ ts) h = cc
     lengths (s ∷ ss) [] h = cc

@@ -1,6 +1,7 @@
 -- A word is pushed, and a word is popped: what the machine's stack holds then.
-use Rattle.std.proofs.Common.{◌≡◌, ℕ, zero, suc, ◌+◌, ◌-◌, ◌*◌, ◌/◌, ◌%◌, ◌≤◌, ◌<◌, Bool, true, false, not, ◌&&◌, ◌==◌, ◌⊎◌, inl, inr, cond, List, [], ◌∷◌, ◌++◌, length, take, slice_get, Option, Some, None, refl, sym, ◌∙◌, ap, subst, arith, length-append, length-take-le}
+use Rattle.std.proofs.Common.{◌≡◌, ℕ, zero, suc, ◌+◌, ◌-◌, ◌/◌, ◌%◌, ◌≤◌, ◌<◌, Bool, true, false, not, ◌&&◌, ◌==◌, nat_lt, ◌⊎◌, inl, inr, cond, List, [], ◌∷◌, ◌++◌, length, take, slice_get, slice_index_or, Option, Some, None, refl, sym, ◌∙◌, ap, subst, arith, length-append, length-take-le}
 use Rattle.std.proofs.lemmas.Bool.{eqb-true}
+use Rattle.std.proofs.lemmas.Option.{slice_get-get_or}
 use Rattle.std.specs.Prelude.{IfSome}
 use Rattle.std.proofs.lemmas.Bool.Decides.{nat_tests}
 use Rattle.gb_ops.specs.declared.machine.Region.{Region}
@@ -15,7 +16,8 @@ use Rattle.gb_ops.specs.Effects.{with_sp}
 use Rattle.gb_ops.specs.Faults.{no_faults, either_faults, push_faults, write_faults, access_faults, store_faults, load_faults}
 use Rattle.gb_ops.specs.Play.{MState}
 use Rattle.gb_domain.specs.declared.types.Core.{Core}
-use Rattle.gb_domain.specs.declared.types.Item.{Item}
+use Rattle.gb_domain.specs.declared.types.Val.{Val}
+use Rattle.gb_domain.specs.declared.types.Halves.{Halves}
 use Rattle.gb_domain.specs.declared.types.Cell.{Cell}
 use Rattle.gb_domain.specs.Types.{AbsState}
 use Rattle.gb_domain.specs.Areas.{IsRegion, meets}
@@ -23,7 +25,7 @@ use Rattle.gb_abs.specs.Storage.{is_ram, peek, peek_by}
 use Rattle.gb_abs.specs.Operations.{with_core}
 use Rattle.gb_abs.specs.Meaning.{Holds, MeansCore, AreItems, Means, IsMemory}
 use Rattle.gb_abs.specs.Cells.{ArePlaced}
-use Rattle.gb_abs.specs.Stack.{AreInRegion, pushed, youngest, popped}
+use Rattle.gb_abs.specs.Stack.{AreInRegion, pushed, word_of, last_word, youngest, popped}
 use Rattle.gb_abs.specs.Poked.{IsPoked}
 use Rattle.gb_abs.specs.Sound.{IsRegionOpen, with_stack, Pushes, Pops, IsSoundPush, IsSoundPop}
 use Rattle.gb_abs.proofs.CoveringLaws.{AreCells}
@@ -65,7 +67,7 @@ record IsTop (region : Region) (sp : ℕ) : Type 0 where
   first : region.first ≤ sp - 2
   last : sp - 1 ≤ region.last
 
-top-of : (region : Region) (sp : ℕ) → IsRegion region → AreInRegion region sp 1 → IsTop region sp
+top-of : (region : Region) (sp : ℕ) → IsRegion region → AreInRegion region sp 2 → IsTop region sp
 top-of region sp r i =
     let area = r.area in
     let first = i.first in
@@ -113,7 +115,7 @@ first-poked region m sp w r p clear k lt =
 
 -- what a push of the machine faults: nothing
 pub push-faultless :
-    (region : Region) (m : View) (sp w : ℕ) → IsRegion region → AreInRegion region sp 1 → IsRegionOpen m.storage region → IsMemory m.storage → w < 65536
+    (region : Region) (m : View) (sp w : ℕ) → IsRegion region → AreInRegion region sp 2 → IsRegionOpen m.storage region → IsMemory m.storage → w < 65536
     → store_faults region m (write.Push sp w) ≡ no_faults
 unfolding store_faults either_faults
 push-faultless region m sp w r i clear k lt =
@@ -165,15 +167,17 @@ pushed-others :
     (region : Region) (sp w : ℕ) (s t : Storage) (b : ℕ) → ArePushed sp w s t → is_ram b ≡ true → (b ≡ sp - 1 → ⊥) → (b ≡ sp - 2 → ⊥) → peek t b ≡ peek s b
 pushed-others region sp w s t b p ram n o = p.low.others b ram (differs b (sp - 2) o) ∙ p.high.others b ram (differs b (sp - 1) n)
 
--- ---- words and cells after a push
+-- ---- items and cells after a push
 
 AreItems-more :
-    (items : List Item) (i : Item) (entry : MState) (sp top : ℕ) (t : Storage) → sp + 2 * length items ≡ top
-    → Holds i.high entry (peek t (sp - 1)) → Holds i.low entry (peek t (sp - 2)) → AreItems items entry top t → AreItems (items ++ i ∷ []) entry top t
+    (items : List Val) (i : Halves) (entry : MState) (sp top : ℕ) (t : Storage) → sp + length items ≡ top
+    → Holds i.high entry (peek t (sp - 1)) → Holds i.low entry (peek t (sp - 2)) → AreItems items entry top t
+    → AreItems (items ++ i.high ∷ i.low ∷ []) entry top t
 AreItems-more [] i entry sp top t e high low h =
     let same : sp ≡ top = omega arith in
-    (subst (λ n. Holds i.high entry (peek t (n - 1))) same high, subst (λ n. Holds i.low entry (peek t (n - 2))) same low, tt)
-AreItems-more (j ∷ items) i entry sp top t e high low h = (h.0, h.1, AreItems-more items i entry sp (top - 2) t (omega arith) high low h.2)
+    let below : sp - 2 ≡ top - 1 - 1 = omega arith in
+    (subst (λ n. Holds i.high entry (peek t (n - 1))) same high, (subst (λ n. Holds i.low entry (peek t n)) below low, tt))
+AreItems-more (v ∷ items) i entry sp top t e high low h = (h.0, AreItems-more items i entry sp (top - 1) t (omega arith) high low h.1)
 
 AreCells-region :
     (region : Region) (cells : List Cell) (entry : MState) (s t : Storage)
@@ -202,8 +206,8 @@ apart-from : (region : Region) (a b : ℕ) → region.first ≤ a → a ≤ regi
 apart-from region a b low high h e = grind (arith, nat_tests)
 
 Means-pushed-to :
-    (region : Region) (s : AbsState) (entry : MState) (base : ℕ) (x : MState) (i : Item) (w sp : ℕ) (t : Storage)
-    → IsRegion region → AreInRegion region base (length s.items + 1) → ArePlaced region s.cells → s.core.stack_set ≡ true
+    (region : Region) (s : AbsState) (entry : MState) (base : ℕ) (x : MState) (i : Halves) (w sp : ℕ) (t : Storage)
+    → IsRegion region → AreInRegion region base (length s.items + 2) → ArePlaced region s.cells → s.core.stack_set ≡ true
     → Holds i.high entry (w / 256) → Holds i.low entry (w % 256) → IsTop region x.processor.sp → ArePushed x.processor.sp w x.storage t
     → Means s entry base x → Means (pushed i s) entry base (with_stack x (x.processor.sp - 2) t)
 unfolding pushed
@@ -237,11 +241,11 @@ Means-pushed-to region s entry base x i w sp t r room placed set high low top p 
       cells = AreCells-region region s.cells entry x.storage t others placed m.cells;
     }
   where
-    more : (items : List Item) → x.processor.sp + 2 * length items ≡ base → x.processor.sp - 2 + 2 * length (items ++ i ∷ []) ≡ base
-    more items e = let some = top.some in let n = length-append items (i ∷ []) in omega arith
+    more : (items : List Val) → x.processor.sp + length items ≡ base → x.processor.sp - 2 + length (items ++ i.high ∷ i.low ∷ []) ≡ base
+    more items e = let some = top.some in let n = length-append items (i.high ∷ i.low ∷ []) in omega arith
 
-top_in_region : (region : Region) (base sp words : ℕ) → AreInRegion region base (words + 1) → sp + 2 * words ≡ base → AreInRegion region sp 1
-top_in_region region base sp words i e = let first = i.first in let last = i.last in record { first = omega arith; last = omega arith }
+top_in_region : (region : Region) (base sp bytes : ℕ) → AreInRegion region base (bytes + 2) → sp + bytes ≡ base → AreInRegion region sp 2
+top_in_region region base sp bytes i e = let first = i.first in let last = i.last in record { first = omega arith; last = omega arith }
 
 stored-starting :
     (region : Region) (m : View) (sp w : ℕ) → IsRegion region → IsTop region sp → IsRegionOpen m.storage region → IsMemory m.storage → w < 65536
@@ -267,8 +271,8 @@ abbrev machine : Processor → Storage → MState
 machine p t = record { processor = p; storage = t }
 
 pushes :
-    (region : Region) (s : AbsState) (entry : MState) (base : ℕ) (p : Processor) (m : View) (i : Item) (w : ℕ)
-    → Means s entry base (machine p m.storage) → s.core.stack_set ≡ true → AreInRegion region base (length s.items + 1)
+    (region : Region) (s : AbsState) (entry : MState) (base : ℕ) (p : Processor) (m : View) (i : Halves) (w : ℕ)
+    → Means s entry base (machine p m.storage) → s.core.stack_set ≡ true → AreInRegion region base (length s.items + 2)
     → IsRegion region → ArePlaced region s.cells → IsRegionOpen m.storage region → Holds i.high entry (w / 256) → Holds i.low entry (w % 256) → w < 65536
     → Pushes region (pushed i s) entry base (machine p m.storage) m w
 pushes region s entry base p m i w means set room r placed clear high low lt =
@@ -290,8 +294,8 @@ pushes region s entry base p m i w means set room r placed clear high low lt =
 
 -- a word is pushed: the high byte at SP-1, the low byte at SP-2
 pub Means-pushed :
-    (region : Region) (s : AbsState) (entry : MState) (base : ℕ) (x : MState) (m : View) (i : Item) (w : ℕ)
-    → Means s entry base x → m.storage ≡ x.storage → s.core.stack_set ≡ true → AreInRegion region base (length s.items + 1)
+    (region : Region) (s : AbsState) (entry : MState) (base : ℕ) (x : MState) (m : View) (i : Halves) (w : ℕ)
+    → Means s entry base x → m.storage ≡ x.storage → s.core.stack_set ≡ true → AreInRegion region base (length s.items + 2)
     → IsRegion region → ArePlaced region s.cells → IsRegionOpen x.storage region → Holds i.high entry (w / 256) → Holds i.low entry (w % 256) → w < 65536
     → Pushes region (pushed i s) entry base x m w
 Means-pushed region s entry base x m i w means same set room r placed clear high low lt =
@@ -302,46 +306,76 @@ Means-pushed region s entry base x m i w means same set room r placed clear high
 
 -- ---- a pop
 
--- the youngest word stands on top, n words below it
-record AreTop (items : List Item) (n : ℕ) (i : Item) (entry : MState) (sp top : ℕ) (t : Storage) : Type 0 where
+-- the youngest word stands on top, n bytes below it
+record AreTop (items : List Val) (n : ℕ) (i : Halves) (entry : MState) (sp top : ℕ) (t : Storage) : Type 0 where
   high : Holds i.high entry (peek t (sp + 1))
   low : Holds i.low entry (peek t sp)
   rest : AreItems (take n items) entry top t
 
-some-same : (i j : Item) → Some j ≡ Some i → j ≡ i
-some-same i j h = cc
+halves-same : (high low : Val) (i : Halves) → word_of (Some high) (Some low) ≡ Some i → (i.high ≡ high) × (i.low ≡ low)
+halves-same high low i h = (cc, cc)
 
 are-top :
-    (items : List Item) (n : ℕ) (i : Item) (entry : MState) (sp top : ℕ) (t : Storage) → slice_get items n ≡ Some i → length items ≡ suc n
-    → sp + 2 * length items ≡ top → AreItems items entry top t → AreTop items n i entry sp top t
+    (items : List Val) (n : ℕ) (i : Halves) (entry : MState) (sp top : ℕ) (t : Storage)
+    → word_of (slice_get items n) (slice_get items (suc n)) ≡ Some i → length items ≡ suc (suc n)
+    → sp + length items ≡ top → AreItems items entry top t → AreTop items n i entry sp top t
 are-top [] n i entry sp top t is many e h = cc
-are-top (j ∷ items) zero i entry sp top t is many e h =
-    let same = some-same i j is in
+are-top (u ∷ []) n i entry sp top t is many e h = cc
+are-top (u ∷ v ∷ items) zero i entry sp top t is many e h =
+    let same = halves-same u v i is in
     let none : length items ≡ 0 = omega arith in
     let one : top - 1 ≡ sp + 1 = omega arith in
-    let two : top - 2 ≡ sp = omega arith in
+    let two : top - 1 - 1 ≡ sp = omega arith in
     record {
-      high = subst (λ k. Holds k.high entry (peek t (sp + 1))) same (subst (λ n. Holds j.high entry (peek t n)) one h.0);
-      low = subst (λ k. Holds k.low entry (peek t sp)) same (subst (λ n. Holds j.low entry (peek t n)) two h.1);
+      high = subst (λ w. Holds w entry (peek t (sp + 1))) (sym same.0) (subst (λ n. Holds u entry (peek t n)) one h.0);
+      low = subst (λ w. Holds w entry (peek t sp)) (sym same.1) (subst (λ n. Holds v entry (peek t n)) two h.1.0);
       rest = tt;
     }
-are-top (j ∷ items) (suc n) i entry sp top t is many e h =
-    let rest = are-top items n i entry sp (top - 2) t is (omega arith) (omega arith) h.2 in
-    record { high = rest.high; low = rest.low; rest = (h.0, h.1, rest.rest) }
+are-top (u ∷ v ∷ items) (suc n) i entry sp top t is many e h =
+    let rest = are-top (v ∷ items) n i entry sp (top - 1) t is (omega arith) (omega arith) h.1 in
+    record { high = rest.high; low = rest.low; rest = (h.0, rest.rest) }
 
-some-left : (items : List Item) (i : Item) → slice_get items (length items - 1) ≡ Some i → 1 ≤ length items
-some-left [] i h = cc
-some-left (j ∷ items) i h = omega arith
+-- a word that is there has two bytes
+record IsLast (items : List Val) (i : Halves) : Type 0 where
+  some : 2 ≤ length items
+  is : word_of (slice_get items (length items - 2)) (slice_get items (length items - 1)) ≡ Some i
+
+is-last : (items : List Val) (i : Halves) → last_word items ≡ Some i → IsLast items i
+is-last items i h = choose (nat_lt (length items) 2) refl h
+  where
+    choose : (b : Bool) → nat_lt (length items) 2 ≡ b
+        → cond b None (word_of (slice_get items (length items - 2)) (slice_get items (length items - 1))) ≡ Some i → IsLast items i
+    choose true e k = cc
+    choose false e k = record { some = grind (arith, nat_tests); is = k }
+
+-- of two bytes or more, the last two are a word
+pub youngest_is :
+    (s : AbsState) (items : List Val) (d : Val) → items ≡ s.items → 2 ≤ length items
+    → youngest s ≡ Some (record { high = slice_index_or items (length items - 2) d; low = slice_index_or items (length items - 1) d })
+unfolding youngest
+youngest_is s items d same some = ap last_word (sym same) ∙ whole
+  where
+    first : slice_get items (length items - 2) ≡ Some (slice_index_or items (length items - 2) d)
+    first = slice_get-get_or items (length items - 2) d (omega arith)
+
+    second : slice_get items (length items - 1) ≡ Some (slice_index_or items (length items - 1) d)
+    second = slice_get-get_or items (length items - 1) d (omega arith)
+
+    enough : nat_lt (length items) 2 ≡ false
+    enough = grind (arith, nat_tests)
+
+    whole : last_word items ≡ Some (record { high = slice_index_or items (length items - 2) d; low = slice_index_or items (length items - 1) d })
+    whole = rw (enough, first, second) refl
 
 -- where the two bytes of a pop stand
-record IsWord (region : Region) (sp : ℕ) : Type 0 where
+record IsTwo (region : Region) (sp : ℕ) : Type 0 where
   second : (sp + 1) % 65536 ≡ sp + 1
   behind : (sp + 2) % 65536 ≡ sp + 2
   first : region.first ≤ sp
   last : sp + 1 ≤ region.last
 
-word-of : (region : Region) (base sp words : ℕ) → IsRegion region → AreInRegion region base words → 1 ≤ words → sp + 2 * words ≡ base → IsWord region sp
-word-of region base sp words r i some e =
+word-at : (region : Region) (base sp bytes : ℕ) → IsRegion region → AreInRegion region base bytes → 2 ≤ bytes → sp + bytes ≡ base → IsTwo region sp
+word-at region base sp bytes r i some e =
     let area = r.area in
     let first = i.first in
     let last = i.last in
@@ -362,14 +396,15 @@ unfolding load_faults either_faults
 loaded-faultless m sp e ram ram' clear clear' = rw (e, read_ram-faultless m sp ram clear, read_ram-faultless m (sp + 1) ram' clear') refl
 
 pops :
-    (region : Region) (s : AbsState) (entry : MState) (base : ℕ) (p : Processor) (m : View) (i : Item) (free : List ℕ)
+    (region : Region) (s : AbsState) (entry : MState) (base : ℕ) (p : Processor) (m : View) (i : Halves) (free : List ℕ)
     → Means s entry base (machine p m.storage) → s.core.stack_set ≡ true → youngest s ≡ Some i → AreInRegion region base (length s.items)
     → IsRegion region → IsRegionOpen m.storage region → Pops (popped s) i entry base (machine p m.storage) m free
-unfolding popped
+unfolding popped youngest
 pops region s entry base p m i free means set is room r clear =
     let stack = means.stack set in
-    let some = some-left s.items i is in
-    let word = word-of region base p.sp (length s.items) r room some stack in
+    let last = is-last s.items i is in
+    let some = last.some in
+    let word = word-at region base p.sp (length s.items) r room some stack in
     let low = word.first in
     let high = word.last in
     let under : p.sp ≤ region.last = omega arith in
@@ -378,7 +413,9 @@ pops region s entry base p m i free means set is room r clear =
     let ram' = region_in_ram region (p.sp + 1) r above high in
     let near = region_not_closed m.storage region p.sp r clear low under in
     let far = region_not_closed m.storage region (p.sp + 1) r clear above high in
-    let top = are-top s.items (length s.items - 1) i entry p.sp base m.storage is (omega arith) stack means.items in
+    let next : suc (length s.items - 2) ≡ length s.items - 1 = omega arith in
+    let bytes = subst (λ n. word_of (slice_get s.items (length s.items - 2)) (slice_get s.items n) ≡ Some i) (sym next) last.is in
+    let top = are-top s.items (length s.items - 2) i entry p.sp base m.storage bytes (omega arith) stack means.items in
     let given = loaded-word m p.sp free word.second ram ram' near far in
     record {
       low = subst (λ (v : Loaded). Holds i.low entry v.low) (sym given) top.low;
@@ -395,13 +432,13 @@ pops region s entry base p m i free means set is room r clear =
     }
   where
     less :
-        (items : List Item) → (p.sp + 2) % 65536 ≡ p.sp + 2 → 1 ≤ length items → p.sp + 2 * length items ≡ base
-        → (p.sp + 2) % 65536 + 2 * length (take (length items - 1) items) ≡ base
-    less items behind some e = let n : length (take (length items - 1) items) ≡ length items - 1 = length-take-le (length items - 1) items (omega arith) in omega arith
+        (items : List Val) → (p.sp + 2) % 65536 ≡ p.sp + 2 → 2 ≤ length items → p.sp + length items ≡ base
+        → (p.sp + 2) % 65536 + length (take (length items - 2) items) ≡ base
+    less items behind some e = let n : length (take (length items - 2) items) ≡ length items - 2 = length-take-le (length items - 2) items (omega arith) in omega arith
 
 -- a word is popped: the two bytes that the machine reads are the youngest word's
 pub Pops-popped :
-    (region : Region) (s : AbsState) (entry : MState) (base : ℕ) (x : MState) (m : View) (i : Item) (free : List ℕ)
+    (region : Region) (s : AbsState) (entry : MState) (base : ℕ) (x : MState) (m : View) (i : Halves) (free : List ℕ)
     → Means s entry base x → m.storage ≡ x.storage → s.core.stack_set ≡ true → youngest s ≡ Some i → AreInRegion region base (length s.items)
     → IsRegion region → IsRegionOpen x.storage region → Pops (popped s) i entry base x m free
 Pops-popped region s entry base x m i free means same set is room r clear =
@@ -425,24 +462,21 @@ IsMemory-same s t work high k =
     }
 
 AreItems-all :
-    (items : List Item) (entry : MState) (top : ℕ) (s t : Storage) → ((b : ℕ) → peek t b ≡ peek s b) → AreItems items entry top s → AreItems items entry top t
+    (items : List Val) (entry : MState) (top : ℕ) (s t : Storage) → ((b : ℕ) → peek t b ≡ peek s b) → AreItems items entry top s → AreItems items entry top t
 AreItems-all [] entry top s t same h = tt
-AreItems-all (i ∷ items) entry top s t same h = (
-  subst (λ n. Holds i.high entry n) (sym (same (top - 1))) h.0,
-  subst (λ n. Holds i.low entry n) (sym (same (top - 2))) h.1,
-  AreItems-all items entry (top - 2) s t same h.2,
-)
+AreItems-all (v ∷ items) entry top s t same h =
+    (subst (λ n. Holds v entry n) (sym (same (top - 1))) h.0, AreItems-all items entry (top - 1) s t same h.1)
 
 AreCells-all :
     (cells : List Cell) (entry : MState) (s t : Storage) → ((b : ℕ) → peek t b ≡ peek s b) → AreCells cells entry s → AreCells cells entry t
 AreCells-all [] entry s t same h = tt
 AreCells-all (c ∷ cells) entry s t same h = (subst (λ n. Holds c.val entry n) (sym (same c.address)) h.0, AreCells-all cells entry s t same h.1)
 
--- a core that holds of a machine with the same memory, its stack pointer where the words say
+-- a core that holds of a machine with the same memory, its stack pointer where the items say
 pub Means-with_stack :
     (s : AbsState) (core : Core) (entry : MState) (base : ℕ) (x y : MState)
     → Means s entry base x → MeansCore core entry y → y.storage.work ≡ x.storage.work → y.storage.high ≡ x.storage.high → y.processor.sp < 65536
-    → (core.stack_set ≡ true → y.processor.sp + 2 * length s.items ≡ base) → Means (with_core s core) entry base y
+    → (core.stack_set ≡ true → y.processor.sp + length s.items ≡ base) → Means (with_core s core) entry base y
 Means-with_stack s core entry base x y m c work high sp stack =
     record {
       core = c;
@@ -459,19 +493,19 @@ pub Means-with_core :
     → Means s entry base x → MeansCore core entry y → y.storage.work ≡ x.storage.work → y.storage.high ≡ x.storage.high
     → y.processor.sp ≡ x.processor.sp → (core.stack_set ≡ true → s.core.stack_set ≡ true) → Means (with_core s core) entry base y
 Means-with_core s core entry base x y m c work high sp set =
-    Means-with_stack s core entry base x y m c work high (subst (λ n. n < 65536) (sym sp) m.sp) (λ e. ap (λ n. n + 2 * length s.items) sp ∙ m.stack (set e))
+    Means-with_stack s core entry base x y m c work high (subst (λ n. n < 65536) (sym sp) m.sp) (λ e. ap (λ n. n + length s.items) sp ∙ m.stack (set e))
 
 -- ---- the operations
 
-pub push_sound : (s : AbsState) (i : Item) (o : Option AbsState) → o ≡ cond (length s.items == 16) None (Some (pushed i s)) → IfSome o (λ after. IsSoundPush s i after)
-push_sound s i o e = subst (λ r. IfSome r (λ after. IsSoundPush s i after)) (sym e) (choose (length s.items == 16))
+pub push_sound : (s : AbsState) (i : Halves) (o : Option AbsState) → o ≡ cond (nat_lt 32 (length s.items + 2)) None (Some (pushed i s)) → IfSome o (λ after. IsSoundPush s i after)
+push_sound s i o e = subst (λ r. IfSome r (λ after. IsSoundPush s i after)) (sym e) (choose (nat_lt 32 (length s.items + 2)))
   where
     choose : (b : Bool) → IfSome (cond b None (Some (pushed i s))) (λ after. IsSoundPush s i after)
     choose true = tt
     choose false =
         record { gives = λ region entry base x m w means same set room r placed clear high low lt. Means-pushed region s entry base x m i w means same set room r placed clear high low lt }
 
-pub pop_sound : (s : AbsState) (i : Item) (after : AbsState) → youngest s ≡ Some i → after ≡ popped s → IsSoundPop s i after
+pub pop_sound : (s : AbsState) (i : Halves) (after : AbsState) → youngest s ≡ Some i → after ≡ popped s → IsSoundPop s i after
 pop_sound s i after is e =
     subst (λ t. IsSoundPop s i t) (sym e)
     (record { gives = λ region entry base x m free means same set room r clear. Pops-popped region s entry base x m i free means same set is room r clear })

@@ -1,5 +1,5 @@
 -- A byte of RAM: what the machine's reads give and its writes leave, and what an abstract state means then.
-use Rattle.std.proofs.Common.{◌≡◌, ◌≢◌, ℕ, ◌+◌, ◌-◌, ◌*◌, ◌≤◌, ◌<◌, Bool, true, false, ◌||◌, not, ◌⊎◌, inl, inr, ◌==◌, nat_lt, cond, List, [], ◌∷◌, zero, suc, length, slice_index, slice_set, refl, sym, ◌∙◌, ap, subst, arith, get_or-set_same, get_or-set_other}
+use Rattle.std.proofs.Common.{◌≡◌, ◌≢◌, ℕ, ◌+◌, ◌-◌, ◌≤◌, ◌<◌, Bool, true, false, ◌||◌, not, ◌⊎◌, inl, inr, ◌==◌, nat_lt, cond, List, [], ◌∷◌, zero, suc, length, slice_index, slice_set, refl, sym, ◌∙◌, ap, subst, arith, get_or-set_same, get_or-set_other}
 use Rattle.std.proofs.lemmas.Bool.Decides.{nat_tests}
 use Rattle.std.proofs.Math.ListN.{length-set}
 use Rattle.gb_ops.specs.declared.machine.Mapped.{Mapped}
@@ -13,7 +13,6 @@ use Rattle.gb_ops.specs.Machine.{read_at}
 use Rattle.gb_ops.specs.Faults.{no_faults, access_faults}
 use Rattle.gb_domain.specs.declared.types.Val.{Val}
 use Rattle.gb_domain.specs.declared.types.Core.{Core}
-use Rattle.gb_domain.specs.declared.types.Item.{Item}
 use Rattle.gb_domain.specs.declared.types.Cell.{Cell}
 use Rattle.gb_domain.specs.Types.{AbsState}
 use Rattle.gb_domain.specs.Areas.{IsRegion, meets}
@@ -223,15 +222,14 @@ MeansCore-storage core entry x t banks ie count m =
       stopped = m.stopped;
     }
 
--- the words keep their bytes
+-- the items keep their bytes
 pub AreItems-same :
-    (items : List Item) (entry : MState) (first top : ℕ) (s t : Storage)
-    → first + 2 * length items ≤ top → ((b : ℕ) → first ≤ b → b < top → peek t b ≡ peek s b) → AreItems items entry top s → AreItems items entry top t
+    (items : List Val) (entry : MState) (first top : ℕ) (s t : Storage)
+    → first + length items ≤ top → ((b : ℕ) → first ≤ b → b < top → peek t b ≡ peek s b) → AreItems items entry top s → AreItems items entry top t
 AreItems-same [] entry first top s t room same h = tt
-AreItems-same (i ∷ items) entry first top s t room same h = (
-  subst (λ n. Holds i.high entry n) (sym (same (top - 1) (omega arith) (omega arith))) h.0,
-  subst (λ n. Holds i.low entry n) (sym (same (top - 2) (omega arith) (omega arith))) h.1,
-  AreItems-same items entry first (top - 2) s t (omega arith) (λ b low high. same b low (omega arith)) h.2,
+AreItems-same (v ∷ items) entry first top s t room same h = (
+  subst (λ n. Holds v entry n) (sym (same (top - 1) (omega arith) (omega arith))) h.0,
+  AreItems-same items entry first (top - 1) s t (omega arith) (λ b low high. same b low (omega arith)) h.1,
 )
 
 -- the region lies in RAM
@@ -241,9 +239,9 @@ region_in_ram region b r low high = let h = r.area in grind (arith, nat_tests)
 outside-region : (region : Region) (a b : ℕ) → meets region a a ≡ false → region.first ≤ b → b ≤ region.last → (b == a) ≡ false
 outside-region region a b h low high = grind (arith, nat_tests)
 
--- the words stay where the byte lies outside the region
+-- the items stay where the byte lies outside the region
 AreItems-poked :
-    (region : Region) (items : List Item) (entry : MState) (base a n : ℕ) (s t : Storage)
+    (region : Region) (items : List Val) (entry : MState) (base a n : ℕ) (s t : Storage)
     → IsPoked a n s t → IsRegion region → AreInRegion region base (length items) → meets region a a ≡ false
     → AreItems items entry base s → AreItems items entry base t
 AreItems-poked region items entry base a n s t p r i apart h =

@@ -11,7 +11,6 @@ use Rattle.gb_domain.specs.declared.types.May.{May}
 use Rattle.gb_domain.specs.declared.types.Flg.{Flg}
 use Rattle.gb_domain.specs.declared.types.ImeSet.{ImeSet}
 use Rattle.gb_domain.specs.declared.types.Ctl.{Ctl}
-use Rattle.gb_domain.specs.declared.types.Item.{Item}
 use Rattle.gb_domain.specs.declared.types.Cell.{Cell}
 use Rattle.gb_domain.specs.declared.types.Core.{Core}
 use Rattle.gb_domain.specs.Types.{AbsState}
@@ -77,15 +76,12 @@ covers_core s t =
     covers_registers s.registers t.registers && covers_flags s.flags t.flags && covers_val s.ie t.ie && covers_ime s.ime t.ime
     && covers_controller s.ctl t.ctl && nat_le s.bound t.bound && implied t.stack_set s.stack_set && covers_test s.test t.test
 
-abbrev pub covers_item : Item → Item → Bool
-covers_item s t = covers_val s.high t.high && covers_val s.low t.low
-
 -- equally many, each covered
-abbrev pub covers_items : List Item → List Item → Bool
+abbrev pub covers_items : List Val → List Val → Bool
 covers_items [] [] = true
 covers_items [] (t ∷ ts) = false
 covers_items (s ∷ ss) [] = false
-covers_items (s ∷ ss) (t ∷ ts) = covers_item s t && covers_items ss ts
+covers_items (s ∷ ss) (t ∷ ts) = covers_val s t && covers_items ss ts
 
 -- what is known of the byte at an address: any where there is no cell
 abbrev pub cell_at : ℕ → List Cell → Val

@@ -1,5 +1,5 @@
 -- Which machine states an abstract state means (abstract interpretation: concretization).
-use Rattle.std.specs.Prelude.{◌≡◌, ℕ, ◌+◌, ◌-◌, ◌*◌, ◌≤◌, ◌<◌, Bool, true, false, List, [], ◌∷◌, length, Some}
+use Rattle.std.specs.Prelude.{◌≡◌, ℕ, ◌+◌, ◌-◌, ◌≤◌, ◌<◌, Bool, true, false, List, [], ◌∷◌, length, Some}
 use Rattle.std.specs.List.{AllByRecursion}
 use Rattle.gb_ops.specs.declared.op.Register.{Register}
 use Rattle.gb_ops.specs.declared.registers.Flags.{Flags}
@@ -16,7 +16,6 @@ use Rattle.gb_domain.specs.declared.types.Val.{Val}
 use Rattle.gb_domain.specs.declared.types.Flg.{Flg}
 use Rattle.gb_domain.specs.declared.types.ImeSet.{ImeSet}
 use Rattle.gb_domain.specs.declared.types.Ctl.{Ctl}
-use Rattle.gb_domain.specs.declared.types.Item.{Item}
 use Rattle.gb_domain.specs.declared.types.Core.{Core}
 use Rattle.gb_domain.specs.Types.{AbsState}
 use Rattle.gb_vals.specs.Meaning.{may_be}
@@ -68,11 +67,10 @@ pub record MeansCore (core : Core) (entry s : MState) : Type 0 where
   pub locked : s.processor.locked ≡ false
   pub stopped : s.processor.stopped ≡ false
 
--- the items' words stand below an address, the oldest first
-abbrev pub AreItems : List Item → MState → ℕ → Storage → Type 0
+-- the items are the bytes below an address, the oldest first
+abbrev pub AreItems : List Val → MState → ℕ → Storage → Type 0
 AreItems [] entry top s = Unit {0}
-AreItems (i ∷ rest) entry top s =
-    Holds i.high entry (peek s (top - 1)) × Holds i.low entry (peek s (top - 2)) × AreItems rest entry (top - 2) s
+AreItems (v ∷ rest) entry top s = Holds v entry (peek s (top - 1)) × AreItems rest entry (top - 1) s
 
 -- memory has its size, and holds bytes
 pub record IsMemory (s : Storage) : Type 0 where
@@ -86,6 +84,6 @@ pub record Means (abs : AbsState) (entry : MState) (base : ℕ) (s : MState) : T
   pub core : MeansCore abs.core entry s
   pub memory : IsMemory s.storage
   pub sp : s.processor.sp < 65536
-  pub stack : abs.core.stack_set ≡ true → s.processor.sp + 2 * length abs.items ≡ base
+  pub stack : abs.core.stack_set ≡ true → s.processor.sp + length abs.items ≡ base
   pub items : AreItems abs.items entry base s.storage
   pub cells : AllByRecursion (λ c. Holds c.val entry (peek s.storage c.address)) abs.cells

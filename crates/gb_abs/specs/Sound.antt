@@ -13,7 +13,7 @@ use Rattle.gb_ops.specs.Faults.{no_faults, store_faults, load_faults}
 use Rattle.gb_ops.specs.Play.{MState}
 use Rattle.gb_domain.specs.declared.types.Val.{Val}
 use Rattle.gb_domain.specs.declared.types.Core.{Core}
-use Rattle.gb_domain.specs.declared.types.Item.{Item}
+use Rattle.gb_domain.specs.declared.types.Halves.{Halves}
 use Rattle.gb_domain.specs.Types.{AbsState}
 use Rattle.gb_domain.specs.Areas.{IsRegion, meets}
 use Rattle.gb_abs.specs.Meaning.{Holds, MeansCore, Means}
@@ -90,22 +90,22 @@ pub record Pushes (region : Region) (after : AbsState) (entry : MState) (base : 
       → peek (stored m (write.Push x.processor.sp w)).storage b ≡ peek x.storage b
 
 -- what a pop gives: the word's two bytes, the state without it, and no fault
-pub record Pops (after : AbsState) (i : Item) (entry : MState) (base : ℕ) (x : MState) (m : View) (free : List ℕ) : Type 0 where
+pub record Pops (after : AbsState) (i : Halves) (entry : MState) (base : ℕ) (x : MState) (m : View) (free : List ℕ) : Type 0 where
   pub low : Holds i.low entry (loaded m (read.Word x.processor.sp) free).low
   pub high : Holds i.high entry (loaded m (read.Word x.processor.sp) free).high
   pub faults : load_faults m (read.Word x.processor.sp) ≡ no_faults
   pub means : Means after entry base (record x { processor = with_sp x.processor ((x.processor.sp + 2) % 65536) })
 
--- of each of these states, with its stack set and room for the word, each word that the item stands for
-pub record IsSoundPush (s : AbsState) (i : Item) (after : AbsState) : Type 0 where
+-- of each of these states, with its stack set and room for the word, each word that i stands for
+pub record IsSoundPush (s : AbsState) (i : Halves) (after : AbsState) : Type 0 where
   pub gives :
       (region : Region) (entry : MState) (base : ℕ) (x : MState) (m : View) (w : ℕ)
-      → Means s entry base x → m.storage ≡ x.storage → s.core.stack_set ≡ true → AreInRegion region base (length s.items + 1)
+      → Means s entry base x → m.storage ≡ x.storage → s.core.stack_set ≡ true → AreInRegion region base (length s.items + 2)
       → IsRegion region → ArePlaced region s.cells → IsRegionOpen x.storage region → Holds i.high entry (w / 256) → Holds i.low entry (w % 256) → w < 65536
       → Pushes region after entry base x m w
 
--- of each of these states, with its stack set: the item stands for the word that is read
-pub record IsSoundPop (s : AbsState) (i : Item) (after : AbsState) : Type 0 where
+-- of each of these states, with its stack set: i stands for the word that is read
+pub record IsSoundPop (s : AbsState) (i : Halves) (after : AbsState) : Type 0 where
   pub gives :
       (region : Region) (entry : MState) (base : ℕ) (x : MState) (m : View) (free : List ℕ)
       → Means s entry base x → m.storage ≡ x.storage → s.core.stack_set ≡ true → AreInRegion region base (length s.items)

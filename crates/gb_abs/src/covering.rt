@@ -2,9 +2,9 @@
 
 ghost use Rattle.std.specs.Prelude.{◌≡◌, ◌&&◌, true};
 ghost use Rattle.gb_abs.specs.Sound.{IsPartOf};
-ghost use Rattle.gb_abs.specs.Covering.{origin_number, register_number, implied, covers_origin, covers_val, covers_may, covers_flags, covers_ime, covers_controller, covers_registers, covers_test, covers_core, covers_item, covers_items, cell_at, covers_cells, covers};
+ghost use Rattle.gb_abs.specs.Covering.{origin_number, register_number, implied, covers_origin, covers_val, covers_may, covers_flags, covers_ime, covers_controller, covers_registers, covers_test, covers_core, covers_items, cell_at, covers_cells, covers};
 
-use gb_domain::types::{Abs, Cell, Core, Ctl, Flg, ImeSet, Item, May, Origin, Val};
+use gb_domain::types::{Abs, Cell, Core, Ctl, Flg, ImeSet, May, Origin, Val};
 use gb_ops::op::Register;
 use gb_ops::registers::Registers;
 use gb_vals::vals::any;
@@ -150,13 +150,7 @@ pub fn covers_core(s: &Core, t: &Core) -> bool
         && covers_test(s.test, t.test)
 }
 
-fn covers_item(s: &Item, t: &Item) -> bool
-    ensures { result ≡ covers_item s.now t.now }
-{
-    covers_val(&s.high, &t.high) && covers_val(&s.low, &t.low)
-}
-
-fn covers_items(s: &[Item], t: &[Item]) -> bool
+fn covers_items(s: &[Val], t: &[Val]) -> bool
     ensures { result ≡ covers_items s.now t.now }
 {
     let Some((first, rest)) = s.split_first() else {
@@ -165,7 +159,7 @@ fn covers_items(s: &[Item], t: &[Item]) -> bool
     let Some((other, others)) = t.split_first() else {
         return false;
     };
-    covers_item(first, other) && covers_items(rest, others)
+    covers_val(first, other) && covers_items(rest, others)
 }
 
 /// What is known of the byte at an address.

@@ -1,7 +1,7 @@
 //! Abstract states (abstract interpretation: an abstract domain): which machine states one stands for
 //! (`Meaning` of the definitions), whether one stands for all that another does (`covers`: `exact`,
-//! `sound`), and operations that follow the machine's changes (`sound`): a register, a memory cell or
-//! a pushed word gets a value, and time passes.
+//! `sound`), and operations that follow the machine's changes (`sound`): a register or a memory cell
+//! gets a value, a word is pushed or popped, and time passes.
 //!
 //! The meaning leaves the HALT mark open; `Mark` says where it does no harm.
 //!
@@ -19,7 +19,7 @@ pub mod storage;
 
 // What lies below, for the crates above.
 pub use gb_domain::types::{
-    Abs, Cell, Core, Ctl, Flg, ITEMS, ImeSet, Item, May, Origin, Range, Val,
+    Abs, Cell, Core, Ctl, Flg, Halves, ITEMS, ImeSet, May, Origin, Range, Val,
 };
 pub use gb_vals::bits::{may_enable, may_have_bit};
 pub use gb_vals::flags::known;

@@ -1,4 +1,4 @@
-//! Operations on the cores of abstract states: on all but pushed words and memory cells.
+//! Operations on the cores of abstract states: on all but stack items and memory cells.
 
 ghost use Rattle.std.specs.Prelude.{◌≡◌, false};
 ghost use Rattle.gb_domain.specs.Rules.{IsVal, IsCore};

@@ -1,21 +1,21 @@
-//! The words that a procedure pushed, in abstract states.
+//! The bytes that a procedure pushed, word by word, in abstract states.
 
-ghost use Rattle.std.specs.Prelude.{◌≡◌, ◌==◌, ◌<◌, ◌↔◌, length, Some, None, IsSome, IfSome, if◌then◌else◌};
+ghost use Rattle.std.specs.Prelude.{◌≡◌, ◌+◌, ◌≤◌, ◌↔◌, nat_lt, length, Some, None, IsSome, IfSome, if◌then◌else◌};
 ghost use Rattle.gb_abs.specs.Stack.{pushed, youngest, popped};
 ghost use Rattle.gb_abs.specs.Sound.{IsSoundPush, IsSoundPop};
 
 use arrayvec::ArrayVec;
-use gb_domain::types::{Abs, Cell, ITEMS, Item};
+use gb_domain::types::{Abs, Halves, ITEMS, Val};
 
 /// A word that was popped, and the state without it.
 #[derive(Drop)]
 pub struct Popped {
-    pub item: Item,
+    pub word: Halves,
     pub state: Abs,
 }
 
 /// The state with other items: its core and cells stay.
-fn with_items(state: &Abs, items: ArrayVec<Item, 16>) -> Abs
+fn with_items(state: &Abs, items: ArrayVec<Val, 32>) -> Abs
     ensures { result ≡ record state.now { items = items.items } }
 {
     let mut cells = ArrayVec::new();
@@ -25,57 +25,63 @@ fn with_items(state: &Abs, items: ArrayVec<Item, 16>) -> Abs
     Abs::of_parts(*state.core(), items, cells)
 }
 
-/// The state with the word behind the others, if there is room for it.
+/// The state with the word's bytes behind the others, if there is room for them.
 #[tactic(auto, unfolding(crate::specs::Stack::pushed))]
-fn pushed_or_full(state: &Abs, item: Item) -> Option<Abs>
-    ensures { result ≡ (if length state.now.items == 16 then None else Some (pushed item state.now)) }
+fn pushed_or_full(state: &Abs, word: Halves) -> Option<Abs>
+    ensures { result ≡ (if nat_lt 32 (length state.now.items + 2) then None else Some (pushed word state.now)) }
 {
     let held = state.items();
-    if held.len() == ITEMS {
+    if held.len() + 2 > ITEMS {
         return None;
     }
     let mut items = ArrayVec::new();
     if items.try_extend_from_slice(held).is_err() {
         unreachable!();
     }
-    items.push(item);
+    items.push(word.high);
+    items.push(word.low);
     Some(with_items(state, items))
 }
 
 /// The word that was pushed last, and the state without it, if there is one.
-#[tactic(auto, unfolding(crate::specs::Stack::popped))]
+#[tactic(auto, using(crate::proofs::StackLaws::youngest_is), unfolding(crate::specs::Stack::popped))]
 fn split(state: &Abs) -> Option<Popped>
-    ensures variant { IsSome result ↔ (0 < length state.now.items) }
-    ensures item { IfSome result (λ p. youngest state.now ≡ Some p.item) }
+    ensures variant { IsSome result ↔ (2 ≤ length state.now.items) }
+    ensures word { IfSome result (λ p. youngest state.now ≡ Some p.word) }
     ensures state { IfSome result (λ p. p.state ≡ popped state.now) }
 {
-    let (item, below) = state.items().split_last()?;
+    let [below @ .., high, low] = state.items() else {
+        return None;
+    };
     let mut items = ArrayVec::new();
     if items.try_extend_from_slice(below).is_err() {
         unreachable!();
     }
     Some(Popped {
-        item: *item,
+        word: Halves {
+            high: *high,
+            low: *low,
+        },
         state: with_items(state, items),
     })
 }
 
-/// A word is pushed. None where 16 are held already, so that there is no room for it.
+/// A word is pushed, its high byte first. None where 31 bytes or more are held already, so that there is no room for it.
 #[tactic(auto, using(crate::proofs::StackLaws::push_sound))]
-pub fn push(state: &Abs, item: Item) -> Option<Abs>
-    ensures exact { result ≡ (if length state.now.items == 16 then None else Some (pushed item state.now)) }
-    ensures sound { IfSome result (λ after. IsSoundPush state.now item after) }
+pub fn push(state: &Abs, word: Halves) -> Option<Abs>
+    ensures exact { result ≡ (if nat_lt 32 (length state.now.items + 2) then None else Some (pushed word state.now)) }
+    ensures sound { IfSome result (λ after. IsSoundPush state.now word after) }
 {
-    pushed_or_full(state, item)
+    pushed_or_full(state, word)
 }
 
 /// The word that was pushed last, and the state without it, if there is one.
 #[tactic(auto, using(crate::proofs::StackLaws::pop_sound))]
 pub fn pop(state: &Abs) -> Option<Popped>
-    ensures variant { IsSome result ↔ (0 < length state.now.items) }
-    ensures item { IfSome result (λ p. youngest state.now ≡ Some p.item) }
+    ensures variant { IsSome result ↔ (2 ≤ length state.now.items) }
+    ensures word { IfSome result (λ p. youngest state.now ≡ Some p.word) }
     ensures state { IfSome result (λ p. p.state ≡ popped state.now) }
-    ensures sound { IfSome result (λ p. IsSoundPop state.now p.item p.state) }
+    ensures sound { IfSome result (λ p. IsSoundPop state.now p.word p.state) }
 {
     split(state)
 }

@@ -34,7 +34,7 @@ use Rattle.gb_vals.proofs.OriginLaws.{increment_computed, decrement_computed, sh
 use Rattle.gb_abs.specs.Meaning.{Holds, MeansCore, ime_may_be}
 use Rattle.gb_abs.specs.Operations.{core_set_register}
 use Rattle.gb_abs.proofs.OperationLaws.{MeansCore-set_register}
-use Rattle.gb_abs_effects.specs.declared.pairs.Halves.{Halves}
+use Rattle.gb_domain.specs.declared.types.Halves.{Halves}
 use Rattle.gb_abs_effects.specs.declared.writes.AbsEffect.{AbsEffect}
 use Rattle.gb_abs_effects.specs.Pairs.{any_word, next_word, previous_word, word_sum, word_sum_flags, pair_halves, with_pair, with_indirect}
 use Rattle.gb_abs_effects.specs.Transfer.{quiet, pushes, with_flags, operand_val, store_operand, update_operand, add_hl, enabled, sp_sum_flags}

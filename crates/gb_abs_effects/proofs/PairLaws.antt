@@ -29,7 +29,7 @@ use Rattle.gb_vals.proofs.FlagLaws.{flags_val_sound, flags_of_val_sound}
 use Rattle.gb_abs.specs.Meaning.{Holds, HoldsFlags, MeansCore, origin_value}
 use Rattle.gb_abs.specs.Operations.{core_set_register}
 use Rattle.gb_abs.proofs.OperationLaws.{MeansCore-set_register, register_set}
-use Rattle.gb_abs_effects.specs.declared.pairs.Halves.{Halves}
+use Rattle.gb_domain.specs.declared.types.Halves.{Halves}
 use Rattle.gb_abs_effects.specs.Pairs.{known_word, any_word, is_word_known, least_word, raised, lowered, next_word, previous_word, are_words_known, word_sum, word_sum_flags, sum_flags_any, sum_flags_known, pair_halves, with_pair, stack_pair_halves, with_stack_pair}
 use Rattle.gb_abs_effects.proofs.CoreLaws.{In-from, FlagsIn-from, Holds-computed, byte-of, some-is, MeansCore-at, MeansCore-a}
 

@@ -15,7 +15,7 @@ use Rattle.gb_domain.specs.declared.types.Val.{Val}
 use Rattle.gb_domain.specs.declared.types.Flg.{Flg}
 use Rattle.gb_domain.specs.declared.types.ImeSet.{ImeSet}
 use Rattle.gb_domain.specs.declared.types.Core.{Core}
-use Rattle.gb_domain.specs.Rules.{IsVal, IsFlg, IsCore, may_be_any}
+use Rattle.gb_domain.specs.Rules.{IsVal, IsFlg, IsCore, IsWord, may_be_any}
 use Rattle.gb_vals.specs.Vals.{single, between, any_val}
 use Rattle.gb_ops.specs.Arithmetic as arithmetic
 use Rattle.gb_vals.specs.Flags.{known_flags, greatest_flags, flags_val, flags_of_val}
@@ -28,7 +28,7 @@ use Rattle.gb_vals.proofs.BitLaws.{test_bit_inhabited, reset_bit_inhabited, set_
 use Rattle.gb_vals.proofs.DaaLaws.{adjust_inhabited}
 use Rattle.gb_vals.proofs.CarryLaws.{set_carry_inhabited, complement_carry_inhabited}
 use Rattle.gb_abs.specs.Operations.{core_set_register}
-use Rattle.gb_abs_effects.specs.declared.pairs.Halves.{Halves}
+use Rattle.gb_domain.specs.declared.types.Halves.{Halves}
 use Rattle.gb_abs_effects.specs.declared.writes.AbsEffect.{AbsEffect}
 use Rattle.gb_abs_effects.specs.Pairs.{known_word, any_word, is_word_known, least_word, raised, lowered, next_word, previous_word, are_words_known, word_sum, word_sum_flags, sum_flags_any, sum_flags_known, pair_halves, with_pair, with_indirect, stack_pair_halves, with_stack_pair}
 use Rattle.gb_abs_effects.specs.Transfer.{quiet, pushes, add_hl, only_off, only_on, enabled, operand_val, sp_sum_flags, transfer, untaken}
@@ -41,11 +41,6 @@ use Rattle.gb_abs_effects.proofs.OperandLaws.{operand-byte, IsAbsEffect-store_op
 use Rattle.gb_abs_effects.proofs.AluLaws.{IsAbsEffect-immediate, IsAbsEffect-apply_alu}
 
 -- ---- words
-
--- both bytes are bytes
-record IsWord (w : Halves) : Type 0 where
-  high : IsVal w.high
-  low : IsVal w.low
 
 any-byte : IsVal any_val
 any-byte = record { order = omega arith; hi = omega arith }

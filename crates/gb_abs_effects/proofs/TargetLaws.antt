@@ -26,7 +26,7 @@ use Rattle.gb_domain.specs.Rules.{IsVal, IsCore}
 use Rattle.gb_vals.specs.Vals.{is_single}
 use Rattle.gb_vals.proofs.MeaningLaws.{single-is}
 use Rattle.gb_abs.specs.Meaning.{MeansCore}
-use Rattle.gb_abs_effects.specs.declared.pairs.Halves.{Halves}
+use Rattle.gb_domain.specs.declared.types.Halves.{Halves}
 use Rattle.gb_abs_effects.specs.declared.targets.Target.{Target}
 use Rattle.gb_abs_effects.specs.declared.targets.Target.TheVariants as target
 use Rattle.gb_abs_effects.specs.Pairs.{is_word_known, least_word, pair_halves}

@@ -27,7 +27,7 @@ use Rattle.gb_vals.specs.Carry.{set_carry, complement_carry}
 use Rattle.gb_vals.specs.Tests.{test_of_immediate, test_of_itself}
 use Rattle.gb_abs.specs.Span.{one}
 use Rattle.gb_abs.specs.Operations.{core_set_register}
-use Rattle.gb_abs_effects.specs.declared.pairs.Halves.{Halves}
+use Rattle.gb_domain.specs.declared.types.Halves.{Halves}
 use Rattle.gb_abs_effects.specs.declared.writes.AbsWrite.{AbsWrite}
 use Rattle.gb_abs_effects.specs.declared.writes.AbsWrite.TheVariants as write
 use Rattle.gb_abs_effects.specs.declared.writes.AbsEffect.{AbsEffect}

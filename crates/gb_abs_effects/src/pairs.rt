@@ -3,18 +3,11 @@
 ghost use Rattle.std.specs.Prelude.{◌≡◌};
 ghost use Rattle.gb_abs_effects.specs.Pairs as Pairs;
 
-use gb_domain::types::{Core, Flg, Val};
+use gb_domain::types::{Core, Flg, Halves, Val};
 use gb_ops::op::{Indirect, Pair, StackPair};
 use gb_vals::flags::{either, flags_of_val, flags_val, greatest_flags, known, known_flags};
 use gb_vals::vals::{any, between, is_single, single};
 use gb_vals::{arithmetic, word};
-
-/// A word, each byte an interval.
-#[derive(Clone, Copy, PartialEq, Eq)]
-pub struct Halves {
-    pub high: Val,
-    pub low: Val,
-}
 
 /// A word that is known.
 pub(crate) fn known_word(word: u16) -> Halves
@@ -27,7 +20,7 @@ pub(crate) fn known_word(word: u16) -> Halves
 }
 
 /// A word of which nothing is known.
-pub(crate) fn any_word() -> Halves
+pub fn any_word() -> Halves
     ensures { result ≡ Pairs.any_word }
 {
     Halves {

@@ -5,8 +5,8 @@ ghost use Rattle.gb_abs_effects.specs.Targets as Targets;
 ghost use Rattle.gb_domain.specs.Rules.{IsCore};
 ghost use Rattle.gb_abs_effects.specs.Sound.{HasBytes, IsSoundTarget, IsTargetAt};
 
-use crate::pairs::{Halves, is_word_known, least_word, pair_halves};
-use gb_domain::types::Core;
+use crate::pairs::{is_word_known, least_word, pair_halves};
+use gb_domain::types::{Core, Halves};
 use gb_ops::op::{Op, Pair};
 use gb_vals::displaced;
 

@@ -6,8 +6,8 @@ ghost use Rattle.gb_abs_effects.specs.Transfer as Transfer;
 ghost use Rattle.gb_abs_effects.specs.Sound.{HasBytes, IsSoundTransfer, IsSoundUntaken, IsAbsEffect};
 
 use crate::pairs::{
-    Halves, any_word, known_word, next_word, pair_halves, previous_word, stack_pair_halves,
-    with_indirect, with_pair, with_stack_pair, word_sum, word_sum_flags,
+    any_word, known_word, next_word, pair_halves, previous_word, stack_pair_halves, with_indirect,
+    with_pair, with_stack_pair, word_sum, word_sum_flags,
 };
 use crate::reads::{high_span, indirect_span};
 use crate::writes::{
@@ -16,7 +16,7 @@ use crate::writes::{
 };
 use gb_abs::operations::set_register;
 use gb_abs::span::Span;
-use gb_domain::types::{Core, Flg, ImeSet, Val};
+use gb_domain::types::{Core, Flg, Halves, ImeSet, Val};
 use gb_ops::op::{AluOp, Op, Operand, Pair, Register};
 use gb_vals::alu::{alu, alu_itself};
 use gb_vals::bits::{reset_bit, set_bit, test_bit};

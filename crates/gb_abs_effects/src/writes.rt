@@ -3,11 +3,10 @@
 ghost use Rattle.std.specs.Prelude.{◌≡◌};
 ghost use Rattle.gb_abs_effects.specs.Transfer as Transfer;
 
-use crate::pairs::Halves;
 use crate::reads::hl_span;
 use gb_abs::operations::set_register;
 use gb_abs::span::Span;
-use gb_domain::types::{Core, Flg, ImeSet, Val};
+use gb_domain::types::{Core, Flg, Halves, ImeSet, Val};
 use gb_ops::op::Operand;
 use gb_vals::outcome::Outcome;
 

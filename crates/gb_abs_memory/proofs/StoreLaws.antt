@@ -18,7 +18,6 @@ use Rattle.gb_ops.specs.Play.{MState}
 use Rattle.gb_domain.specs.declared.types.Val.{Val}
 use Rattle.gb_domain.specs.declared.types.Ctl.{Ctl}
 use Rattle.gb_domain.specs.declared.types.Core.{Core}
-use Rattle.gb_domain.specs.declared.types.Item.{Item}
 use Rattle.gb_domain.specs.declared.types.Cell.{Cell}
 use Rattle.gb_domain.specs.declared.types.Range.{Range}
 use Rattle.gb_domain.specs.Types.{AbsState}
@@ -118,10 +117,9 @@ unfolding wrote
 written_at m a n k open_ e = rw open_ (ap (λ j. wrote_by j m a n) e)
 
 -- a state holds of another storage with the same RAM
-items_same : (items : List Item) (entry : MState) (top : ℕ) (s t : Storage) → ((b : ℕ) → peek t b ≡ peek s b) → AreItems items entry top s → AreItems items entry top t
+items_same : (items : List Val) (entry : MState) (top : ℕ) (s t : Storage) → ((b : ℕ) → peek t b ≡ peek s b) → AreItems items entry top s → AreItems items entry top t
 items_same [] entry top s t e h = tt
-items_same (i ∷ items) entry top s t e h =
-    (subst (λ n. Holds i.high entry n) (sym (e (top - 1))) h.0, subst (λ n. Holds i.low entry n) (sym (e (top - 2))) h.1, items_same items entry (top - 2) s t e h.2)
+items_same (v ∷ items) entry top s t e h = (subst (λ n. Holds v entry n) (sym (e (top - 1))) h.0, items_same items entry (top - 1) s t e h.1)
 
 cells_same :
     (cells : List Cell) (entry : MState) (s t : Storage) → ((b : ℕ) → peek t b ≡ peek s b)

@@ -1,5 +1,5 @@
 -- What a caller goes on with holds of the machine, whatever its callee did.
-use Rattle.std.proofs.Common.{◌≡◌, ℕ, ◌+◌, ◌*◌, ◌≤◌, ◌<◌, Bool, true, false, ◌&&◌, nat_le, cond, List, [], ◌∷◌, length, map, Option, Some, None, refl, sym, ap, subst, arith}
+use Rattle.std.proofs.Common.{◌≡◌, ℕ, ◌+◌, ◌≤◌, ◌<◌, Bool, true, false, ◌&&◌, nat_le, cond, List, [], ◌∷◌, length, map, Option, Some, None, refl, sym, ap, subst, arith}
 use Rattle.std.proofs.lemmas.Bool.{or_from}
 use Rattle.std.proofs.lemmas.Bool.Decides.{nat_tests}
 use Rattle.std.specs.List.{AllByRecursion, filter, list_any}
@@ -192,9 +192,9 @@ pub Means-resumed :
     → ComesBack region ranges s exit entry base called x → Means (resumed ranges s exit) entry base x
 unfolding resumed
 Means-resumed region ranges s exit entry base called x h =
-    let stack : called.processor.sp + 2 + 2 * length s.items ≡ base = h.caller.stack h.stack_set in
+    let stack : called.processor.sp + 2 + length s.items ≡ base = h.caller.stack h.stack_set in
     let none : length exit.items ≡ 0 = ap length h.exit_items in
-    let back : x.processor.sp + 2 * length exit.items ≡ called.processor.sp + 2 = h.exits.stack h.exit_set in
+    let back : x.processor.sp + length exit.items ≡ called.processor.sp + 2 = h.exits.stack h.exit_set in
     let first = h.room.first in
     let last = h.room.last in
     record {

@@ -31,7 +31,7 @@ pub record ComesBack (region : Region) (ranges : List Range) (s exit : AbsState)
   pub is_region : IsRegion region
   pub apart : AllByRecursion (λ r. meets region r.first r.last ≡ false) ranges
   pub placed : ArePlaced region s.cells
-  pub room : AreInRegion region base (length s.items + 1)
+  pub room : AreInRegion region base (length s.items + 2)
   pub stack_set : s.core.stack_set ≡ true
   pub caller : Means s entry base (without_word called)
   pub exit_set : exit.core.stack_set ≡ true

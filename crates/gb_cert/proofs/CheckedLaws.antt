@@ -11,7 +11,6 @@ use Rattle.gb_domain.specs.declared.types.Flg.{Flg}
 use Rattle.gb_domain.specs.declared.types.ImeSet.{ImeSet}
 use Rattle.gb_domain.specs.declared.types.Ctl.{Ctl}
 use Rattle.gb_domain.specs.declared.types.Core.{Core}
-use Rattle.gb_domain.specs.declared.types.Item.{Item}
 use Rattle.gb_domain.specs.declared.types.Cell.{Cell}
 use Rattle.gb_states.specs.declared.role.Role.{Role}
 use Rattle.gb_domain.specs.Types.{AbsState, state_of}
@@ -72,39 +71,40 @@ core-again c rest = by c.test
 pub core-stands : (role : Role) (region : Region) (bytes : List ℕ) (s : AbsState) → StateStands role region bytes s → core_in bytes ≡ s.core
 unfolding spelled.state
 core-stands role region bytes s h =
-    let lists : List ℕ = spelled.counted spelled.item s.items ++ spelled.counted spelled.cell s.cells in
+    let lists : List ℕ = spelled.items s.items ++ spelled.counted spelled.cell s.cells in
     ap (λ (b : List ℕ). core_in b) (h.parts ∙ append_assoc (spelled.core s.core) lists h.tail) ∙ core-again s.core (lists ++ h.tail)
 
 -- it has 40 bytes
 pub core-fits : (role : Role) (region : Region) (bytes : List ℕ) (s : AbsState) → StateStands role region bytes s → 40 ≤ length bytes
 unfolding spelled.state
 core-fits role region bytes s h =
-    let lists : List ℕ = spelled.counted spelled.item s.items ++ spelled.counted spelled.cell s.cells in
+    let lists : List ℕ = spelled.items s.items ++ spelled.counted spelled.cell s.cells in
     let e : length bytes ≡ length (spelled.core s.core) + length (lists ++ h.tail) = ap (λ (b : List ℕ). length b) (h.parts ∙ append_assoc (spelled.core s.core) lists h.tail) ∙ length-append (spelled.core s.core) (lists ++ h.tail) in
     omega (arith, e, core-long s.core)
 
-positive : (n : ℕ) → suc n ≡ 0 → ⊥
-positive n h = omega arith
+-- some bytes that are whole words are some words
+some-words : (n : ℕ) → suc n % 2 ≡ 0 → suc n / 2 ≡ 0 → ⊥
+some-words n whole none = omega arith
 
 no-cells : (xs : List Cell) → length xs ≡ 0 → xs ≡ []
 no-cells [] h = refl
 no-cells (x ∷ xs) h = cc
 
-counted-none : (xs : List Item) (ys : List Cell) (spelled_items behind : List ℕ) → (xs ≡ [] → spelled_items ≡ []) → are_none (length xs ∷ (spelled_items ++ (length ys ∷ behind))) ≡ true → (xs ≡ []) × (ys ≡ [])
-counted-none [] ys spelled_items behind h e =
+counted-none : (xs : List Val) (ys : List Cell) (spelled_items behind : List ℕ) → length xs % 2 ≡ 0 → (xs ≡ [] → spelled_items ≡ []) → are_none (length xs / 2 ∷ (spelled_items ++ (length ys ∷ behind))) ≡ true → (xs ≡ []) × (ys ≡ [])
+counted-none [] ys spelled_items behind whole h e =
     let f : are_none (0 ∷ (length ys ∷ behind)) ≡ true = ap (λ (s : List ℕ). are_none (0 ∷ (s ++ (length ys ∷ behind)))) (sym (h refl)) ∙ e in
     (refl, no-cells ys (eqb-true (length ys) 0 f))
-counted-none (x ∷ xs) ys spelled_items behind h e = absurd (positive (length xs) (eqb-true (length (x ∷ xs)) 0 (and_both (length (x ∷ xs) == 0) (begins_with_zero (spelled_items ++ (length ys ∷ behind))) e).0))
+counted-none (x ∷ xs) ys spelled_items behind whole h e = absurd (some-words (length xs) whole (eqb-true (length (x ∷ xs) / 2) 0 (and_both (length (x ∷ xs) / 2 == 0) (begins_with_zero (spelled_items ++ (length ys ∷ behind))) e).0))
 
 -- where two zeros stand behind the core there is no item and no cell
 pub no-lists : (role : Role) (region : Region) (bytes : List ℕ) (s : AbsState) → StateStands role region bytes s → are_none (drop 40 bytes) ≡ true → (s.items ≡ []) × (s.cells ≡ [])
 no-lists role region bytes s h zeros =
-    counted-none s.items s.cells (flat_map spelled.item s.items) (flat_map spelled.cell s.cells ++ h.tail) (λ e. ap (λ (xs : List Item). flat_map spelled.item xs) e)
+    counted-none s.items s.cells (flat_map spelled.val s.items) (flat_map spelled.cell s.cells ++ h.tail) h.is_state.whole (λ e. ap (λ (xs : List Val). flat_map spelled.val xs) e)
     (sym (ap (λ (b : List ℕ). are_none b) (lists-behind role region bytes s h)) ∙ zeros)
 
 -- a state without them is its core's
 pub plain_state : (s : AbsState) → s.items ≡ [] → s.cells ≡ [] → state_of s.core ≡ s
 plain_state s e f = by s.items s.cells e f
   where
-    by : (xs : List Item) (ys : List Cell) → xs ≡ [] → ys ≡ [] → state_of s.core ≡ record s { items = xs; cells = ys }
+    by : (xs : List Val) (ys : List Cell) → xs ≡ [] → ys ≡ [] → state_of s.core ≡ record s { items = xs; cells = ys }
     by xs ys e f = rw (e, f) refl

@@ -1,5 +1,5 @@
 -- What stands at the places of a certificate is lent.
-use Rattle.std.proofs.Common.{◌≡◌, ℕ, zero, suc, ◌*◌, ◌≤◌, ◌<◌, true, false, List, [], ◌∷◌, ◌++◌, length, get_or, drop, Option, Some, None, Result, Ok, Err, refl, sym, ap, ◌∙◌, subst, append_assoc, length-append, append-nil, map, arith}
+use Rattle.std.proofs.Common.{◌≡◌, ℕ, zero, suc, ◌*◌, ◌/◌, ◌%◌, ◌≤◌, ◌<◌, true, false, List, [], ◌∷◌, ◌++◌, length, get_or, drop, Option, Some, None, Result, Ok, Err, refl, sym, ap, ◌∙◌, subst, append_assoc, length-append, append-nil, map, arith}
 use Rattle.std.specs.Prelude.{slice_get, IfSome}
 use Rattle.std.specs.List.{flat_map}
 use Rattle.std.proofs.lemmas.Bool.Decides.{nat_tests}
@@ -7,8 +7,8 @@ use Rattle.std.proofs.lemmas.List.Concat.{flat_map-cons}
 use Rattle.std.proofs.Math.Seq.{drop-append_seam}
 use Rattle.gb_ops.specs.declared.machine.Region.{Region}
 use Rattle.gb_fields.specs.declared.fault.CertFault.{CertFault}
+use Rattle.gb_domain.specs.declared.types.Val.{Val}
 use Rattle.gb_domain.specs.declared.types.Core.{Core}
-use Rattle.gb_domain.specs.declared.types.Item.{Item}
 use Rattle.gb_domain.specs.declared.types.Cell.{Cell}
 use Rattle.gb_states.specs.declared.role.Role.{Role}
 use Rattle.gb_states.specs.declared.role.Role.TheVariants as role
@@ -19,14 +19,14 @@ use Rattle.gb_fields.specs.Limits.{node_limit}
 use Rattle.gb_domain.specs.Rules.{IsChain}
 use Rattle.gb_states.specs.Rules.{IsState, IsProcedure, IsNode, IsCertificate, is_after, is_from, key, role_of}
 use Rattle.gb_rows.specs.Rows.{is_before, AreInOrder}
-use Rattle.gb_fields.specs.Reading.{word, node_number}
+use Rattle.gb_fields.specs.Reading.{word, need_at, node_number}
 use Rattle.gb_states.specs.Reading.{core_at, ranges_at, exit_at}
 use Rattle.gb_states.specs.Spelling as spelled
 use Rattle.gb_cert.specs.Places.{AreAt, IsLaid}
 use Rattle.gb_cert.specs.Borrowed.{read_or, any_core, state_in, StateStands, Body, body_at, procedure_of, procedure_in, BodyStands}
 use Rattle.gb_states.proofs.Formats.{IsFormat-byte, IsFormat-both, went_on, same_pair}
 use Rattle.gb_states.proofs.FieldLaws.{IsFormat-word, IsFormat-node_number, IsFormat-core}
-use Rattle.gb_states.proofs.StateLaws.{IsFormat-state, AreRanges, IsFormat-ranges, IsFormat-exit, number_small, limit_bound}
+use Rattle.gb_states.proofs.StateLaws.{IsFormat-state, IsFormat-need, AreRanges, IsFormat-ranges, IsFormat-exit, number_small, limit_bound}
 use Rattle.gb_cert.proofs.Placing.{at-each}
 
 pub some-at : {X : Type 0} (xs : List X) (i : ℕ) → i < length xs → (x : X) × (slice_get xs i ≡ Some x)
@@ -94,10 +94,14 @@ node-lent bytes version region procedures nodes c i front state laid lt right =
 
 -- ---- the items and the cells of a state
 
-item-long : (xs : List Item) → length (flat_map spelled.item xs) ≡ 6 * length xs
-unfolding spelled.val spelled.item
-item-long [] = refl
-item-long (x ∷ xs) = ap length (flat_map-cons spelled.item x xs) ∙ length-append (spelled.item x) (flat_map spelled.item xs) ∙ omega (arith, item-long xs)
+vals-long : (vs : List Val) → length (flat_map spelled.val vs) ≡ 3 * length vs
+unfolding spelled.val
+vals-long [] = refl
+vals-long (v ∷ vs) = ap length (flat_map-cons spelled.val v vs) ∙ length-append (spelled.val v) (flat_map spelled.val vs) ∙ omega (arith, vals-long vs)
+
+-- by the number of their words
+items-long : (vs : List Val) → length vs % 2 ≡ 0 → length (flat_map spelled.val vs) ≡ 6 * (length vs / 2)
+items-long vs whole = omega (arith, vals-long vs, whole)
 
 cell-long : (xs : List Cell) → length (flat_map spelled.cell xs) ≡ 5 * length xs
 unfolding spelled.val spelled.cell
@@ -112,27 +116,27 @@ pub core-long : (c : Core) → length (spelled.core c) ≡ 40
 unfolding spelled.val spelled.flg spelled.ctl spelled.vals spelled.core
 core-long c = simp length-append (omega (arith, test-long c.test))
 
--- behind a state's core: its items and its cells, each behind their number
-pub lists-behind : (role : Role) (region : Region) (bytes : List ℕ) (s : AbsState) (h : StateStands role region bytes s) → drop 40 bytes ≡ length s.items ∷ (flat_map spelled.item s.items ++ (length s.cells ∷ (flat_map spelled.cell s.cells ++ h.tail)))
+-- behind a state's core: its items behind the number of their words, and its cells behind their number
+pub lists-behind : (role : Role) (region : Region) (bytes : List ℕ) (s : AbsState) (h : StateStands role region bytes s) → drop 40 bytes ≡ length s.items / 2 ∷ (flat_map spelled.val s.items ++ (length s.cells ∷ (flat_map spelled.cell s.cells ++ h.tail)))
 unfolding spelled.state
 lists-behind role region bytes s h =
-    let lists : List ℕ = spelled.counted spelled.item s.items ++ spelled.counted spelled.cell s.cells in
+    let lists : List ℕ = spelled.items s.items ++ spelled.counted spelled.cell s.cells in
     ap (λ (b : List ℕ). drop 40 b) (h.parts ∙ append_assoc (spelled.core s.core) lists h.tail)
     ∙ ap (λ (n : ℕ). drop n (spelled.core s.core ++ (lists ++ h.tail))) (sym (core-long s.core))
     ∙ drop-append_seam (spelled.core s.core) (lists ++ h.tail)
-    ∙ append_assoc (spelled.counted spelled.item s.items) (spelled.counted spelled.cell s.cells) h.tail
+    ∙ append_assoc (spelled.items s.items) (spelled.counted spelled.cell s.cells) h.tail
 
 -- a state's core is what a reader of cores gives
 pub core-lent : (role : Role) (region : Region) (bytes : List ℕ) (s : AbsState) → StateStands role region bytes s → (rest : List ℕ) × (core_at role bytes ≡ Ok (s.core, rest))
 unfolding spelled.state
 core-lent role region bytes s h =
-    let lists : List ℕ = spelled.counted spelled.item s.items ++ spelled.counted spelled.cell s.cells in
+    let lists : List ℕ = spelled.items s.items ++ spelled.counted spelled.cell s.cells in
     (lists ++ h.tail, ap (core_at role) (h.parts ∙ append_assoc (spelled.core s.core) lists h.tail) ∙ (IsFormat-core role).again s.core (lists ++ h.tail) (h.is_state.core, h.is_state.stack))
 
 pub items-lent : (role : Role) (region : Region) (bytes first second : List ℕ) (s : AbsState) → StateStands role region bytes s → ((n : ℕ) (xs rest : List ℕ) → drop 40 bytes ≡ n ∷ (xs ++ rest) → length xs ≡ 6 * n → (first ≡ xs) × (second ≡ rest))
-    → (first ≡ flat_map spelled.item s.items) × ((rest : List ℕ) × (second ≡ length s.cells ∷ (flat_map spelled.cell s.cells ++ rest)))
+    → (first ≡ flat_map spelled.val s.items) × ((rest : List ℕ) × (second ≡ length s.cells ∷ (flat_map spelled.cell s.cells ++ rest)))
 items-lent role region bytes first second s h f =
-    let p = f (length s.items) (flat_map spelled.item s.items) (length s.cells ∷ (flat_map spelled.cell s.cells ++ h.tail)) (lists-behind role region bytes s h) (item-long s.items) in
+    let p = f (length s.items / 2) (flat_map spelled.val s.items) (length s.cells ∷ (flat_map spelled.cell s.cells ++ h.tail)) (lists-behind role region bytes s h) (items-long s.items h.is_state.whole) in
     (p.0, (h.tail, p.1))
 
 pub cells-lent : (role : Role) (region : Region) (bytes first second cells behind : List ℕ) (s : AbsState) → StateStands role region bytes s → ((n : ℕ) (xs rest : List ℕ) → drop 40 bytes ≡ n ∷ (xs ++ rest) → length xs ≡ 6 * n → (first ≡ xs) × (second ≡ rest))
@@ -151,9 +155,9 @@ record ProcedureStands (version : ℕ) (region : Region) (bytes : List ℕ) (p :
 abbrev body_of : ProcedureParts → Body
 body_of p = (p.need, (p.ranges, p.exit))
 
-body_again : (region : Region) (p : ProcedureParts) (tail : List ℕ) → p.need < 65536 → AreRanges region p.ranges → IfSome p.exit (IsState role.Exit region) → body_at region (spelled.body p ++ tail) ≡ Ok (body_of p, tail)
+body_again : (region : Region) (p : ProcedureParts) (tail : List ℕ) → p.need ≤ 8192 → p.need % 2 ≡ 0 → AreRanges region p.ranges → IfSome p.exit (IsState role.Exit region) → body_at region (spelled.body p ++ tail) ≡ Ok (body_of p, tail)
 unfolding spelled.body
-body_again region p tail need ranges exit = (IsFormat-both word (both (ranges_at region) (exit_at region false)) _ _ _ _ IsFormat-word (IsFormat-both (ranges_at region) (exit_at region false) _ _ _ _ (IsFormat-ranges region) (IsFormat-exit region false))).again (body_of p) tail (need, (ranges, (refl, exit)))
+body_again region p tail need whole ranges exit = (IsFormat-both (need_at false region) (both (ranges_at region) (exit_at region false)) _ _ _ _ (IsFormat-need region false) (IsFormat-both (ranges_at region) (exit_at region false) _ _ _ _ (IsFormat-ranges region) (IsFormat-exit region false))).again (body_of p) tail (((need, whole), refl), (ranges, (refl, exit)))
 
 procedure-stands : (bytes : List ℕ) (version : ℕ) (region : Region) (procedures nodes : List ℕ) (c : Certificate) (i : ℕ) (p : ProcedureParts) → IsLaid bytes version region procedures nodes c → slice_get c.procedures i ≡ Some p → ProcedureStands version region (drop (get_or procedures i 0) bytes) p
 unfolding spelled.procedure
@@ -162,11 +166,10 @@ procedure-stands bytes version region procedures nodes c i p laid e =
     let is = chain-each (IsProcedure c.region (length c.nodes)) is_after true c.procedures i p laid.spells.is_certificate.procedures e in
     let few : p.entry ≤ length c.nodes = omega (arith, is.1.entry) in
     let small = number_small c.version p.entry (omega (arith, few, laid.spells.is_certificate.node_count)) in
-    let need : p.need < 65536 = omega (arith, is.1.need) in
     let made : ProcedureStands c.version c.region (drop (get_or procedures i 0) bytes) p = record {
       rest = spelled.body p ++ at.tail;
       entry = ap (node_number c.version) (at.parts ∙ append_assoc (spelled.node_number c.version p.entry) (spelled.body p) at.tail) ∙ (IsFormat-node_number c.version).again p.entry (spelled.body p ++ at.tail) small;
-      body = record { tail = at.tail; parts = refl; is_read = body_again c.region p at.tail need (is.1.range_count, is.1.ranges) is.1.exit };
+      body = record { tail = at.tail; parts = refl; is_read = body_again c.region p at.tail is.1.need is.1.whole (is.1.range_count, is.1.ranges) is.1.exit };
     } in
     subst (λ v. ProcedureStands v region (drop (get_or procedures i 0) bytes) p) (sym laid.version_is) (subst (λ r. ProcedureStands c.version r (drop (get_or procedures i 0) bytes) p) (sym laid.region_is) made)
 
@@ -192,7 +195,7 @@ procedure-lent bytes version region procedures nodes c i entry body laid lt righ
 pub record BodyParts (region : Region) (bytes : List ℕ) (p : ProcedureParts) (tail : List ℕ) : Type 0 where
   pub first : List ℕ
   pub second : List ℕ
-  pub need : word bytes ≡ Ok (p.need, first)
+  pub need : need_at false region bytes ≡ Ok (p.need, first)
   pub ranges : ranges_at region first ≡ Ok (p.ranges, second)
   pub exit : exit_at region false second ≡ Ok (p.exit, tail)
 
@@ -207,7 +210,7 @@ both_parts {X} {Y} r t bytes x y tail e =
 
 pub body-parts : (region : Region) (bytes : List ℕ) (p : ProcedureParts) (h : BodyStands region bytes p) → BodyParts region bytes p h.tail
 body-parts region bytes p h =
-    let a = both_parts word (both (ranges_at region) (exit_at region false)) bytes p.need (p.ranges, p.exit) h.tail h.is_read in
+    let a = both_parts (need_at false region) (both (ranges_at region) (exit_at region false)) bytes p.need (p.ranges, p.exit) h.tail h.is_read in
     let b = both_parts (ranges_at region) (exit_at region false) a.0 p.ranges p.exit h.tail a.2 in
     record { first = a.0; second = b.0; need = a.1; ranges = b.1; exit = b.2 }
 

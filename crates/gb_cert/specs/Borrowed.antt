@@ -8,7 +8,7 @@ use Rattle.gb_states.specs.declared.role.Role.{Role}
 use Rattle.gb_domain.specs.Types.{AbsState, ProcedureParts, any_val, state_of}
 use Rattle.gb_fields.specs.Format.{Read, both}
 use Rattle.gb_states.specs.Rules.{IsState}
-use Rattle.gb_fields.specs.Reading.{word}
+use Rattle.gb_fields.specs.Reading.{need_at}
 use Rattle.gb_states.specs.Reading.{state_at, ranges_at, exit_at}
 use Rattle.gb_states.specs.Spelling as spelled
 
@@ -46,7 +46,7 @@ Body = ℕ × (List Range × Option AbsState)
 
 -- all of a procedure but its entry
 abbrev pub body_at : Region → Read Body
-body_at region = both word (both (ranges_at region) (exit_at region false))
+body_at region = both (need_at false region) (both (ranges_at region) (exit_at region false))
 
 -- the procedure with this entry, the other parts of which are at the front of the bytes
 abbrev pub procedure_of : ℕ → Body → ProcedureParts

@@ -41,9 +41,9 @@ certificate_of version region procedures nodes = record {
 abbrev pub is_wide : ProcedurePlan → Bool
 is_wide p = nat_lt range_limit (length p.ranges.now)
 
--- it needs more words of stack than may be needed
+-- it needs more bytes of stack than may be needed
 abbrev pub is_deep : ProcedurePlan → Bool
-is_deep p = nat_lt 4096 p.need
+is_deep p = nat_lt 8192 p.need
 
 -- it begins at none of so many nodes
 abbrev pub has_no_entry : ℕ → ProcedurePlan → Bool
@@ -61,7 +61,7 @@ IsProcedureFault nodes procedures fault.Need = list_any is_deep procedures ≡ t
 IsProcedureFault nodes procedures fault.Entry = list_any (has_no_entry nodes) procedures ≡ true
 IsProcedureFault nodes procedures _ = ⊥
 
--- There are no more procedures and nodes than the version takes, no procedure declares too many ranges or needs too many words,
+-- There are no more procedures and nodes than the version takes, no procedure declares too many ranges or needs too many bytes,
 -- and each begins at a node.
 pub record KeepsLimits (version : Version) (procedures : List ProcedurePlan) (nodes : List NodePlan) : Type 0 where
   pub procedure_count : length procedures ≤ procedure_limit

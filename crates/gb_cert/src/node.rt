@@ -15,8 +15,8 @@ use std::marker::Model;
 /// The bytes of a state before its items.
 const CORE: usize = 40;
 
-/// The bytes of an item: its high and its low value, three each.
-const ITEM: usize = 6;
+/// The bytes of a word of the stack: its high and its low value, three each.
+const WORD: usize = 6;
 
 /// The bytes of a cell: its address, the low byte first, and its value.
 const CELL: usize = 5;
@@ -136,18 +136,18 @@ impl<'a> NodeRef<'a> {
         }
     }
 
-    /// The bytes of its state's stack items, six each, the oldest first.
+    /// The bytes of its state's stack items, three each, the oldest first.
     pub fn items(&self) -> &'a [u8]
-        ensures { result.now ≡ flat_map spelled.item self.now.state.items }
+        ensures { result.now ≡ flat_map spelled.val self.now.state.items }
     {
-        counted(from_place(self.state, CORE), ITEM).0
+        counted(from_place(self.state, CORE), WORD).0
     }
 
     /// The bytes of its state's memory cells, five each, in order of address.
     pub fn cells(&self) -> &'a [u8]
         ensures { result.now ≡ flat_map spelled.cell self.now.state.cells }
     {
-        let (_, cells) = counted(from_place(self.state, CORE), ITEM);
+        let (_, cells) = counted(from_place(self.state, CORE), WORD);
         counted(cells, CELL).0
     }
 }

@@ -9,14 +9,13 @@ use crate::walk::{skip_exit, skip_ranges};
 use arrayvec::ArrayVec;
 use gb_domain::types::{Abs, Range};
 use gb_fields::CertFault;
-use gb_fields::numbers::word;
-use gb_fields::parts::returns_at;
+use gb_fields::parts::{need_at, returns_at};
 use gb_ops::machine::Region;
 use gb_states::role::Role;
 use gb_states::states::{ranges_at, state_at};
 use std::marker::Model;
 
-/// A procedure: where it begins, how many words of stack it needs, what it may write, and in
+/// A procedure: where it begins, how many bytes of stack it needs, what it may write, and in
 /// what state it returns, if it does. It borrows the certificate's bytes.
 #[derive(Drop)]
 pub struct ProcedureRef<'a> {
@@ -72,11 +71,11 @@ impl<'a> ProcedureRef<'a> {
         self.entry
     }
 
-    /// The words of stack that it needs below its return word.
+    /// The bytes of stack that it needs below its return word.
     pub fn need(&self) -> u16
         ensures { result ≡ self.now.need }
     {
-        match word(self.body) {
+        match need_at(false, self.region, self.body) {
             Ok((need, _)) => need,
             Err(_) => unreachable!(),
         }
@@ -86,7 +85,7 @@ impl<'a> ProcedureRef<'a> {
     pub fn ranges(&self) -> ArrayVec<Range, 8>
         ensures { result.items ≡ self.now.ranges }
     {
-        let Ok((_, rest)) = word(self.body) else {
+        let Ok((_, rest)) = need_at(false, self.region, self.body) else {
             unreachable!();
         };
         match ranges_at(self.region, rest) {
@@ -99,7 +98,7 @@ impl<'a> ProcedureRef<'a> {
     pub fn exit(&self) -> Option<Abs>
         ensures { result ≡ self.now.exit }
     {
-        let Ok((_, rest)) = word(self.body) else {
+        let Ok((_, rest)) = need_at(false, self.region, self.body) else {
             unreachable!();
         };
         let Ok(rest) = skip_ranges(self.region, rest) else {
@@ -115,7 +114,7 @@ impl<'a> ProcedureRef<'a> {
     pub fn body(&self) -> &'a [u8]
         ensures { result.now ≡ spelled.body self.now }
     {
-        let Ok((_, rest)) = word(self.body) else {
+        let Ok((_, rest)) = need_at(false, self.region, self.body) else {
             unreachable!();
         };
         let Ok(rest) = skip_ranges(self.region, rest) else {

@@ -4,7 +4,7 @@ ghost use Rattle.std.specs.Prelude.{◌≡◌, ◌≤◌, ◌++◌, length, OnOk
 ghost use Rattle.std.specs.List.{flat_map};
 ghost use Rattle.gb_states.specs.Spelling as spelled;
 
-use gb_domain::types::{Abs, Cell, Core, Ctl, Flg, ImeSet, Item, May, Origin, Val};
+use gb_domain::types::{Abs, Cell, Core, Ctl, Flg, ImeSet, May, Origin, Val};
 use gb_ops::op::Register;
 use gb_ops::registers::Registers;
 use std::alloc::AllocError;
@@ -156,23 +156,14 @@ fn put_core(core: &Core, out: &mut Vec<u8>) -> Result<(), AllocError>
     put_vals(&core.registers, out)
 }
 
-/// Adds an item.
-#[tactic(auto, unfolding(gb_states::specs::Spelling::item))]
-fn put_item(item: &Item, out: &mut Vec<u8>) -> Result<(), AllocError>
-    ensures { OnOk result (out.new.items ≡ out.old.items ++ spelled.item item.now) }
+/// Adds bytes of the stack behind the number of words that they are.
+fn put_items(items: &[Val], out: &mut Vec<u8>) -> Result<(), AllocError>
+    requires { length items.now ≤ 32 }
+    ensures { OnOk result (out.new.items ≡ out.old.items ++ spelled.items items.now) }
 {
-    put(&val(item.high), out)?;
-    put(&val(item.low), out)
-}
-
-/// Adds items behind their count.
-fn put_items(items: &[Item], out: &mut Vec<u8>) -> Result<(), AllocError>
-    requires { length items.now ≤ 16 }
-    ensures { OnOk result (out.new.items ≡ out.old.items ++ spelled.counted spelled.item items.now) }
-{
-    put(&[items.len() as u8], out)?;
+    put(&[(items.len() / 2) as u8], out)?;
     for item in items {
-        put_item(item, out)?;
+        put(&val(*item), out)?;
     }
     Ok(())
 }

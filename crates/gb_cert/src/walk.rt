@@ -6,25 +6,25 @@ ghost use Rattle.gb_fields.specs.Limits.{item_limit, cell_limit, range_limit};
 ghost use Rattle.gb_cert.specs.Skipping.{skipped};
 ghost use Rattle.gb_domain.specs.Rules.{after_cell};
 ghost use Rattle.gb_states.specs.Rules.{after_range, role_of, key};
-ghost use Rattle.gb_states.specs.Reading.{item_at, items_at, cell_at, cells_at, state_at, range_at, ranges_at, exit_at, procedure_at, node_at};
+ghost use Rattle.gb_states.specs.Reading.{vals_of, items_at, cell_at, cells_at, state_at, range_at, ranges_at, exit_at, procedure_at, node_at};
 
 use gb_fields::CertFault;
 use gb_fields::limits::{CELL_LIMIT, ITEM_LIMIT, RANGE_LIMIT};
 use gb_fields::numbers::{count_within, word_between};
 use gb_fields::parts::{entry_at, key_at, need_at, returns_at};
 use gb_ops::machine::Region;
-use gb_states::fields::core_at;
+use gb_states::fields::{core_at, val_at};
 use gb_states::role::Role;
-use gb_states::states::{cell_at, item_at, range_at};
+use gb_states::states::{cell_at, range_at};
 
-/// Passes over as many items as the count says.
+/// Passes over so many bytes of the stack.
 #[inline(always)]
 fn skip_some_items(count: u8, bytes: &[u8]) -> Result<&[u8], CertFault>
-    ensures { Gives (λ x. x.now) result (skipped (several {S = Unit {0}} (λ s. item_at) (λ i. tt) tt count) bytes.now) }
+    ensures { Gives (λ x. x.now) result (skipped (vals_of count) bytes.now) }
 {
     let mut rest = bytes;
     for _ in 0..count {
-        let (_item, after) = item_at(rest)?;
+        let (_item, after) = val_at(rest)?;
         rest = after;
     }
     Ok(rest)
@@ -35,11 +35,11 @@ fn skip_some_items(count: u8, bytes: &[u8]) -> Result<&[u8], CertFault>
 fn skip_items(role: Role, stack_set: bool, bytes: &[u8]) -> Result<&[u8], CertFault>
     ensures { Gives (λ x. x.now) result (skipped (items_at role stack_set) bytes.now) }
 {
-    let (count, rest) = count_within(ITEM_LIMIT, bytes)?;
-    if count > 0 && !(role.may_have_items() && stack_set) {
+    let (words, rest) = count_within(ITEM_LIMIT, bytes)?;
+    if words > 0 && !(role.may_have_items() && stack_set) {
         return Err(CertFault::Field);
     }
-    skip_some_items(count, rest)
+    skip_some_items(2 * words, rest)
 }
 
 /// Passes over as many cells as the count says.

@@ -11,12 +11,13 @@ ghost use Rattle.gb_cert.specs.Written.{number_of, exit_of, procedure_of, node_o
 
 use crate::spelled::{put, put_state, word};
 use gb_domain::types::{Abs, Range};
-use gb_fields::limits::{PROCEDURE_LIMIT, RANGE_LIMIT};
+use gb_fields::limits;
+use gb_fields::limits::{PROCEDURE_LIMIT, RANGE_LIMIT, WORD_LIMIT};
 use gb_ops::machine::Region;
 use std::alloc::{AllocError, AllocFailed, Global};
 
-/// The most words of stack that a procedure needs.
-const MOST_WORDS: u16 = 4096;
+/// The most bytes of stack that a procedure needs.
+const MOST_NEED: u16 = 2 * WORD_LIMIT;
 
 /// The version of a certificate's format.
 #[derive(Clone, Copy, Debug, PartialEq, Eq)]
@@ -30,7 +31,7 @@ pub enum Version {
 pub struct ProcedurePlan<'a> {
     /// The number of its first node.
     pub entry: u32,
-    /// The words of stack that it needs.
+    /// The bytes of stack that it needs, in whole words.
     pub need: u16,
     /// Where it may write.
     pub ranges: &'a [Range],
@@ -59,7 +60,7 @@ pub enum WriteFault {
     Nodes,
     /// A procedure has more than 8 ranges.
     Ranges,
-    /// A procedure needs more than 4,096 words of stack.
+    /// A procedure needs more than 8,192 bytes of stack.
     Need,
     /// A procedure begins at a node that isn't there.
     Entry,
@@ -77,14 +78,10 @@ impl Version {
     }
 
     /// The most nodes that it takes.
-    #[tactic(auto, unfolding(gb_fields::specs::Limits::node_limit))]
     pub fn node_limit(self) -> u32
         ensures { result ≡ node_limit (number_of self) }
     {
-        match self {
-            Version::One => 65_535,
-            Version::Two => 1_048_576,
-        }
+        limits::node_limit(self.number())
     }
 }
 
@@ -180,7 +177,7 @@ fn put_body(procedure: &ProcedurePlan<'_>, out: &mut Vec<u8>) -> Result<(), Allo
     requires { length procedure.now.ranges.now ≤ 8 }
     ensures { OnOk result (out.new.items ≡ out.old.items ++ spelled.body (procedure_of procedure.now)) }
 {
-    put(&word(procedure.need), out)?;
+    put(&word(procedure.need / 2), out)?;
     put_ranges(procedure.ranges, out)?;
     put_exit(procedure.exit, out)
 }
@@ -239,7 +236,7 @@ fn put_procedures(
         if procedure.ranges.len() > RANGE_LIMIT as usize {
             return Err(WriteFault::Ranges);
         }
-        if procedure.need > MOST_WORDS {
+        if procedure.need > MOST_NEED {
             return Err(WriteFault::Need);
         }
         if procedure.entry >= nodes {

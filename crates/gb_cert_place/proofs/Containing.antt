@@ -24,7 +24,7 @@ use Rattle.gb_cert_place.specs.Stops.{StopsAt, StopsIn, is_missing}
 use Rattle.gb_cert_place.specs.Places.{byte_by, fault_byte, FallsIn}
 use Rattle.gb_cert_place.proofs.Locality.{failed}
 use Rattle.gb_cert_place.proofs.Stopping.{is_cut_short}
-use Rattle.gb_cert_place.proofs.Widths.{IsWithin, cut_mapped, IsWithin-mapped, IsWithin-word_between, IsWithin-count_within, IsWithin-core, IsWithin-item_count, IsWithin-item, IsWithin-cell, IsWithin-range, IsWithin-returns, IsWithin-entry, IsWithin-need, IsWithin-key, head_within}
+use Rattle.gb_cert_place.proofs.Widths.{IsWithin, cut_mapped, IsWithin-mapped, IsWithin-word_between, IsWithin-count_within, IsWithin-core, IsWithin-item_count, IsWithin-val, IsWithin-cell, IsWithin-range, IsWithin-returns, IsWithin-entry, IsWithin-need, IsWithin-key, head_within}
 
 -- ---- looking up
 
@@ -102,7 +102,7 @@ block_decides (block.Range index region least) bytes right = within_decides _ 4 
 block_decides (block.Returns is_main) bytes right = within_decides _ 1 (IsWithin-mapped forget _ 1 (IsWithin-returns is_main)) bytes
 block_decides (block.Core role) bytes right = within_decides _ 40 (IsWithin-mapped forget _ 40 (IsWithin-core role)) bytes
 block_decides (block.ItemCount role stack_set) bytes right = within_decides _ 1 (IsWithin-mapped forget _ 1 (IsWithin-item_count role stack_set)) bytes
-block_decides (block.Item index) bytes right = within_decides _ 6 (IsWithin-mapped forget _ 6 IsWithin-item) bytes
+block_decides (block.Item index) bytes right = within_decides _ 3 (IsWithin-mapped forget _ 3 IsWithin-val) bytes
 block_decides block.CellCount bytes right = within_decides _ 1 (IsWithin-mapped forget _ 1 (IsWithin-count_within cell_limit)) bytes
 block_decides (block.Cell index region least) bytes right = within_decides _ 5 (IsWithin-mapped forget _ 5 (IsWithin-cell region least)) bytes
 block_decides (block.Key procedures before) bytes right = within_decides _ 3 (IsWithin-mapped forget _ 3 (IsWithin-key procedures before)) bytes

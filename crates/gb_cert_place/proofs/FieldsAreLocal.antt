@@ -1,5 +1,5 @@
 -- Each reader of a certificate's parts goes from left to right.
-use Rattle.std.proofs.Common.{ℕ, Bool, true, false, ◌==◌}
+use Rattle.std.proofs.Common.{ℕ, ◌*◌, Bool, true, false, ◌==◌}
 use Rattle.gb_ops.specs.declared.machine.Region.{Region}
 use Rattle.gb_states.specs.declared.role.Role.{Role}
 use Rattle.gb_states.specs.declared.role.Role.TheVariants as role
@@ -7,7 +7,7 @@ use Rattle.gb_fields.specs.Limits.{procedure_limit, range_limit, cell_limit, ite
 use Rattle.gb_fields.specs.Format.{byte}
 use Rattle.gb_states.specs.Rules.{role_of}
 use Rattle.gb_fields.specs.Reading.{word, quad, node_number_by, node_number, byte_between, word_between, count_within, yes_no, returns_at, entry_at, need_at, key_at, magic_at, version_at, region_at, node_count_at, head_at}
-use Rattle.gb_states.specs.Reading.{origin_at, val_at, may_at, ime_at, test_at, flg_at, ctl_at, vals_at, core_at, item_at, items_at, cell_at, cells_at, state_at, range_at, ranges_at, exit_at, procedure_at, node_at, procedures_at, nodes_at, certificate_at}
+use Rattle.gb_states.specs.Reading.{origin_at, val_at, may_at, ime_at, test_at, flg_at, ctl_at, vals_at, core_at, items_at, cell_at, cells_at, state_at, range_at, ranges_at, exit_at, procedure_at, node_at, procedures_at, nodes_at, certificate_at}
 use Rattle.gb_cert_place.proofs.Locality.{IsLocal, IsLocal-byte, IsLocal-both, IsLocal-followed, IsLocal-mapped, IsLocal-checked, IsLocal-optional, IsLocal-several, IsLocal-counted}
 
 -- ---- numbers
@@ -89,13 +89,9 @@ IsLocal-core role =
     (IsLocal-both _ _ (IsLocal-checked _ _ _ IsLocal-yes_no)
     (IsLocal-both _ _ IsLocal-test (IsLocal-both _ _ IsLocal-ctl (IsLocal-both _ _ IsLocal-flg (IsLocal-both _ _ IsLocal-val IsLocal-vals)))))))
 
-pub IsLocal-item : IsLocal item_at
-unfolding item_at
-IsLocal-item = IsLocal-mapped _ _ (IsLocal-both _ _ IsLocal-val IsLocal-val)
-
 pub IsLocal-items : (role : Role) (stack_set : Bool) → IsLocal (items_at role stack_set)
 unfolding items_at
-IsLocal-items role stack_set = IsLocal-counted _ _ _ _ (IsLocal-checked _ _ _ (IsLocal-count_within item_limit)) (λ s. IsLocal-item)
+IsLocal-items role stack_set = IsLocal-mapped _ _ (IsLocal-followed _ _ (IsLocal-checked _ _ _ (IsLocal-count_within item_limit)) (λ words. IsLocal-several (λ (s : Unit {0}). val_at) (λ v. tt) (λ s. IsLocal-val) (2 * words) tt))
 
 pub IsLocal-cell : (region : Region) (least : ℕ) → IsLocal (cell_at region least)
 unfolding cell_at
@@ -133,7 +129,7 @@ IsLocal-entry version nodes = IsLocal-checked _ _ _ (IsLocal-node_number version
 
 pub IsLocal-need : (is_main : Bool) (region : Region) → IsLocal (need_at is_main region)
 unfolding need_at
-IsLocal-need is_main region = IsLocal-checked _ _ _ (IsLocal-word_between 0 4096)
+IsLocal-need is_main region = IsLocal-checked _ _ _ (IsLocal-mapped _ _ (IsLocal-word_between 0 4096))
 
 pub IsLocal-procedure : (version : ℕ) (region : Region) (nodes : ℕ) (is_main : Bool) → IsLocal (procedure_at version region nodes is_main)
 unfolding procedure_at

@@ -99,7 +99,7 @@ IsLocal-mapped {X} {Y} f r a = record {
         let s = same_fault {A = Y × List ℕ} d e h in
         rw (a.refused bytes more e (g ∙ ap (λ f. failed f) s) n) refl
 
-passed : {X : Type 0} (d : CertFault) (b : Bool) (x y : X) (rest end : List ℕ) → if_passes d b x rest ≡ Ok (y, end) → (b ≡ true) × (x ≡ y) × (rest ≡ end)
+pub passed : {X : Type 0} (d : CertFault) (b : Bool) (x y : X) (rest end : List ℕ) → if_passes d b x rest ≡ Ok (y, end) → (b ≡ true) × (x ≡ y) × (rest ≡ end)
 passed d true x y rest end e = let p = same_pair x y rest end e in (refl, p.0, p.1)
 passed d false x y rest end e = cc
 

@@ -1,5 +1,5 @@
 -- Where a walk over a state, a procedure or a node stops, by its parts.
-use Rattle.std.proofs.Common.{◌≡◌, ℕ, Bool, true, List, Some, Ok, ◌∙◌, ap, subst}
+use Rattle.std.proofs.Common.{◌≡◌, ℕ, ◌*◌, Bool, true, List, Some, Ok, ◌∙◌, ap, subst}
 use Rattle.gb_ops.specs.declared.machine.Region.{Region}
 use Rattle.gb_domain.specs.declared.types.Core.{Core}
 use Rattle.gb_states.specs.declared.role.Role.{Role}
@@ -10,7 +10,7 @@ use Rattle.gb_cert.specs.Skipping.{skipped, past}
 use Rattle.gb_domain.specs.Rules.{after_cell}
 use Rattle.gb_states.specs.Rules.{role_of, key, after_range}
 use Rattle.gb_fields.specs.Reading.{count_within, word_between, returns_at, entry_at, need_at, key_at}
-use Rattle.gb_states.specs.Reading.{core_at, item_at, items_at, cell_at, cells_at, to_state, state_at, range_at, ranges_at, exit_at, to_procedure, procedure_at, to_node, node_at}
+use Rattle.gb_states.specs.Reading.{core_at, vals_of, items_at, cell_at, cells_at, to_state, state_at, range_at, ranges_at, exit_at, to_procedure, procedure_at, to_node, node_at}
 use Rattle.gb_cert.proofs.Skipping.{skipped-mapped, core_then, exit_then, no_exit, need_then, bank_then}
 use Rattle.gb_cert_place.specs.declared.block.Stop.{Stop}
 use Rattle.gb_cert_place.specs.declared.block.Block.TheVariants as block
@@ -26,9 +26,9 @@ pub stop_in_item_count : (role : Role) (stack_set : Bool) (bytes : List ℕ) (s 
 unfolding read_block items_at item_count_at
 stop_in_item_count role stack_set bytes s p = Stopped-mapped _ _ bytes s (Stopped-first _ _ bytes s (Stopped-block (item_count_at role stack_set) bytes s p))
 
-pub in_items : (role : Role) (stack_set : Bool) (bytes : List ℕ) (count : ℕ) (rest : List ℕ) (s : Stop) → item_count_at role stack_set bytes ≡ Ok (count, rest) → Stopped (several {S = Unit {0}} (λ s. item_at) (λ i. tt) tt count) rest s → Stopped (items_at role stack_set) bytes s
+pub in_items : (role : Role) (stack_set : Bool) (bytes : List ℕ) (words : ℕ) (rest : List ℕ) (s : Stop) → item_count_at role stack_set bytes ≡ Ok (words, rest) → Stopped (vals_of (2 * words)) rest s → Stopped (items_at role stack_set) bytes s
 unfolding items_at item_count_at
-in_items role stack_set bytes count rest s h p = Stopped-mapped _ _ bytes s (Stopped-then (item_count_at role stack_set) (several {S = Unit {0}} (λ s. item_at) (λ i. tt) tt) (IsLocal-item_count role stack_set) bytes count rest s h p)
+in_items role stack_set bytes words rest s h p = Stopped-mapped _ _ bytes s (Stopped-then (item_count_at role stack_set) (λ words. vals_of (2 * words)) (IsLocal-item_count role stack_set) bytes words rest s h p)
 
 pub stop_in_cell_count : (region : Region) (bytes : List ℕ) (s : Stop) → Stopped (read_block block.CellCount) bytes s → Stopped (cells_at region) bytes s
 unfolding read_block cells_at
@@ -49,9 +49,9 @@ in_ranges region bytes count rest s h p = Stopped-mapped _ _ bytes s (Stopped-th
 skipped-followed : {X Y : Type 0} (r : Read X) (t : X → Read Y) (bytes : List ℕ) (x : X) (rest : List ℕ) → r bytes ≡ Ok (x, rest) → skipped (followed r t) bytes ≡ skipped (t x) rest
 skipped-followed r t bytes x rest e = rw e (skipped-mapped (λ y. (x, y)) (t x) rest)
 
-pub items_passed : (role : Role) (stack_set : Bool) (bytes : List ℕ) (count : ℕ) (rest end : List ℕ) → item_count_at role stack_set bytes ≡ Ok (count, rest) → skipped (several {S = Unit {0}} (λ s. item_at) (λ i. tt) tt count) rest ≡ Ok end → skipped (items_at role stack_set) bytes ≡ Ok end
+pub items_passed : (role : Role) (stack_set : Bool) (bytes : List ℕ) (words : ℕ) (rest end : List ℕ) → item_count_at role stack_set bytes ≡ Ok (words, rest) → skipped (vals_of (2 * words)) rest ≡ Ok end → skipped (items_at role stack_set) bytes ≡ Ok end
 unfolding items_at item_count_at
-items_passed role stack_set bytes count rest end h g = skipped-mapped (λ p. p.1) (followed (item_count_at role stack_set) (several {S = Unit {0}} (λ s. item_at) (λ i. tt) tt)) bytes ∙ skipped-followed (item_count_at role stack_set) (several {S = Unit {0}} (λ s. item_at) (λ i. tt) tt) bytes count rest h ∙ g
+items_passed role stack_set bytes words rest end h g = skipped-mapped (λ p. p.1) (followed (item_count_at role stack_set) (λ words. vals_of (2 * words))) bytes ∙ skipped-followed (item_count_at role stack_set) (λ words. vals_of (2 * words)) bytes words rest h ∙ g
 
 pub cells_passed : (region : Region) (bytes : List ℕ) (count : ℕ) (rest end : List ℕ) → count_within cell_limit bytes ≡ Ok (count, rest) → skipped (several (cell_at region) after_cell 0 count) rest ≡ Ok end → skipped (cells_at region) bytes ≡ Ok end
 unfolding cells_at

@@ -7,7 +7,7 @@ use Rattle.gb_states.specs.declared.role.Role.{Role}
 use Rattle.gb_fields.specs.Limits.{item_limit, procedure_limit}
 use Rattle.gb_fields.specs.Format.{Read, go_on, followed, both, mapped, if_passes, checked, byte}
 use Rattle.gb_fields.specs.Reading.{word, quad, node_number_by, node_number, byte_between, word_between, count_within, yes_no, returns_at, entry_at, need_at, key_at, region_at, is_any, node_count_at, is_magic, magic_at, version_at, to_head, head_at}
-use Rattle.gb_states.specs.Reading.{origin_at, val_at, may_at, ime_at, test_at, flg_at, ctl_at, vals_at, core_at, item_at, cell_at, range_at}
+use Rattle.gb_states.specs.Reading.{origin_at, val_at, may_at, ime_at, test_at, flg_at, ctl_at, vals_at, core_at, cell_at, range_at}
 use Rattle.gb_states.specs.Rules.{is_version}
 use Rattle.gb_states.proofs.Formats.{went_on, same_pair}
 use Rattle.gb_cert_place.specs.Blocks.{item_count_at}
@@ -144,7 +144,7 @@ IsWithin-origin : IsWithin origin_at 1
 unfolding origin_at
 IsWithin-origin = IsWithin-mapped _ _ 1 (IsWithin-byte_between 0 9)
 
-IsWithin-val : IsWithin val_at 3
+pub IsWithin-val : IsWithin val_at 3
 unfolding val_at
 IsWithin-val = IsWithin-mapped _ _ 3 (IsWithin-both _ _ 2 1 (IsWithin-checked _ _ _ 2 (λ h. cc) (IsWithin-both _ _ 1 1 IsWithin-byte IsWithin-byte)) IsWithin-origin)
 
@@ -191,10 +191,6 @@ pub IsWithin-item_count : (role : Role) (stack_set : Bool) → IsWithin (item_co
 unfolding item_count_at
 IsWithin-item_count role stack_set = IsWithin-checked _ _ _ 1 (λ h. cc) (IsWithin-count_within item_limit)
 
-pub IsWithin-item : IsWithin item_at 6
-unfolding item_at
-IsWithin-item = IsWithin-mapped _ _ 6 (IsWithin-both _ _ 3 3 IsWithin-val IsWithin-val)
-
 pub IsWithin-cell : (region : Region) (least : ℕ) → IsWithin (cell_at region least) 5
 unfolding cell_at
 IsWithin-cell region least = IsWithin-mapped _ _ 5 (IsWithin-both _ _ 2 3 (IsWithin-checked _ _ _ 2 (λ h. cc) (IsWithin-checked _ _ _ 2 (λ h. cc) IsWithin-word)) IsWithin-val)
@@ -213,7 +209,7 @@ IsWithin-entry version nodes = IsWithin-checked _ _ _ (number_width version) (λ
 
 pub IsWithin-need : (is_main : Bool) (region : Region) → IsWithin (need_at is_main region) 2
 unfolding need_at
-IsWithin-need is_main region = IsWithin-checked _ _ _ 2 (λ h. cc) (IsWithin-word_between 0 4096)
+IsWithin-need is_main region = IsWithin-checked _ _ _ 2 (λ h. cc) (IsWithin-mapped _ _ 2 (IsWithin-word_between 0 4096))
 
 pub IsWithin-key : (procedures : ℕ) (before : ℕ × ℕ) → IsWithin (key_at procedures before) 3
 unfolding key_at

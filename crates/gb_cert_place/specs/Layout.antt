@@ -1,5 +1,5 @@
 -- The fields of a block, each with its bytes, in their order (own format).
-use Rattle.std.specs.Prelude.{◌≡◌, ℕ, ◌+◌, ◌==◌, ◌≤◌, ◌<◌, nat_lt, Bool, true, false, List, [], ◌∷◌, ◌++◌}
+use Rattle.std.specs.Prelude.{◌≡◌, ℕ, ◌+◌, ◌/◌, ◌%◌, ◌==◌, ◌≤◌, ◌<◌, nat_lt, Bool, true, false, List, [], ◌∷◌, ◌++◌}
 use Rattle.gb_ops.specs.declared.op.Register.TheVariants.{A, B, C, D, E, H, L}
 use Rattle.gb_cert_place.specs.declared.block.Block.{Block}
 use Rattle.gb_cert_place.specs.declared.block.Block.TheVariants as block
@@ -45,8 +45,16 @@ controller_then rest = (field.BankLeast, 2) ∷ (field.BankGreatest, 2) ∷ (fie
 abbrev pub core_layout : Layout
 core_layout = (field.ImeSet, 1) ∷ (field.TransferBound, 1) ∷ (field.StackSet, 1) ∷ (field.Test, 1) ∷ (field.TestValue, 1) ∷ controller_then (flags_then values_layout)
 
+abbrev pub byte_of_word : Bool → ℕ → Owner
+byte_of_word true word = owner.ItemHigh word
+byte_of_word false word = owner.ItemLow word
+
+-- which byte of which word the item with this number is: a word's high byte comes first
+abbrev pub item_owner : ℕ → Owner
+item_owner index = byte_of_word (index % 2 == 0) (index / 2)
+
 abbrev pub item_layout : ℕ → Layout
-item_layout index = value_then (owner.ItemHigh index) (value_then (owner.ItemLow index) [])
+item_layout index = value_then (item_owner index) []
 
 abbrev pub cell_layout : ℕ → Layout
 cell_layout index = (field.CellAddress index, 2) ∷ value_then (owner.Cell index) []

@@ -1,6 +1,6 @@
 -- Where the blocks of a certificate stand in its bytes: each behind what is before it, which can be read. A relation here
 -- is one of a part, a block of it, and the bytes from that block on.
-use Rattle.std.specs.Prelude.{◌≡◌, ℕ, ◌+◌, ◌<◌, Bool, true, List, Ok, slice_index_or}
+use Rattle.std.specs.Prelude.{◌≡◌, ℕ, ◌+◌, ◌*◌, ◌<◌, Bool, true, List, Ok, slice_index_or}
 use Rattle.gb_ops.specs.declared.machine.Region.{Region}
 use Rattle.gb_domain.specs.declared.types.Core.{Core}
 use Rattle.gb_states.specs.declared.role.Role.{Role}
@@ -12,7 +12,7 @@ use Rattle.gb_cert.specs.Skipping.{skipped}
 use Rattle.gb_domain.specs.Rules.{after_cell}
 use Rattle.gb_states.specs.Rules.{after_range, role_of, is_after, key}
 use Rattle.gb_fields.specs.Reading.{head_at, entry_at, need_at, count_within, returns_at, key_at, word_between}
-use Rattle.gb_states.specs.Reading.{range_at, ranges_at, core_at, item_at, items_at, cell_at, procedure_at, procedures_at, node_at}
+use Rattle.gb_states.specs.Reading.{range_at, ranges_at, core_at, val_at, items_at, cell_at, procedure_at, procedures_at, node_at}
 use Rattle.gb_cert_place.specs.declared.block.Part.{Part}
 use Rattle.gb_cert_place.specs.declared.block.Part.TheVariants as part
 use Rattle.gb_cert_place.specs.declared.block.Block.{Block}
@@ -31,11 +31,11 @@ Of p at q b rest = (q ≡ p) × at b rest
 -- ---- states
 
 pub data AmongItems (count : ℕ) (bytes : List ℕ) : Block → List ℕ → Type 0 where
-  AtItem : {i : ℕ} {s : Unit {0}} {rest : List ℕ} → i < count → Passed (λ (s : Unit {0}). item_at) (λ i. tt) tt bytes i s rest → AmongItems count bytes (block.Item i) rest
+  AtItem : {i : ℕ} {s : Unit {0}} {rest : List ℕ} → i < count → Passed (λ (s : Unit {0}). val_at) (λ v. tt) tt bytes i s rest → AmongItems count bytes (block.Item i) rest
 
 pub data InItems (role : Role) (stack_set : Bool) (bytes : List ℕ) : Block → List ℕ → Type 0 where
   AtItemCount : InItems role stack_set bytes (block.ItemCount role stack_set) bytes
-  BehindItemCount : {count : ℕ} {first rest : List ℕ} {b : Block} → item_count_at role stack_set bytes ≡ Ok (count, first) → AmongItems count first b rest → InItems role stack_set bytes b rest
+  BehindItemCount : {words : ℕ} {first rest : List ℕ} {b : Block} → item_count_at role stack_set bytes ≡ Ok (words, first) → AmongItems (2 * words) first b rest → InItems role stack_set bytes b rest
 
 pub data AmongCells (region : Region) (count : ℕ) (bytes : List ℕ) : Block → List ℕ → Type 0 where
   AtCell : {i least : ℕ} {rest : List ℕ} → i < count → Passed (cell_at region) after_cell 0 bytes i least rest → AmongCells region count bytes (block.Cell i region least) rest

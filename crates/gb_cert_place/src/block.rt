@@ -11,9 +11,9 @@ use gb_fields::limits::{CELL_LIMIT, ITEM_LIMIT, RANGE_LIMIT};
 use gb_fields::numbers::{count_within, word_between};
 use gb_fields::parts::{entry_at, key_at, need_at, returns_at};
 use gb_ops::machine::Region;
-use gb_states::fields::core_at;
+use gb_states::fields::{core_at, val_at};
 use gb_states::role::Role;
-use gb_states::states::{cell_at, item_at, range_at};
+use gb_states::states::{cell_at, range_at};
 
 /// A run of fields that is read by one rule, with what the rule asks of the fields before it.
 #[derive(Clone, Copy)]
@@ -48,12 +48,12 @@ pub enum Block {
     Core {
         role: Role,
     },
-    /// How many items a state has.
+    /// How many words a state's items are.
     ItemCount {
         role: Role,
         stack_set: bool,
     },
-    /// An item, by its number.
+    /// An item, a byte of the stack, by its number.
     Item {
         index: u8,
     },
@@ -99,16 +99,16 @@ pub struct Stop {
     pub left: usize,
 }
 
-/// How many items a state has.
+/// How many words a state's items are.
 #[tactic(auto, unfolding(crate::specs::Blocks::item_count_at))]
 pub fn item_count_at(role: Role, stack_set: bool, bytes: &[u8]) -> Result<(u8, &[u8]), CertFault>
     ensures { Gives (λ x. (x.0, x.1.now)) result (item_count_at role stack_set bytes.now) }
 {
-    let (count, rest) = count_within(ITEM_LIMIT, bytes)?;
-    if count > 0 && !(role.may_have_items() && stack_set) {
+    let (words, rest) = count_within(ITEM_LIMIT, bytes)?;
+    if words > 0 && !(role.may_have_items() && stack_set) {
         return Err(CertFault::Field);
     }
-    Ok((count, rest))
+    Ok((words, rest))
 }
 
 /// Reads a block, and keeps no value.
@@ -150,7 +150,7 @@ fn read_block(block: Block, bytes: &[u8]) -> Result<&[u8], CertFault>
             Ok(rest)
         }
         Block::Item { .. } => {
-            let (_, rest) = item_at(bytes)?;
+            let (_, rest) = val_at(bytes)?;
             Ok(rest)
         }
         Block::CellCount => {

@@ -2,7 +2,7 @@
 
 ghost use Rattle.std.specs.Prelude.{◌≡◌, ◌≤◌};
 ghost use Rattle.gb_cert_place.specs.declared.field.Field.TheVariants as field;
-ghost use Rattle.gb_cert_place.specs.Layout.{lookup, layout, head_layout, entry_layout, range_layout, core_layout, item_layout, cell_layout, number_width, field_at};
+ghost use Rattle.gb_cert_place.specs.Layout.{lookup, layout, head_layout, entry_layout, range_layout, core_layout, item_owner, item_layout, cell_layout, number_width, field_at};
 
 use crate::block::Block;
 use gb_ops::op::Register;
@@ -14,9 +14,9 @@ pub enum Owner {
     Ie,
     /// A register.
     Register(Register),
-    /// The high byte of the item with this number.
+    /// The high byte of the word with this number on the stack.
     ItemHigh(u8),
-    /// The low byte of the item with this number.
+    /// The low byte of the word with this number on the stack.
     ItemLow(u8),
     /// The cell with this number.
     Cell(u8),
@@ -92,18 +92,26 @@ fn range_layout(index: u8) -> [(Field, u8); 2]
     [(Field::RangeFirst(index), 2), (Field::RangeLast(index), 2)]
 }
 
-fn item_layout(index: u8) -> [(Field, u8); 6]
+/// Which byte of which word the item with this number is: a word's high byte comes first.
+fn item_owner(index: u8) -> Owner
+    ensures { result ≡ item_owner index }
+{
+    let word = index / 2;
+    if index % 2 == 0 {
+        Owner::ItemHigh(word)
+    } else {
+        Owner::ItemLow(word)
+    }
+}
+
+fn item_layout(index: u8) -> [(Field, u8); 3]
     ensures { result ≡ item_layout index }
 {
-    let high = Owner::ItemHigh(index);
-    let low = Owner::ItemLow(index);
+    let item = item_owner(index);
     [
-        (Field::ValueLeast(high), 1),
-        (Field::ValueGreatest(high), 1),
-        (Field::ValueOrigin(high), 1),
-        (Field::ValueLeast(low), 1),
-        (Field::ValueGreatest(low), 1),
-        (Field::ValueOrigin(low), 1),
+        (Field::ValueLeast(item), 1),
+        (Field::ValueGreatest(item), 1),
+        (Field::ValueOrigin(item), 1),
     ]
 }
 

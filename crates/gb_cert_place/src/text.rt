@@ -22,8 +22,8 @@ impl fmt::Display for Owner {
         match self {
             Owner::Ie => f.write_str("IE"),
             Owner::Register(register) => f.write_str(register.name()),
-            Owner::ItemHigh(index) => write!(f, "the high byte of item {index}"),
-            Owner::ItemLow(index) => write!(f, "the low byte of item {index}"),
+            Owner::ItemHigh(word) => write!(f, "the high byte of item {word}"),
+            Owner::ItemLow(word) => write!(f, "the low byte of item {word}"),
             Owner::Cell(index) => write!(f, "cell {index}"),
         }
     }

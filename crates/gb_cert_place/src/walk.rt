@@ -4,7 +4,7 @@ ghost use Rattle.std.specs.Prelude.{◌≡◌, slice_index_or, IfErr};
 ghost use Rattle.gb_fields.specs.Format.{mapped, several};
 ghost use Rattle.gb_domain.specs.Rules.{after_cell};
 ghost use Rattle.gb_states.specs.Rules.{after_range, key};
-ghost use Rattle.gb_states.specs.Reading.{item_at, items_at, cell_at, cells_at, state_at, range_at, ranges_at, exit_at, procedure_at, node_at, procedures_at, nodes_at};
+ghost use Rattle.gb_states.specs.Reading.{vals_of, items_at, cell_at, cells_at, state_at, range_at, ranges_at, exit_at, procedure_at, node_at, procedures_at, nodes_at};
 ghost use Rattle.gb_cert_place.specs.declared.block.Part.TheVariants as the_part;
 ghost use Rattle.gb_cert_place.specs.Standing.{Of, AmongItems, InItems, AmongCells, InCells, InState, AmongRanges, InRanges, InExit, InProcedure, InProcedures, InNode, InNodes, InCertificate};
 ghost use Rattle.gb_cert_place.specs.Stops.{Walks, Finds, StopsIn, parts_at};
@@ -15,18 +15,18 @@ use gb_fields::limits::{CELL_LIMIT, RANGE_LIMIT};
 use gb_fields::numbers::{count_within, word_between};
 use gb_fields::parts::{entry_at, key_at, need_at, returns_at};
 use gb_ops::machine::Region;
-use gb_states::fields::core_at;
+use gb_states::fields::{core_at, val_at};
 use gb_states::role::Role;
-use gb_states::states::{cell_at, item_at, range_at};
+use gb_states::states::{cell_at, range_at};
 
-/// Passes over as many items as the count says.
+/// Passes over so many bytes of the stack.
 fn walk_some_items(part: Part, count: u8, bytes: &[u8]) -> Result<&[u8], Stop>
-    ensures reads { Walks (λ x. x.now) result (several {S = Unit {0}} (λ s. item_at) (λ i. tt) tt count) bytes.now }
+    ensures reads { Walks (λ x. x.now) result (vals_of count) bytes.now }
     ensures block { IfErr result (StopsIn (Of part (AmongItems count bytes.now))) }
 {
     let mut rest = bytes;
     for index in 0..count {
-        match item_at(rest) {
+        match val_at(rest) {
             Ok((_item, after)) => rest = after,
             Err(fault) => return Err(stopped(part, Block::Item { index }, fault, rest)),
         }
@@ -40,8 +40,8 @@ fn walk_items(part: Part, role: Role, stack_set: bool, bytes: &[u8]) -> Result<&
     ensures block { IfErr result (StopsIn (Of part (InItems role stack_set bytes.now))) }
 {
     match item_count_at(role, stack_set, bytes) {
-        Ok((count, rest)) => {
-            let end = walk_some_items(part, count, rest)?;
+        Ok((words, rest)) => {
+            let end = walk_some_items(part, 2 * words, rest)?;
             Ok(end)
         }
         Err(fault) => {

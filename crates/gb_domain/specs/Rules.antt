@@ -1,4 +1,4 @@
--- Which values, cores, items and cells there are (own format).
+-- Which values, cores, words and cells there are (own format).
 use Rattle.std.specs.Prelude.{◌≡◌, ℕ, ◌+◌, ◌≤◌, ◌<◌, Bool, true, false, ◌||◌, List, [], ◌∷◌, IfSome}
 use Rattle.gb_ops.specs.declared.machine.Region.{Region}
 use Rattle.gb_ops.specs.declared.op.Register.{Register}
@@ -9,7 +9,7 @@ use Rattle.gb_domain.specs.declared.types.Flg.{Flg}
 use Rattle.gb_domain.specs.declared.types.ImeSet.{ImeSet}
 use Rattle.gb_domain.specs.declared.types.Ctl.{Ctl}
 use Rattle.gb_domain.specs.declared.types.Core.{Core}
-use Rattle.gb_domain.specs.declared.types.Item.{Item}
+use Rattle.gb_domain.specs.declared.types.Halves.{Halves}
 use Rattle.gb_domain.specs.declared.types.Cell.{Cell}
 use Rattle.gb_domain.specs.Areas.{is_area, meets}
 
@@ -58,9 +58,9 @@ pub record IsCore (c : Core) : Type 0 where
   pub ie : IsVal c.ie
   pub registers : (r : Register) → IsVal (get r c.registers)
 
-pub record IsItem (i : Item) : Type 0 where
-  pub high : IsVal i.high
-  pub low : IsVal i.low
+pub record IsWord (w : Halves) : Type 0 where
+  pub high : IsVal w.high
+  pub low : IsVal w.low
 
 -- ---- cells
 

@@ -2,21 +2,20 @@
 use Rattle.std.specs.Prelude.{ℕ, List, [], Option, None}
 use Rattle.gb_domain.specs.declared.types.Val.{Val}
 use Rattle.gb_domain.specs.declared.types.Core.{Core}
-use Rattle.gb_domain.specs.declared.types.Item.{Item}
 use Rattle.gb_domain.specs.declared.types.Cell.{Cell}
 use Rattle.gb_domain.specs.declared.types.Range.{Range}
 
--- an abstract state
+-- an abstract state; its items are the bytes that were pushed, the oldest first
 pub record AbsState : Type 0 where
   pub core : Core
-  pub items : List Item
+  pub items : List Val
   pub cells : List Cell
 
 -- the state without items and cells
 abbrev pub state_of : Core → AbsState
 state_of core = record { core = core; items = []; cells = [] }
 
--- a procedure
+-- a procedure; its need is in bytes
 pub record ProcedureParts : Type 0 where
   pub entry : ℕ
   pub need : ℕ
@@ -33,10 +32,6 @@ pub record Node : Type 0 where
 -- any byte
 abbrev pub any_val : Val
 any_val = record { lo = 0; hi = 255; origin = None }
-
--- any word
-abbrev pub any_item : Item
-any_item = record { high = any_val; low = any_val }
 
 -- any byte at address 0
 abbrev pub any_cell : Cell

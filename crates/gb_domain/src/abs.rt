@@ -3,16 +3,16 @@
 ghost use Rattle.std.specs.Prelude.{◌≡◌, ◌≤◌, length};
 ghost use Rattle.gb_domain.specs.Types.{state_of};
 
-use crate::types::{Cell, Core, Item};
+use crate::types::{Cell, Core, Val};
 use arrayvec::ArrayVec;
 use std::marker::Model;
 
-/// An abstract state: a set of machine states. Contracts see its core, its items (the oldest
-/// first) and its cells (in order of address).
+/// An abstract state: a set of machine states. Contracts see its core, its items (the bytes that were pushed, the
+/// oldest first) and its cells (in order of address).
 #[derive(Drop)]
 pub struct Abs {
     core: Core,
-    items: ArrayVec<Item, 16>,
+    items: ArrayVec<Val, 32>,
     cells: ArrayVec<Cell, 32>,
 }
 
@@ -37,7 +37,7 @@ impl Abs {
     }
 
     /// A state of these parts.
-    pub fn of_parts(core: Core, items: ArrayVec<Item, 16>, cells: ArrayVec<Cell, 32>) -> Abs
+    pub fn of_parts(core: Core, items: ArrayVec<Val, 32>, cells: ArrayVec<Cell, 32>) -> Abs
         ensures { result ≡ record { core = core; items = items.items; cells = cells.items } }
     {
         Abs { core, items, cells }
@@ -49,10 +49,10 @@ impl Abs {
         &self.core
     }
 
-    /// The words that were pushed, the oldest first.
-    pub fn items(&self) -> &[Item]
+    /// The bytes that were pushed, the oldest first.
+    pub fn items(&self) -> &[Val]
         ensures items { result.now ≡ self.now.items }
-        ensures few { length self.now.items ≤ 16 }
+        ensures few { length self.now.items ≤ 32 }
     {
         self.items.as_slice()
     }
@@ -90,7 +90,7 @@ impl Abs {
     }
 
     /// It gets other items. Its core and cells stay.
-    pub fn set_items(&mut self, items: ArrayVec<Item, 16>)
+    pub fn set_items(&mut self, items: ArrayVec<Val, 32>)
         ensures { self.new ≡ record self.old { items = items.items } }
     {
         self.items = items;

@@ -5,4 +5,7 @@
 #![tactic(auto)]
 
 mod abs;
+pub mod pairs;
+pub mod places;
+pub mod relations;
 pub mod types;

@@ -1,7 +1,7 @@
 //! What a certificate is made of: values, the core of a state, items, cells and ranges.
 
 ghost use Rattle.std.specs.Prelude.{◌≡◌};
-ghost use Rattle.gb_domain.specs.Types.{any_item, any_cell, least_range};
+ghost use Rattle.gb_domain.specs.Types.{any_val, any_cell, least_range};
 
 pub use crate::abs::Abs;
 use gb_ops::op::Register;
@@ -10,8 +10,8 @@ use gb_ops::registers::Registers;
 /// The most memory cells that a state holds.
 pub const CELLS: usize = 32;
 
-/// The most stack items that a state holds.
-pub const ITEMS: usize = 16;
+/// The most bytes of the stack that a state holds.
+pub const ITEMS: usize = 32;
 
 /// The most ranges that a procedure declares.
 pub const RANGES: usize = 8;
@@ -70,9 +70,9 @@ pub struct Ctl {
     pub is_kept: bool,
 }
 
-/// A word that was pushed.
+/// A word, by its bytes.
 #[derive(Clone, Copy, PartialEq, Eq)]
-pub struct Item {
+pub struct Halves {
     pub high: Val,
     pub low: Val,
 }
@@ -84,19 +84,15 @@ pub struct Cell {
     pub val: Val,
 }
 
-impl Default for Item {
-    ghost is_default = { λ i. i ≡ any_item };
+impl Default for Val {
+    ghost is_default = { λ v. v ≡ any_val };
 
-    /// Any word.
-    fn default() -> Item {
-        let any = Val {
+    /// Any byte.
+    fn default() -> Val {
+        Val {
             lo: 0,
             hi: 255,
             origin: None,
-        };
-        Item {
-            high: any,
-            low: any,
         }
     }
 }

@@ -1,4 +1,4 @@
-//! Certificates from finished runs of the maker's fixpoint: the words of stack that procedures need, the order in
+//! Certificates from finished runs of the maker's fixpoint: the bytes of stack that procedures need, the order in
 //! which calls find their own procedures, the nodes that are not spare, and the bytes. The checker judges what comes
 //! out. Every function is proved safe and to return.
 //!

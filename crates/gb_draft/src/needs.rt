@@ -1,4 +1,4 @@
-//! The words of stack that procedures need.
+//! The bytes of stack that procedures need.
 
 use gb_fixpoint::types::{Call, Run};
 use std::alloc::{AllocError, Global};
@@ -7,10 +7,10 @@ use std::collections::{BTreeMap, BTreeSet};
 /// The most procedures of a certificate.
 const PROCEDURES: usize = 255;
 
-/// For each call the most words that its sites hold.
+/// For each call the most bytes that its sites hold.
 type Held = BTreeMap<Call, usize>;
 
-/// Finds the least needs of a run's procedures: the words that a procedure's own nodes hold, and at each call those, the
+/// Finds the least needs of a run's procedures: the bytes that a procedure's own nodes hold, and at each call those, the
 /// return word and the callee's need. Some where there are none: the number of a procedure on a cycle of calls.
 pub fn find_needs(alloc: Global, run: &mut Run<'_>) -> Result<Option<usize>, AllocError> {
     let held = held_at_calls(alloc, run)?;
@@ -31,7 +31,7 @@ fn held_at_calls(alloc: Global, run: &Run<'_>) -> Result<Held, AllocError> {
     Ok(held)
 }
 
-/// The words that the sites of a procedure hold.
+/// The bytes that the sites of a procedure hold.
 fn add_held(
     run: &Run<'_>,
     callee: usize,
@@ -41,15 +41,15 @@ fn add_held(
     for site in sites {
         if let Some(node) = run.nodes.get(*site) {
             let caller = node.key.procedure;
-            let words = node.state.items().len();
+            let bytes = node.state.items().len();
             let most = held.entry(Call { caller, callee })?.or_insert(0);
-            *most = words.max(*most);
+            *most = bytes.max(*most);
         }
     }
     Ok(())
 }
 
-/// Each procedure needs the words that its own nodes hold.
+/// Each procedure needs the bytes that its own nodes hold.
 fn set_own_needs(run: &mut Run<'_>) {
     for node in &run.nodes {
         if let Some(procedure) = run.procedures.get_mut(node.key.procedure) {
@@ -61,7 +61,7 @@ fn set_own_needs(run: &mut Run<'_>) {
 /// What a caller needs at a call.
 fn need_at(run: &Run<'_>, call: &Call, held: usize) -> usize {
     match run.procedures.get(call.callee) {
-        Some(callee) => held.saturating_add(1).saturating_add(callee.need),
+        Some(callee) => held.saturating_add(2).saturating_add(callee.need),
         None => 0,
     }
 }
@@ -69,8 +69,8 @@ fn need_at(run: &Run<'_>, call: &Call, held: usize) -> usize {
 /// Raises each caller's need to what its calls need. True where one was raised.
 fn raise_needs(run: &mut Run<'_>, held: &Held) -> bool {
     let mut is_raised = false;
-    for (call, words) in held {
-        let need = need_at(run, call, *words);
+    for (call, bytes) in held {
+        let need = need_at(run, call, *bytes);
         if let Some(caller) = run.procedures.get_mut(call.caller)
             && caller.need < need
         {
@@ -83,8 +83,8 @@ fn raise_needs(run: &mut Run<'_>, held: &Held) -> bool {
 
 /// A caller whose need would be raised again.
 fn raised_need(run: &Run<'_>, held: &Held) -> Option<usize> {
-    for (call, words) in held {
-        let need = need_at(run, call, *words);
+    for (call, bytes) in held {
+        let need = need_at(run, call, *bytes);
         if let Some(caller) = run.procedures.get(call.caller)
             && caller.need < need
         {

@@ -9,7 +9,7 @@ use gb_samples::programs::LOOP;
 use gb_samples::states::{ANY, copy_of};
 use gb_verify::check::{check, verdict_ignores_version};
 use gb_verify::verdict::Verdict;
-use gb_verify::{Cell, Item, Rom};
+use gb_verify::{Cell, Rom};
 use std::alloc::{AllocError, Global};
 use std::test::Fail;
 
@@ -110,17 +110,14 @@ fn has_item_and_cell(cert: &Cert<'_>) -> bool {
     }
     let node = cert.node(2);
     let state = node.state();
-    let word = Item {
-        high: copy_of(Register::B, 1, 2),
-        low: ANY,
-    };
+    let word = [copy_of(Register::B, 1, 2), ANY];
     let byte = Cell {
         address: 0xC123,
         val: copy_of(Register::A, 5, 6),
     };
     node.items() == ITEM.as_slice()
         && node.cells() == CELL.as_slice()
-        && state.items() == [word].as_slice()
+        && state.items() == word.as_slice()
         && state.cells() == [byte].as_slice()
 }
 
@@ -241,7 +238,7 @@ fn has_the_most(cert: &Cert<'_>) -> bool {
     }
     let state = cert.node(254).state();
     cert.procedure(254).ranges().as_slice().len() == 8
-        && state.items().len() == 16
+        && state.items().len() == 32
         && state.cells().len() == 32
 }
 

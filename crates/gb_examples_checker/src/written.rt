@@ -5,7 +5,7 @@ use gb_abs::stack::push;
 use gb_cert::{
     Cert, NodePlan, NodeRef, ProcedurePlan, ProcedureRef, Version, WriteFault, write_certificate,
 };
-use gb_domain::types::{Abs, Cell, Core, Ctl, Flg, ImeSet, Item, Origin, Range, Val};
+use gb_domain::types::{Abs, Cell, Core, Ctl, Flg, Halves, ImeSet, Origin, Range, Val};
 use gb_ops::machine::Region;
 use gb_ops::op::Register;
 use gb_ops::registers::Registers;
@@ -80,16 +80,19 @@ const OF_H: Val = Val {
     origin: Some(Origin::Register(Register::H)),
 };
 
-const WORDS: &[Item] = &[
-    Item {
+const WORDS: &[Halves] = &[
+    Halves {
         high: OF_H,
         low: ANY,
     },
-    Item {
+    Halves {
         high: ANY,
         low: OF_H,
     },
 ];
+
+/// The bytes of these words.
+const ITEMS: &[Val] = &[OF_H, ANY, ANY, OF_H];
 
 const CELLS: &[Cell] = &[
     Cell {
@@ -102,10 +105,11 @@ const CELLS: &[Cell] = &[
     },
 ];
 
-/// A state: whether its core is the one above or a procedure's entry, its words, and its cells.
+/// A state: whether its core is the one above or a procedure's entry, the words that are pushed, their bytes, and its cells.
 struct State {
     is_full: bool,
-    items: &'static [Item],
+    words: &'static [Halves],
+    items: &'static [Val],
     cells: &'static [Cell],
 }
 
@@ -126,13 +130,13 @@ struct Node {
 const PROCEDURES: &[Procedure] = &[
     Procedure {
         entry: 1,
-        need: 0x0003,
+        need: 0x0006,
         ranges: &[],
         exit: None,
     },
     Procedure {
         entry: 2,
-        need: 0x0123,
+        need: 0x0246,
         ranges: &[
             Range {
                 first: 0xC001,
@@ -145,6 +149,7 @@ const PROCEDURES: &[Procedure] = &[
         ],
         exit: Some(State {
             is_full: true,
+            words: &[],
             items: &[],
             cells: CELLS,
         }),
@@ -158,7 +163,8 @@ const NODES: &[Node] = &[
         bank: 0x0000,
         state: State {
             is_full: true,
-            items: WORDS,
+            words: WORDS,
+            items: ITEMS,
             cells: &[],
         },
     },
@@ -168,6 +174,7 @@ const NODES: &[Node] = &[
         bank: 0x0000,
         state: State {
             is_full: false,
+            words: &[],
             items: &[],
             cells: CELLS,
         },
@@ -178,7 +185,8 @@ const NODES: &[Node] = &[
         bank: 0x01F2,
         state: State {
             is_full: true,
-            items: WORDS,
+            words: WORDS,
+            items: ITEMS,
             cells: CELLS,
         },
     },
@@ -190,8 +198,8 @@ fn core_of(state: &State) -> Core {
 
 fn made(plain: &State) -> Abs {
     let mut state = Abs::new(core_of(plain));
-    for item in plain.items {
-        if let Some(above) = push(&state, *item) {
+    for word in plain.words {
+        if let Some(above) = push(&state, *word) {
             state = above;
         }
     }
@@ -398,14 +406,14 @@ const LIMITS: &[(Amounts, Option<WriteFault>)] = &[
     (Amounts { ranges: 9, ..LEAST }, Some(WriteFault::Ranges)),
     (
         Amounts {
-            need: 4_096,
+            need: 8_192,
             ..LEAST
         },
         None,
     ),
     (
         Amounts {
-            need: 4_097,
+            need: 8_194,
             ..LEAST
         },
         Some(WriteFault::Need),

@@ -5,7 +5,7 @@ use gb_abs::covering::{cell_at, covers, covers_val};
 use gb_abs::operations::{end, settle, with_value};
 use gb_abs::span::Span;
 use gb_abs::stack::{pop, push};
-use gb_domain::types::{Abs, Cell, Core, ImeSet, Item, Val};
+use gb_domain::types::{Abs, Cell, Core, Halves, ImeSet, Val};
 use gb_ops::op::Register;
 use gb_samples::states::{ANY, copy_of, entered, from_to, own};
 
@@ -29,8 +29,8 @@ fn with_cells_up_to(count: u16) -> Abs {
     state
 }
 
-fn word(high: u8, low: u8) -> Item {
-    Item {
+fn word(high: u8, low: u8) -> Halves {
+    Halves {
         high: up_to(high),
         low: up_to(low),
     }
@@ -131,13 +131,13 @@ fn at_most_16_words(rt: HostRuntime) {
         };
         state = more;
     }
-    assert!(rt; state.items().len() == 16);
+    assert!(rt; state.items().len() == 32);
     assert!(rt; push(&state, word(16, 100)).is_none());
     for i in 0..16 {
         let Some(popped) = pop(&state) else {
             panic!(rt; "no word {i}");
         };
-        assert!(rt; popped.item == word(15 - i, 100));
+        assert!(rt; popped.word == word(15 - i, 100));
         state = popped.state;
     }
     assert!(rt; pop(&state).is_none());

@@ -6,7 +6,7 @@ ghost use Rattle.gb_explain.specs.Noted.{IsNoted};
 
 use crate::difference::{Difference, Known, Part};
 use gb_abs::covering::{cell_at, covers_ime, covers_may, covers_origin, covers_test, covers_val};
-use gb_abs::{Abs, Cell, Core, Ctl, Flg, Item, May, Val};
+use gb_abs::{Abs, Cell, Core, Ctl, Flg, May, Val};
 use gb_ops::op::Register;
 use gb_ops::registers::Registers;
 
@@ -29,13 +29,22 @@ fn known_vals(s: &Val, t: &Val) -> (Known, Known) {
     }
 }
 
-/// How many words there are, where these begin with the word of a number.
-fn counts(number: usize, s: &[Item], t: &[Item]) -> (Known, Known) {
-    let before = number.wrapping_sub(1);
+/// How many words there are, where these are the bytes from one with a number on.
+fn counts(number: usize, s: &[Val], t: &[Val]) -> (Known, Known) {
     (
-        Known::Count(before.wrapping_add(s.len())),
-        Known::Count(before.wrapping_add(t.len())),
+        Known::Count(number.wrapping_add(s.len()) / 2),
+        Known::Count(number.wrapping_add(t.len()) / 2),
     )
+}
+
+/// A byte of the stack, by its number: of which word, and which of its two.
+fn byte_part(number: usize) -> Part {
+    let word = number / 2;
+    if number % 2 == 0 {
+        Part::HighByte(word.wrapping_add(1))
+    } else {
+        Part::LowByte(word.wrapping_add(1))
+    }
 }
 
 impl Differences {
@@ -165,8 +174,8 @@ impl Differences {
         self.note(covers_test(s.test, t.test), Part::Test, tests);
     }
 
-    /// Words of both, from that with a number on.
-    fn note_words(&mut self, number: usize, s: &[Item], t: &[Item])
+    /// Bytes of both, from that with a number on.
+    fn note_items(&mut self, number: usize, s: &[Val], t: &[Val])
         ensures { IsNoted self.old.count self.new.count (Covering.covers_items s.now t.now) }
     {
         let Some((first, rest)) = s.split_first() else {
@@ -177,9 +186,8 @@ impl Differences {
             self.note(false, Part::Words, counts(number, s, t));
             return;
         };
-        self.note_val(Part::HighByte(number), &first.high, &other.high);
-        self.note_val(Part::LowByte(number), &first.low, &other.low);
-        self.note_words(number.wrapping_add(1), rest, others);
+        self.note_val(byte_part(number), first, other);
+        self.note_items(number.wrapping_add(1), rest, others);
     }
 
     #[tactic(auto, unfolding(gb_abs::specs::Covering::covers_cells))]
@@ -199,7 +207,7 @@ impl Differences {
         ensures { IsNoted self.old.count self.new.count (Covering.covers s.now t.now) }
     {
         self.note_core(s.core(), t.core());
-        self.note_words(1, s.items(), t.items());
+        self.note_items(0, s.items(), t.items());
         self.note_cells(s.cells(), t.cells());
     }
 

@@ -24,19 +24,18 @@ fn plain(obstacle: Obstacle) -> Finding {
 
 /// The words that PUSH would hold, where they are too many.
 fn push_finding(cert: &Cert<'_>, procedure: u8, state: &Abs) -> Option<Finding> {
-    let words = state.items().len() + 1;
+    let bytes = state.items().len() + 2;
+    let words = Words(bytes / 2);
     let need = need_of(cert, procedure);
-    if usize::from(need) < words {
+    if usize::from(need) < bytes {
         return Some(plain(Obstacle::PushOverNeed {
-            words: Words(words),
+            words,
             procedure,
-            need,
+            need: need / 2,
         }));
     }
-    if ITEMS < words {
-        return Some(plain(Obstacle::PushOverState {
-            words: Words(words),
-        }));
+    if ITEMS < bytes {
+        return Some(plain(Obstacle::PushOverState { words }));
     }
     None
 }
@@ -47,17 +46,17 @@ fn call_finding(cert: &Cert<'_>, procedure: u8, successor: &Successor<'_>) -> Op
     let held = successor.state().items().len();
     let need = need_of(cert, procedure);
     let wanted = need_of(cert, callee);
-    let sum = held + 1 + usize::from(wanted);
+    let sum = held + 2 + usize::from(wanted);
     if sum <= usize::from(need) {
         return None;
     }
     Some(plain(Obstacle::Call {
-        held: Words(held),
+        held: Words(held / 2),
         callee,
-        wanted,
-        sum,
+        wanted: wanted / 2,
+        sum: sum / 2,
         procedure,
-        need,
+        need: need / 2,
     }))
 }
 
@@ -218,7 +217,9 @@ fn callee_finding(cert: &Cert<'_>, procedure: u8, successor: &Successor<'_>) -> 
 fn exit_finding(procedure: u8, state: &Abs, exit: &Abs) -> Option<Finding> {
     let held = state.items().len();
     if held != 0 {
-        return Some(plain(Obstacle::Words { held: Words(held) }));
+        return Some(plain(Obstacle::Words {
+            held: Words(held / 2),
+        }));
     }
     if covers(state, exit) {
         return None;

@@ -21,6 +21,6 @@ range_limit = 8
 abbrev pub cell_limit : ℕ
 cell_limit = 32
 
--- stack items of a state
+-- words on the stack of a state: two items each
 abbrev pub item_limit : ℕ
 item_limit = 16

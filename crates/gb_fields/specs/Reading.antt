@@ -72,9 +72,12 @@ is_below limit n = nat_lt n limit
 unfoldable pub entry_at : ℕ → ℕ → Read ℕ
 entry_at version nodes = checked fault.Field (is_below nodes) (node_number version)
 
--- the words of stack that it needs below its return word
+abbrev pub double : ℕ → ℕ
+double n = 2 * n
+
+-- the bytes of stack that it needs below its return word, which are spelled as words
 unfoldable pub need_at : Bool → Region → Read ℕ
-need_at is_main region = checked fault.Region (fits is_main region) (word_between 0 4096)
+need_at is_main region = checked fault.Region (fits is_main region) (mapped double (word_between 0 4096))
 
 -- a procedure's number that exists and isn't smaller than the one before; then an address that isn't smaller in the same procedure
 unfoldable pub key_at : ℕ → ℕ × ℕ → Read (ℕ × ℕ)

@@ -2,12 +2,11 @@
 
 ghost use Rattle.std.specs.Prelude.{◌≡◌, ◌&&◌, ◌-◌, ◌%◌, nat_le};
 ghost use Rattle.gb_fields.specs.Format.{Gives};
-ghost use Rattle.gb_fields.specs.Limits.{node_limit};
 ghost use Rattle.gb_domain.specs.Areas.{is_area};
 ghost use Rattle.gb_fields.specs.Reading.{is_region, region_at, node_count_at, head_at};
 
 use crate::fault::CertFault;
-use crate::limits::PROCEDURE_LIMIT;
+use crate::limits::{PROCEDURE_LIMIT, node_limit};
 use crate::numbers::{byte, count_within, node_number, word};
 use gb_ops::machine::Region;
 
@@ -40,14 +39,6 @@ fn region_at(bytes: &[u8]) -> Result<(Region, &[u8]), CertFault>
         return Err(CertFault::Region);
     }
     Ok((Region { first, last }, rest))
-}
-
-/// The most nodes of a certificate of this version.
-#[tactic(auto, unfolding(crate::specs::Limits::node_limit))]
-fn node_limit(version: u8) -> u32
-    ensures { result ≡ node_limit version }
-{
-    if version == 1 { 65_535 } else { 1_048_576 }
 }
 
 /// How many nodes there are, by the version.

@@ -2,10 +2,11 @@
 
 ghost use Rattle.std.specs.Prelude.{◌≡◌, nat_le};
 ghost use Rattle.gb_fields.specs.Format.{Gives, both, byte};
-ghost use Rattle.gb_fields.specs.Rules.{words, fits};
+ghost use Rattle.gb_fields.specs.Rules.{size, fits};
 ghost use Rattle.gb_fields.specs.Reading.{word, returns_at, entry_at, need_at, key_at};
 
 use crate::fault::CertFault;
+use crate::limits::WORD_LIMIT;
 use crate::numbers::{byte, node_number, word, word_between, yes_no};
 use gb_ops::machine::Region;
 
@@ -13,7 +14,7 @@ use gb_ops::machine::Region;
 fn fits(is_main: bool, region: Region, need: u16) -> bool
     ensures { result ≡ fits is_main region need }
 {
-    !is_main || need as u32 <= (region.last.saturating_sub(region.first) as u32 + 1) / 2
+    !is_main || need as u32 <= region.last.saturating_sub(region.first) as u32 + 1
 }
 
 /// The number of a procedure's first node, one of so many.
@@ -28,12 +29,13 @@ pub fn entry_at(version: u8, nodes: u32, bytes: &[u8]) -> Result<(u32, &[u8]), C
     Ok((entry, rest))
 }
 
-/// The words of stack that a procedure needs.
+/// The bytes of stack that a procedure needs.
 #[tactic(auto, unfolding(crate::specs::Reading::need_at))]
 pub fn need_at(is_main: bool, region: Region, bytes: &[u8]) -> Result<(u16, &[u8]), CertFault>
     ensures { Gives (λ x. (x.0, x.1.now)) result (need_at is_main region bytes.now) }
 {
-    let (need, rest) = word_between(0, 4096, bytes)?;
+    let (words, rest) = word_between(0, WORD_LIMIT, bytes)?;
+    let need = 2 * words;
     if !fits(is_main, region, need) {
         return Err(CertFault::Region);
     }

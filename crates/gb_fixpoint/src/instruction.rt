@@ -43,7 +43,7 @@ fn misuse(state: &Abs, op: Op) -> Option<StackMisuse> {
     match op {
         Op::Push(_) | Op::CallIf(_, _) | Op::Call(_) | Op::Restart(_) | Op::Pop(_)
             if !state.core().stack_set => { Some(StackMisuse::NotSet) }
-        Op::Pop(_) if state.items().is_empty() => Some(StackMisuse::PopsReturnWord),
+        Op::Pop(_) if state.items().len() < 2 => Some(StackMisuse::PopsReturnWord),
         Op::IncrementPair(Pair::Sp) | Op::DecrementPair(Pair::Sp) | Op::AddSp(_) | Op::LoadSpHl =>
             Some(StackMisuse::Moved),
         _ => None,

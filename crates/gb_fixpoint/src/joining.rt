@@ -2,7 +2,7 @@
 
 use arrayvec::ArrayVec;
 use gb_ops::registers::Registers;
-use gb_verify::{Abs, Cell, Core, Ctl, Flg, ImeSet, Item, May, Origin, Val, any};
+use gb_verify::{Abs, Cell, Core, Ctl, Flg, ImeSet, May, Origin, Val, any};
 
 /// The origin of both, if it is one.
 fn join_origin(a: Option<Origin>, b: Option<Origin>) -> Option<Origin> {
@@ -84,14 +84,11 @@ pub fn join_core(a: &Core, b: &Core) -> Core {
     }
 }
 
-/// The words of both, as far as both have them.
-fn join_items(a: &[Item], b: &[Item]) -> ArrayVec<Item, 16> {
+/// The bytes of both, as far as both have them.
+fn join_items(a: &[Val], b: &[Val]) -> ArrayVec<Val, 32> {
     let mut items = ArrayVec::new();
     for (first, second) in a.iter().zip(b) {
-        let _ = items.try_push(Item {
-            high: join_val(first.high, second.high),
-            low: join_val(first.low, second.low),
-        });
+        let _ = items.try_push(join_val(*first, *second));
     }
     items
 }

@@ -176,7 +176,7 @@ pub fn refusal(
     ways: &Successors<'_>,
 ) -> Option<Refusal> {
     let core = state.core();
-    if matches!(row.op, Op::Push(_)) && state.items().len() >= ITEMS {
+    if matches!(row.op, Op::Push(_)) && state.items().len() + 2 > ITEMS {
         return Some((Cause::PushesTooMany, RegisterSet::empty()));
     }
     if ways.store_outside(rom.kind(), region, &RAM) {

@@ -84,7 +84,7 @@ impl<'a> Run<'a> {
         if procedure == 0 {
             return Err(Run::failure(number, Cause::ReturnInMain, RegisterSet::empty()));
         }
-        let words = state.items().len();
+        let words = state.items().len() / 2;
         if words != 0 {
             let cause = Cause::ReturnWithWords { words };
             return Err(Run::failure(number, cause, RegisterSet::empty()));

@@ -3,7 +3,7 @@
 use crate::joining::join;
 use arrayvec::ArrayVec;
 use gb_ops::registers::Registers;
-use gb_verify::{Abs, Cell, Core, Item, Val, any, cell_at};
+use gb_verify::{Abs, Cell, Core, Val, any, cell_at};
 use std::collections::BTreeSet;
 
 /// The values at which growing bounds stop: 0, 255 and some more.
@@ -96,13 +96,10 @@ impl Steps {
         }
     }
 
-    fn widen_items(&self, old: &[Item], new: &[Item]) -> ArrayVec<Item, 16> {
+    fn widen_items(&self, old: &[Val], new: &[Val]) -> ArrayVec<Val, 32> {
         let mut items = ArrayVec::new();
         for (before, after) in old.iter().zip(new) {
-            let _ = items.try_push(Item {
-                high: self.widen_val(before.high, after.high),
-                low: self.widen_val(before.low, after.low),
-            });
+            let _ = items.try_push(self.widen_val(*before, *after));
         }
         items
     }

@@ -121,11 +121,11 @@ impl Search {
         }
     }
 
-    /// Whether a POP at a spot may take what a node pushes, by their numbers of words.
-    fn may_take(run: &Run<'_>, pop: Spot, words: usize) -> bool {
+    /// Whether a POP at a spot may take what a node pushes, by their numbers of bytes.
+    fn may_take(run: &Run<'_>, pop: Spot, bytes: usize) -> bool {
         for number in run.nodes_at(pop) {
             if let Some(node) = run.nodes.get(*number) {
-                if node.state.items().len() == words.saturating_add(1) {
+                if node.state.items().len() == bytes.saturating_add(2) {
                     return true;
                 }
             }

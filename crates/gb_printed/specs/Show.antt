@@ -1,5 +1,5 @@
 -- The lines of a certificate (own texts).
-use Rattle.std.specs.Prelude.{ℕ, ◌+◌, List, [], ◌∷◌, ◌++◌, length, drop, codes, decimal, is_some}
+use Rattle.std.specs.Prelude.{ℕ, ◌+◌, ◌/◌, List, [], ◌∷◌, ◌++◌, length, drop, codes, decimal, is_some}
 use Rattle.gb_console.specs.Below.gb_domain.Types.{ProcedureParts, Node}
 use Rattle.gb_console.specs.Below.gb_domain.Certificate.{Certificate}
 use Rattle.gb_text.specs.Text.{line_feed, hex_word}
@@ -18,7 +18,7 @@ stack_text c =
 -- a procedure with its number: its first node, the words of stack that it needs, how many ranges it declares, whether it returns
 unfoldable pub procedure_text : ℕ → ProcedureParts → List ℕ
 procedure_text i p =
-    codes "procedure " ++ decimal i ++ codes " entry " ++ decimal p.entry ++ codes " need " ++ decimal p.need
+    codes "procedure " ++ decimal i ++ codes " entry " ++ decimal p.entry ++ codes " need " ++ decimal (p.need / 2)
     ++ codes " ranges " ++ decimal (length p.ranges) ++ codes " returns " ++ yes_or_no (is_some p.exit) ++ line_feed
 
 -- a node with its number: its procedure, its address and its bank

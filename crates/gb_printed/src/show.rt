@@ -61,7 +61,7 @@ fn procedure_line(number: u8, procedure: &ProcedureRef<'_>) -> Line
     line.push_text(b" entry ");
     line.push_number(u64::from(procedure.entry()));
     line.push_text(b" need ");
-    push_small(&mut line, procedure.need());
+    push_small(&mut line, procedure.need() / 2);
     line.push_text(b" ranges ");
     push_small(&mut line, procedure.ranges().len() as u16);
     line.push_text(b" returns ");

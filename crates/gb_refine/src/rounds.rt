@@ -356,7 +356,7 @@ impl<'a> Refinement<'a> {
     /// Whether the stack region is large enough for main, or can be made so.
     fn learn_needs(&self, run: &Run<'_>) -> Result<Lesson, AllocError> {
         let words = match run.procedures.first() {
-            Some(main) => main.need.max(1),
+            Some(main) => (main.need / 2).max(1),
             None => 1,
         };
         let region = self.configuration.region;

@@ -69,7 +69,7 @@ fn put_state(object: &mut Object, state: &Abs) -> Result<(), AllocError> {
     let ctl = core.ctl;
     put_values(object, state)?;
     object.put_pair("bank", u64::from(ctl.bank_lo), u64::from(ctl.bank_hi))?;
-    object.put_number("words", state.items().len() as u64)?;
+    object.put_number("words", (state.items().len() / 2) as u64)?;
     object.put_text("interrupts", ime_text(core.ime))?;
     object.put_text("gate", gate_text(ctl.gate))
 }

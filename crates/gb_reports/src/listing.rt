@@ -39,7 +39,7 @@ fn fmt_procedure<W: fmt::Write>(
         return Ok(());
     }
     let procedure = listing.cert.procedure(number);
-    let need = procedure.need();
+    let need = procedure.need() / 2;
     let returns = if procedure.exit().is_some() {
         "returns"
     } else {
@@ -61,7 +61,7 @@ fn fmt_registers<W: fmt::Write>(state: &Abs, f: &mut fmt::Formatter<W>) -> fmt::
 
 /// How many words were pushed, to the end of the line.
 fn fmt_words<W: fmt::Write>(state: &Abs, f: &mut fmt::Formatter<W>) -> fmt::Result {
-    let words = state.items().len();
+    let words = state.items().len() / 2;
     write!(f, ", words {words}\n")
 }
 

@@ -124,7 +124,7 @@ pub fn fmt_core<W: fmt::Write>(core: &Core, f: &mut fmt::Formatter<W>) -> fmt::R
 
 /// How many words were pushed.
 fn fmt_words<W: fmt::Write>(state: &Abs, f: &mut fmt::Formatter<W>) -> fmt::Result {
-    let words = state.items().len();
+    let words = state.items().len() / 2;
     write!(f, ", pushed words: {words}")
 }
 

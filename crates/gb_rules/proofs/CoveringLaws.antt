@@ -6,7 +6,7 @@ use Rattle.std.proofs.lemmas.List.Folds.{Any-from_list_any}
 use Rattle.gb_ops.specs.declared.op.Register.{Register}
 use Rattle.gb_ops.specs.Registers.{get}
 use Rattle.gb_ops.specs.Play.{MState}
-use Rattle.gb_domain.specs.declared.types.Item.{Item}
+use Rattle.gb_domain.specs.declared.types.Val.{Val}
 use Rattle.gb_domain.specs.Types.{AbsState, Node}
 use Rattle.gb_domain.specs.Certificate.{Certificate}
 use Rattle.gb_abs.specs.Covering.{covers, covers_items}
@@ -15,7 +15,7 @@ use Rattle.gb_abs.proofs.CoveringLaws.{Means-covered}
 use Rattle.gb_abs.proofs.OperationLaws.{Means-with_value}
 use Rattle.gb_rules.specs.Covered.{is_cover, is_covered_by_one, is_covered_by_values, with_value, all_from, count_of, registers, covered_at}
 
-items_counted : (s t : List Item) → covers_items s t ≡ true → length t ≡ length s
+items_counted : (s t : List Val) → covers_items s t ≡ true → length t ≡ length s
 items_counted [] [] h = refl
 items_counted [] (t ∷ ts) h = cc
 items_counted (s ∷ ss) [] h = cc

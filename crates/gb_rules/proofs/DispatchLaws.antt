@@ -37,14 +37,14 @@ use Rattle.gb_calls.specs.Interrupts.{only_off, dispatched, may_come, handler_of
 use Rattle.gb_calls.proofs.CalleeLaws.{IsCallee-found, IsEntryNode-entry}
 use Rattle.gb_code.specs.Places.{IsCertified}
 use Rattle.gb_successors.specs.Behind.{ended}
-use Rattle.gb_successors.specs.Words.{word_item}
+use Rattle.gb_successors.specs.Below.gb_abs_effects.Pairs.{known_word}
 use Rattle.gb_successors.proofs.StackWayLaws.{not_pushed}
 use Rattle.gb_successors.proofs.SuccessorLaws.{Means-ended, passed_peek}
 use Rattle.gb_rules.specs.Covered.{covered_at}
 use Rattle.gb_rules.specs.Procedures.{ranges_of, need_of, exit_of}
 use Rattle.gb_rules.specs.Safety.{IsAt, Calls, IsSafeEvent}
 use Rattle.gb_rules.proofs.SearchLaws.{Contains-slice_get}
-use Rattle.gb_rules.proofs.NodeLaws.{IsNodeState-node, fewer_words}
+use Rattle.gb_rules.proofs.NodeLaws.{IsNodeState-node, fewer_bytes}
 use Rattle.gb_rules.proofs.WayLaws.{is_own, same_number}
 use Rattle.gb_rules.proofs.EventLaws.{IsSafeHappening, IsSafeEvent-where}
 
@@ -145,29 +145,29 @@ MeansCore-masked s entry x i m = record {
 }
 
 record IsDispatched (rom : List ℕ) (cert : Certificate) (n : Node) (entry : MState) (base : ℕ) (x : MState) (i : ℕ) : Type 0 where
-  means : Means (pushed (word_item n.address) (dispatched n.state)) entry base (left_by rom x i n.address)
+  means : Means (pushed (known_word n.address) (dispatched n.state)) entry base (left_by rom x i n.address)
   faults : store_faults cert.region (view rom x false) (write.Push x.processor.sp n.address) ≡ no_faults
   kept : (b : ℕ) → IsKept cert.region (ranges_of cert n.procedure) base b → peek (left_by rom x i n.address).storage b ≡ peek x.storage b
 
-pushed_ended : (s : AbsState) (a : ℕ) → ended false 5 (pushed (word_item a) (with_core s (masked s.core))) ≡ pushed (word_item a) (dispatched s)
+pushed_ended : (s : AbsState) (a : ℕ) → ended false 5 (pushed (known_word a) (with_core s (masked s.core))) ≡ pushed (known_word a) (dispatched s)
 unfolding ended pushed dispatched
 pushed_ended s a = refl
 
 is_dispatched : (rom : List ℕ) (cert : Certificate) (n : Node) (entry : MState) (base : ℕ) (x : MState) (i : ℕ) → IsAt rom cert n entry base x → Contains cert.nodes n → IsCertificate cert
-    → n.state.core.stack_set ≡ true → (n.state.core.bound ≡ 0) ⊎ (0xFF80 ≤ cert.region.first) → length n.state.items + 1 ≤ need_of cert n.procedure → IsDispatched rom cert n entry base x i
+    → n.state.core.stack_set ≡ true → (n.state.core.bound ≡ 0) ⊎ (0xFF80 ≤ cert.region.first) → length n.state.items + 2 ≤ need_of cert n.procedure → IsDispatched rom cert n entry base x i
 is_dispatched rom cert n entry base x i at is_node certificate set unlimited held =
     let s = IsNodeState-node cert n certificate is_node in
-    let room = fewer_words cert.region base (need_of cert n.procedure) (length n.state.items + 1) at.room held in
+    let room = fewer_bytes cert.region base (need_of cert n.procedure) (length n.state.items + 2) at.room held in
     let top = at.means.stack set in
     let y : MState = record { processor = in_handler x.processor i; storage = x.storage } in
     let core = MeansCore-masked n.state.core entry x i at.means.core in
     let means : Means (with_core n.state (masked n.state.core)) entry base y = Means-with_core n.state (masked n.state.core) entry base x y at.means core refl refl refl (λ on. on) in
     let done =
-    Means-pushed cert.region (with_core n.state (masked n.state.core)) entry base y (view rom x false) (word_item n.address) n.address means refl set room s.is_region s.placed
+    Means-pushed cert.region (with_core n.state (masked n.state.core)) entry base y (view rom x false) (known_word n.address) n.address means refl set room s.is_region s.placed
     (IsRegionOpen-bound n.state.core entry x cert.region at.means.core unlimited) (Holds-single (n.address / 256) entry) (Holds-single (n.address % 256) entry) s.address in
     record {
       means = subst (λ z. Means z entry base (left_by rom x i n.address)) (pushed_ended n.state n.address)
-          (Means-ended rom (pushed (word_item n.address) (with_core n.state (masked n.state.core))) entry base (left_by rom x i n.address).processor (stored (view rom x false) (write.Push x.processor.sp n.address)) false 5 done.starting done.means);
+          (Means-ended rom (pushed (known_word n.address) (with_core n.state (masked n.state.core))) entry base (left_by rom x i n.address).processor (stored (view rom x false) (write.Push x.processor.sp n.address)) false 5 done.starting done.means);
       faults = done.faults;
       kept = λ b kept. passed_peek (stored (view rom x false) (write.Push x.processor.sp n.address)) 5 b
           ∙ done.others b kept.ram (not_pushed cert.region base x.processor.sp (length n.state.items) (x.processor.sp - 1) b room top (inl refl) kept.above)
@@ -194,7 +194,7 @@ handler_is cert i s = refl
 
 handled : (rom : List ℕ) (cert : Certificate) (n : Node) (entry : MState) (base : ℕ) (x : MState) (i q : ℕ) → IsAt rom cert n entry base x → Contains cert.nodes n → IsCertificate cert
     → IsDispatched rom cert n entry base x i → x.processor.halt_mark ≡ false → n.state.core.stack_set ≡ true → handler_of cert i n.state ≡ Some q
-    → are_ranges_inside (ranges_of cert q) (ranges_of cert n.procedure) ≡ true → length n.state.items + 1 + need_of cert q ≤ need_of cert n.procedure
+    → are_ranges_inside (ranges_of cert q) (ranges_of cert n.procedure) ≡ true → length n.state.items + 2 + need_of cert q ≤ need_of cert n.procedure
     → ((exit : AbsState) → exit_of cert q ≡ Some exit → covered_at cert.nodes n.procedure n.address (resumed (ranges_of cert q) (dispatched n.state) exit) ≡ true)
     → Calls cert n.procedure entry base (left_by rom x i n.address)
 handled rom cert n entry base x i q at is_node certificate d mark set handler inside depth resumes =
@@ -216,8 +216,8 @@ handled rom cert n entry base x i q at is_node certificate d mark set handler in
       address = sym begin.address;
       begins = begin.covering;
       mark = mark;
-      depth = subst (λ items. length items + 1 + need_of cert begin.node.procedure ≤ need_of cert n.procedure) (sym (dispatched_items n.state))
-          (subst (λ m. length n.state.items + 1 + need_of cert m ≤ need_of cert n.procedure) (sym number) depth);
+      depth = subst (λ items. length items + 2 + need_of cert begin.node.procedure ≤ need_of cert n.procedure) (sym (dispatched_items n.state))
+          (subst (λ m. length n.state.items + 2 + need_of cert m ≤ need_of cert n.procedure) (sym number) depth);
       inside = subst (λ m. are_ranges_inside (ranges_of cert m) (ranges_of cert n.procedure) ≡ true) (sym number) inside;
       resumes = λ exit is. subst (λ m. covered_at cert.nodes n.procedure n.address (resumed (ranges_of cert m) (dispatched n.state) exit) ≡ true) (sym number)
           (resumes exit (subst (λ m. exit_of cert m ≡ Some exit) number is));
@@ -226,10 +226,10 @@ handled rom cert n entry base x i q at is_node certificate d mark set handler in
 -- ---- the event
 
 -- A dispatch is safe where the stack is set and no OAM transfer closes it, and where the interrupt has a handler whose
--- ranges and words lie inside the procedure's, and behind which the procedure goes on at a node.
+-- ranges and bytes lie inside the procedure's, and behind which the procedure goes on at a node.
 pub IsSafeEvent-dispatch : (rom : List ℕ) (cert : Certificate) (n : Node) (entry : MState) (base : ℕ) (x : MState) (i q : ℕ) → IsAt rom cert n entry base x → Contains cert.nodes n → IsCertificate cert
     → is_possible (within rom x) (event.Irq i) ≡ true → n.state.core.stack_set ≡ true → (n.state.core.bound ≡ 0) ⊎ (0xFF80 ≤ cert.region.first) → handler_of cert i n.state ≡ Some q
-    → are_ranges_inside (ranges_of cert q) (ranges_of cert n.procedure) ≡ true → length n.state.items + 1 + need_of cert q ≤ need_of cert n.procedure
+    → are_ranges_inside (ranges_of cert q) (ranges_of cert n.procedure) ≡ true → length n.state.items + 2 + need_of cert q ≤ need_of cert n.procedure
     → ((exit : AbsState) → exit_of cert q ≡ Some exit → covered_at cert.nodes n.procedure n.address (resumed (ranges_of cert q) (dispatched n.state) exit) ≡ true)
     → IsSafeEvent rom cert n.procedure entry base x (event.Irq i)
 IsSafeEvent-dispatch rom cert n entry base x i q at is_node certificate possible set unlimited handler inside depth resumes =

@@ -58,7 +58,7 @@ use Rattle.gb_rules.specs.Safety.{IsMeant, Leads, IsSafeEvent, IsNoDispatch, IsS
 use Rattle.gb_rules.proofs.SearchLaws.{Contains-slice_get}
 use Rattle.gb_rules.proofs.NodeLaws.{IsNodeState-node, Passes-from, ruled, allowed, known_by}
 use Rattle.gb_rules.proofs.StandLaws.{OnNode, stands, sound_ways, is_known, on_code}
-use Rattle.gb_rules.proofs.WayLaws.{IsElsewhere, words_within, Leads-way}
+use Rattle.gb_rules.proofs.WayLaws.{IsElsewhere, bytes_within, Leads-way}
 
 -- what an event that is possible does
 pub record IsSafeHappening (rom : List ℕ) (cert : Certificate) (procedure : ℕ) (entry : MState) (base : ℕ) (s : MState) (e : Event) : Type 0 where
@@ -134,7 +134,7 @@ run_unmarked rom cert n entry base x k fetch reads mark byte =
       places = subst (All (IsCertified rom cert)) (sym (run_places (within rom x) fetch reads p.bytes is ∙ ap (λ q. map (code_place (within rom x).memory) (fetch_addresses q p.bytes)) (processor_is rom x)))
           (certified_by rom cert n _ k.is_node all.places);
       leads = subst (Leads rom cert n.procedure entry base x) (sym after)
-          (Leads-way rom cert n entry base x k t done.is_one _ leads (at_most _ _ _ (done.held may) (words_within rom cert n entry base x k)) (record { harmless = inl done.mark; clear = λ e. done.mark }));
+          (Leads-way rom cert n entry base x k t done.is_one _ leads (at_most _ _ _ (done.held may) (bytes_within rom cert n entry base x k)) (record { harmless = inl done.mark; clear = λ e. done.mark }));
       kept = λ b kept. ap (λ (y : MState). peek y.storage b) after ∙ leads.kept b kept;
     }
 

@@ -1,5 +1,5 @@
 -- The procedures that wait, event by event: the machine stays in the one on top, calls another one, or returns.
-use Rattle.std.proofs.Common.{◌≡◌, ℕ, ◌+◌, ◌*◌, ◌≤◌, ◌<◌, true, inl, inr, List, [], ◌∷◌, length, Some, refl, sym, ◌∙◌, ap, subst, arith}
+use Rattle.std.proofs.Common.{◌≡◌, ℕ, ◌+◌, ◌≤◌, ◌<◌, true, inl, inr, List, [], ◌∷◌, length, Some, refl, sym, ◌∙◌, ap, subst, arith}
 use Rattle.gb_ops.specs.declared.machine.Event.{Event}
 use Rattle.gb_ops.specs.Pairs.{word}
 use Rattle.gb_ops.specs.Play.{MState, next}
@@ -18,7 +18,7 @@ use Rattle.gb_calls.specs.Sound.{without_word, ComesBack}
 use Rattle.gb_calls.proofs.EnteringLaws.{Means-entered}
 use Rattle.gb_calls.proofs.RangeLaws.{IsKept-inside}
 use Rattle.gb_calls.proofs.ResumingLaws.{Means-resumed}
-use Rattle.gb_successors.specs.Words.{word_item}
+use Rattle.gb_successors.specs.Below.gb_abs_effects.Pairs.{known_word}
 use Rattle.gb_rules.specs.Covered.{covered_at}
 use Rattle.gb_rules.specs.Procedures.{ranges_of, need_of, exit_of}
 use Rattle.gb_rules.specs.Safety.{IsAt, IsMeant, Calls, Returns, Leads, IsSafeEvent}
@@ -43,24 +43,24 @@ pub Stands-stays : (rom : List ℕ) (cert : Certificate) (frames : List Frame) (
 Stands-stays rom cert frames procedure entry base s t stands meant keeps =
     record { meant = meant; waiting = stands.waiting; keeps = Keeps-then cert procedure base entry s t stands.keeps keeps }
 
--- ---- where words stand at a call
+-- ---- where bytes stand at a call
 
--- the return word of a call, and the words above it
+-- the return word of a call, and the bytes above it
 record IsPlacedCall (cert : Certificate) (procedure : ℕ) (entry : MState) (base : ℕ) (t : MState) (c : Calls cert procedure entry base t) : Type 0 where
-  sp : t.processor.sp + 2 * (length c.state.items + 1) ≡ base
+  sp : t.processor.sp + (length c.state.items + 2) ≡ base
   small : t.processor.sp + 2 < 65536
   return_word : t.processor.sp + 2 ≤ cert.region.last + 1
-  room : AreInRegion cert.region base (length c.state.items + 1)
+  room : AreInRegion cert.region base (length c.state.items + 2)
   callee_room : AreInRegion cert.region t.processor.sp (need_of cert c.node.procedure)
 
 placed_call : (cert : Certificate) (procedure : ℕ) (entry : MState) (base : ℕ) (t : MState) → IsCertificate cert → AreInRegion cert.region base (need_of cert procedure)
     → (c : Calls cert procedure entry base t) → IsPlacedCall cert procedure entry base t c
 placed_call cert procedure entry base t certificate room c =
     let end : cert.region.last < 0xFFFF = region_end cert.region certificate.region in
-    let sp : t.processor.sp + 2 * (length c.state.items + 1) ≡ base = sp_pushed (word_item c.back) c.state entry base t c.means c.stack_set in
-    let first : cert.region.first + 2 * need_of cert procedure ≤ base = room.first in
+    let sp : t.processor.sp + (length c.state.items + 2) ≡ base = sp_pushed (known_word c.back) c.state entry base t c.means c.stack_set in
+    let first : cert.region.first + need_of cert procedure ≤ base = room.first in
     let last : base ≤ cert.region.last + 1 = room.last in
-    let depth : length c.state.items + 1 + need_of cert c.node.procedure ≤ need_of cert procedure = c.depth in
+    let depth : length c.state.items + 2 + need_of cert c.node.procedure ≤ need_of cert procedure = c.depth in
     record {
       sp = sp;
       small = omega arith;
@@ -72,7 +72,7 @@ placed_call cert procedure entry base t certificate room c =
 -- the state that waits is meant, without the return word
 caller_means : (cert : Certificate) (procedure : ℕ) (entry : MState) (base : ℕ) (t : MState) (c : Calls cert procedure entry base t) → IsPlacedCall cert procedure entry base t c
     → Means c.state entry base (without_word t)
-caller_means cert procedure entry base t c p = Means-without_word (word_item c.back) c.state entry base t c.means c.stack_set p.small
+caller_means cert procedure entry base t c p = Means-without_word (known_word c.back) c.state entry base t c.means c.stack_set p.small
 
 -- ---- a frame is put on
 

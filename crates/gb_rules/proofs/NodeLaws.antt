@@ -13,13 +13,12 @@ use Rattle.gb_ops.specs.declared.op.Op.TheVariants as op
 use Rattle.gb_ops.specs.declared.op.Row.{Row}
 use Rattle.gb_ops.specs.Table.{decoded}
 use Rattle.gb_ops.specs.Machine.{length_of}
-use Rattle.gb_domain.specs.declared.types.Val.{Val}
 use Rattle.gb_domain.specs.declared.types.Cell.{Cell}
-use Rattle.gb_domain.specs.declared.types.Item.{Item}
+use Rattle.gb_domain.specs.declared.types.Val.{Val}
 use Rattle.gb_domain.specs.Types.{AbsState, Node}
 use Rattle.gb_domain.specs.Certificate.{Certificate}
 use Rattle.gb_domain.specs.Areas.{IsRegion}
-use Rattle.gb_domain.specs.Rules.{IsVal, IsCell, IsChain, IsCore, IsItem, after_cell}
+use Rattle.gb_domain.specs.Rules.{IsVal, IsCell, IsChain, IsCore, after_cell}
 use Rattle.gb_states.specs.Rules.{IsNode, IsState, IsCertificate, key, role_of, needs_stack}
 use Rattle.gb_abs.specs.Cells.{ArePlaced}
 use Rattle.gb_abs.specs.Stack.{AreInRegion}
@@ -69,7 +68,7 @@ pub record IsNodeState (cert : Certificate) (n : Node) : Type 0 where
   pub core : IsCore n.state.core
   pub placed : ArePlaced cert.region n.state.cells
   pub vals : AreVals n.state.cells
-  pub items : AllByRecursion IsItem n.state.items
+  pub items : AllByRecursion IsVal n.state.items
   pub stack : 0 < n.procedure → n.state.core.stack_set ≡ true
 
 needs_other : (procedure : ℕ) (set : Bool) → 0 < procedure → (set || not (needs_stack (role_of procedure))) ≡ true → set ≡ true
@@ -213,32 +212,29 @@ loaded_pair region n base w pair.De main h = inl refl
 loaded_pair region n base w pair.Hl main h = inl refl
 loaded_pair region n base w pair.Sp main h = inr (inl (loaded_stack region n base w main h))
 
--- a word less than the need has room
-pub fewer_words : (region : Region) (base need words : ℕ) → AreInRegion region base need → words ≤ need → AreInRegion region base words
-fewer_words region base need words room le =
+-- fewer bytes than the need have room
+pub fewer_bytes : (region : Region) (base need bytes : ℕ) → AreInRegion region base need → bytes ≤ need → AreInRegion region base bytes
+fewer_bytes region base need bytes room le =
     let first = room.first in
     record { first = omega arith; last = room.last }
 
-pushable : (region : Region) (need base : ℕ) (s : AbsState) → AreInRegion region base need → not s.core.stack_set ≡ false → (nat_lt need (length s.items + 1) || nat_lt 16 (length s.items + 1)) ≡ false → IsPushable region s base
+pushable : (region : Region) (need base : ℕ) (s : AbsState) → AreInRegion region base need → not s.core.stack_set ≡ false → (nat_lt need (length s.items + 2) || nat_lt 32 (length s.items + 2)) ≡ false → IsPushable region s base
 pushable region need base s room set h = record {
   stack_set = not-false _ set;
-  held = held (length s.items) h;
-  room = fewer_words region base need (length s.items + 1) room (fits (length s.items) h);
+  held = (or_parts _ _ h).1;
+  room = fewer_bytes region base need (length s.items + 2) room (fits (length s.items) h);
 }
   where
-    held : (n : ℕ) → (nat_lt need (n + 1) || nat_lt 16 (n + 1)) ≡ false → (n == 16) ≡ false
-    held n h = grind (arith, nat_tests)
-
-    fits : (n : ℕ) → (nat_lt need (n + 1) || nat_lt 16 (n + 1)) ≡ false → n + 1 ≤ need
+    fits : (n : ℕ) → (nat_lt need (n + 2) || nat_lt 32 (n + 2)) ≡ false → n + 2 ≤ need
     fits n h = grind (arith, nat_tests)
 
-poppable : (s : AbsState) → (not s.core.stack_set || length s.items == 0) ≡ false → IsPoppable s
-poppable s h = by s.core.stack_set (length s.items) refl refl h
+poppable : (s : AbsState) → (not s.core.stack_set || nat_lt (length s.items) 2) ≡ false → IsPoppable s
+poppable s h =
+    let p = or_parts _ _ h in
+    record { stack_set = not-false _ p.0; held = enough (length s.items) p.1 }
   where
-    by : (set : Bool) (n : ℕ) → s.core.stack_set ≡ set → length s.items ≡ n → (not set || n == 0) ≡ false → IsPoppable s
-    by true zero e m h = cc
-    by true (suc n) e m h = record { stack_set = e; held = omega arith }
-    by false n e m h = cc
+    enough : (n : ℕ) → nat_lt n 2 ≡ false → 2 ≤ n
+    enough n h = grind (arith, nat_tests)
 
 stack_known : (region : Region) (need base : ℕ) (n : Node) (o : Op) → (n.procedure ≡ 0 → base ≡ region.last + 1) → AreInRegion region base need → breaks_stack region n o ≡ false → pushes_too_deep need n o ≡ false → IsStackKnown region o n.state base
 unfolding breaks_stack pushes_too_deep
@@ -289,14 +285,14 @@ ways_of rom n row = successors_of rom row n.address n.state
 
 -- what a call asks for: a callee, with room for the return address
 callable : (cert : Certificate) (n : Node) (t : Successor) (base a : ℕ) (o : Option ℕ) → is_outside_of cert n.procedure o ≡ false → is_over cert (need_of cert n.procedure) (length t.state.items) o ≡ false
-    → AreInRegion cert.region base (need_of cert n.procedure) → AreInRegion cert.region base (length t.state.items + 1)
+    → AreInRegion cert.region base (need_of cert n.procedure) → AreInRegion cert.region base (length t.state.items + 2)
 callable cert n t base a None outside over room = cc
-callable cert n t base a (Some q) outside over room = fewer_words cert.region base (need_of cert n.procedure) (length t.state.items + 1) room (fits (need_of cert n.procedure) (length t.state.items) (need_of cert q) over)
+callable cert n t base a (Some q) outside over room = fewer_bytes cert.region base (need_of cert n.procedure) (length t.state.items + 2) room (fits (need_of cert n.procedure) (length t.state.items) (need_of cert q) over)
   where
-    fits : (need held more : ℕ) → nat_lt need (held + 1 + more) ≡ false → held + 1 ≤ need
+    fits : (need held more : ℕ) → nat_lt need (held + 2 + more) ≡ false → held + 2 ≤ need
     fits need held more h = grind (arith, nat_tests)
 
--- what a return asks for: an exit, with no word held
+-- what a return asks for: an exit, with nothing held
 returnable : (cert : Certificate) (n : Node) (t : Successor) (base : ℕ) (o : Option AbsState) → IsNodeState cert n → (n.procedure == 0 || is_exit_missed t.state o) ≡ false
     → (0 < n.procedure → base + 2 ≤ cert.region.last + 1) → AreInRegion cert.region base (need_of cert n.procedure) → IsReturnable cert.region n.state t base
 returnable cert n t base o state h word room =
@@ -309,7 +305,7 @@ returnable cert n t base o state h word room =
     not_zero : (m : ℕ) → (m == 0) ≡ false → 0 < m
     not_zero m h = grind (arith, nat_tests)
 
-    empty : (items : List Item) → length items ≡ 0 → items ≡ []
+    empty : (items : List Val) → length items ≡ 0 → items ≡ []
     empty [] h = refl
     empty (i ∷ items) h = cc
 
@@ -406,7 +402,7 @@ pub record IsProvided (cert : Certificate) (n : Node) (i : ℕ) : Type 0 where
   pub handler : ℕ
   pub is_handler : handler_of cert i n.state ≡ Some handler
   pub inside : are_ranges_inside (ranges_of cert handler) (ranges_of cert n.procedure) ≡ true
-  pub depth : length n.state.items + 1 + need_of cert handler ≤ need_of cert n.procedure
+  pub depth : length n.state.items + 2 + need_of cert handler ≤ need_of cert n.procedure
   pub resumes :
       (exit : AbsState) → exit_of cert handler ≡ Some exit
       → covered_at cert.nodes n.procedure n.address (resumed (ranges_of cert handler) (dispatched n.state) exit) ≡ true
@@ -427,7 +423,7 @@ provided cert n i (Some q) e clear handled over =
       handler = q;
       is_handler = e;
       inside = not-false _ r.1;
-      depth = held (length n.state.items + 1 + need_of cert q) (need_of cert n.procedure) over;
+      depth = held (length n.state.items + 2 + need_of cert q) (need_of cert n.procedure) over;
       resumes = λ exit is. not-false _ (subst (λ o. is_resumed_uncovered cert n.procedure n.address (dispatched n.state) (ranges_of cert q) o ≡ false) is p.1);
     }
   where

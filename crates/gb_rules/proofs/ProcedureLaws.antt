@@ -7,13 +7,13 @@ use Rattle.std.specs.Prelude.{IfSome}
 use Rattle.std.specs.List.{AllByRecursion, list_any}
 use Rattle.gb_ops.specs.declared.machine.Region.{Region}
 use Rattle.gb_domain.specs.declared.types.Range.{Range}
-use Rattle.gb_domain.specs.declared.types.Item.{Item}
+use Rattle.gb_domain.specs.declared.types.Val.{Val}
 use Rattle.gb_states.specs.declared.role.Role.TheVariants as role
 use Rattle.gb_domain.specs.Types.{AbsState, ProcedureParts}
 use Rattle.gb_domain.specs.Certificate.{Certificate}
 use Rattle.gb_domain.specs.Areas.{IsRegion, meets}
 use Rattle.gb_domain.specs.Rules.{IsChain}
-use Rattle.gb_states.specs.Rules.{IsRange, IsProcedure, IsState, IsCertificate, after_range, is_after, words}
+use Rattle.gb_states.specs.Rules.{IsRange, IsProcedure, IsState, IsCertificate, after_range, is_after, size}
 use Rattle.gb_abs.specs.Span.{one}
 use Rattle.gb_abs.specs.Stack.{AreInRegion}
 use Rattle.gb_code.specs.Below.gb_abs_memory.Access.{is_range}
@@ -37,7 +37,7 @@ procedure_at cert i p certificate at = one_procedure cert.region (length cert.no
 
 -- ---- its need
 
--- the words that main may need lie in the region
+-- the bytes that main may need lie in the region
 main_fits : (region : Region) (nodes : ℕ) (ps : List ProcedureParts) → IsRegion region → IsChain (IsProcedure region nodes) is_after true ps
     → AreInRegion region (region.last + 1) (need_in (slice_get ps 0))
 main_fits region nodes [] r h =
@@ -47,7 +47,7 @@ main_fits region nodes [] r h =
 main_fits region nodes (p ∷ ps) r h =
     let area = r.area in
     let order : region.first ≤ region.last = grind (arith, nat_tests) in
-    let fitting : p.need ≤ words region = leb-true p.need (words region) h.0.room in
+    let fitting : p.need ≤ size region = leb-true p.need (size region) h.0.room in
     record { first = omega arith; last = omega arith }
 
 -- main's base is the address behind the region
@@ -105,6 +105,6 @@ exit_set region exit k = by exit.core.stack_set k.stack
 pub exit_items : (region : Region) (exit : AbsState) → IsState role.Exit region exit → exit.items ≡ []
 exit_items region exit k = none exit.items (eqb-true _ _ k.pushed)
   where
-    none : (items : List Item) → length items ≡ 0 → items ≡ []
+    none : (items : List Val) → length items ≡ 0 → items ≡ []
     none [] h = refl
     none (i ∷ items) h = cc

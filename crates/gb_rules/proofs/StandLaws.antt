@@ -11,7 +11,6 @@ use Rattle.gb_ops.specs.declared.op.Op.TheVariants as op
 use Rattle.gb_ops.specs.declared.op.Row.{Row}
 use Rattle.gb_ops.specs.Registers.{get}
 use Rattle.gb_ops.specs.Play.{MState}
-use Rattle.gb_domain.specs.declared.types.Item.{Item}
 use Rattle.gb_domain.specs.declared.types.Core.{Core}
 use Rattle.gb_domain.specs.Types.{AbsState, Node}
 use Rattle.gb_domain.specs.Certificate.{Certificate}
@@ -35,7 +34,7 @@ use Rattle.gb_successors.specs.Sound.{IsOneOf, Stands, AreSoundSuccessors}
 use Rattle.gb_successors.proofs.WayLaws.{successors_of_sound}
 use Rattle.gb_states.specs.Rules.{IsCertificate}
 use Rattle.gb_rules.specs.Procedures.{ranges_of, need_of}
-use Rattle.gb_rules.proofs.NodeLaws.{IsNodeState, Passes, ways_of, ruled, known_by, fewer_words}
+use Rattle.gb_rules.proofs.NodeLaws.{IsNodeState, Passes, ways_of, ruled, known_by, fewer_bytes}
 
 -- the machine stands at a node that passes
 pub record OnNode (rom : List ℕ) (cert : Certificate) (n : Node) (entry : MState) (base : ℕ) (x : MState) : Type 0 where
@@ -59,7 +58,7 @@ stands rom cert n entry base x k = record {
   placed = k.state.placed;
   vals = k.state.vals;
   items = k.state.items;
-  room = fewer_words cert.region base (need_of cert n.procedure) (length n.state.items) k.room k.depth;
+  room = fewer_bytes cert.region base (need_of cert n.procedure) (length n.state.items) k.room k.depth;
   means = k.means;
   at = k.address;
 }

@@ -20,7 +20,7 @@ use Rattle.gb_calls.specs.Calls.{entered, callee_of, are_ranges_inside, resumed}
 use Rattle.gb_calls.proofs.CalleeLaws.{IsCallee-found, IsEntryNode-entry}
 use Rattle.gb_successors.specs.Way.{Successor}
 use Rattle.gb_successors.specs.Refused.{is_unknown}
-use Rattle.gb_successors.specs.Sound.{words_behind, IsOneOf, StaysAt, CallsAt, ReturnsTo, LeadsTo}
+use Rattle.gb_successors.specs.Sound.{bytes_behind, IsOneOf, StaysAt, CallsAt, ReturnsTo, LeadsTo}
 use Rattle.gb_successors.specs.Sound as successors
 use Rattle.gb_rules.specs.Covered.{covered_at}
 use Rattle.gb_rules.specs.Procedures.{ranges_of, need_of, exit_of}
@@ -34,24 +34,24 @@ use Rattle.gb_rules.proofs.StandLaws.{OnNode}
 not_so : {X : Type 0} → true ≡ false → X
 not_so h = cc
 
--- ---- the words that are held
+-- ---- the bytes that are held
 
-words_fit : (o : Op) (need held : ℕ) (n : Node) → length n.state.items ≡ held → held ≤ need → pushes_too_deep need n o ≡ false → words_behind o held ≤ need
-unfolding pushes_too_deep words_behind
-words_fit o need held n e least h = by (is_push o) h
+bytes_fit : (o : Op) (need held : ℕ) (n : Node) → length n.state.items ≡ held → held ≤ need → pushes_too_deep need n o ≡ false → bytes_behind o held ≤ need
+unfolding pushes_too_deep bytes_behind
+bytes_fit o need held n e least h = by (is_push o) h
   where
-    fits : (m : ℕ) → m ≡ held → (nat_lt need (m + 1) || nat_lt 16 (m + 1)) ≡ false → held + 1 ≤ need
+    fits : (m : ℕ) → m ≡ held → (nat_lt need (m + 2) || nat_lt 32 (m + 2)) ≡ false → held + 2 ≤ need
     fits m e h = grind (arith, nat_tests)
 
-    by : (b : Bool) → (b && (nat_lt need (length n.state.items + 1) || nat_lt 16 (length n.state.items + 1))) ≡ false → cond b (held + 1) held ≤ need
+    by : (b : Bool) → (b && (nat_lt need (length n.state.items + 2) || nat_lt 32 (length n.state.items + 2))) ≡ false → cond b (held + 2) held ≤ need
     by true g = fits (length n.state.items) e g
     by false g = least
 
--- behind an instruction of a node that passes no more words are held than the need
-pub words_within : (rom : List ℕ) (cert : Certificate) (n : Node) (entry : MState) (base : ℕ) (x : MState) (k : OnNode rom cert n entry base x) → words_behind k.passes.row.op (length n.state.items) ≤ need_of cert n.procedure
+-- behind an instruction of a node that passes no more bytes are held than the need
+pub bytes_within : (rom : List ℕ) (cert : Certificate) (n : Node) (entry : MState) (base : ℕ) (x : MState) (k : OnNode rom cert n entry base x) → bytes_behind k.passes.row.op (length n.state.items) ≤ need_of cert n.procedure
 unfolding grows_too_deep
-words_within rom cert n entry base x k =
-    words_fit k.passes.row.op (need_of cert n.procedure) (length n.state.items) n refl k.depth (or_parts _ _ (or_parts _ _ k.passes.depth).0).0
+bytes_within rom cert n entry base x k =
+    bytes_fit k.passes.row.op (need_of cert n.procedure) (length n.state.items) n refl k.depth (or_parts _ _ (or_parts _ _ k.passes.depth).0).0
 
 -- ---- the callee's entry
 
@@ -74,8 +74,8 @@ same_number m q h = omega arith
 
 -- ---- calls
 
-not_over : (cert : Certificate) (need held q : ℕ) → nat_lt need (held + 1 + need_of cert q) ≡ false → held + 1 + need_of cert q ≤ need
-not_over cert need held q h = by (held + 1 + need_of cert q) h
+not_over : (cert : Certificate) (need held q : ℕ) → nat_lt need (held + 2 + need_of cert q) ≡ false → held + 2 + need_of cert q ≤ need
+not_over cert need held q h = by (held + 2 + need_of cert q) h
   where
     by : (m : ℕ) → nat_lt need m ≡ false → m ≤ need
     by m h = grind (arith, nat_tests)
@@ -109,7 +109,7 @@ calls_at rom cert n t a entry base y certificate c mark outside over uncovered =
           address = c.goes ∙ sym begin.address;
           begins = begin.covering;
           mark = mark;
-          depth = subst (λ m. length t.state.items + 1 + need_of cert m ≤ need_of cert n.procedure) (sym number) (not_over cert (need_of cert n.procedure) (length t.state.items) q deep);
+          depth = subst (λ m. length t.state.items + 2 + need_of cert m ≤ need_of cert n.procedure) (sym number) (not_over cert (need_of cert n.procedure) (length t.state.items) q deep);
           inside = subst (λ m. are_ranges_inside (ranges_of cert m) (ranges_of cert n.procedure) ≡ true) (sym number) (not-false _ out);
           resumes = λ exit is. subst (λ m. covered_at cert.nodes n.procedure t.next (resumed (ranges_of cert m) t.state exit) ≡ true) (sym number)
               (resumed_covered cert n.procedure t.next t.state q back exit (subst (λ m. exit_of cert m ≡ Some exit) number is));

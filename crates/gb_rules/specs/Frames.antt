@@ -21,7 +21,7 @@ pub record Frame : Type 0 where
   pub base : ℕ
 
 -- The procedure of the frame waits for another one, which was entered in the state entered with its return word at base:
--- it called that one, the words that it may need lie in the region, and it had kept what it has to keep.
+-- it called that one, the bytes that it may need lie in the region, and it had kept what it has to keep.
 pub record IsWaiting (cert : Certificate) (f : Frame) (procedure : ℕ) (entered : MState) (base : ℕ) : Type 0 where
   pub calls : Calls cert f.procedure f.entry f.base entered
   pub callee : calls.node.procedure ≡ procedure

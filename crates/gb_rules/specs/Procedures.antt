@@ -20,7 +20,7 @@ exit_in (Some p) = p.exit
 unfoldable pub ranges_of : Certificate → ℕ → List Range
 ranges_of cert procedure = ranges_in (slice_get cert.procedures procedure)
 
--- how many words it may have on the stack, those of its callees among them
+-- how many bytes it may have on the stack, those of its callees among them
 unfoldable pub need_of : Certificate → ℕ → ℕ
 need_of cert procedure = need_in (slice_get cert.procedures procedure)
 

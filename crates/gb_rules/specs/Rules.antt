@@ -59,7 +59,7 @@ may_read_twice rom n o = is_halt o && n.state.core.ime.off && not (is_nop_behind
 unfoldable pub breaks_stack : Region → Node → Op → Bool
 breaks_stack region n (op.LoadPair pair.Sp w) = not (n.procedure == 0) || not (w == region.last + 1)
 breaks_stack region n (op.Push from) = not n.state.core.stack_set
-breaks_stack region n (op.Pop to) = not n.state.core.stack_set || length n.state.items == 0
+breaks_stack region n (op.Pop to) = not n.state.core.stack_set || nat_lt (length n.state.items) 2
 breaks_stack region n (op.CallIf condition w) = not n.state.core.stack_set
 breaks_stack region n (op.Call w) = not n.state.core.stack_set
 breaks_stack region n (op.Restart w) = not n.state.core.stack_set
@@ -68,9 +68,9 @@ breaks_stack region n op.Return = false
 breaks_stack region n op.ReturnFromInterrupt = false
 breaks_stack region n o = moves_sp o
 
--- PUSH of a word over the need, or over the 16 that a state can hold
+-- PUSH of a word over the need, or over the 32 bytes that a state can hold
 unfoldable pub pushes_too_deep : ℕ → Node → Op → Bool
-pushes_too_deep need n o = is_push o && (nat_lt need (length n.state.items + 1) || nat_lt 16 (length n.state.items + 1))
+pushes_too_deep need n o = is_push o && (nat_lt need (length n.state.items + 2) || nat_lt 32 (length n.state.items + 2))
 
 -- ---- its successors
 
@@ -98,9 +98,9 @@ callees_of cert ss = record { taken = callee_in cert ss.taken; not_taken = calle
 
 abbrev pub is_over : Certificate → ℕ → ℕ → Option ℕ → Bool
 is_over cert need held None = false
-is_over cert need held (Some callee) = nat_lt need (held + 1 + need_of cert callee)
+is_over cert need held (Some callee) = nat_lt need (held + 2 + need_of cert callee)
 
--- the words that are held, the return address and the callee's need are more than the procedure's need
+-- the bytes that are held, the return address and the callee's need are more than the procedure's need
 unfoldable pub calls_too_deep : Certificate → ℕ → Successor → Bool
 calls_too_deep cert need t = is_over cert need (length t.state.items) (callee_at cert t)
 
@@ -141,7 +141,7 @@ abbrev pub is_unreturnable_at : Certificate → ℕ → Target → AbsState → 
 is_unreturnable_at cert procedure target.Return s = procedure == 0 || is_exit_missed s (exit_of cert procedure)
 is_unreturnable_at cert procedure _ s = false
 
--- a return from main, from a procedure that doesn't return, with words on the stack, or in a state that the exit doesn't
+-- a return from main, from a procedure that doesn't return, with something on the stack, or in a state that the exit doesn't
 -- stand for
 unfoldable pub is_unreturnable : Certificate → ℕ → Successor → Bool
 is_unreturnable cert procedure t = is_unreturnable_at cert procedure t.target t.state
@@ -156,7 +156,7 @@ interrupts = 0 ∷ 1 ∷ 2 ∷ 3 ∷ 4 ∷ []
 abbrev pub any_interrupt : (ℕ → Bool) → Node → Bool
 any_interrupt test n = list_any (λ i. may_come i n.state.core && test i) interrupts
 
--- the words that are held, the word of the dispatch and a handler's need are more than the procedure's need
+-- the bytes that are held, the word of the dispatch and a handler's need are more than the procedure's need
 unfoldable pub handles_too_deep : Certificate → Node → Bool
 handles_too_deep cert n =
     any_interrupt (λ i. is_over cert (need_of cert n.procedure) (length n.state.items) (handler_of cert i n.state)) n

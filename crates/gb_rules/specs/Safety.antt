@@ -17,14 +17,14 @@ use Rattle.gb_abs.specs.Storage.{peek}
 use Rattle.gb_code.specs.Below.gb_abs_memory.Kept.{IsKept}
 use Rattle.gb_calls.specs.Calls.{entered, are_ranges_inside, resumed}
 use Rattle.gb_code.specs.Places.{IsCertified}
-use Rattle.gb_successors.specs.Words.{word_item}
+use Rattle.gb_successors.specs.Below.gb_abs_effects.Pairs.{known_word}
 use Rattle.gb_rules.specs.Covered.{covered_at}
 use Rattle.gb_rules.specs.Procedures.{ranges_of, need_of, exit_of}
 
 -- ---- where the machine stands
 
 -- the machine stands at a node, in a state that the node means: its procedure was entered in the state entry, with its
--- return word at base (main: base is the address behind the region); the words that it may need lie in the region
+-- return word at base (main: base is the address behind the region); the bytes that it may need lie in the region
 pub record IsAt (rom : List ℕ) (cert : Certificate) (n : Node) (entry : MState) (base : ℕ) (s : MState) : Type 0 where
   pub address : s.processor.pc ≡ n.address
   pub means : Means n.state entry base s
@@ -44,13 +44,13 @@ pub record IsMeant (rom : List ℕ) (cert : Certificate) (procedure : ℕ) (entr
 -- ---- what an event leaves
 
 -- The machine has called: the procedure waits in a state, with the word of the address where it will go on on the
--- stack, and the callee stands at its entry. The callee's ranges and words lie inside the procedure's, and where it
+-- stack, and the callee stands at its entry. The callee's ranges and bytes lie inside the procedure's, and where it
 -- returns, the procedure goes on at a node.
 pub record Calls (cert : Certificate) (procedure : ℕ) (entry : MState) (base : ℕ) (s : MState) : Type 0 where
   pub state : AbsState
   pub back : ℕ
   pub back_small : back < 65536
-  pub means : Means (pushed (word_item back) state) entry base s
+  pub means : Means (pushed (known_word back) state) entry base s
   pub stack_set : state.core.stack_set ≡ true
   pub placed : ArePlaced cert.region state.cells
   pub node : Node
@@ -59,7 +59,7 @@ pub record Calls (cert : Certificate) (procedure : ℕ) (entry : MState) (base :
   pub address : s.processor.pc ≡ node.address
   pub begins : covers (entered state) node.state ≡ true
   pub mark : s.processor.halt_mark ≡ false
-  pub depth : length state.items + 1 + need_of cert node.procedure ≤ need_of cert procedure
+  pub depth : length state.items + 2 + need_of cert node.procedure ≤ need_of cert procedure
   pub inside : are_ranges_inside (ranges_of cert node.procedure) (ranges_of cert procedure) ≡ true
   pub resumes :
       (exit : AbsState) → exit_of cert node.procedure ≡ Some exit

@@ -155,7 +155,7 @@ fn is_covered_by_values(
 }
 
 /// Whether one node of the procedure stands for these states at the address, or for one register value
-/// by value some do: states with this core, and the words and cells of others. Only the nodes of that procedure and
+/// by value some do: states with this core, and the items and cells of others. Only the nodes of that procedure and
 /// address are looked at, and they are looked for from the node with the number `near` on.
 #[tactic(auto, unfolding(crate::specs::Covered::covered_at))]
 pub fn covered_near(

@@ -16,7 +16,7 @@ use gb_domain::types::{Abs, Core};
 use gb_ops::machine::Region;
 use gb_successors::refused::is_stack_limited;
 
-/// Whether interrupt `i`, 0 to 4, may come, and its handler would need more words than there are.
+/// Whether interrupt `i`, 0 to 4, may come, and its handler would need more bytes than there are.
 fn is_deep_at(cert: &Cert<'_>, need: u16, state: &Abs, i: u8) -> bool
     requires { i < 5 }
     ensures { result ≡ (may_come i state.now.core && Rules.is_over cert.now need (length state.now.items) (handler_of cert.now i state.now)) }
@@ -24,7 +24,7 @@ fn is_deep_at(cert: &Cert<'_>, need: u16, state: &Abs, i: u8) -> bool
     may_come(i, state.core()) && is_over(cert, need, state, handler(cert, i, state))
 }
 
-/// Whether an interrupt may come whose handler would need more words than the procedure has left.
+/// Whether an interrupt may come whose handler would need more bytes than the procedure has left.
 #[tactic(auto, unfolding(crate::specs::Rules::handles_too_deep))]
 pub(crate) fn handles_too_deep(cert: &Cert<'_>, node: &NodeRef<'_>, state: &Abs) -> bool
     requires { state.now ≡ node.now.state }

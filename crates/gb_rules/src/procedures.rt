@@ -32,7 +32,7 @@ pub fn ranges_of(cert: &Cert<'_>, procedure: u8) -> ArrayVec<Range, 8>
     }
 }
 
-/// How many words a procedure may have on the stack, those of its callees among them; 0 where there is none with the
+/// How many bytes a procedure may have on the stack, those of its callees among them; 0 where there is none with the
 /// number.
 #[tactic(auto, unfolding(crate::specs::Procedures::need_of))]
 pub fn need_of(cert: &Cert<'_>, procedure: u8) -> u16
@@ -111,18 +111,18 @@ pub(crate) fn callees_of(cert: &Cert<'_>, ways: &Successors<'_>) -> Callees
 
 // ---- depth
 
-/// Whether the words that are held, the return address and the callee's need are more than the need.
+/// Whether the bytes that are held, the return address and the callee's need are more than the need.
 pub(crate) fn is_over(cert: &Cert<'_>, need: u16, state: &Abs, callee: Option<u8>) -> bool
     ensures { result ≡ Rules.is_over cert.now need (length state.now.items) callee }
 {
     let held = state.items().len();
     match callee {
         None => false,
-        Some(callee) => usize::from(need) < held + 1 + usize::from(need_of(cert, callee)),
+        Some(callee) => usize::from(need) < held + 2 + usize::from(need_of(cert, callee)),
     }
 }
 
-/// Whether a successor and its callee hold more words than the need.
+/// Whether a successor and its callee hold more bytes than the need.
 #[inline(never)]
 fn is_deep_from(cert: &Cert<'_>, need: u16, successor: &Successor<'_>, callee: Option<u8>) -> bool
     ensures { result ≡ Rules.is_over cert.now need (length successor.now.state.items) callee }
@@ -173,7 +173,7 @@ pub(crate) fn is_back_uncovered(
     !covered_at(cert, procedure, back, &resumed)
 }
 
-/// Whether a node of the procedure at the address stands for the states behind an instruction that changed words or
+/// Whether a node of the procedure at the address stands for the states behind an instruction that changed items or
 /// cells.
 #[inline(never)]
 fn is_covered_moved(cert: &Cert<'_>, procedure: u8, address: u16, successor: &Successor<'_>) -> bool
@@ -290,7 +290,7 @@ pub(crate) fn has_uncallable(
     }
 }
 
-/// Whether a procedure returns with words on the stack, in a state that its exit doesn't stand for, or
+/// Whether a procedure returns with something on the stack, in a state that its exit doesn't stand for, or
 /// doesn't return at all.
 fn is_exit_missed(state: &Abs, exit: Option<Abs>) -> bool
     ensures { result ≡ Rules.is_exit_missed state.now exit }

@@ -80,7 +80,7 @@ fn breaks_stack(region: Region, node: &NodeRef<'_>, state: &Abs, op: Op) -> bool
             node.procedure() != 0 || u32::from(word) != u32::from(region.last) + 1
         }
         Op::Push(_) | Op::CallIf(_, _) | Op::Call(_) | Op::Restart(_) => !state.core().stack_set,
-        Op::Pop(_) => !state.core().stack_set || state.items().len() == 0,
+        Op::Pop(_) => !state.core().stack_set || state.items().len() < 2,
         Op::IncrementPair(pair) | Op::DecrementPair(pair) => is_sp(pair),
         Op::AddSp(_) | Op::LoadSpHl => true,
         _ => false,
@@ -93,14 +93,14 @@ fn is_push(op: Op) -> bool
     matches!(op, Op::Push(_))
 }
 
-/// Whether PUSH pushes a word over the need, or over the 16 that a state can hold.
+/// Whether PUSH pushes a word over the need, or over the bytes that a state can hold.
 #[tactic(auto, unfolding(crate::specs::Rules::pushes_too_deep))]
 fn pushes_too_deep(need: u16, node: &NodeRef<'_>, state: &Abs, op: Op) -> bool
     requires { state.now ≡ node.now.state }
     ensures { result ≡ Rules.pushes_too_deep need node.now op }
 {
-    let words = state.items().len() + 1;
-    is_push(op) && (usize::from(need) < words || ITEMS < words)
+    let bytes = state.items().len() + 2;
+    is_push(op) && (usize::from(need) < bytes || ITEMS < bytes)
 }
 
 /// Whether an OAM transfer may close a byte of an instruction of so many bytes.

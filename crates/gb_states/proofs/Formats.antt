@@ -1,8 +1,9 @@
 -- What is read is spelled so, and what is spelled so is read: by the parts of a format.
-use Rattle.std.proofs.Common.{◌≡◌, ℕ, zero, suc, ◌<◌, Bool, true, false, List, [], ◌∷◌, ◌++◌, length, get_or, Option, Some, None, Result, Ok, Err, refl, sym, ◌∙◌, ap, subst, append_assoc}
+use Rattle.std.proofs.Common.{◌≡◌, ℕ, zero, suc, ◌*◌, ◌/◌, ◌%◌, ◌<◌, Bool, true, false, List, [], ◌∷◌, ◌++◌, length, get_or, Option, Some, None, Result, Ok, Err, refl, sym, ◌∙◌, ap, subst, append_assoc, arith}
 use Rattle.std.specs.Prelude.{IfSome}
 use Rattle.std.specs.List.{flat_map, AllByRecursion}
 use Rattle.std.proofs.lemmas.List.Concat.{flat_map-cons}
+use Rattle.std.proofs.Math.Nat.{mod-eq-sub-mul-div, mul-div-le, mul-div_cancel_left}
 use Rattle.gb_fields.specs.declared.fault.CertFault.{CertFault}
 use Rattle.gb_fields.specs.Format.{Read, go_on, followed, both, mapped, if_passes, checked, optional, several, counted, byte}
 use Rattle.gb_domain.specs.Rules.{IsChain}
@@ -90,18 +91,23 @@ IsFormat-checked {X} d p r w g a = record {
   again = λ x rest good. rw (a.again x rest good.0, good.1) refl;
 }
 
-pub IsFormat-mapped : {X Y : Type 0} (f : X → Y) (back : Y → X) (r : Read X) (w : X → List ℕ) (g : X → Type 0) → ((x : X) → g x → back (f x) ≡ x) → ((y : Y) → g (back y) → f (back y) ≡ y)
-    → IsFormat r w g → IsFormat (mapped f r) (λ y. w (back y)) (λ y. g (back y))
-IsFormat-mapped {X} {Y} f back r w g there again a = record {
+-- what it stands for has a rule of its own, and only what is right by it is spelled and read again
+pub IsFormat-onto : {X Y : Type 0} (f : X → Y) (back : Y → X) (r : Read X) (w : X → List ℕ) (g : X → Type 0) (h : Y → Type 0) → ((x : X) → g x → (back (f x) ≡ x) × h (f x)) → ((y : Y) → h y → g (back y) × (f (back y) ≡ y))
+    → IsFormat r w g → IsFormat (mapped f r) (λ y. w (back y)) h
+IsFormat-onto {X} {Y} f back r w g h there again a = record {
   takes = λ bytes y rest i e.
       let c = went_on (r bytes) (λ x rest. Ok (f x, rest)) (y, rest) e in
       let s = same_pair (f c.0) y c.1 rest c.3 in
       let first = a.takes bytes c.0 c.1 i c.2 in
       let k = there c.0 first.is_good in
-      let made : Takes (λ y. w (back y)) (λ y. g (back y)) bytes (f c.0) c.1 = record { parts = first.parts ∙ ap (λ x. w x ++ c.1) (sym k); is_good = subst g (sym k) first.is_good; are_bytes = first.are_bytes } in
-      moved (λ y. w (back y)) (λ y. g (back y)) bytes (f c.0) y c.1 rest s.0 s.1 made;
-  again = λ y rest good. rw (a.again (back y) rest good, again y good) refl;
+      let made : Takes (λ y. w (back y)) h bytes (f c.0) c.1 = record { parts = first.parts ∙ ap (λ x. w x ++ c.1) (sym k.0); is_good = k.1; are_bytes = first.are_bytes } in
+      moved (λ y. w (back y)) h bytes (f c.0) y c.1 rest s.0 s.1 made;
+  again = λ y rest good. rw (a.again (back y) rest (again y good).0, (again y good).1) refl;
 }
+
+pub IsFormat-mapped : {X Y : Type 0} (f : X → Y) (back : Y → X) (r : Read X) (w : X → List ℕ) (g : X → Type 0) → ((x : X) → g x → back (f x) ≡ x) → ((y : Y) → g (back y) → f (back y) ≡ y)
+    → IsFormat r w g → IsFormat (mapped f r) (λ y. w (back y)) (λ y. g (back y))
+IsFormat-mapped f back r w g there again = IsFormat-onto f back r w g (λ y. g (back y)) (λ x good. let k = there x good in (k, subst g (sym k) good)) (λ y good. (good, again y good))
 
 -- the same format, its rule in other words
 pub IsFormat-as : {X : Type 0} (r : Read X) (w : X → List ℕ) (g h : X → Type 0) → ((x : X) → g x → h x) → ((x : X) → h x → g x) → IsFormat r w g → IsFormat r w h
@@ -195,6 +201,15 @@ IsFormat-several step next w good s n f = record {
   again = λ xs rest h. subst (λ k. several step next s k (flat_map w xs ++ rest) ≡ Ok (xs, rest)) h.0 (several_again step next w good f s xs rest h.1);
 }
 
+-- a count, and as many fields as it stands for
+pub IsFormat-counted_by : {S X : Type 0} (many count_of : ℕ → ℕ) (count : Read ℕ) (v : ℕ → List ℕ) (g : ℕ → Type 0) (step : S → Read X) (next : X → S) (w : X → List ℕ) (good : S → X → Type 0) (s : S)
+    → ((n : ℕ) → count_of (many n) ≡ n) → IsFormat count v g → ((s : S) → IsFormat (step s) w (good s))
+    → IsFormat (mapped (λ p. p.1) (followed count (λ n. several step next s (many n)))) (λ xs. v (count_of (length xs)) ++ flat_map w xs) (λ xs. g (count_of (length xs)) × AreSoMany good next s (many (count_of (length xs))) xs)
+IsFormat-counted_by {S} {X} many count_of count v g step next w good s back a f =
+    IsFormat-mapped (λ (p : ℕ × List X). p.1) (λ xs. (count_of (length xs), xs)) (followed count (λ n. several step next s (many n))) (λ p. v p.0 ++ flat_map w p.1) (λ p. g p.0 × AreSoMany good next s (many p.0) p.1)
+    (λ p h. ap (λ (n : ℕ). (let q : ℕ × List X = (n, p.1) in q)) (ap count_of h.1.0 ∙ back p.0)) (λ xs h. refl)
+    (IsFormat-followed count (λ n. several step next s (many n)) v (λ n. flat_map w) g (λ n. AreSoMany good next s (many n)) a (λ n h. IsFormat-several step next w good s (many n) f))
+
 -- a count before the list
 abbrev pub spelled_list : {X : Type 0} → (ℕ → List ℕ) → (X → List ℕ) → List X → List ℕ
 spelled_list v w xs = v (length xs) ++ flat_map w xs
@@ -203,9 +218,25 @@ pub IsFormat-counted : {S X : Type 0} (count : Read ℕ) (v : ℕ → List ℕ) 
     → IsFormat count v g → ((s : S) → IsFormat (step s) w (good s)) → IsFormat (counted count step next s) (spelled_list v w) (λ xs. g (length xs) × IsChain good next s xs)
 IsFormat-counted {S} {X} count v g step next w good s a f =
     IsFormat-as (counted count step next s) (spelled_list v w) (λ xs. g (length xs) × AreSoMany good next s (length xs) xs) (λ xs. g (length xs) × IsChain good next s xs) (λ xs h. (h.0, h.1.1)) (λ xs h. (h.0, (refl, h.1)))
-    (IsFormat-mapped (λ (p : ℕ × List X). p.1) (λ xs. (length xs, xs)) (followed count (several step next s)) (λ p. v p.0 ++ flat_map w p.1) (λ p. g p.0 × AreSoMany good next s p.0 p.1)
-    (λ p h. ap (λ (n : ℕ). (let q : ℕ × List X = (n, p.1) in q)) h.1.0) (λ xs h. refl)
-    (IsFormat-followed count (several step next s) v (λ n. flat_map w) g (λ n. AreSoMany good next s n) a (λ n h. IsFormat-several step next w good s n f)))
+    (IsFormat-counted_by (λ n. n) (λ n. n) count v g step next w good s (λ n. refl) a f)
+
+-- a count before the list, k elements for each one that it counts
+abbrev pub spelled_multiple : {X : Type 0} → ℕ → (ℕ → List ℕ) → (X → List ℕ) → List X → List ℕ
+spelled_multiple k v w xs = v (length xs / k) ++ flat_map w xs
+
+no_rest : (k n : ℕ) → n ≡ k * (n / k) → n % k ≡ 0
+no_rest k n h = omega (arith, mod-eq-sub-mul-div n k)
+
+is_multiple : (k n : ℕ) → n % k ≡ 0 → n ≡ k * (n / k)
+is_multiple k n h = omega (arith, mod-eq-sub-mul-div n k, mul-div-le n k)
+
+pub IsFormat-multiple : {S X : Type 0} (k : ℕ) → 0 < k → (count : Read ℕ) (v : ℕ → List ℕ) (g : ℕ → Type 0) (step : S → Read X) (next : X → S) (w : X → List ℕ) (good : S → X → Type 0) (s : S)
+    → IsFormat count v g → ((s : S) → IsFormat (step s) w (good s))
+    → IsFormat (mapped (λ p. p.1) (followed count (λ n. several step next s (k * n)))) (spelled_multiple k v w) (λ xs. g (length xs / k) × ((length xs % k ≡ 0) × IsChain good next s xs))
+IsFormat-multiple k some count v g step next w good s a f =
+    IsFormat-as (mapped (λ p. p.1) (followed count (λ n. several step next s (k * n)))) (spelled_multiple k v w) (λ xs. g (length xs / k) × AreSoMany good next s (k * (length xs / k)) xs) (λ xs. g (length xs / k) × ((length xs % k ≡ 0) × IsChain good next s xs))
+    (λ xs h. (h.0, (no_rest k (length xs) h.1.0, h.1.1))) (λ xs h. (h.0, (is_multiple k (length xs) h.1.0, h.1.1)))
+    (IsFormat-counted_by (λ n. k * n) (λ n. n / k) count v g step next w good s (λ n. mul-div_cancel_left n some) a f)
 
 -- each right by itself
 pub all_of_chain : {X : Type 0} (good : X → Type 0) (xs : List X) → IsChain {S = Unit {0}} (λ s. good) (λ x. tt) tt xs → AllByRecursion good xs

@@ -1,5 +1,5 @@
 -- States, procedures and nodes: what is read is spelled so, and what is spelled so is read.
-use Rattle.std.proofs.Common.{◌≡◌, ℕ, ◌<◌, ◌≤◌, Bool, true, false, ◌&&◌, ◌==◌, nat_le, nat_lt, List, ◌∷◌, ◌++◌, length, Option, Some, None, refl, ap, arith}
+use Rattle.std.proofs.Common.{◌≡◌, ℕ, ◌/◌, ◌%◌, ◌<◌, ◌≤◌, Bool, true, false, ◌&&◌, ◌||◌, ◌==◌, nat_le, nat_lt, List, ◌∷◌, ◌++◌, length, Option, Some, None, refl, sym, ◌∙◌, ap, arith}
 use Rattle.std.specs.Prelude.{not, IfSome, is_some}
 use Rattle.std.specs.List.{AllByRecursion}
 use Rattle.std.proofs.lemmas.Bool.Decides.{nat_tests}
@@ -7,7 +7,6 @@ use Rattle.gb_ops.specs.declared.machine.Region.{Region}
 use Rattle.gb_fields.specs.declared.fault.CertFault.TheVariants as fault
 use Rattle.gb_domain.specs.declared.types.Val.{Val}
 use Rattle.gb_domain.specs.declared.types.Core.{Core}
-use Rattle.gb_domain.specs.declared.types.Item.{Item}
 use Rattle.gb_domain.specs.declared.types.Cell.{Cell}
 use Rattle.gb_domain.specs.declared.types.Range.{Range}
 use Rattle.gb_states.specs.declared.role.Role.{Role}
@@ -16,12 +15,12 @@ use Rattle.gb_fields.specs.Limits.{node_limit_by, node_limit, range_limit, cell_
 use Rattle.gb_domain.specs.Types.{AbsState, ProcedureParts, Node}
 use Rattle.gb_fields.specs.Format.{both, checked, followed, optional, byte}
 use Rattle.gb_domain.specs.Areas.{is_area, meets}
-use Rattle.gb_domain.specs.Rules.{IsChain, IsVal, IsItem, IsCell, after_cell}
-use Rattle.gb_states.specs.Rules.{IsRange, IsState, IsProcedure, IsNode, after_range, role_of, may_be_pushed, fits, key, is_from}
-use Rattle.gb_fields.specs.Reading.{is_between, word, word_between, node_number, count_within, yes_no, may_return, returns_at, is_below, entry_at, need_at, key_at}
-use Rattle.gb_states.specs.Reading.{core_at, to_item, item_at, items_at, is_free, is_free_byte, to_cell, cell_at, cells_at, to_state, state_at, to_range, range_at, ranges_at, exit_at, to_procedure, procedure_at, to_node, node_at}
+use Rattle.gb_domain.specs.Rules.{IsChain, IsVal, IsCell, after_cell}
+use Rattle.gb_states.specs.Rules.{IsRange, IsState, IsProcedure, IsNode, after_range, role_of, may_have_items, may_be_pushed, fits, key, is_from}
+use Rattle.gb_fields.specs.Reading.{is_between, word, word_between, node_number, count_within, yes_no, may_return, returns_at, is_below, entry_at, double, need_at, key_at}
+use Rattle.gb_states.specs.Reading.{core_at, val_at, items_at, is_free, is_free_byte, to_cell, cell_at, cells_at, to_state, state_at, to_range, range_at, ranges_at, exit_at, to_procedure, procedure_at, to_node, node_at}
 use Rattle.gb_states.specs.Spelling as spelled
-use Rattle.gb_states.proofs.Formats.{IsFormat, IsFormat-byte, IsFormat-both, IsFormat-followed, IsFormat-checked, IsFormat-mapped, IsFormat-as, IsFormat-spelled, IsFormat-optional, IsFormat-counted, spelled_option, is_there, all_of_chain, chain_of_all}
+use Rattle.gb_states.proofs.Formats.{IsFormat, IsFormat-byte, IsFormat-both, IsFormat-followed, IsFormat-checked, IsFormat-onto, IsFormat-mapped, IsFormat-as, IsFormat-spelled, IsFormat-optional, IsFormat-counted, IsFormat-multiple, spelled_option, is_there, all_of_chain, chain_of_all}
 use Rattle.gb_states.proofs.FieldLaws.{le_is, is_le, and_both, both_and, within, is_within, spelled_byte, spelled_flag, node_numbers, IsFormat-node_number, IsFormat-word, IsFormat-word_between, IsFormat-count_within, IsFormat-yes_no, IsFormat-val, IsCoreFor, IsFormat-core}
 
 not_is : (b : Bool) → not b ≡ true → b ≡ false
@@ -49,26 +48,32 @@ area_small first last h = (low, high)
 
 -- ---- items and cells
 
-from_item : Item → Val × Val
-from_item i = (i.high, i.low)
+abbrev pub AreItems : Role → Bool → List Val → Type 0
+AreItems role stack_set items = (may_be_pushed role stack_set (length items) ≡ true) × ((length items % 2 ≡ 0) × ((length items / 2 ≤ item_limit) × AllByRecursion IsVal items))
 
-IsFormat-item : IsFormat item_at spelled.item IsItem
-unfolding item_at from_item spelled.item
-IsFormat-item =
-    IsFormat-as item_at spelled.item (λ i. IsVal i.high × IsVal i.low) IsItem (λ i h. record { high = h.0; low = h.1 }) (λ i h. (h.high, h.low))
-    (IsFormat-mapped to_item from_item _ _ _ (λ x h. refl) (λ y h. refl) (IsFormat-both _ _ _ _ _ _ IsFormat-val IsFormat-val))
+-- whole words are none where they are no bytes
+none-halved : (n : ℕ) → n % 2 ≡ 0 → (n / 2 == 0) ≡ (n == 0)
+none-halved n h = grind (arith, nat_tests)
 
-abbrev pub AreItems : Role → Bool → List Item → Type 0
-AreItems role stack_set items = (may_be_pushed role stack_set (length items) ≡ true) × ((length items ≤ item_limit) × AllByRecursion IsItem items)
+pushed-halved : (role : Role) (stack_set : Bool) (n : ℕ) → n % 2 ≡ 0 → may_be_pushed role stack_set (n / 2) ≡ may_be_pushed role stack_set n
+pushed-halved role stack_set n h = ap (λ (none : Bool). may_have_items role && stack_set || none) (none-halved n h)
 
-IsFormat-items : (role : Role) (stack_set : Bool) → IsFormat (items_at role stack_set) (spelled.counted spelled.item) (AreItems role stack_set)
+abbrev AreWords : Role → Bool → List Val → Type 0
+AreWords role stack_set items = ((length items / 2 ≤ item_limit) × (may_be_pushed role stack_set (length items / 2) ≡ true)) × ((length items % 2 ≡ 0) × IsChain {S = Unit {0}} (λ s. IsVal) (λ v. tt) tt items)
+
+items-are : (role : Role) (stack_set : Bool) (items : List Val) → AreWords role stack_set items → AreItems role stack_set items
+items-are role stack_set items h = (sym (pushed-halved role stack_set (length items) h.1.0) ∙ h.0.1, (h.1.0, (h.0.0, all_of_chain IsVal items h.1.1)))
+
+are-items : (role : Role) (stack_set : Bool) (items : List Val) → AreItems role stack_set items → AreWords role stack_set items
+are-items role stack_set items h = ((h.1.1.0, pushed-halved role stack_set (length items) h.1.0 ∙ h.0), (h.1.0, chain_of_all IsVal items h.1.1.1))
+
+IsFormat-items : (role : Role) (stack_set : Bool) → IsFormat (items_at role stack_set) spelled.items (AreItems role stack_set)
 unfolding items_at
 IsFormat-items role stack_set =
-    IsFormat-as (items_at role stack_set) (spelled.counted spelled.item) (λ items. ((length items ≤ item_limit) × (may_be_pushed role stack_set (length items) ≡ true)) × IsChain {S = Unit {0}} (λ s. IsItem) (λ i. tt) tt items) (AreItems role stack_set)
-    (λ items h. (h.0.1, (h.0.0, all_of_chain IsItem items h.1))) (λ items h. ((h.1.0, h.0), chain_of_all IsItem items h.1.1))
-    (IsFormat-counted {S = Unit {0}} (checked fault.Field (may_be_pushed role stack_set) (count_within item_limit)) spelled_byte (λ n. (n ≤ item_limit) × (may_be_pushed role stack_set n ≡ true)) (λ s. item_at) (λ i. tt) spelled.item (λ s. IsItem) tt
+    IsFormat-as (items_at role stack_set) spelled.items (AreWords role stack_set) (AreItems role stack_set) (items-are role stack_set) (are-items role stack_set)
+    (IsFormat-multiple {S = Unit {0}} 2 (omega arith) (checked fault.Field (may_be_pushed role stack_set) (count_within item_limit)) spelled_byte (λ n. (n ≤ item_limit) × (may_be_pushed role stack_set n ≡ true)) (λ s. val_at) (λ v. tt) spelled.val (λ s. IsVal) tt
     (IsFormat-checked fault.Field (may_be_pushed role stack_set) (count_within item_limit) spelled_byte (λ n. n ≤ item_limit) (IsFormat-count_within item_limit (omega arith)))
-    (λ s. IsFormat-item))
+    (λ s. IsFormat-val))
 
 from_cell : Cell → ℕ × Val
 from_cell c = (c.address, c.val)
@@ -102,7 +107,7 @@ IsFormat-cells region = IsFormat-counted (count_within cell_limit) spelled_byte 
 
 -- ---- states
 
-from_state : AbsState → Core × (List Item × List Cell)
+from_state : AbsState → Core × (List Val × List Cell)
 from_state s = (s.core, (s.items, s.cells))
 
 abbrev AreState : Role → Region → AbsState → Type 0
@@ -113,21 +118,22 @@ state-is role region s h = record {
   core = h.0.0;
   stack = h.0.1;
   pushed = h.1.0.0;
-  items = h.1.0.1.1;
-  item_count = h.1.0.1.0;
+  items = h.1.0.1.1.1;
+  whole = h.1.0.1.0;
+  item_count = h.1.0.1.1.0;
   cells = h.1.1.1;
   cell_count = h.1.1.0;
 }
 
 is-state : (role : Role) (region : Region) (s : AbsState) → IsState role region s → AreState role region s
-is-state role region s h = ((h.core, h.stack), ((h.pushed, (h.item_count, h.items)), (h.cell_count, h.cells)))
+is-state role region s h = ((h.core, h.stack), ((h.pushed, (h.whole, (h.item_count, h.items))), (h.cell_count, h.cells)))
 
 pub IsFormat-state : (role : Role) (region : Region) → IsFormat (state_at role region) spelled.state (IsState role region)
 unfolding state_at from_state spelled.state
 IsFormat-state role region =
     IsFormat-as (state_at role region) spelled.state (AreState role region) (IsState role region) (state-is role region) (is-state role region)
-    (IsFormat-mapped to_state from_state _ (λ p. spelled.core p.0 ++ (spelled.counted spelled.item p.1.0 ++ spelled.counted spelled.cell p.1.1)) (λ p. IsCoreFor role p.0 × (AreItems role p.0.stack_set p.1.0 × AreCells region p.1.1)) (λ x h. refl) (λ y h. refl)
-    (IsFormat-followed (core_at role) (λ core. both (items_at role core.stack_set) (cells_at region)) spelled.core (λ core p. spelled.counted spelled.item p.0 ++ spelled.counted spelled.cell p.1) (IsCoreFor role) (λ core p. AreItems role core.stack_set p.0 × AreCells region p.1) (IsFormat-core role)
+    (IsFormat-mapped to_state from_state _ (λ p. spelled.core p.0 ++ (spelled.items p.1.0 ++ spelled.counted spelled.cell p.1.1)) (λ p. IsCoreFor role p.0 × (AreItems role p.0.stack_set p.1.0 × AreCells region p.1.1)) (λ x h. refl) (λ y h. refl)
+    (IsFormat-followed (core_at role) (λ core. both (items_at role core.stack_set) (cells_at region)) spelled.core (λ core p. spelled.items p.0 ++ spelled.counted spelled.cell p.1) (IsCoreFor role) (λ core p. AreItems role core.stack_set p.0 × AreCells region p.1) (IsFormat-core role)
     (λ core h. IsFormat-both (items_at role core.stack_set) (cells_at region) _ _ _ _ (IsFormat-items role core.stack_set) (IsFormat-cells region))))
 
 -- ---- procedures
@@ -207,8 +213,28 @@ IsFormat-exit region is_main =
     (IsFormat-checked fault.Field (may_return is_main) yes_no spelled_flag (λ b. Unit {0}) IsFormat-yes_no)
     (λ b h. IsFormat-optional b (state_at role.Exit region) spelled.state (IsState role.Exit region) (IsFormat-state role.Exit region)))))
 
+-- how many words they are
+abbrev pub half : ℕ → ℕ
+half n = n / 2
+
+-- so many bytes are a need
+abbrev pub IsNeed : Region → Bool → ℕ → Type 0
+IsNeed region is_main need = ((need ≤ 8192) × (need % 2 ≡ 0)) × (fits is_main region need ≡ true)
+
+need-is : (n : ℕ) → (n < 65536) × (is_between 0 4096 n ≡ true) → (half (double n) ≡ n) × ((double n ≤ 8192) × (double n % 2 ≡ 0))
+need-is n h = let small = within 4096 n h.1 in (omega arith, (omega (arith, small), omega arith))
+
+is-need : (n : ℕ) → (n ≤ 8192) × (n % 2 ≡ 0) → ((half n < 65536) × (is_between 0 4096 (half n) ≡ true)) × (double (half n) ≡ n)
+is-need n h = let small : half n ≤ 4096 = omega (arith, h.0) in ((omega (arith, small), is_within 4096 (half n) small), omega (arith, h.1))
+
+pub IsFormat-need : (region : Region) (is_main : Bool) → IsFormat (need_at is_main region) (λ n. spelled.word (half n)) (IsNeed region is_main)
+unfolding need_at
+IsFormat-need region is_main =
+    IsFormat-checked fault.Region (fits is_main region) _ _ _
+    (IsFormat-onto double half (word_between 0 4096) spelled.word (λ n. (n < 65536) × (is_between 0 4096 n ≡ true)) (λ n. (n ≤ 8192) × (n % 2 ≡ 0)) need-is is-need (IsFormat-word_between 0 4096))
+
 abbrev AreBody : Region → Bool → ProcedureParts → Type 0
-AreBody region is_main p = (((p.need < 65536) × (is_between 0 4096 p.need ≡ true)) × (fits is_main region p.need ≡ true)) × (AreRanges region p.ranges × AreExit region is_main p.exit)
+AreBody region is_main p = IsNeed region is_main p.need × (AreRanges region p.ranges × AreExit region is_main p.exit)
 
 from_procedure : ProcedureParts → ℕ × (ℕ × (List Range × Option AbsState))
 from_procedure p = (p.entry, (p.need, (p.ranges, p.exit)))
@@ -219,7 +245,8 @@ AreProcedure version region nodes is_main p = ((p.entry < node_numbers (version 
 procedure-is : (version : ℕ) (region : Region) (nodes : ℕ) (is_main : Bool) (p : ProcedureParts) → AreProcedure version region nodes is_main p → IsProcedure region nodes is_main p
 procedure-is version region nodes is_main p h = record {
   entry = lt_is p.entry nodes h.0.1;
-  need = within 4096 p.need h.1.0.0.1;
+  need = h.1.0.0.0;
+  whole = h.1.0.0.1;
   room = h.1.0.1;
   ranges = h.1.1.0.1;
   range_count = h.1.1.0.0;
@@ -246,16 +273,15 @@ number_small version n h = omega (arith, limit_small (version == 1))
 is-procedure : (version : ℕ) (region : Region) (nodes : ℕ) (is_main : Bool) (p : ProcedureParts) → nodes ≤ node_limit version → IsProcedure region nodes is_main p → AreProcedure version region nodes is_main p
 is-procedure version region nodes is_main p few h =
     let below : p.entry ≤ node_limit version = omega (arith, h.entry) in
-    let need : p.need < 65536 = omega (arith, h.need) in
-    ((number_small version p.entry below, is_lt p.entry nodes h.entry), (((need, is_within 4096 p.need h.need), h.room), ((h.range_count, h.ranges), (h.main, h.exit))))
+    ((number_small version p.entry below, is_lt p.entry nodes h.entry), (((h.need, h.whole), h.room), ((h.range_count, h.ranges), (h.main, h.exit))))
 
 pub IsFormat-procedure : (version : ℕ) (region : Region) (nodes : ℕ) (is_main : Bool) → nodes ≤ node_limit version → IsFormat (procedure_at version region nodes is_main) (spelled.procedure version) (IsProcedure region nodes is_main)
-unfolding entry_at need_at procedure_at from_procedure spelled.procedure spelled.body
+unfolding entry_at procedure_at from_procedure spelled.procedure spelled.body
 IsFormat-procedure version region nodes is_main few =
     IsFormat-as (procedure_at version region nodes is_main) (spelled.procedure version) (AreProcedure version region nodes is_main) (IsProcedure region nodes is_main) (procedure-is version region nodes is_main) (λ p h. is-procedure version region nodes is_main p few h)
     (IsFormat-mapped to_procedure from_procedure _ _ _ (λ x h. refl) (λ y h. refl)
     (IsFormat-both _ _ _ _ _ _ (IsFormat-checked fault.Field (is_below nodes) (node_number version) (spelled.node_number version) (λ a. a < node_numbers (version == 1)) (IsFormat-node_number version))
-    (IsFormat-both _ _ _ _ _ _ (IsFormat-checked fault.Region (fits is_main region) _ _ _ (IsFormat-word_between 0 4096))
+    (IsFormat-both _ _ _ _ _ _ (IsFormat-need region is_main)
     (IsFormat-both _ _ _ _ _ _ (IsFormat-ranges region) (IsFormat-exit region is_main)))))
 
 -- ---- nodes

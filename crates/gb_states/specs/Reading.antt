@@ -1,5 +1,5 @@
 -- Reading a certificate, field by field (own format). A test of two fields is made behind the later one.
-use Rattle.std.specs.Prelude.{ℕ, ◌/◌, ◌%◌, Bool, true, ◌&&◌, ◌||◌, not, ◌==◌, nat_le, List, Option, Some, None, Result, if◌then◌else◌}
+use Rattle.std.specs.Prelude.{ℕ, ◌*◌, ◌/◌, ◌%◌, Bool, true, ◌&&◌, ◌||◌, not, ◌==◌, nat_le, List, Option, Some, None, Result, if◌then◌else◌}
 use Rattle.gb_ops.specs.declared.machine.Region.{Region}
 use Rattle.gb_ops.specs.declared.op.Register.TheVariants.{A, B, C, D, E, H, L}
 use Rattle.gb_ops.specs.declared.registers.Registers.{Registers}
@@ -13,7 +13,6 @@ use Rattle.gb_domain.specs.declared.types.Flg.{Flg}
 use Rattle.gb_domain.specs.declared.types.ImeSet.{ImeSet}
 use Rattle.gb_domain.specs.declared.types.Ctl.{Ctl}
 use Rattle.gb_domain.specs.declared.types.Core.{Core}
-use Rattle.gb_domain.specs.declared.types.Item.{Item}
 use Rattle.gb_domain.specs.declared.types.Cell.{Cell}
 use Rattle.gb_domain.specs.declared.types.Range.{Range}
 use Rattle.gb_states.specs.declared.role.Role.{Role}
@@ -128,14 +127,13 @@ is_stack_right role stack_set = stack_set || not (needs_stack role)
 unfoldable pub core_at : Role → Read Core
 core_at role = mapped to_core (both ime_at (both (byte_between 0 161) (both (checked fault.Field (is_stack_right role) yes_no) (both test_at (both ctl_at (both flg_at (both val_at vals_at)))))))
 
-abbrev pub to_item : Val × Val → Item
-to_item p = record { high = p.0; low = p.1 }
+-- so many bytes of the stack
+abbrev pub vals_of : ℕ → Read (List Val)
+vals_of count = several {S = Unit {0}} (λ s. val_at) (λ v. tt) tt count
 
-unfoldable pub item_at : Read Item
-item_at = mapped to_item (both val_at val_at)
-
-unfoldable pub items_at : Role → Bool → Read (List Item)
-items_at role stack_set = counted {S = Unit {0}} (checked fault.Field (may_be_pushed role stack_set) (count_within item_limit)) (λ s. item_at) (λ i. tt) tt
+-- the number of words, and their bytes, the oldest first
+unfoldable pub items_at : Role → Bool → Read (List Val)
+items_at role stack_set = mapped (λ p. p.1) (followed (checked fault.Field (may_be_pushed role stack_set) (count_within item_limit)) (λ words. vals_of (2 * words)))
 
 -- A cell's address lies in RAM and outside the region.
 abbrev pub is_free : Region → ℕ × ℕ → Bool
@@ -153,7 +151,7 @@ cell_at region least = mapped to_cell (both (checked fault.Order (nat_le least) 
 unfoldable pub cells_at : Region → Read (List Cell)
 cells_at region = counted (count_within cell_limit) (cell_at region) after_cell 0
 
-abbrev pub to_state : Core × (List Item × List Cell) → AbsState
+abbrev pub to_state : Core × (List Val × List Cell) → AbsState
 to_state p = record { core = p.0; items = p.1.0; cells = p.1.1 }
 
 unfoldable pub state_at : Role → Region → Read AbsState

@@ -1,14 +1,14 @@
 -- Which certificates there are (own format).
-use Rattle.std.specs.Prelude.{◌≡◌, ℕ, ◌+◌, ◌-◌, ◌≤◌, ◌<◌, Bool, true, false, ◌&&◌, ◌||◌, not, ◌==◌, List, [], ◌∷◌, length, slice_get, Option, Some, None, IfSome, is_some, if◌then◌else◌}
+use Rattle.std.specs.Prelude.{◌≡◌, ℕ, ◌+◌, ◌/◌, ◌%◌, ◌≤◌, ◌<◌, Bool, true, false, ◌&&◌, ◌||◌, not, ◌==◌, List, [], ◌∷◌, length, slice_get, Option, Some, None, IfSome, is_some, if◌then◌else◌}
 use Rattle.std.specs.List.{AllByRecursion}
 use Rattle.gb_ops.specs.declared.machine.Region.{Region}
 use Rattle.gb_domain.specs.declared.types.Range.{Range}
 use Rattle.gb_states.specs.declared.role.Role.{Role}
 use Rattle.gb_states.specs.declared.role.Role.TheVariants as role
-pub use Rattle.gb_fields.specs.Rules.{words, fits, is_from, is_version}
+pub use Rattle.gb_fields.specs.Rules.{size, fits, is_from, is_version}
 use Rattle.gb_fields.specs.Limits.{procedure_limit, node_limit, range_limit, cell_limit, item_limit}
 use Rattle.gb_domain.specs.Areas.{is_area, meets, IsRegion}
-use Rattle.gb_domain.specs.Rules.{IsChain, IsCore, IsItem, IsCell, after_cell}
+use Rattle.gb_domain.specs.Rules.{IsChain, IsVal, IsCore, IsCell, after_cell}
 use Rattle.gb_domain.specs.Types.{AbsState, ProcedureParts, Node}
 use Rattle.gb_domain.specs.Certificate.{Certificate}
 
@@ -46,13 +46,14 @@ may_have_items role.Exit = false
 abbrev pub may_be_pushed : Role → Bool → ℕ → Bool
 may_be_pushed role stack_set count = may_have_items role && stack_set || count == 0
 
--- A state's parts are such, there are no items without a stack, and the cells are in order of address.
+-- A state's parts are such, there are no items without a stack, its items are whole words, and the cells are in order of address.
 pub record IsState (role : Role) (region : Region) (s : AbsState) : Type 0 where
   pub core : IsCore s.core
   pub stack : (s.core.stack_set || not (needs_stack role)) ≡ true
   pub pushed : may_be_pushed role s.core.stack_set (length s.items) ≡ true
-  pub items : AllByRecursion IsItem s.items
-  pub item_count : length s.items ≤ item_limit
+  pub items : AllByRecursion IsVal s.items
+  pub whole : length s.items % 2 ≡ 0
+  pub item_count : length s.items / 2 ≤ item_limit
   pub cells : IsChain (IsCell region) after_cell 0 s.cells
   pub cell_count : length s.cells ≤ cell_limit
 
@@ -61,7 +62,8 @@ pub record IsState (role : Role) (region : Region) (s : AbsState) : Type 0 where
 -- A procedure begins at one of so many nodes. Main doesn't return.
 pub record IsProcedure (region : Region) (nodes : ℕ) (is_main : Bool) (p : ProcedureParts) : Type 0 where
   pub entry : p.entry < nodes
-  pub need : p.need ≤ 4096
+  pub need : p.need ≤ 8192
+  pub whole : p.need % 2 ≡ 0
   pub room : fits is_main region p.need ≡ true
   pub ranges : IsChain (IsRange region) after_range 0 p.ranges
   pub range_count : length p.ranges ≤ range_limit

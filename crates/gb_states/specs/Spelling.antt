@@ -11,7 +11,6 @@ use Rattle.gb_domain.specs.declared.types.Flg.{Flg}
 use Rattle.gb_domain.specs.declared.types.ImeSet.{ImeSet}
 use Rattle.gb_domain.specs.declared.types.Ctl.{Ctl}
 use Rattle.gb_domain.specs.declared.types.Core.{Core}
-use Rattle.gb_domain.specs.declared.types.Item.{Item}
 use Rattle.gb_domain.specs.declared.types.Cell.{Cell}
 use Rattle.gb_domain.specs.declared.types.Range.{Range}
 use Rattle.gb_domain.specs.Types.{AbsState, ProcedureParts, Node}
@@ -86,9 +85,6 @@ vals r = val r.a ++ (val r.b ++ (val r.c ++ (val r.d ++ (val r.e ++ (val r.h ++ 
 unfoldable pub core : Core → List ℕ
 core c = (ime_number c.ime ∷ c.bound ∷ flag c.stack_set ∷ []) ++ (test c.test ++ (ctl c.ctl ++ (flg c.flags ++ (val c.ie ++ vals c.registers))))
 
-unfoldable pub item : Item → List ℕ
-item i = val i.high ++ val i.low
-
 unfoldable pub cell : Cell → List ℕ
 cell c = word c.address ++ val c.val
 
@@ -96,9 +92,13 @@ cell c = word c.address ++ val c.val
 abbrev pub counted : {X : Type 0} → (X → List ℕ) → List X → List ℕ
 counted spell xs = length xs ∷ flat_map spell xs
 
--- a state's items, the oldest first, and its cells
+-- bytes of the stack, the oldest first, behind the number of words that they are
+abbrev pub items : List Val → List ℕ
+items vs = length vs / 2 ∷ flat_map val vs
+
+-- a state's items and its cells
 unfoldable pub state : AbsState → List ℕ
-state s = core s.core ++ (counted item s.items ++ counted cell s.cells)
+state s = core s.core ++ (items s.items ++ counted cell s.cells)
 
 unfoldable pub range : Range → List ℕ
 range r = word r.first ++ word r.last
@@ -110,7 +110,7 @@ exit (Some s) = 1 ∷ state s
 
 -- all of a procedure but its entry
 unfoldable pub body : ProcedureParts → List ℕ
-body p = word p.need ++ (counted range p.ranges ++ exit p.exit)
+body p = word (p.need / 2) ++ (counted range p.ranges ++ exit p.exit)
 
 unfoldable pub procedure : ℕ → ProcedureParts → List ℕ
 procedure version p = node_number version p.entry ++ body p

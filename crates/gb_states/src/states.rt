@@ -1,60 +1,51 @@
 //! Reading states, and ranges.
 
-ghost use Rattle.std.specs.Prelude.{◌≡◌, ◌≤◌, ◌&&◌, ◌||◌, true, nat_le};
+ghost use Rattle.std.specs.Prelude.{◌≡◌, ◌≤◌, ◌*◌, ◌&&◌, ◌||◌, true, nat_le};
 ghost use Rattle.gb_fields.specs.Format.{Gives, several};
 ghost use Rattle.gb_fields.specs.Limits.{item_limit, cell_limit, range_limit};
 ghost use Rattle.gb_domain.specs.Areas.{is_area, meets};
 ghost use Rattle.gb_domain.specs.Rules.{after_cell};
 ghost use Rattle.gb_states.specs.Rules.{after_range};
-ghost use Rattle.gb_states.specs.Reading.{item_at, items_at, is_free, cell_at, cells_at, state_at, range_at, ranges_at};
+ghost use Rattle.gb_states.specs.Reading.{vals_of, items_at, is_free, cell_at, cells_at, state_at, range_at, ranges_at};
 
 use crate::fields::{core_at, val_at};
 use crate::role::Role;
 use arrayvec::ArrayVec;
-use gb_domain::types::{Abs, Cell, Item, Range};
+use gb_domain::types::{Abs, Cell, Range, Val};
 use gb_fields::CertFault;
 use gb_fields::limits::{CELL_LIMIT, ITEM_LIMIT, RANGE_LIMIT};
 use gb_fields::numbers::{count_within, word};
 use gb_ops::machine::Region;
 
-#[inline(always)]
-#[tactic(auto, unfolding(crate::specs::Reading::item_at))]
-pub fn item_at(bytes: &[u8]) -> Result<(Item, &[u8]), CertFault>
-    ensures { Gives (λ x. (x.0, x.1.now)) result (item_at bytes.now) }
-{
-    let (high, rest) = val_at(bytes)?;
-    let (low, rest) = val_at(rest)?;
-    Ok((Item { high, low }, rest))
-}
-
-/// Reads as many items as the count says.
-fn some_items(count: u8, bytes: &[u8]) -> Result<(ArrayVec<Item, 16>, &[u8]), CertFault>
-    requires { count ≤ item_limit }
-    ensures { Gives (λ x. (x.0.items, x.1.now)) result (several {S = Unit {0}} (λ s. item_at) (λ i. tt) tt count bytes.now) }
+/// Reads so many bytes of the stack.
+fn some_items(count: u8, bytes: &[u8]) -> Result<(ArrayVec<Val, 32>, &[u8]), CertFault>
+    requires { count ≤ 2 * item_limit }
+    ensures { Gives (λ x. (x.0.items, x.1.now)) result (vals_of count bytes.now) }
 {
     let mut items = ArrayVec::new();
     let mut rest = bytes;
     for _ in 0..count {
-        let (item, after) = item_at(rest)?;
+        let (item, after) = val_at(rest)?;
         items.push(item);
         rest = after;
     }
     Ok((items, rest))
 }
 
+/// The bytes of the stack, behind the number of words that they are.
 #[tactic(auto, unfolding(crate::specs::Reading::items_at))]
 fn items_at(
     role: Role,
     stack_set: bool,
     bytes: &[u8],
-) -> Result<(ArrayVec<Item, 16>, &[u8]), CertFault>
+) -> Result<(ArrayVec<Val, 32>, &[u8]), CertFault>
     ensures { Gives (λ x. (x.0.items, x.1.now)) result (items_at role stack_set bytes.now) }
 {
-    let (count, rest) = count_within(ITEM_LIMIT, bytes)?;
-    if count > 0 && !(role.may_have_items() && stack_set) {
+    let (words, rest) = count_within(ITEM_LIMIT, bytes)?;
+    if words > 0 && !(role.may_have_items() && stack_set) {
         return Err(CertFault::Field);
     }
-    some_items(count, rest)
+    some_items(2 * words, rest)
 }
 
 /// Whether the addresses from first to last are in RAM, and outside the region.

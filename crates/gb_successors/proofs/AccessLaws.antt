@@ -37,7 +37,7 @@ use Rattle.gb_abs_memory.specs.Sound.{IsRom, IsStored, view}
 use Rattle.gb_abs_memory.proofs.LoadLaws.{IsLoaded-loaded_val}
 use Rattle.gb_abs_memory.proofs.StoreLaws.{IsSoundStore-stored_state, stored-view}
 use Rattle.gb_abs_memory.proofs.AfterStoreLaws.{is_store_limited-stored, store_meets_closed_ram-stored}
-use Rattle.gb_successors.specs.Behind.{read_item, behind, written, starts}
+use Rattle.gb_successors.specs.Behind.{read_word, behind, written, starts}
 use Rattle.gb_successors.specs.Refused.{is_unstorable, reads_closed_ram, writes_closed_ram, is_stack_limited, is_read_limited, is_write_limited}
 use Rattle.gb_abs_memory.specs.Kept.{IsKept}
 use Rattle.gb_successors.proofs.PlainLaws.{Keeps, IsPlainRead, IsPlainWrite}
@@ -90,8 +90,8 @@ any_holds entry n h = record { least = omega arith; most = h; origin = λ o e. c
 
 -- what an instruction reads, without a fault
 pub record Loads (rom : List ℕ) (s : AbsState) (what : AbsRead) (entry : MState) (m : View) (r : Read) (reads : List ℕ) : Type 0 where
-  pub low : Holds (read_item rom s what).low entry (loaded m r reads).low
-  pub high : Holds (read_item rom s what).high entry (loaded m r reads).high
+  pub low : Holds (read_word rom s what).low entry (loaded m r reads).low
+  pub high : Holds (read_word rom s what).high entry (loaded m r reads).high
   pub faults : load_faults m r ≡ no_faults
 
 in_span : (span : Span) (a : ℕ) → IsIn span a → span.last < 65536 → a < 65536
@@ -103,7 +103,7 @@ pub Loads-read :
     (rom : List ℕ) (region : Region) (s : AbsState) (entry : MState) (base : ℕ) (x : MState) (reads : List ℕ) (sp : ℕ) (what : AbsRead) (r : Read) → IsRom rom → Means s entry base x → IsVal s.core.ie
     → slice_index reads 0 ≤ 255 → IsPlainRead what → HoldsRead what sp r → reads_closed_ram rom s.core what ≡ false → is_read_limited region s.core what ≡ false
     → Loads rom s what entry (view rom x false) r reads
-unfolding read_item loaded load_faults reads_closed_ram is_read_limited
+unfolding read_word loaded load_faults reads_closed_ram is_read_limited
 Loads-read rom region s entry base x reads sp read.Nothing machine_read.Nothing c m ie byte plain h ram limited =
     record { low = any_holds entry 0 (omega arith); high = any_holds entry 0 (omega arith); faults = refl }
 Loads-read rom region s entry base x reads sp (read.Byte span) (machine_read.Byte a) c m ie byte plain h ram limited =

@@ -1,11 +1,11 @@
--- The states behind an instruction are those before, with another core, and moved where it moves words or cells.
-use Rattle.std.proofs.Common.{◌≡◌, ℕ, Bool, true, false, ◌||◌, ◌==◌, if◌then◌else◌, length, Option, Some, None, refl, sym, ap, ◌∙◌}
+-- The states behind an instruction are those before, with another core, and moved where it moves items or cells.
+use Rattle.std.proofs.Common.{◌≡◌, ℕ, ◌+◌, Bool, true, false, ◌||◌, nat_lt, if◌then◌else◌, length, Option, Some, None, refl, sym, ap, ◌∙◌}
 use Rattle.gb_ops.specs.declared.machine.Kind.{Kind}
 use Rattle.gb_ops.specs.declared.op.Pair.TheVariants as pair
 use Rattle.gb_ops.specs.declared.op.Op.{Op}
 use Rattle.gb_ops.specs.declared.op.Op.TheVariants as op
 use Rattle.gb_domain.specs.declared.types.Val.{Val}
-use Rattle.gb_domain.specs.declared.types.Item.{Item}
+use Rattle.gb_domain.specs.declared.types.Halves.{Halves}
 use Rattle.gb_domain.specs.declared.types.Core.{Core}
 use Rattle.gb_domain.specs.Types.{AbsState}
 use Rattle.gb_abs.specs.declared.span.Span.{Span}
@@ -17,8 +17,7 @@ use Rattle.gb_abs_effects.specs.declared.writes.AbsWrite.TheVariants as write
 use Rattle.gb_abs_memory.specs.declared.store.Area.{Area}
 use Rattle.gb_abs_memory.specs.declared.store.Area.TheVariants as area
 use Rattle.gb_abs_memory.specs.Access.{area_of, ram_stored, stored_in, stored_state, stored_core_in, stored_core}
-use Rattle.gb_successors.specs.declared.way.Moved.{Moved}
-use Rattle.gb_successors.specs.Behind.{behind, written, starts, pushed_if_room, with_stack_of, ended, moves_stack, is_in_ram, changes_cells, move_of, moved_by, state_behind, stack_core, written_core, core_behind}
+use Rattle.gb_successors.specs.Behind.{behind, written, starts, pushed_if_room, with_stack_of, ended, moves_stack, is_in_ram, changes_cells, move_of, state_behind, stack_core, written_core, core_behind}
 
 -- ---- the core apart
 
@@ -41,9 +40,9 @@ written_by k (write.Word a low high) s c =
     ∙ stored k (one (behind a)) high (stored_state k (one a) low s) (stored_core k (one a) low c)
 written_by k _ s c = refl
 
-pushed_by : (i : Item) (s : AbsState) (c : Core) → pushed_if_room i (with_core s c) ≡ with_core (pushed_if_room i s) c
+pushed_by : (i : Halves) (s : AbsState) (c : Core) → pushed_if_room i (with_core s c) ≡ with_core (pushed_if_room i s) c
 unfolding pushed_if_room pushed
-pushed_by i s c = by (length s.items == 16)
+pushed_by i s c = by (nat_lt 32 (length s.items + 2))
   where
     by : (b : Bool) → (if b then with_core s c else pushed i (with_core s c)) ≡ with_core (if b then s else pushed i s) c
     by true = refl
@@ -56,7 +55,7 @@ stacked_by (op.Push from) (write.Push high low) s c = pushed_by (record { high =
 stacked_by (op.Pop to) w s c = refl
 stacked_by _ w s c = refl
 
--- ---- words and cells that stay
+-- ---- items and cells that stay
 
 same_stack : (o : Op) (w : AbsWrite) (s : AbsState) → moves_stack o w ≡ false → with_stack_of o w s ≡ s
 unfolding with_stack_of moves_stack

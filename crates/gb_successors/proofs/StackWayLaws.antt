@@ -1,5 +1,5 @@
 -- Where PUSH, POP, calls and returns lead.
-use Rattle.std.proofs.Common.{◌≡◌, ℕ, zero, suc, ◌+◌, ◌-◌, ◌*◌, ◌/◌, ◌%◌, ◌≤◌, ◌<◌, Bool, true, false, ◌&&◌, ◌==◌, nat_le, inl, inr, List, [], ◌∷◌, ◌++◌, ◌⊎◌, length, take, slice_index, slice_get, Option, Some, None, refl, sym, ◌∙◌, ap, subst, arith, length-take-le, length-append}
+use Rattle.std.proofs.Common.{◌≡◌, ℕ, ◌+◌, ◌-◌, ◌/◌, ◌%◌, ◌≤◌, ◌<◌, Bool, true, false, ◌==◌, inl, inr, List, [], ◌∷◌, ◌++◌, ◌⊎◌, length, take, Option, Some, None, refl, sym, ◌∙◌, ap, subst, arith, length-take-le, length-append}
 use Rattle.std.proofs.lemmas.Bool.{eqb-true}
 use Rattle.std.proofs.lemmas.Bool.Decides.{nat_tests}
 use Rattle.std.specs.List.{AllByRecursion}
@@ -17,48 +17,47 @@ use Rattle.gb_ops.specs.Cartridge.{kind_of}
 use Rattle.gb_ops.specs.Pairs.{word as machine_word}
 use Rattle.gb_ops.specs.Effects.{with_sp}
 use Rattle.gb_ops.specs.Effects as Effects
-use Rattle.gb_ops.specs.Memory.{Storage, View, stored, passed}
-use Rattle.gb_ops.specs.Machine.{executed, advanced, loaded}
-use Rattle.gb_ops.specs.Faults.{no_faults, load_faults, store_faults, row_faults}
-use Rattle.gb_ops.specs.Play.{MState, within, outside}
+use Rattle.gb_ops.specs.Memory.{View, stored, passed}
+use Rattle.gb_ops.specs.Machine.{advanced, loaded}
+use Rattle.gb_ops.specs.Faults.{no_faults, load_faults, store_faults}
+use Rattle.gb_ops.specs.Play.{MState}
 use Rattle.gb_domain.specs.declared.types.Val.{Val}
 use Rattle.gb_domain.specs.declared.types.Core.{Core}
-use Rattle.gb_domain.specs.declared.types.Item.{Item}
+use Rattle.gb_domain.specs.declared.types.Halves.{Halves}
 use Rattle.gb_domain.specs.declared.types.Range.{Range}
-use Rattle.gb_domain.specs.Types.{AbsState, any_item}
-use Rattle.gb_domain.specs.Areas.{IsRegion, meets}
+use Rattle.gb_domain.specs.Types.{AbsState}
+use Rattle.gb_domain.specs.Areas.{meets}
 use Rattle.gb_domain.specs.Rules.{IsVal}
 use Rattle.gb_abs.specs.Below.gb_vals.Vals.{single, any_val}
-use Rattle.gb_abs.specs.Storage.{is_ram, peek}
+use Rattle.gb_abs.specs.Storage.{peek}
 use Rattle.gb_abs.specs.Operations.{core_end, with_core}
 use Rattle.gb_abs.specs.Meaning.{Holds, MeansCore, Means, IsMemory}
 use Rattle.gb_abs.specs.Cells.{ArePlaced}
-use Rattle.gb_abs.specs.Stack.{AreInRegion, pushed, popped, youngest}
-use Rattle.gb_abs.specs.Sound.{IsRegionOpen, Pops, with_stack}
-use Rattle.gb_abs.proofs.StackLaws.{IsRegionOpen-bound, Means-pushed, Pops-popped, Means-with_core}
+use Rattle.gb_abs.specs.Stack.{AreInRegion, pushed, popped, last_word, youngest}
+use Rattle.gb_abs.specs.Sound.{Pops}
+use Rattle.gb_abs.proofs.StackLaws.{IsRegionOpen-bound, Means-pushed, Pops-popped, Means-with_core, youngest_is}
 use Rattle.gb_abs_effects.specs.declared.reads.AbsRead.{AbsRead}
 use Rattle.gb_abs_effects.specs.declared.reads.AbsRead.TheVariants as read
 use Rattle.gb_abs_effects.specs.declared.writes.AbsWrite.{AbsWrite}
 use Rattle.gb_abs_effects.specs.declared.writes.AbsWrite.TheVariants as write
-use Rattle.gb_abs_effects.specs.declared.targets.Target.{Target}
 use Rattle.gb_abs_effects.specs.declared.targets.Target.TheVariants as target
+use Rattle.gb_abs_effects.specs.Pairs.{any_word, known_word}
 use Rattle.gb_abs_effects.specs.Accesses.{read_of}
-use Rattle.gb_abs_effects.specs.Targets.{target_of, is_push, is_pop, is_call, is_return}
+use Rattle.gb_abs_effects.specs.Targets.{is_push, is_pop, is_call, is_return}
 use Rattle.gb_abs_effects.specs.Sound.{HoldsRead, HoldsWrite, HoldsTarget, IsWrite, Follows}
 use Rattle.gb_abs_effects.proofs.ReadLaws.{read_of_sound}
 use Rattle.gb_abs_effects.proofs.TargetLaws.{sp-pushed, sp-popped, pc-returned}
 use Rattle.gb_abs_memory.specs.Sound.{view}
 use Rattle.gb_abs_memory.specs.Kept.{IsKept}
-use Rattle.gb_successors.specs.Way.{Successor}
-use Rattle.gb_successors.specs.Behind.{read_item, written, starts, with_stack_of, ended}
+use Rattle.gb_successors.specs.Behind.{read_word, written, starts, with_stack_of, ended}
 use Rattle.gb_successors.specs.Successors.{taken_successor}
 use Rattle.gb_successors.specs.Refused.{reads_closed_ram, is_stack_limited, is_read_limited, is_write_limited}
-use Rattle.gb_successors.specs.Sound.{words_behind, IsPushable, IsPoppable, IsReturnable, IsStackKnown, IsStackFit, IsAllowed, Leads, LeadsTo}
-use Rattle.gb_successors.specs.Words.{item_or_any, word_item}
-use Rattle.gb_successors.proofs.PlainLaws.{Keeps, IsPlainRead}
+use Rattle.gb_successors.specs.Sound.{bytes_behind, IsPushable, IsPoppable, IsReturnable, IsStackKnown, IsStackFit, IsAllowed, Leads, LeadsTo}
+use Rattle.gb_successors.specs.Words.{word_or_any}
+use Rattle.gb_successors.proofs.PlainLaws.{IsPlainRead}
 use Rattle.gb_successors.proofs.AccessLaws.{Loads, clear_stack}
 use Rattle.gb_successors.proofs.WordLaws.{IsPush-is_push, IsCall-is_call, IsPop-is_pop, IsReturn-is_return, pushed-if_room}
-use Rattle.gb_successors.proofs.SuccessorLaws.{begun, begun_sp, given, effect, behind_row, left_by, faults_are, Means-ended, passed_peek, IsTaken, keeps_side, means_begun, item_of, low_of, high_of, abs_effect, acted, loads, follows, keeps_effect, is_write, allowed_read, allowed_write, read_is, write_is, target_is, state_is, executed_taken, goes_to, Done, words-least, Done-plain}
+use Rattle.gb_successors.proofs.SuccessorLaws.{begun, begun_sp, given, effect, behind_row, left_by, faults_are, Means-ended, passed_peek, IsTaken, keeps_side, means_begun, known_read, low_of, high_of, abs_effect, acted, loads, follows, keeps_effect, is_write, allowed_read, allowed_write, read_is, write_is, target_is, state_is, executed_taken, goes_to, Done, bytes-least, Done-plain}
 
 -- ---- the parts of the successor, where its write is known
 
@@ -101,8 +100,8 @@ small_word v entry n is h =
     omega arith
 
 -- a byte that is kept isn't one of the word's
-pub not_pushed : (region : Region) (base sp words a b : ℕ) → AreInRegion region base (words + 1) → sp + 2 * words ≡ base → (a ≡ sp - 1) ⊎ (a ≡ sp - 2) → (meets region b b ≡ true → base ≤ b) → (b == a) ≡ false
-not_pushed region base sp words a b room stack at above = choose (b == a) refl
+pub not_pushed : (region : Region) (base sp bytes a b : ℕ) → AreInRegion region base (bytes + 2) → sp + bytes ≡ base → (a ≡ sp - 1) ⊎ (a ≡ sp - 2) → (meets region b b ≡ true → base ≤ b) → (b == a) ≡ false
+not_pushed region base sp bytes a b room stack at above = choose (b == a) refl
   where
     inside : (a b : ℕ) → b ≡ a → region.first + 2 ≤ sp → sp ≤ region.last + 1 → (a ≡ sp - 1) ⊎ (a ≡ sp - 2) → (meets region b b ≡ true) × (b < sp)
     inside a b e first last (inl i) = (grind (arith, nat_tests), omega arith)
@@ -119,7 +118,7 @@ not_pushed region base sp words a b room stack at above = choose (b == a) refl
     choose false e = e
 
 -- what is left of the machine, whose word stands on the stack
-record Pushed (rom : List ℕ) (region : Region) (ranges : List Range) (s : AbsState) (core : Core) (i : Item) (entry : MState) (base : ℕ) (x : MState) (e : Effect) : Type 0 where
+record Pushed (rom : List ℕ) (region : Region) (ranges : List Range) (s : AbsState) (core : Core) (i : Halves) (entry : MState) (base : ℕ) (x : MState) (e : Effect) : Type 0 where
   pub means : Means (pushed i (with_core s core)) entry base (record { processor = e.processor; storage = (stored (view rom x false) e.write).storage })
   pub faults : store_faults region (view rom x false) e.write ≡ no_faults
   pub starting : (stored (view rom x false) e.write).starting ≡ false
@@ -140,7 +139,7 @@ same_but_sp core entry x y sp m e = subst (λ z. MeansCore core entry z) (sym e)
 
 pushes : (rom : List ℕ) (region : Region) (ranges : List Range) (row : Row) (a : ℕ) (s : AbsState) (entry : MState) (base : ℕ) (x : MState) (reads : List ℕ) (c : Core)
     → IsTaken rom region ranges row a s entry base x reads c → (high low : Val) → (abs_effect rom row a s c).write ≡ write.Push high low
-    → s.core.stack_set ≡ true → AreInRegion region base (length s.items + 1) → is_stack_limited region s.core ≡ false
+    → s.core.stack_set ≡ true → AreInRegion region base (length s.items + 2) → is_stack_limited region s.core ≡ false
     → Follows (abs_effect rom row a s c) entry (begun row x) (effect rom row x reads)
     → Pushed rom region ranges s (abs_effect rom row a s c).core (record { high = high; low = low }) entry base x (effect rom row x reads)
 pushes rom region ranges row a s entry base x reads c k high low is set room limited f =
@@ -171,28 +170,28 @@ pushes rom region ranges row a s entry base x reads c k high low is set room lim
           (not_pushed region base x.processor.sp (length s.items) (x.processor.sp - 2) b room top (inr refl) kept.above);
     }
 
-more_room : (region : Region) (base : ℕ) (items : List Item) (i : Item) → AreInRegion region base (length items + 1) → AreInRegion region base (length (items ++ i ∷ []))
-more_room region base items i room = subst (AreInRegion region base) (sym (length-append items (i ∷ []))) room
+more_room : (region : Region) (base : ℕ) (items : List Val) (i : Halves) → AreInRegion region base (length items + 2) → AreInRegion region base (length (items ++ i.high ∷ i.low ∷ []))
+more_room region base items i room = subst (AreInRegion region base) (sym (length-append items (i.high ∷ i.low ∷ []))) room
 
-pushed_room : (region : Region) (base n : ℕ) (i : Item) (s : AbsState) → AreInRegion region base (length s.items + 1) → AreInRegion region base (length (ended false n (pushed i s)).items)
+pushed_room : (region : Region) (base n : ℕ) (i : Halves) (s : AbsState) → AreInRegion region base (length s.items + 2) → AreInRegion region base (length (ended false n (pushed i s)).items)
 unfolding ended pushed
 pushed_room region base n i s room = more_room region base s.items i room
 
-words_pushed : (o : Op) (n : ℕ) (i : Item) (s : AbsState) → is_push o ≡ true → length (ended false n (pushed i s)).items ≤ words_behind o (length s.items)
-unfolding ended pushed words_behind
-words_pushed o n i s is =
-    let more : length (s.items ++ i ∷ []) ≡ length s.items + 1 = length-append s.items (i ∷ []) in
-    rw is (subst (λ m. m ≤ length s.items + 1) (sym more) (omega arith))
+bytes_pushed : (o : Op) (n : ℕ) (i : Halves) (s : AbsState) → is_push o ≡ true → length (ended false n (pushed i s)).items ≤ bytes_behind o (length s.items)
+unfolding ended pushed bytes_behind
+bytes_pushed o n i s is =
+    let more : length (s.items ++ i.high ∷ i.low ∷ []) ≡ length s.items + 2 = length-append s.items (i.high ∷ i.low ∷ []) in
+    rw is (subst (λ m. m ≤ length s.items + 2) (sym more) (omega arith))
 
-words_same : (o : Op) (n : ℕ) (s : AbsState) → length (ended false n s).items ≤ words_behind o (length s.items)
+bytes_same : (o : Op) (n : ℕ) (s : AbsState) → length (ended false n s).items ≤ bytes_behind o (length s.items)
 unfolding ended
-words_same o n s = words-least o (length s.items)
+bytes_same o n s = bytes-least o (length s.items)
 
-words_popped : (o : Op) (n : ℕ) (s : AbsState) → length (ended false n (popped s)).items ≤ words_behind o (length s.items)
+bytes_popped : (o : Op) (n : ℕ) (s : AbsState) → length (ended false n (popped s)).items ≤ bytes_behind o (length s.items)
 unfolding ended popped
-words_popped o n s =
-    let fewer : length (take (length s.items - 1) s.items) ≡ length s.items - 1 = length-take-le (length s.items - 1) s.items (omega arith) in
-    let most = words-least o (length s.items) in
+bytes_popped o n s =
+    let fewer : length (take (length s.items - 2) s.items) ≡ length s.items - 2 = length-take-le (length s.items - 2) s.items (omega arith) in
+    let most = bytes-least o (length s.items) in
     omega arith
 
 -- PUSH
@@ -206,7 +205,7 @@ Done-push rom region ranges row a s entry base x reads c k is able allowed =
     let t = taken_successor rom row (behind_row a row) s c in
     let e = effect rom row x reads in
     let core = (abs_effect rom row a s c).core in
-    let i : Item = record { high = p.first; low = p.second } in
+    let i : Halves = record { high = p.first; low = p.second } in
     let may = allowed_read rom region ranges s base _ allowed in
     let l = loads rom region ranges row a s entry base x reads c k (subst IsPlainRead (sym p.read_is) tt)
     (subst (λ v. reads_closed_ram rom s.core v ≡ false) (read_is rom row a s c) may.0) (subst (λ v. is_read_limited region s.core v ≡ false) (read_is rom row a s c) may.1) in
@@ -217,7 +216,7 @@ Done-push rom region ranges row a s entry base x reads c k is able allowed =
     let state : t.state ≡ ended false row.cycles (pushed i (with_core s core)) =
     state_by rom row a s c _ p.write_is ∙ (ended_push (kind_of rom) p.first p.second row.cycles _ ∙ ap (ended false row.cycles) (p.leaves (with_core s core) ∙ pushed-if_room i (with_core s core) able.held)) in
     record {
-      held = subst (λ (z : AbsState). length z.items ≤ words_behind row.op (length s.items)) (sym state) (words_pushed row.op row.cycles i (with_core s core) is);
+      held = subst (λ (z : AbsState). length z.items ≤ bytes_behind row.op (length s.items)) (sym state) (bytes_pushed row.op row.cycles i (with_core s core) is);
       leads = subst (λ y. Leads region ranges t entry base x y) (sym (executed_taken rom region ranges row a s entry base x reads c k))
           (record {
             to = subst (λ v. LeadsTo region v t entry base x (left_by rom x e row.cycles)) (sym (target_is rom row a s c ∙ p.target_is))
@@ -234,7 +233,7 @@ Done-push rom region ranges row a s entry base x reads c k is able allowed =
 
 -- ---- a call
 
-ended_pushed : (n : ℕ) (i : Item) (s : AbsState) → ended false n (pushed i s) ≡ pushed i (ended false n s)
+ended_pushed : (n : ℕ) (i : Halves) (s : AbsState) → ended false n (pushed i s) ≡ pushed i (ended false n s)
 unfolding ended pushed
 ended_pushed n i s = refl
 
@@ -271,19 +270,19 @@ Done-call rom region ranges row a s entry base x reads c k is set allowed =
     let keeps = keeps_effect rom region ranges row a s entry base x reads c k in
     let state : t.state ≡ ended false row.cycles (with_core s core) =
     state_by rom row a s c _ p.write_is ∙ (ended_push (kind_of rom) (single (next / 256)) (single (next % 256)) row.cycles _ ∙ ap (ended false row.cycles) (p.leaves _ (with_core s core))) in
-    let fits : AreInRegion region base (length t.state.items + 1) = subst (λ v. IsStackFit region v s t base) target allowed.stack in
-    let room : AreInRegion region base (length s.items + 1) = subst (λ items. AreInRegion region base (length items + 1)) (ap (λ (z : AbsState). z.items) state ∙ ended_items row.cycles (with_core s core)) fits in
+    let fits : AreInRegion region base (length t.state.items + 2) = subst (λ v. IsStackFit region v s t base) target allowed.stack in
+    let room : AreInRegion region base (length s.items + 2) = subst (λ items. AreInRegion region base (length items + 2)) (ap (λ (z : AbsState). z.items) state ∙ ended_items row.cycles (with_core s core)) fits in
     let w = pushes rom region ranges row a s entry base x reads c k (single (next / 256)) (single (next % 256)) p.write_is set room limited f.0 in
     record {
-      held = subst (λ (z : AbsState). length z.items ≤ words_behind row.op (length s.items)) (sym state) (words_same row.op row.cycles (with_core s core));
+      held = subst (λ (z : AbsState). length z.items ≤ bytes_behind row.op (length s.items)) (sym state) (bytes_same row.op row.cycles (with_core s core));
       leads = subst (λ y. Leads region ranges t entry base x y) (sym (executed_taken rom region ranges row a s entry base x reads c k))
           (record {
             to = subst (λ v. LeadsTo region v t entry base x (left_by rom x e row.cycles)) (sym target)
                 (record {
-                  means = subst (λ n. Means (pushed (word_item n) t.state) entry base (left_by rom x e row.cycles)) (sym (next_is rom row a s c))
-                      (subst (λ z. Means (pushed (word_item next) z) entry base (left_by rom x e row.cycles)) (sym state)
-                      (subst (λ z. Means z entry base (left_by rom x e row.cycles)) (ended_pushed row.cycles (word_item next) (with_core s core))
-                      (Means-ended rom (pushed (word_item next) (with_core s core)) entry base e.processor (stored (view rom x false) e.write) false row.cycles w.starting w.means)));
+                  means = subst (λ n. Means (pushed (known_word n) t.state) entry base (left_by rom x e row.cycles)) (sym (next_is rom row a s c))
+                      (subst (λ z. Means (pushed (known_word next) z) entry base (left_by rom x e row.cycles)) (sym state)
+                      (subst (λ z. Means z entry base (left_by rom x e row.cycles)) (ended_pushed row.cycles (known_word next) (with_core s core))
+                      (Means-ended rom (pushed (known_word next) (with_core s core)) entry base e.processor (stored (view rom x false) e.write) false row.cycles w.starting w.means)));
                   next = subst (λ n. n < 65536) (sym (next_is rom row a s c)) (wrapped (a + row.length));
                   goes = subst (λ v. HoldsTarget v e.processor.pc) p.target_is (goes_to rom region ranges row a s entry base x reads c k);
                   stack_set = ap (λ (z : AbsState). z.core.stack_set) state ∙ (ended_set row.cycles (with_core s core) ∙ (keeps.stack ∙ set));
@@ -313,22 +312,22 @@ means_begun_taken : (rom : List ℕ) (region : Region) (ranges : List Range) (ro
     → IsTaken rom region ranges row a s entry base x reads c → Means (with_core s c) entry base (begun row x)
 means_begun_taken rom region ranges row a s entry base x reads c k = means_begun rom row s entry base x c (keeps_side row.op s.core c k.side) k.stands.means k.means
 
-read_word : (sp : ℕ) (r : Read) → HoldsRead read.Top sp r → r ≡ machine_read.Word sp
-read_word sp machine_read.Nothing h = absurd h
-read_word sp (machine_read.Byte a) h = absurd h
-read_word sp (machine_read.Word a) h = ap machine_read.Word h
+is_word_read : (sp : ℕ) (r : Read) → HoldsRead read.Top sp r → r ≡ machine_read.Word sp
+is_word_read sp machine_read.Nothing h = absurd h
+is_word_read sp (machine_read.Byte a) h = absurd h
+is_word_read sp (machine_read.Word a) h = ap machine_read.Word h
 
 -- what the machine reads is the word on top of the stack
 reads_top : (rom : List ℕ) (region : Region) (ranges : List Range) (row : Row) (a : ℕ) (s : AbsState) (entry : MState) (base : ℕ) (x : MState) (reads : List ℕ) (c : Core)
     → IsTaken rom region ranges row a s entry base x reads c → read_of row.op c ≡ read.Top → Effects.read_of row.op (advanced x.processor row) ≡ machine_read.Word (begun row x).processor.sp
 reads_top rom region ranges row a s entry base x reads c k is =
-    read_word (begun row x).processor.sp (Effects.read_of row.op (advanced x.processor row))
+    is_word_read (begun row x).processor.sp (Effects.read_of row.op (advanced x.processor row))
     (subst (λ v. HoldsRead v (begun row x).processor.sp (Effects.read_of row.op (advanced x.processor row))) is
     ((read_of_sound row.op c (read_of row.op c) refl).gives entry (begun row x) (given rom row x reads).low (given rom row x reads).high k.means k.taken))
 
 -- the word of a state that holds it on top
 pops : (rom : List ℕ) (region : Region) (ranges : List Range) (row : Row) (a : ℕ) (s : AbsState) (entry : MState) (base : ℕ) (x : MState) (reads : List ℕ) (c : Core)
-    → IsTaken rom region ranges row a s entry base x reads c → (held : AbsState) (i : Item) (top : ℕ) → Means held entry top (begun row x) → youngest held ≡ Some i → held.core.stack_set ≡ true
+    → IsTaken rom region ranges row a s entry base x reads c → (held : AbsState) (i : Halves) (top : ℕ) → Means held entry top (begun row x) → youngest held ≡ Some i → held.core.stack_set ≡ true
     → AreInRegion region top (length held.items) → is_stack_limited region s.core ≡ false → Pops (popped held) i entry top (begun row x) (view rom x false) reads
 pops rom region ranges row a s entry base x reads c k held i top means is set room limited =
     Pops-popped region held entry top (begun row x) (view rom x false) i reads means refl set is room k.stands.is_region
@@ -355,7 +354,7 @@ record Popped (rom : List ℕ) (region : Region) (core : Core) (held : AbsState)
   pub same : (b : ℕ) → peek (left_by rom x e n).storage b ≡ peek x.storage b
 
 leaves_word : (rom : List ℕ) (region : Region) (ranges : List Range) (row : Row) (a : ℕ) (s : AbsState) (entry : MState) (base : ℕ) (x : MState) (reads : List ℕ) (c : Core)
-    → IsTaken rom region ranges row a s entry base x reads c → (after : AbsState) (i : Item) (top : ℕ) → Pops after i entry top (begun row x) (view rom x false) reads → after.core.stack_set ≡ true
+    → IsTaken rom region ranges row a s entry base x reads c → (after : AbsState) (i : Halves) (top : ℕ) → Pops after i entry top (begun row x) (view rom x false) reads → after.core.stack_set ≡ true
     → read_of row.op c ≡ read.Top → (abs_effect rom row a s c).write ≡ write.Nothing → Follows (abs_effect rom row a s c) entry (begun row x) (effect rom row x reads)
     → Popped rom region (abs_effect rom row a s c).core after row.cycles entry top x (effect rom row x reads)
 leaves_word rom region ranges row a s entry base x reads c k after i top p set is nothing f =
@@ -375,27 +374,22 @@ leaves_word rom region ranges row a s entry base x reads c k after i top p set i
     }
 
 -- a word is held
-top_held : (items : List Item) → 0 < length items → (i : Item) × (slice_get items (length items - 1) ≡ Some i)
-top_held items h = by items (length items - 1) (omega arith)
-  where
-    by : (xs : List Item) (n : ℕ) → n < length xs → (i : Item) × (slice_get xs n ≡ Some i)
-    by [] n lt = absurd (omega arith)
-    by (y ∷ ys) zero lt = (y, refl)
-    by (y ∷ ys) (suc n) lt = by ys n (omega arith)
+top_held : (s : AbsState) (c : Core) → 2 ≤ length s.items → (i : Halves) × (youngest (with_core s c) ≡ Some i)
+top_held s c h = (_, youngest_is (with_core s c) s.items any_val refl h)
 
-read_top : (rom : List ℕ) (s : AbsState) (what : AbsRead) (o : Option Item) → what ≡ read.Top → youngest s ≡ o → read_item rom s what ≡ item_or_any o
-unfolding read_item
-read_top rom s what o e is = ap (read_item rom s) e ∙ ap item_or_any is
+read_top : (rom : List ℕ) (s : AbsState) (what : AbsRead) (o : Option Halves) → what ≡ read.Top → youngest s ≡ o → read_word rom s what ≡ word_or_any o
+unfolding read_word
+read_top rom s what o e is = ap (read_word rom s) e ∙ ap word_or_any is
 
-loads_word : (rom : List ℕ) (row : Row) (s : AbsState) (c : Core) (entry : MState) (x : MState) (reads : List ℕ) (i : Item) (sp : ℕ)
-    → item_of rom row s c ≡ i → Effects.read_of row.op (advanced x.processor row) ≡ machine_read.Word sp
+loads_word : (rom : List ℕ) (row : Row) (s : AbsState) (c : Core) (entry : MState) (x : MState) (reads : List ℕ) (i : Halves) (sp : ℕ)
+    → known_read rom row s c ≡ i → Effects.read_of row.op (advanced x.processor row) ≡ machine_read.Word sp
     → Holds i.low entry (loaded (view rom x false) (machine_read.Word sp) reads).low → Holds i.high entry (loaded (view rom x false) (machine_read.Word sp) reads).high
     → load_faults (view rom x false) (machine_read.Word sp) ≡ no_faults
     → Loads rom (with_core s c) (read_of row.op c) entry (view rom x false) (Effects.read_of row.op (advanced x.processor row)) reads
 loads_word rom row s c entry x reads i sp item word low high faults = record {
-  low = subst (λ (j : Item). Holds j.low entry (loaded (view rom x false) (Effects.read_of row.op (advanced x.processor row)) reads).low) (sym item)
+  low = subst (λ (j : Halves). Holds j.low entry (loaded (view rom x false) (Effects.read_of row.op (advanced x.processor row)) reads).low) (sym item)
       (subst (λ r. Holds i.low entry (loaded (view rom x false) r reads).low) (sym word) low);
-  high = subst (λ (j : Item). Holds j.high entry (loaded (view rom x false) (Effects.read_of row.op (advanced x.processor row)) reads).high) (sym item)
+  high = subst (λ (j : Halves). Holds j.high entry (loaded (view rom x false) (Effects.read_of row.op (advanced x.processor row)) reads).high) (sym item)
       (subst (λ r. Holds i.high entry (loaded (view rom x false) r reads).high) (sym word) high);
   faults = ap (load_faults (view rom x false)) word ∙ faults;
 }
@@ -407,7 +401,7 @@ popped_ended n s c core = refl
 popped_room : (region : Region) (base n : ℕ) (s : AbsState) → AreInRegion region base (length s.items) → AreInRegion region base (length (ended false n (popped s)).items)
 unfolding ended popped
 popped_room region base n s room =
-    let fewer : length (take (length s.items - 1) s.items) ≡ length s.items - 1 = length-take-le (length s.items - 1) s.items (omega arith) in
+    let fewer : length (take (length s.items - 2) s.items) ≡ length s.items - 2 = length-take-le (length s.items - 2) s.items (omega arith) in
     let first = room.first in
     record { first = omega arith; last = room.last }
 
@@ -426,7 +420,7 @@ Done-pop rom region ranges row a s entry base x reads c k is able allowed =
     let limited : is_stack_limited region s.core ≡ false =
     subst (λ v. is_read_limited region s.core v ≡ false) (read_is rom row a s c ∙ p.read_is) (allowed_read rom region ranges s base _ allowed).1 in
     let set : c.stack_set ≡ true = set_of rom region ranges row a s entry base x reads c k able.stack_set in
-    let top = top_held s.items able.held in
+    let top = top_held s c able.held in
     let word = pops rom region ranges row a s entry base x reads c k (with_core s c) top.0 base (means_begun_taken rom region ranges row a s entry base x reads c k) top.1 set k.stands.room limited in
     let l = loads_word rom row s c entry x reads top.0 (begun row x).processor.sp (read_top rom (with_core s c) (read_of row.op c) (Some top.0) p.read_is top.1)
     (reads_top rom region ranges row a s entry base x reads c k p.read_is) word.low word.high word.faults in
@@ -435,7 +429,7 @@ Done-pop rom region ranges row a s entry base x reads c k is able allowed =
     let state : t.state ≡ ended false row.cycles (popped (with_core s core)) =
     state_by rom row a s c _ p.write_is ∙ (ended_nothing (kind_of rom) row.cycles _ ∙ ap (ended false row.cycles) (p.leaves _ (with_core s core))) in
     record {
-      held = subst (λ (z : AbsState). length z.items ≤ words_behind row.op (length s.items)) (sym state) (words_popped row.op row.cycles (with_core s core));
+      held = subst (λ (z : AbsState). length z.items ≤ bytes_behind row.op (length s.items)) (sym state) (bytes_popped row.op row.cycles (with_core s core));
       leads = subst (λ y. Leads region ranges t entry base x y) (sym (executed_taken rom region ranges row a s entry base x reads c k))
           (record {
             to = subst (λ v. LeadsTo region v t entry base x (left_by rom x e row.cycles)) (sym (target_is rom row a s c ∙ p.target_is))
@@ -451,9 +445,9 @@ Done-pop rom region ranges row a s entry base x reads c k is able allowed =
 
 -- ---- a return
 
--- the return word as an item, where no word is held
+-- the bytes of the return word as items, where nothing is held
 abbrev with_return_word : AbsState → Core → ℕ → ℕ → AbsState
-with_return_word s c low high = record { core = c; items = record { high = single high; low = single low } ∷ []; cells = s.cells }
+with_return_word s c low high = record { core = c; items = single high ∷ single low ∷ []; cells = s.cells }
 
 Holds-single : (entry : MState) (n : ℕ) → Holds (single n) entry n
 Holds-single entry n = record { least = omega arith; most = omega arith; origin = λ o h. cc }
@@ -473,7 +467,7 @@ return_word_means s c entry base x m set none y storage sp core =
     let stack = m.stack set in
     let empty : length s.items ≡ 0 = ap length none in
     let one : base + 2 - 1 ≡ base + 1 = omega arith in
-    let two : base + 2 - 2 ≡ base = omega arith in
+    let two : base + 2 - 1 - 1 ≡ base = omega arith in
     record {
       core = core;
       memory = subst IsMemory (sym storage) m.memory;
@@ -481,8 +475,7 @@ return_word_means s c entry base x m set none y storage sp core =
       stack = λ on. omega arith;
       items = (
         subst (λ n. Holds (single (peek x.storage (base + 1))) entry n) (sym (ap (λ t. peek t (base + 2 - 1)) storage ∙ ap (peek x.storage) one)) (Holds-single entry (peek x.storage (base + 1))),
-        subst (λ n. Holds (single (peek x.storage base)) entry n) (sym (ap (λ t. peek t (base + 2 - 2)) storage ∙ ap (peek x.storage) two)) (Holds-single entry (peek x.storage base)),
-        tt,
+        (subst (λ n. Holds (single (peek x.storage base)) entry n) (sym (ap (λ t. peek t (base + 2 - 1 - 1)) storage ∙ ap (peek x.storage) two)) (Holds-single entry (peek x.storage base)), tt),
       );
       cells = subst (λ t. AllByRecursion (λ c. Holds c.val entry (peek t c.address)) s.cells) (sym storage) m.cells;
     }
@@ -492,7 +485,12 @@ unfolding popped
 returned_state n s c core low high none = ap (λ items. ended false n (record { core = core; items = items; cells = s.cells })) none
 
 no_youngest : (s : AbsState) (c : Core) → s.items ≡ [] → youngest (with_core s c) ≡ None
-no_youngest s c none = ap (λ items. slice_get items (length items - 1)) none
+unfolding youngest
+no_youngest s c none = ap (λ items. last_word items) none
+
+return_youngest : (s : AbsState) (c : Core) (low high : ℕ) → youngest (with_return_word s c low high) ≡ Some (record { high = single high; low = single low })
+unfolding youngest
+return_youngest s c low high = refl
 
 pub Done-return :
     (rom : List ℕ) (region : Region) (ranges : List Range) (row : Row) (a : ℕ) (s : AbsState) (entry : MState) (base : ℕ) (x : MState) (reads : List ℕ) (c : Core)
@@ -516,19 +514,19 @@ Done-return rom region ranges row a s entry base x reads c k is allowed =
     let none : s.items ≡ [] = sym (ap (λ (z : AbsState). z.items) state ∙ ended_items row.cycles (with_core s core)) ∙ able.held in
     let set : c.stack_set ≡ true = set_of rom region ranges row a s entry base x reads c k able.stack_set in
     let means = return_word_means s c entry base x k.stands.means able.stack_set none (begun row x) refl (begun_sp row x) k.means in
-    let word = pops rom region ranges row a s entry base x reads c k (with_return_word s c low high) (record { high = single high; low = single low }) (base + 2) means refl set able.return_word limited in
+    let word = pops rom region ranges row a s entry base x reads c k (with_return_word s c low high) (record { high = single high; low = single low }) (base + 2) means (return_youngest s c low high) set able.return_word limited in
     let top : Loaded = loaded (view rom x false) (machine_read.Word (begun row x).processor.sp) reads in
     let at_low : top.low ≡ low = single-held entry low top.low word.low in
     let at_high : top.high ≡ high = single-held entry high top.high word.high in
     let reads_word = reads_top rom region ranges row a s entry base x reads c k p.read_is in
-    let l = loads_word rom row s c entry x reads any_item (begun row x).processor.sp (read_top rom (with_core s c) (read_of row.op c) None p.read_is (no_youngest s c none))
+    let l = loads_word rom row s c entry x reads any_word (begun row x).processor.sp (read_top rom (with_core s c) (read_of row.op c) None p.read_is (no_youngest s c none))
     reads_word (subst (λ n. Holds any_val entry n) (sym at_low) (Holds-any entry low (k.stands.means.memory.bytes base))) (subst (λ n. Holds any_val entry n) (sym at_high) (Holds-any entry high (k.stands.means.memory.bytes (base + 1)))) word.faults in
     let f = follows rom region ranges row a s entry base x reads c k l in
     let left = leaves_word rom region ranges row a s entry base x reads c k (popped (with_return_word s c low high)) (record { high = single high; low = single low }) (base + 2) word (popped_set (with_return_word s c low high) set) p.read_is p.write_is f.0 in
     let pc : e.processor.pc ≡ machine_word (given rom row x reads).high (given rom row x reads).low =
     pc-returned row.op next c (advanced x.processor row) (given rom row x reads).low (given rom row x reads).high p.target_is k.taken in
     record {
-      held = subst (λ (z : AbsState). length z.items ≤ words_behind row.op (length s.items)) (sym state) (words_same row.op row.cycles (with_core s core));
+      held = subst (λ (z : AbsState). length z.items ≤ bytes_behind row.op (length s.items)) (sym state) (bytes_same row.op row.cycles (with_core s core));
       leads = subst (λ y. Leads region ranges t entry base x y) (sym (executed_taken rom region ranges row a s entry base x reads c k))
           (record {
             to = subst (λ v. LeadsTo region v t entry base x (left_by rom x e row.cycles)) (sym target)

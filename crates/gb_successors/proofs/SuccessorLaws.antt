@@ -1,5 +1,6 @@
 -- Whatever the machine executes from a state that is meant leads by one of the successors.
-use Rattle.std.proofs.Common.{◌≡◌, ℕ, zero, suc, ◌+◌, ◌-◌, ◌%◌, ◌≤◌, ◌<◌, Bool, true, false, if◌then◌else◌, cond, ◌||◌, ◌⊎◌, inl, inr, List, [], ◌∷◌, length, slice_index, slice_get, Some, refl, sym, ◌∙◌, ap, subst, arith}
+use Rattle.std.proofs.Common.{◌≡◌, ℕ, zero, suc, ◌+◌, ◌-◌, ◌%◌, ◌≤◌, ◌<◌, Bool, true, false, if◌then◌else◌, cond, ◌||◌, ◌⊎◌, inl, inr, List, [], ◌∷◌, length, slice_index, slice_get, nat_lt, Option, Some, None, refl, sym, ◌∙◌, ap, subst, arith}
+use Rattle.std.specs.Prelude.{IfSome}
 use Rattle.std.specs.List.{AllByRecursion}
 use Rattle.gb_ops.specs.declared.machine.Region.{Region}
 use Rattle.gb_ops.specs.declared.machine.Effect.{Effect}
@@ -19,15 +20,15 @@ use Rattle.gb_ops.specs.Play.{MState, within, outside}
 use Rattle.gb_domain.specs.declared.types.Val.{Val}
 use Rattle.gb_domain.specs.declared.types.Core.{Core}
 use Rattle.gb_domain.specs.declared.types.Range.{Range}
-use Rattle.gb_domain.specs.Types.{AbsState, any_item}
+use Rattle.gb_domain.specs.Types.{AbsState}
 use Rattle.gb_domain.specs.Areas.{IsRegion}
-use Rattle.gb_domain.specs.Rules.{IsVal, IsCore, IsItem}
+use Rattle.gb_domain.specs.Rules.{IsVal, IsCore, IsWord}
 use Rattle.gb_abs.specs.Below.gb_vals.Vals.{any_val}
-use Rattle.gb_domain.specs.declared.types.Item.{Item}
+use Rattle.gb_domain.specs.declared.types.Halves.{Halves}
 use Rattle.gb_abs.specs.Storage.{peek}
 use Rattle.gb_abs.specs.Operations.{core_settle, core_end, with_core}
 use Rattle.gb_abs.specs.Cells.{ArePlaced}
-use Rattle.gb_abs.specs.Stack.{AreInRegion}
+use Rattle.gb_abs.specs.Stack.{AreInRegion, word_of, last_word, youngest}
 use Rattle.gb_abs.specs.Meaning.{Holds, MeansCore, Means, IsMemory}
 use Rattle.gb_abs.proofs.OperationLaws.{MeansCore-settle, end_sound}
 use Rattle.gb_abs.proofs.StackLaws.{Means-with_core}
@@ -37,6 +38,7 @@ use Rattle.gb_abs_effects.specs.declared.writes.AbsWrite.{AbsWrite}
 use Rattle.gb_abs_effects.specs.declared.writes.AbsEffect.{AbsEffect}
 use Rattle.gb_abs_effects.specs.declared.targets.Target.{Target}
 use Rattle.gb_abs_effects.specs.declared.targets.Target.TheVariants as target
+use Rattle.gb_abs_effects.specs.Pairs.{any_word}
 use Rattle.gb_abs_effects.specs.Accesses.{read_of}
 use Rattle.gb_abs_effects.specs.Sides.{sides_of}
 use Rattle.gb_abs_effects.specs.Targets.{target_of, moves_sp, is_sp, is_push}
@@ -49,11 +51,11 @@ use Rattle.gb_abs_effects.proofs.TransferLaws.{transfer_sound}
 use Rattle.gb_abs_memory.specs.Sound.{view, AreVals}
 use Rattle.gb_abs_memory.proofs.LoadLaws.{IsVal-loaded_val}
 use Rattle.gb_successors.specs.Way.{Successor}
-use Rattle.gb_successors.specs.Behind.{read_item, written, starts, with_stack_of, ended}
+use Rattle.gb_successors.specs.Behind.{read_word, written, starts, with_stack_of, ended}
 use Rattle.gb_successors.specs.Successors.{taken_successor}
 use Rattle.gb_successors.specs.Refused.{is_unstorable, meets_closed, meets_oam_transfer, reads_closed_ram, writes_closed_ram, is_read_limited, is_write_limited}
-use Rattle.gb_successors.specs.Sound.{words_behind, IsAllowed, Leads, LeadsTo, Stands, IsRuled}
-use Rattle.gb_successors.specs.Words.{item_or_any}
+use Rattle.gb_successors.specs.Sound.{bytes_behind, IsAllowed, Leads, LeadsTo, Stands, IsRuled}
+use Rattle.gb_successors.specs.Words.{word_or_any}
 use Rattle.gb_successors.proofs.PlainLaws.{Keeps, Keeps-both, Keeps-settle, Keeps-taken, Keeps-transfer, IsPlainRead, IsPlainWrite, IsPlainTarget, IsPlainRead-read_of, IsPlainWrite-transfer, plain_target}
 use Rattle.gb_successors.proofs.AccessLaws.{IsSameGate, closed_same, limited_same, writes_same, write_limited_same, Loads, Loads-read, Stores, AtWrite, Stores-write}
 
@@ -185,14 +187,14 @@ loads rom region ranges row a s entry base x reads c k plain ram limited =
     (limited_same region s.core c (read_of row.op c) keeps ∙ limited)
 
 -- what is known of what it reads
-abbrev pub item_of : List ℕ → Row → AbsState → Core → Item
-item_of rom row s c = read_item rom (with_core s c) (read_of row.op c)
+abbrev pub known_read : List ℕ → Row → AbsState → Core → Halves
+known_read rom row s c = read_word rom (with_core s c) (read_of row.op c)
 
 abbrev pub low_of : List ℕ → Row → AbsState → Core → Val
-low_of rom row s c = (item_of rom row s c).low
+low_of rom row s c = (known_read rom row s c).low
 
 abbrev pub high_of : List ℕ → Row → AbsState → Core → Val
-high_of rom row s c = (item_of rom row s c).high
+high_of rom row s c = (known_read rom row s c).high
 
 IsVal-any : IsVal any_val
 IsVal-any = record { order = omega arith; hi = omega arith }
@@ -201,20 +203,32 @@ IsVal-any = record { order = omega arith; hi = omega arith }
 abbrev pub abs_effect : List ℕ → Row → ℕ → AbsState → Core → AbsEffect
 abs_effect rom row a s c = transfer row.op (behind_row a row) c (low_of rom row s c) (high_of rom row s c)
 
-IsItem-any : IsItem any_item
-IsItem-any = record { high = IsVal-any; low = IsVal-any }
+IsWord-any : IsWord any_word
+IsWord-any = record { high = IsVal-any; low = IsVal-any }
+
+IsVal-at : (items : List Val) (n : ℕ) → AllByRecursion IsVal items → IfSome (slice_get items n) IsVal
+IsVal-at [] n h = tt
+IsVal-at (v ∷ items) zero h = h.0
+IsVal-at (v ∷ items) (suc n) h = IsVal-at items n h.1
+
+IsWord-of : (high low : Option Val) → IfSome high IsVal → IfSome low IsVal → IsWord (word_or_any (word_of high low))
+IsWord-of None low h l = IsWord-any
+IsWord-of (Some v) None h l = IsWord-any
+IsWord-of (Some v) (Some w) h l = record { high = h; low = l }
 
 -- the word that was pushed last is one
-IsItem-top : (items : List Item) (n : ℕ) → AllByRecursion IsItem items → IsItem (item_or_any (slice_get items n))
-IsItem-top [] n h = IsItem-any
-IsItem-top (i ∷ items) zero h = h.0
-IsItem-top (i ∷ items) (suc n) h = IsItem-top items n h.1
+IsWord-last : (items : List Val) → AllByRecursion IsVal items → IsWord (word_or_any (last_word items))
+IsWord-last items h = choose (nat_lt (length items) 2)
+  where
+    choose : (b : Bool) → IsWord (word_or_any (cond b None (word_of (slice_get items (length items - 2)) (slice_get items (length items - 1)))))
+    choose true = IsWord-any
+    choose false = IsWord-of _ _ (IsVal-at items (length items - 2) h) (IsVal-at items (length items - 1) h)
 
-is_item : (rom : List ℕ) (s : AbsState) (c : Core) (what : AbsRead) → IsVal c.ie → AreVals s.cells → AllByRecursion IsItem s.items → ((i : ℕ) → slice_index rom i ≤ 255) → IsItem (read_item rom (with_core s c) what)
-unfolding read_item
-is_item rom s c read.Nothing ie cells items bytes = IsItem-any
-is_item rom s c (read.Byte span) ie cells items bytes = record { high = IsVal-any; low = IsVal-loaded_val rom (with_core s c) span ie cells bytes }
-is_item rom s c read.Top ie cells items bytes = IsItem-top s.items _ items
+is_word : (rom : List ℕ) (s : AbsState) (c : Core) (what : AbsRead) → IsVal c.ie → AreVals s.cells → AllByRecursion IsVal s.items → ((i : ℕ) → slice_index rom i ≤ 255) → IsWord (read_word rom (with_core s c) what)
+unfolding read_word youngest
+is_word rom s c read.Nothing ie cells items bytes = IsWord-any
+is_word rom s c (read.Byte span) ie cells items bytes = record { high = IsVal-any; low = IsVal-loaded_val rom (with_core s c) span ie cells bytes }
+is_word rom s c read.Top ie cells items bytes = IsWord-last s.items items
 
 pub follows : (rom : List ℕ) (region : Region) (ranges : List Range) (row : Row) (a : ℕ) (s : AbsState) (entry : MState) (base : ℕ) (x : MState) (reads : List ℕ) (c : Core)
     → IsTaken rom region ranges row a s entry base x reads c
@@ -222,7 +236,7 @@ pub follows : (rom : List ℕ) (region : Region) (ranges : List Range) (row : Ro
     → Follows (abs_effect rom row a s c) entry (begun row x) (effect rom row x reads) × ((effect rom row x reads).processor.sp < 65536)
 follows rom region ranges row a s entry base x reads c k l =
     let sound = transfer_sound row.op (behind_row a row) c (low_of rom row s c) (high_of rom row s c) (abs_effect rom row a s c) refl k.ruled.operands k.core
-    (is_item rom s c (read_of row.op c) k.core.ie k.stands.vals k.stands.items k.stands.cartridge.bytes).low in
+    (is_word rom s c (read_of row.op c) k.core.ie k.stands.vals k.stands.items k.stands.cartridge.bytes).low in
     let begins : Begins row.op (behind_row a row) c (low_of rom row s c) (high_of rom row s c) entry (begun row x) (given rom row x reads).low (given rom row x reads).high = record {
       core = k.means;
       low_read = l.low;
@@ -379,8 +393,8 @@ state_is rom row a s c = refl
 pub is_write : (rom : List ℕ) (region : Region) (ranges : List Range) (row : Row) (a : ℕ) (s : AbsState) (entry : MState) (base : ℕ) (x : MState) (reads : List ℕ) (c : Core)
     → IsTaken rom region ranges row a s entry base x reads c → IsWrite (abs_effect rom row a s c).write
 is_write rom region ranges row a s entry base x reads c k =
-    let item = is_item rom s c (read_of row.op c) k.core.ie k.stands.vals k.stands.items k.stands.cartridge.bytes in
-    (transfer_inhabited row.op (behind_row a row) c (low_of rom row s c) (high_of rom row s c) (abs_effect rom row a s c) refl k.ruled.operands (omega arith) k.core item.low item.high).write
+    let word = is_word rom s c (read_of row.op c) k.core.ie k.stands.vals k.stands.items k.stands.cartridge.bytes in
+    (transfer_inhabited row.op (behind_row a row) c (low_of rom row s c) (high_of rom row s c) (abs_effect rom row a s c) refl k.ruled.operands (omega arith) k.core word.low word.high).write
 
 -- its write
 stores : (rom : List ℕ) (region : Region) (ranges : List Range) (row : Row) (a : ℕ) (s : AbsState) (entry : MState) (base : ℕ) (x : MState) (reads : List ℕ) (c : Core)
@@ -421,24 +435,24 @@ goes_to rom region ranges row a s entry base x reads c k =
 
 -- an instruction leads by a successor, and has no fault
 pub record Done (rom : List ℕ) (region : Region) (ranges : List Range) (row : Row) (s : AbsState) (t : Successor) (entry : MState) (base : ℕ) (x : MState) (reads : List ℕ) : Type 0 where
-  pub held : length t.state.items ≤ words_behind row.op (length s.items)
+  pub held : length t.state.items ≤ bytes_behind row.op (length s.items)
   pub leads : Leads region ranges t entry base x (outside (executed (within rom x) row reads))
   pub faults : row_faults (Some row) region (within rom x) reads ≡ no_faults
 
-pub words-least : (o : Op) (n : ℕ) → n ≤ words_behind o n
-unfolding words_behind
-words-least o n = by (is_push o)
+pub bytes-least : (o : Op) (n : ℕ) → n ≤ bytes_behind o n
+unfolding bytes_behind
+bytes-least o n = by (is_push o)
   where
-    by : (b : Bool) → n ≤ cond b (n + 1) n
+    by : (b : Bool) → n ≤ cond b (n + 2) n
     by true = omega arith
     by false = omega arith
 
--- no more words than before
-words_plain : (rom : List ℕ) (row : Row) (a : ℕ) (s : AbsState) (c : Core) (base : ℕ) → IsPlain row.op base → length (effect_state rom row a s c).items ≤ words_behind row.op (length s.items)
-words_plain rom row a s c base (inl still) =
-    subst (λ (t : AbsState). length t.items ≤ words_behind row.op (length s.items)) (sym (stack_still row.op (abs_effect rom row a s c).write (with_core s (abs_effect rom row a s c).core) still)) (words-least row.op (length s.items))
-words_plain rom row a s c base (inr e) =
-    subst (λ (t : AbsState). length t.items ≤ words_behind row.op (length s.items)) (sym (stack_loaded row.op base (abs_effect rom row a s c).write (with_core s (abs_effect rom row a s c).core) e)) (omega arith)
+-- no more bytes than before
+bytes_plain : (rom : List ℕ) (row : Row) (a : ℕ) (s : AbsState) (c : Core) (base : ℕ) → IsPlain row.op base → length (effect_state rom row a s c).items ≤ bytes_behind row.op (length s.items)
+bytes_plain rom row a s c base (inl still) =
+    subst (λ (t : AbsState). length t.items ≤ bytes_behind row.op (length s.items)) (sym (stack_still row.op (abs_effect rom row a s c).write (with_core s (abs_effect rom row a s c).core) still)) (bytes-least row.op (length s.items))
+bytes_plain rom row a s c base (inr e) =
+    subst (λ (t : AbsState). length t.items ≤ bytes_behind row.op (length s.items)) (sym (stack_loaded row.op base (abs_effect rom row a s c).write (with_core s (abs_effect rom row a s c).core) e)) (omega arith)
 
 -- one that leaves SP, or sets it
 pub Done-plain :
@@ -459,7 +473,7 @@ Done-plain rom region ranges row a s entry base x reads c k plain allowed =
     let items : (taken_successor rom row (behind_row a row) s c).state.items ≡ (effect_state rom row a s c).items =
     ap (λ (t : AbsState). t.items) (state_is rom row a s c) ∙ (ended_items (starts w) row.cycles after ∙ st.items) in
     record {
-      held = subst (λ xs. length xs ≤ words_behind row.op (length s.items)) (sym items) (words_plain rom row a s c base plain);
+      held = subst (λ xs. length xs ≤ bytes_behind row.op (length s.items)) (sym items) (bytes_plain rom row a s c base plain);
       leads = subst (λ y. Leads region ranges (taken_successor rom row (behind_row a row) s c) entry base x y) (sym (executed_taken rom region ranges row a s entry base x reads c k))
           (record {
             to = subst (λ v. LeadsTo region v (taken_successor rom row (behind_row a row) s c) entry base x (left_by rom x e row.cycles)) (sym (target_is rom row a s c))

@@ -5,7 +5,6 @@ use Rattle.std.specs.Option.{IfSome}
 use Rattle.gb_ops.specs.declared.machine.Region.{Region}
 use Rattle.gb_ops.specs.declared.machine.Read.{Read}
 use Rattle.gb_ops.specs.declared.machine.Read.TheVariants as machine_read
-use Rattle.gb_ops.specs.declared.machine.Write.{Write}
 use Rattle.gb_ops.specs.declared.machine.Write.TheVariants as machine_write
 use Rattle.gb_ops.specs.declared.registers.Ime.{Ime}
 use Rattle.gb_ops.specs.declared.registers.Ime.TheVariants as ime
@@ -14,7 +13,7 @@ use Rattle.gb_ops.specs.declared.op.Op.TheVariants as op
 use Rattle.gb_ops.specs.declared.op.Row.{Row}
 use Rattle.gb_ops.specs.Memory.{View, stored, passed}
 use Rattle.gb_ops.specs.Machine.{executed, advanced, cycles_of, mark_of, halt_stay, halt_bug, has_enabled}
-use Rattle.gb_ops.specs.Faults.{no_faults, row_faults, load_faults, store_faults}
+use Rattle.gb_ops.specs.Faults.{no_faults, row_faults, load_faults}
 use Rattle.gb_ops.specs.Play.{MState, within, outside}
 use Rattle.gb_domain.specs.declared.types.Val.{Val}
 use Rattle.gb_domain.specs.declared.types.ImeSet.{ImeSet}
@@ -28,23 +27,22 @@ use Rattle.gb_abs.specs.Meaning.{Holds, MeansCore, Means, ime_may_be}
 use Rattle.gb_abs.specs.Stack.{AreInRegion}
 use Rattle.gb_abs.proofs.OperationLaws.{IsCore-settle}
 use Rattle.gb_abs.proofs.StackLaws.{Means-with_core}
-use Rattle.gb_abs_effects.specs.declared.writes.AbsWrite.TheVariants as write
 use Rattle.gb_abs_effects.specs.declared.sides.Sides.{Sides}
 use Rattle.gb_abs_effects.specs.Sides.{sides_of, sides_by, condition_of}
 use Rattle.gb_abs_effects.specs.declared.targets.Target.TheVariants as target
 use Rattle.gb_abs_effects.specs.Targets.{target_of}
 use Rattle.gb_abs_effects.specs.Transfer.{transfer, untaken}
-use Rattle.gb_abs_effects.specs.Sound.{HoldsWrite, HoldsTarget, IsMeant, side_by}
+use Rattle.gb_abs_effects.specs.Sound.{IsMeant, side_by}
 use Rattle.gb_abs_effects.proofs.SideLaws.{sides_of_sound, sides_of_inhabited}
 use Rattle.gb_abs_effects.proofs.TransferLaws.{untaken_sound}
 use Rattle.gb_abs_memory.specs.Sound.{view}
 use Rattle.gb_successors.specs.declared.successors.Successors.{Successors}
 use Rattle.gb_successors.specs.Behind.{starts, written, with_stack_of, ended}
 use Rattle.gb_successors.specs.Successors.{taken_successor, untaken_successor, staying_successor, woken, may_stay, stays, successors_of}
-use Rattle.gb_successors.specs.Sound.{words_behind, Leads, LeadsTo, LeadsBy, IsHalt, Stands, IsRuled, Executes, AreSoundSuccessors}
+use Rattle.gb_successors.specs.Sound.{bytes_behind, Leads, LeadsTo, LeadsBy, IsHalt, Stands, IsRuled, Executes, AreSoundSuccessors}
 use Rattle.gb_successors.proofs.PlainLaws.{Keeps-both, Keeps-settle, Keeps-not_taken}
 use Rattle.gb_successors.proofs.MarkLaws.{executed_mark}
-use Rattle.gb_successors.proofs.SuccessorLaws.{begun, given, effect, behind_row, begun_pc, begun_sp, begun_core, left_by, executed_is, faults_are, Means-ended, passed_peek, words-least, IsTaken}
+use Rattle.gb_successors.proofs.SuccessorLaws.{begun, given, effect, behind_row, begun_pc, begun_sp, begun_core, left_by, executed_is, faults_are, Means-ended, passed_peek, bytes-least, IsTaken}
 use Rattle.gb_successors.proofs.StackWayLaws.{no_write, nothing_stored, no_store_faults, taken_executes}
 
 -- ---- not taken
@@ -57,13 +55,13 @@ ended_room : (region : Region) (base : ℕ) (is_started : Bool) (n : ℕ) (s : A
 unfolding ended
 ended_room region base is_started n s h = h
 
-words_ended : (n : ℕ) (s : AbsState) → length (ended false n s).items ≤ length s.items
+bytes_ended : (n : ℕ) (s : AbsState) → length (ended false n s).items ≤ length s.items
 unfolding ended
-words_ended n s = omega arith
+bytes_ended n s = omega arith
 
-words_untaken : (row : Row) (next : ℕ) (s : AbsState) (c : Core) → length (untaken_successor row next s c).state.items ≤ words_behind row.op (length s.items)
+bytes_untaken : (row : Row) (next : ℕ) (s : AbsState) (c : Core) → length (untaken_successor row next s c).state.items ≤ bytes_behind row.op (length s.items)
 unfolding untaken_successor ended
-words_untaken row next s c = words-least row.op (length s.items)
+bytes_untaken row next s c = bytes-least row.op (length s.items)
 
 untaken_executes :
     (rom : List ℕ) (region : Region) (ranges : List Range) (row : Row) (a : ℕ) (s : AbsState) (entry : MState) (base : ℕ) (x : MState) (reads : List ℕ) (c : Core)
@@ -164,7 +162,7 @@ executes rom row a s region ranges entry base x reads stands ruled mark byte =
           successor = untaken_successor row (behind_row a row) s c;
           is_one = inr (inl (untaken_way rom row a s c e));
           mark = executed_mark rom x row reads;
-          held = λ allowed. words_untaken row (behind_row a row) s c;
+          held = λ allowed. bytes_untaken row (behind_row a row) s c;
           leads = λ allowed. done.0;
           faults = λ allowed. done.1;
         }
@@ -219,7 +217,7 @@ halt_stays rom row a s region ranges entry base x stands halt pending enabled =
     let woke : MState = record x { processor = record x.processor { ime = ime.On } } in
     record {
       successor = staying_successor a s;
-      held = words_ended 1 (with_core s (woken s.core));
+      held = bytes_ended 1 (with_core s (woken s.core));
       is_way = stays_at rom row a s ∙ stays_way row a s halt.op_is (pending_known s.core.ime x.processor.ime pending m.core.ime) (enabled_known s.core.ie entry x.storage.ie m.core.ie enabled);
       leads = record {
         to = record {
@@ -278,7 +276,7 @@ halt_repeats rom row a s region ranges entry base x stands halt off mark =
     record {
       successor = taken_successor rom row (behind_row a row) s c;
       is_way = taken_way rom row a s c (halt_side row c halt.op_is);
-      held = subst (λ (t : AbsState). length t.items ≤ length s.items) (sym (halt_state rom row a s c halt)) (words_ended 1 (with_core s c));
+      held = subst (λ (t : AbsState). length t.items ≤ length s.items) (sym (halt_state rom row a s c halt)) (bytes_ended 1 (with_core s c));
       leads = record {
         to = subst (λ v. LeadsTo region v (taken_successor rom row (behind_row a row) s c) entry base x (record { processor = (repeated x).processor; storage = (passed (view rom x false) 1).storage })) (sym (halt_target rom row a s c halt))
             (record {

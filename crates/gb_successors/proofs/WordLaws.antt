@@ -1,15 +1,15 @@
--- The stack's instructions: what they read and write, where they go on, and what they make of the words that are held.
-use Rattle.std.proofs.Common.{◌≡◌, ℕ, ◌/◌, ◌%◌, Bool, true, false, cond, ◌⊎◌, inl, inr, ◌==◌, ◌-◌, List, [], ◌∷◌, length, take, refl, sym, ap}
-use Rattle.gb_ops.specs.declared.op.Pair.{Pair}
-use Rattle.gb_ops.specs.declared.op.Pair.TheVariants as pair
+-- The stack's instructions: what they read and write, where they go on, and what they make of the bytes that are held.
+use Rattle.std.proofs.Common.{◌≡◌, ℕ, ◌+◌, ◌/◌, ◌%◌, ◌≤◌, true, false, cond, nat_lt, ◌-◌, List, [], ◌∷◌, length, take, slice_index_or, refl, sym, ◌∙◌, ap, arith}
+use Rattle.std.proofs.lemmas.Bool.Decides.{nat_tests}
 use Rattle.gb_ops.specs.declared.op.Op.{Op}
 use Rattle.gb_ops.specs.declared.op.Op.TheVariants as op
 use Rattle.gb_domain.specs.declared.types.Val.{Val}
 use Rattle.gb_domain.specs.declared.types.Core.{Core}
-use Rattle.gb_domain.specs.declared.types.Item.{Item}
+use Rattle.gb_domain.specs.declared.types.Halves.{Halves}
 use Rattle.gb_domain.specs.Types.{AbsState}
 use Rattle.gb_abs.specs.Below.gb_vals.Vals.{single}
-use Rattle.gb_abs.specs.Stack.{pushed, popped}
+use Rattle.gb_abs.specs.Stack.{pushed, popped, youngest, last_word}
+use Rattle.gb_abs.proofs.StackLaws.{youngest_is}
 use Rattle.gb_abs_effects.specs.declared.reads.AbsRead.TheVariants as read
 use Rattle.gb_abs_effects.specs.declared.writes.AbsWrite.{AbsWrite}
 use Rattle.gb_abs_effects.specs.declared.writes.AbsWrite.TheVariants as write
@@ -17,7 +17,9 @@ use Rattle.gb_abs_effects.specs.declared.targets.Target.TheVariants as target
 use Rattle.gb_abs_effects.specs.Accesses.{read_of}
 use Rattle.gb_abs_effects.specs.Targets.{target_of, is_push, is_pop, is_call, is_return}
 use Rattle.gb_abs_effects.specs.Transfer.{transfer}
+use Rattle.gb_abs_effects.specs.Pairs.{any_word}
 use Rattle.gb_successors.specs.Behind.{with_stack_of, pushed_if_room}
+use Rattle.gb_successors.specs.Words.{word_or_any}
 
 -- an instruction of another class
 no_other : false ≡ true → ⊥
@@ -79,15 +81,33 @@ IsReturn-is_return op.ReturnFromInterrupt next c low high h = record { write_is 
 IsReturn-is_return o next c low high h = absurd (no_other h)
 
 -- where there is room, the word is pushed
-pub pushed-if_room : (i : Item) (s : AbsState) → (length s.items == 16) ≡ false → pushed_if_room i s ≡ pushed i s
+pub pushed-if_room : (i : Halves) (s : AbsState) → nat_lt 32 (length s.items + 2) ≡ false → pushed_if_room i s ≡ pushed i s
 unfolding pushed_if_room
 pushed-if_room i s h = ap (λ b. cond b s (pushed i s)) h
 
--- where no word is held, none is popped
-pub popped_empty : (s : AbsState) → length s.items ≡ 0 → s ≡ popped s
+-- of fewer than two bytes none is left
+pub popped_few : (s : AbsState) → (2 ≤ length s.items → ⊥) → record s { items = [] } ≡ popped s
 unfolding popped
-popped_empty s h = sym (ap (λ items. record { core = s.core; items = items; cells = s.cells }) (nothing s.items h))
+popped_few s h = sym (ap (λ items. record { core = s.core; items = items; cells = s.cells }) (nothing s.items h))
   where
-    nothing : (xs : List Item) → length xs ≡ 0 → take (length xs - 1) xs ≡ xs
+    nothing : (xs : List Val) → (2 ≤ length xs → ⊥) → take (length xs - 2) xs ≡ []
     nothing [] h = refl
-    nothing (x ∷ xs) h = cc
+    nothing (x ∷ []) h = refl
+    nothing (x ∷ y ∷ xs) h = absurd (h (omega arith))
+
+-- ---- what is known of the word that was pushed last
+
+pub top_word_is :
+    (s : AbsState) (items : List Val) (d : Val) → items ≡ s.items → 2 ≤ length items
+    → record { high = slice_index_or items (length items - 2) d; low = slice_index_or items (length items - 1) d } ≡ word_or_any (youngest s)
+top_word_is s items d same some = sym (ap word_or_any (youngest_is s items d same some))
+
+pub no_word_is : (s : AbsState) (items : List Val) → items ≡ s.items → (2 ≤ length items → ⊥) → any_word ≡ word_or_any (youngest s)
+unfolding youngest
+no_word_is s items same few = sym (ap (λ xs. word_or_any (last_word xs)) (sym same) ∙ none)
+  where
+    short : nat_lt (length items) 2 ≡ true
+    short = grind (arith, nat_tests)
+
+    none : word_or_any (last_word items) ≡ any_word
+    none = rw short refl

@@ -1,12 +1,12 @@
 -- The states behind an instruction, by the stack that it moves, what it writes and its core (abstract semantics; own).
-use Rattle.std.specs.Prelude.{ℕ, ◌+◌, ◌%◌, Bool, true, false, ◌||◌, if◌then◌else◌, ◌==◌, List, [], length, Option, Some, None}
+use Rattle.std.specs.Prelude.{ℕ, ◌+◌, ◌%◌, Bool, true, false, ◌||◌, if◌then◌else◌, nat_lt, List, [], length, Option, Some, None}
 use Rattle.gb_ops.specs.declared.machine.Kind.{Kind}
 use Rattle.gb_ops.specs.declared.op.Pair.TheVariants as pair
 use Rattle.gb_ops.specs.declared.op.Op.{Op}
 use Rattle.gb_ops.specs.declared.op.Op.TheVariants as op
 use Rattle.gb_domain.specs.declared.types.Core.{Core}
-use Rattle.gb_domain.specs.declared.types.Item.{Item}
-use Rattle.gb_domain.specs.Types.{AbsState, any_item}
+use Rattle.gb_domain.specs.declared.types.Halves.{Halves}
+use Rattle.gb_domain.specs.Types.{AbsState}
 use Rattle.gb_abs.specs.Below.gb_vals.Vals.{any_val}
 use Rattle.gb_abs.specs.Span.{one}
 use Rattle.gb_abs.specs.Operations.{core_end, with_core}
@@ -15,20 +15,20 @@ use Rattle.gb_abs_effects.specs.declared.reads.AbsRead.{AbsRead}
 use Rattle.gb_abs_effects.specs.declared.reads.AbsRead.TheVariants as read
 use Rattle.gb_abs_effects.specs.declared.writes.AbsWrite.{AbsWrite}
 use Rattle.gb_abs_effects.specs.declared.writes.AbsWrite.TheVariants as write
-use Rattle.gb_abs_effects.specs.Transfer.{transfer}
+use Rattle.gb_abs_effects.specs.Pairs.{any_word}
 use Rattle.gb_abs_memory.specs.declared.store.Area.{Area}
 use Rattle.gb_abs_memory.specs.declared.store.Area.TheVariants as area
 use Rattle.gb_abs_memory.specs.Access.{loaded_val, area_of, stored_state, stored_core, starts_oam_transfer}
 use Rattle.gb_successors.specs.declared.way.Moved.{Moved}
-use Rattle.gb_successors.specs.Words.{item_or_any}
+use Rattle.gb_successors.specs.Words.{word_or_any}
 
 -- ---- accesses
 
 -- what is known of what is read: of a byte, or of the word that was pushed last
-unfoldable pub read_item : List ℕ → AbsState → AbsRead → Item
-read_item rom s (read.Byte span) = record { high = any_val; low = loaded_val rom s span }
-read_item rom s read.Top = item_or_any (youngest s)
-read_item rom s _ = any_item
+unfoldable pub read_word : List ℕ → AbsState → AbsRead → Halves
+read_word rom s (read.Byte span) = record { high = any_val; low = loaded_val rom s span }
+read_word rom s read.Top = word_or_any (youngest s)
+read_word rom s _ = any_word
 
 -- the address behind an address
 abbrev pub behind : ℕ → ℕ
@@ -46,11 +46,11 @@ starts (write.Byte span v) = starts_oam_transfer span
 starts (write.Word a low high) = starts_oam_transfer (one a) || starts_oam_transfer (one (behind a))
 starts _ = false
 
--- a word is pushed, where fewer than 16 are held; PUSH is refused where there are 16
-unfoldable pub pushed_if_room : Item → AbsState → AbsState
-pushed_if_room i s = if length s.items == 16 then s else pushed i s
+-- a word is pushed, where there is room for it; PUSH is refused where there is none
+unfoldable pub pushed_if_room : Halves → AbsState → AbsState
+pushed_if_room w s = if nat_lt 32 (length s.items + 2) then s else pushed w s
 
--- LD SP,n16 sets the stack, with no words on it; PUSH pushes what it writes, and POP pops. A return address belongs to
+-- LD SP,n16 sets the stack, with nothing on it; PUSH pushes what it writes, and POP pops. A return address belongs to
 -- the callee: it is no word of its caller's.
 unfoldable pub with_stack_of : Op → AbsWrite → AbsState → AbsState
 with_stack_of (op.LoadPair pair.Sp w) what s = record { core = record s.core { stack_set = true }; items = []; cells = s.cells }
@@ -81,7 +81,7 @@ changes_cells k (write.Byte span v) = is_in_ram (area_of k span)
 changes_cells k (write.Word a low high) = true
 changes_cells k _ = false
 
--- what changes words or cells, if something does
+-- what changes items or cells, if something does
 unfoldable pub move_of : Kind → Op → AbsWrite → Option Moved
 move_of k o what = if moves_stack o what || changes_cells k what then Some (record { kind = k; op = o }) else None
 

@@ -1,5 +1,5 @@
 -- What successors promise of the machine (abstract interpretation: soundness; own).
-use Rattle.std.specs.Prelude.{◌≡◌, ℕ, ◌+◌, ◌≤◌, ◌<◌, ◌⊎◌, true, false, ◌==◌, if◌then◌else◌, List, [], slice_index, length, Option, Some}
+use Rattle.std.specs.Prelude.{◌≡◌, ℕ, ◌+◌, ◌≤◌, ◌<◌, ◌⊎◌, true, false, if◌then◌else◌, nat_lt, List, [], slice_index, length, Option, Some}
 use Rattle.std.specs.List.{AllByRecursion}
 use Rattle.gb_ops.specs.declared.machine.Region.{Region}
 use Rattle.gb_ops.specs.declared.registers.Ime.TheVariants as ime
@@ -12,11 +12,10 @@ use Rattle.gb_ops.specs.Pairs.{word}
 use Rattle.gb_ops.specs.Machine.{executed, halt_stay, halt_bug, has_enabled}
 use Rattle.gb_ops.specs.Faults.{no_faults, row_faults}
 use Rattle.gb_ops.specs.Play.{MState, within, outside}
-use Rattle.gb_domain.specs.declared.types.Core.{Core}
 use Rattle.gb_domain.specs.declared.types.Range.{Range}
 use Rattle.gb_domain.specs.Types.{AbsState}
 use Rattle.gb_domain.specs.Areas.{IsRegion}
-use Rattle.gb_domain.specs.Rules.{IsCore, IsItem}
+use Rattle.gb_domain.specs.Rules.{IsCore, IsVal}
 use Rattle.gb_abs.specs.Storage.{peek}
 use Rattle.gb_abs.specs.Cells.{ArePlaced}
 use Rattle.gb_abs.specs.Stack.{AreInRegion, pushed}
@@ -30,7 +29,7 @@ use Rattle.gb_abs_memory.specs.Sound.{IsRom, AreVals}
 use Rattle.gb_successors.specs.Way.{Successor}
 use Rattle.gb_successors.specs.declared.successors.Successors.{Successors}
 use Rattle.gb_successors.specs.Refused.{is_unstorable, meets_closed, meets_oam_transfer}
-use Rattle.gb_successors.specs.Words.{word_item}
+use Rattle.gb_abs_effects.specs.Pairs.{known_word}
 
 -- one of the successors
 abbrev pub IsOneOf : Successors → Successor → Type 0
@@ -38,22 +37,22 @@ IsOneOf ss t = (ss.taken ≡ Some t) ⊎ ((ss.not_taken ≡ Some t) ⊎ (ss.stay
 
 -- ---- the stack
 
--- the stack is set, with room for a word behind those that are held
+-- the stack is set, with room for a word behind the bytes that are held
 pub record IsPushable (region : Region) (s : AbsState) (base : ℕ) : Type 0 where
   pub stack_set : s.core.stack_set ≡ true
-  pub held : (length s.items == 16) ≡ false
-  pub room : AreInRegion region base (length s.items + 1)
+  pub held : nat_lt 32 (length s.items + 2) ≡ false
+  pub room : AreInRegion region base (length s.items + 2)
 
 -- the stack is set, and a word is held
 pub record IsPoppable (s : AbsState) : Type 0 where
   pub stack_set : s.core.stack_set ≡ true
-  pub held : 0 < length s.items
+  pub held : 2 ≤ length s.items
 
--- the stack is set, no word is held, and the return word lies in the region
+-- the stack is set, nothing is held, and the return word lies in the region
 pub record IsReturnable (region : Region) (s : AbsState) (t : Successor) (base : ℕ) : Type 0 where
   pub stack_set : s.core.stack_set ≡ true
   pub held : t.state.items ≡ []
-  pub return_word : AreInRegion region (base + 2) 1
+  pub return_word : AreInRegion region (base + 2) 2
 
 -- SP stays; LD SP,n16 sets it to the base; or the instruction is one of the stack's, and finds what it asks for. What
 -- calls and returns ask for more is asked where they are taken.
@@ -68,13 +67,13 @@ IsStackKnown region o s base =
 
 -- what the stack has to have for a successor: a call wants room for the return address, a return finds nothing but its own
 abbrev pub IsStackFit : Region → Target → AbsState → Successor → ℕ → Type 0
-IsStackFit region (target.Call a) s t base = AreInRegion region base (length t.state.items + 1)
+IsStackFit region (target.Call a) s t base = AreInRegion region base (length t.state.items + 2)
 IsStackFit region target.Return s t base = IsReturnable region s t base
 IsStackFit region _ s t base = Unit {0}
 
--- how many words may be held behind an instruction
-unfoldable pub words_behind : Op → ℕ → ℕ
-words_behind o n = if is_push o then n + 1 else n
+-- how many bytes may be held behind an instruction
+unfoldable pub bytes_behind : Op → ℕ → ℕ
+bytes_behind o n = if is_push o then n + 2 else n
 
 -- nothing is against its accesses, in the state before it
 pub record IsAllowed (rom : List ℕ) (region : Region) (ranges : List Range) (s : AbsState) (base : ℕ) (t : Successor) : Type 0 where
@@ -93,7 +92,7 @@ pub record StaysAt (region : Region) (a : ℕ) (t : Successor) (entry : MState) 
 
 -- the machine has called: the word of the address behind the call is on its stack
 pub record CallsAt (region : Region) (a : ℕ) (t : Successor) (entry : MState) (base : ℕ) (y : MState) : Type 0 where
-  pub means : Means (pushed (word_item t.next) t.state) entry base y
+  pub means : Means (pushed (known_word t.next) t.state) entry base y
   pub next : t.next < 65536
   pub goes : y.processor.pc ≡ a
   pub stack_set : t.state.core.stack_set ≡ true
@@ -123,7 +122,7 @@ pub record Stands (rom : List ℕ) (region : Region) (row : Row) (a : ℕ) (s : 
   pub core : IsCore s.core
   pub placed : ArePlaced region s.cells
   pub vals : AreVals s.cells
-  pub items : AllByRecursion IsItem s.items
+  pub items : AllByRecursion IsVal s.items
   pub room : AreInRegion region base (length s.items)
   pub means : Means s entry base x
   pub at : x.processor.pc ≡ a
@@ -140,15 +139,15 @@ pub record Executes (rom : List ℕ) (region : Region) (ranges : List Range) (ro
   pub successor : Successor
   pub is_one : IsOneOf ss successor
   pub leads : IsAllowed rom region ranges s base successor → Leads region ranges successor entry base x (outside (executed (within rom x) row reads))
-  pub held : IsAllowed rom region ranges s base successor → length successor.state.items ≤ words_behind row.op (length s.items)
+  pub held : IsAllowed rom region ranges s base successor → length successor.state.items ≤ bytes_behind row.op (length s.items)
   pub mark : (outside (executed (within rom x) row reads)).processor.halt_mark ≡ false
   pub faults : IsAllowed rom region ranges s base successor → row_faults (Some row) region (within rom x) reads ≡ no_faults
 
--- an event leads by a successor, which holds no more than so many words
-pub record LeadsBy (region : Region) (ranges : List Range) (words : ℕ) (way : Option Successor) (entry : MState) (base : ℕ) (x y : MState) : Type 0 where
+-- an event leads by a successor, which holds no more than so many bytes
+pub record LeadsBy (region : Region) (ranges : List Range) (bytes : ℕ) (way : Option Successor) (entry : MState) (base : ℕ) (x y : MState) : Type 0 where
   pub successor : Successor
   pub is_way : way ≡ Some successor
-  pub held : length successor.state.items ≤ words
+  pub held : length successor.state.items ≤ bytes
   pub leads : Leads region ranges successor entry base x y
 
 -- HALT, as the table has it

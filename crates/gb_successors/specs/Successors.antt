@@ -1,5 +1,5 @@
 -- The possible successors of an instruction (abstract interpretation: abstract semantics; own).
-use Rattle.std.specs.Prelude.{ℕ, ◌+◌, ◌%◌, Bool, false, ◌&&◌, ◌||◌, if◌then◌else◌, List, length, Option, Some, None, option_map}
+use Rattle.std.specs.Prelude.{ℕ, ◌+◌, ◌%◌, Bool, false, ◌&&◌, ◌||◌, if◌then◌else◌, List, Option, Some, None, option_map}
 use Rattle.gb_ops.specs.declared.op.Op.{Op}
 use Rattle.gb_ops.specs.declared.op.Op.TheVariants as op
 use Rattle.gb_ops.specs.declared.op.Row.{Row}
@@ -7,7 +7,6 @@ use Rattle.gb_ops.specs.Cartridge.{kind_of}
 use Rattle.gb_domain.specs.declared.types.Core.{Core}
 use Rattle.gb_domain.specs.Types.{AbsState}
 use Rattle.gb_abs.specs.Below.gb_vals.Bits.{may_enable}
-use Rattle.gb_abs.specs.Span.{one}
 use Rattle.gb_abs.specs.Operations.{core_settle, with_core}
 use Rattle.gb_abs_effects.specs.declared.reads.AbsRead.TheVariants as read
 use Rattle.gb_abs_effects.specs.declared.writes.AbsWrite.TheVariants as write
@@ -18,7 +17,7 @@ use Rattle.gb_abs_effects.specs.Targets.{target_of}
 use Rattle.gb_abs_effects.specs.Transfer.{transfer, only_on}
 use Rattle.gb_successors.specs.Way.{Successor}
 use Rattle.gb_successors.specs.declared.successors.Successors.{Successors}
-use Rattle.gb_successors.specs.Behind.{read_item, behind, written, starts, with_stack_of, ended}
+use Rattle.gb_successors.specs.Behind.{read_word, written, starts, with_stack_of, ended}
 
 -- ---- successors
 
@@ -26,8 +25,8 @@ use Rattle.gb_successors.specs.Behind.{read_item, behind, written, starts, with_
 unfoldable pub taken_successor : List ℕ → Row → ℕ → AbsState → Core → Successor
 taken_successor rom row next s core =
     let what = read_of row.op core in
-    let item = read_item rom (with_core s core) what in
-    let effect = transfer row.op next core item.low item.high in
+    let word = read_word rom (with_core s core) what in
+    let effect = transfer row.op next core word.low word.high in
     record {
       read = what;
       write = effect.write;

@@ -1,17 +1,17 @@
 //! How the successors of an instruction come about.
 
 ghost use Rattle.std.specs.Prelude.{◌≡◌};
-ghost use Rattle.gb_domain.specs.Types.{any_item};
 ghost use Rattle.gb_abs.specs.Operations.{with_core};
 ghost use Rattle.gb_abs.specs.Stack.{youngest};
 ghost use Rattle.gb_successors.specs.Behind as Behind;
 ghost use Rattle.gb_successors.specs.Successors as Succession;
-ghost use Rattle.gb_successors.specs.Words.{item_or_any};
+ghost use Rattle.gb_successors.specs.Words.{word_or_any};
 
 pub use crate::way::{Moved, Successor};
 use gb_abs::any;
 use gb_abs::operations::end;
 use gb_abs::span::Span;
+use gb_abs_effects::pairs::any_word;
 use gb_abs_effects::reads::{AbsRead, read_of};
 use gb_abs_effects::targets::{Target, target_of};
 use gb_abs_effects::transfer::transfer;
@@ -19,43 +19,36 @@ use gb_abs_effects::writes::AbsWrite;
 use gb_abs_memory::Rom;
 use gb_abs_memory::load::loaded_by;
 use gb_abs_memory::store::{Area, area_of, starts_oam_transfer, stored_core};
-use gb_domain::types::{Abs, Core, ImeSet, Item};
+use gb_domain::types::{Abs, Core, Halves, ImeSet};
 use gb_ops::machine::Kind;
 use gb_ops::op::{Op, Pair, Row};
 
-/// Any word.
-fn any_item() -> Item
-    ensures { result ≡ any_item }
-{
-    Item {
-        high: any(),
-        low: any(),
-    }
-}
-
 /// The word that was pushed last, as far as it is known.
-#[tactic(auto, unfolding(gb_abs::specs::Stack::popped))]
-fn top_item(state: &Abs) -> Item
-    ensures { result ≡ item_or_any (youngest state.now) }
+#[tactic(auto, using(crate::proofs::WordLaws::top_word_is, crate::proofs::WordLaws::no_word_is))]
+fn top_word(state: &Abs) -> Halves
+    ensures { result ≡ word_or_any (youngest state.now) }
 {
-    match state.items().last() {
-        None => any_item(),
-        Some(item) => *item,
+    match state.items() {
+        [.., high, low] => Halves {
+            high: *high,
+            low: *low,
+        },
+        _ => any_word(),
     }
 }
 
 /// What is known of what is read: of a byte, or of the word that was pushed last.
-#[tactic(auto, unfolding(crate::specs::Behind::read_item))]
-fn read_item(rom: &Rom<'_>, state: &Abs, core: &Core, read: AbsRead) -> Item
-    ensures { result ≡ Behind.read_item rom.now (with_core state.now core.now) read }
+#[tactic(auto, unfolding(crate::specs::Behind::read_word, gb_abs::specs::Stack::youngest))]
+fn read_word(rom: &Rom<'_>, state: &Abs, core: &Core, read: AbsRead) -> Halves
+    ensures { result ≡ Behind.read_word rom.now (with_core state.now core.now) read }
 {
     match read {
-        AbsRead::Byte(span) => Item {
+        AbsRead::Byte(span) => Halves {
             high: any(),
             low: loaded_by(rom, core, state, span),
         },
-        AbsRead::Top => top_item(state),
-        AbsRead::Nothing => any_item(),
+        AbsRead::Top => top_word(state),
+        AbsRead::Nothing => any_word(),
     }
 }
 
@@ -105,7 +98,7 @@ fn changes_cells(kind: Kind, write: AbsWrite) -> bool
     }
 }
 
-/// What changes words or cells, if something does.
+/// What changes items or cells, if something does.
 #[tactic(auto, unfolding(crate::specs::Behind::move_of))]
 fn move_of(kind: Kind, op: Op, write: AbsWrite) -> Option<Moved>
     ensures { result ≡ Behind.move_of kind op write }
@@ -167,8 +160,8 @@ pub(crate) fn taken_successor<'a>(
     ensures { result ≡ Succession.taken_successor rom.now row next state.now core }
 {
     let read = read_of(row.op, &core);
-    let item = read_item(rom, state, &core, read);
-    let effect = transfer(row.op, next, &core, item.low, item.high);
+    let word = read_word(rom, state, &core, read);
+    let effect = transfer(row.op, next, &core, word.low, word.high);
     let kind = rom.kind();
     Successor {
         read,

@@ -12,14 +12,14 @@ use gb_abs_effects::reads::AbsRead;
 use gb_abs_effects::targets::Target;
 use gb_abs_effects::writes::AbsWrite;
 use gb_abs_memory::store::store_in;
-use gb_domain::types::{Abs, Core, Item};
+use gb_domain::types::{Abs, Core, Halves};
 use gb_ops::machine::Kind;
 use gb_ops::op::{Op, Pair};
 use std::marker::Model;
 
 /// One way on from an instruction: what it reads and writes besides its own bytes, where it goes on,
 /// the address behind it, where a call returns to, and the states behind it. Those are kept as their core and the
-/// states before, which they share their words and cells with unless `moved` says what changes them. Contracts see
+/// states before, which they share their items and cells with unless `moved` says what changes them. Contracts see
 /// the states whole.
 #[derive(Drop)]
 pub struct Successor<'a> {
@@ -32,7 +32,7 @@ pub struct Successor<'a> {
     pub(crate) before: &'a Abs,
 }
 
-/// The instruction that changes words or cells, and the cartridge's kind.
+/// The instruction that changes items or cells, and the cartridge's kind.
 #[derive(Clone, Copy)]
 pub struct Moved {
     pub kind: Kind,
@@ -56,7 +56,7 @@ impl<'a> Successor<'a> {
         &self.core
     }
 
-    /// States with the words and cells of those behind, where no word or cell changed.
+    /// States with the items and cells of those behind, where no item or cell changed.
     pub fn unmoved(&self) -> Option<&'a Abs>
         ensures { IfSome result (λ s. self.now.state ≡ with_core s.now self.now.state.core) }
     {
@@ -96,7 +96,7 @@ fn write(kind: Kind, write: AbsWrite, state: &mut Abs)
     }
 }
 
-/// Its stack gets set, with no words on it.
+/// Its stack gets set, with nothing on it.
 fn set_stack(state: &mut Abs)
     ensures { state.new ≡ record { core = record state.old.core { stack_set = true }; items = []; cells = state.old.cells } }
 {
@@ -107,29 +107,28 @@ fn set_stack(state: &mut Abs)
     state.set_items(ArrayVec::new());
 }
 
-/// The state with a word pushed, where fewer than 16 are held. PUSH is refused where there are 16.
+/// The state with a word pushed, where there is room for it. PUSH is refused where there is none.
 #[tactic(auto, unfolding(crate::specs::Behind::pushed_if_room))]
-fn pushed_if_room(item: Item, state: &Abs) -> Abs
-    ensures { result ≡ Behind.pushed_if_room item state.now }
+fn pushed_if_room(word: Halves, state: &Abs) -> Abs
+    ensures { result ≡ Behind.pushed_if_room word state.now }
 {
-    match push(state, item) {
+    match push(state, word) {
         Some(pushed) => pushed,
         None => state.copied(),
     }
 }
 
-/// The state without the word that was pushed last, if there is one.
-#[tactic(auto, using(crate::proofs::WordLaws::popped_empty))]
+/// The state without the word that was pushed last. Of fewer than two bytes none is left.
+#[tactic(auto, using(crate::proofs::WordLaws::popped_few))]
 fn popped_state(state: &Abs) -> Abs
     ensures { result ≡ popped state.now }
 {
-    if state.items().is_empty() {
-        return state.copied();
+    if let Some(popped) = pop(state) {
+        return popped.state;
     }
-    match pop(state) {
-        Some(popped) => popped.state,
-        None => state.copied(),
-    }
+    let mut left = state.copied();
+    left.set_items(ArrayVec::new());
+    left
 }
 
 /// What an instruction does to the stack: LD SP,n16 sets it, PUSH pushes what it writes, and POP pops.
@@ -141,7 +140,7 @@ fn move_stack(op: Op, write: AbsWrite, state: &mut Abs)
     match (op, write) {
         (Op::LoadPair(Pair::Sp, _), _) => set_stack(state),
         (Op::Push(_), AbsWrite::Push { high, low }) => {
-            *state = pushed_if_room(Item { high, low }, state);
+            *state = pushed_if_room(Halves { high, low }, state);
         }
         (Op::Pop(_), _) => *state = popped_state(state),
         _ => {}

@@ -66,7 +66,8 @@ test_of_itself_sound how o e =
 
 -- ---- A on a side
 
-IsHeld : Option Val → ℕ → Type 0
+-- x is among the values that are left, of which there are some
+unfoldable pub IsHeld : Option Val → ℕ → Type 0
 IsHeld None x = ⊥
 IsHeld (Some v) x = In v x
 
@@ -91,7 +92,7 @@ IsHeld-without n x v byte differs m = choose (v.lo == n) (v.hi == n) refl refl
     choose false true e f = IsHeld-meet 0 n x v (omega arith) (grind (arith, nat_tests)) m
     choose false false e f = m
 
-IsHeld-narrowed_by :
+pub IsHeld-narrowed_by :
     (n : ℕ) (c : Condition) (v : Val) (x : ℕ) (g : Flags)
     → v.hi < 256 → IsTested (Some n) x g → is_met c g ≡ true → In v x → IsHeld (narrowed_by n c v) x
 unfolding is_met

@@ -106,20 +106,27 @@ fn without(n: u8, val: Val) -> Option<Val>
     }
 }
 
+/// The values that a condition leaves behind a comparison with n.
+pub fn narrowed_by(n: u8, condition: Condition, val: Val) -> Option<Val>
+    ensures { result ≡ Tests.narrowed_by n condition val }
+{
+    let bound = u16::from(n);
+    match condition {
+        Condition::NotZero => without(n, val),
+        Condition::Zero => meet(bound, bound + 1, val),
+        Condition::NotCarry => meet(bound, 256, val),
+        Condition::Carry => meet(0, bound, val),
+    }
+}
+
 /// A where a condition is met after a test.
 #[tactic(auto, unfolding(crate::specs::Tests::narrowed))]
 fn narrowed(test: Option<u8>, condition: Condition, a: Val) -> Option<Val>
     ensures { result ≡ Tests.narrowed test condition a }
 {
-    let Some(n) = test else {
-        return Some(a);
-    };
-    let bound = u16::from(n);
-    match condition {
-        Condition::NotZero => without(n, a),
-        Condition::Zero => meet(bound, bound + 1, a),
-        Condition::NotCarry => meet(bound, 256, a),
-        Condition::Carry => meet(0, bound, a),
+    match test {
+        Some(n) => narrowed_by(n, condition, a),
+        None => Some(a),
     }
 }
 

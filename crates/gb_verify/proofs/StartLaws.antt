@@ -1,5 +1,5 @@
 -- Power-up is one of the machine states that its abstract state means.
-use Rattle.std.proofs.Common.{◌≡◌, ℕ, ◌+◌, ◌*◌, ◌≤◌, ◌<◌, Bool, true, false, not, ◌==◌, ◌⊎◌, inl, inr, List, [], ◌∷◌, Option, Some, None, length, get_or, slice_get, slice_index, refl, sym, ◌∙◌, ap, subst, arith}
+use Rattle.std.proofs.Common.{◌≡◌, ℕ, ◌+◌, ◌≤◌, ◌<◌, Bool, true, false, not, ◌==◌, ◌⊎◌, inl, inr, List, [], ◌∷◌, Option, Some, None, length, get_or, slice_get, slice_index, refl, sym, ◌∙◌, ap, subst, arith}
 use Rattle.std.proofs.lemmas.Bool.{eqb-true, not-false, or_parts, and_parts}
 use Rattle.gb_ops.specs.declared.machine.Region.{Region}
 use Rattle.std.specs.List.{All, Contains}
@@ -121,7 +121,7 @@ IsMemory-start rom s h = record { work = h.work_size; high = h.high_size; bytes 
 abbrev pub main_base : Certificate → ℕ
 main_base cert = cert.region.last + 1
 
-stack_start : (last : ℕ) → (last == 0xFFFD) ≡ true → 0xFFFE + 2 * 0 ≡ last + 1
+stack_start : (last : ℕ) → (last == 0xFFFD) ≡ true → 0xFFFE + 0 ≡ last + 1
 stack_start last h = let e : last ≡ 0xFFFD = eqb-true last 0xFFFD h in omega arith
 
 small_start : (sp : ℕ) → sp ≡ 0xFFFE → sp < 65536
@@ -134,7 +134,7 @@ Means-start rom cert s h =
       core = MeansCore-at_start rom cert s h;
       memory = IsMemory-start rom s h;
       sp = small_start s.processor.sp (ap (λ p. p.sp) h.processor);
-      stack = λ e. ap (λ p. p.sp + 2 * 0) h.processor ∙ stack_start cert.region.last e;
+      stack = λ e. ap (λ p. p.sp + 0) h.processor ∙ stack_start cert.region.last e;
       items = tt;
       cells = tt;
     }
@@ -150,7 +150,7 @@ mark_start rom s h = ap (λ p. p.halt_mark) h.processor
 items_covered : (rom : List ℕ) (region : Region) (t : AbsState) → covers (state_at_power_up rom region) t ≡ true → length t.items ≡ 0
 items_covered rom region t h = covered_items (state_at_power_up rom region) t h
 
--- main's stack has room for the words that it may need
+-- main's stack has room for the bytes that it may need
 room_start : (cert : Certificate) (n : Node) → IsCertificate cert → n.procedure ≡ 0 → AreInRegion cert.region (main_base cert) (need_of cert n.procedure)
 room_start cert n c e = subst (λ p. AreInRegion cert.region (main_base cert) (need_of cert p)) (sym e) (main_room cert c)
 

@@ -13,7 +13,7 @@ pub mod verify;
 
 // What lies below, for the crates above.
 pub use gb_domain::types::{
-    Abs, CELLS, Cell, Core, Ctl, Flg, ITEMS, ImeSet, Item, May, Origin, RANGES, Range, Val,
+    Abs, CELLS, Cell, Core, Ctl, Flg, ITEMS, ImeSet, May, Origin, RANGES, Range, Val,
 };
 pub use gb_rules::covered::covered_at;
 pub use gb_rules::procedures::{callee_at, exit_of, need_of, ranges_of};

@@ -4,4 +4,4 @@ use Rattle.gb_states.specs.Spelling as spelled
 use Rattle.gb_cert.proofs.spelled.put_items.Given as goal
 
 abbrev pub invariant-loop-item : goal.invariant-loop-item
-invariant-loop-item l = l.out.items ≡ l.initial.out.items ++ flat_map spelled.item (take l.item-index l.items)
+invariant-loop-item l = l.out.items ≡ l.initial.out.items ++ flat_map spelled.val (take l.item-index l.items)

@@ -1,0 +1,40 @@
+-- Register pairs of which nothing is known, and which links there are (own format).
+use Rattle.std.specs.Prelude.{◌≡◌, ℕ, ◌<◌, Bool, true, ◌&&◌, ◌||◌, nat_le, None, IfSome}
+use Rattle.gb_domain.specs.declared.pairs.WordPair.{WordPair}
+use Rattle.gb_domain.specs.declared.pairs.WordPair.TheVariants as pair
+use Rattle.gb_domain.specs.declared.pairs.Bounds.{Bounds}
+use Rattle.gb_domain.specs.declared.pairs.Link.{Link}
+use Rattle.gb_domain.specs.declared.pairs.PairFacts.{PairFacts}
+use Rattle.gb_domain.specs.declared.pairs.Pairs.{Pairs}
+
+-- any word
+abbrev pub any_bounds : Bounds
+any_bounds = record { first = 0; last = 0xFFFF }
+
+abbrev pub nothing_known : PairFacts
+nothing_known = record { bounds = any_bounds; link = None }
+
+abbrev pub no_pairs : Pairs
+no_pairs = record { bc = nothing_known; de = nothing_known; hl = nothing_known }
+
+-- what is known of a pair
+abbrev pub facts_of : WordPair → Pairs → PairFacts
+facts_of pair.Bc s = s.bc
+facts_of pair.De s = s.de
+facts_of pair.Hl s = s.hl
+
+-- a factor from -128 to 127, but not 0, modulo 65,536
+abbrev pub is_factor : ℕ → Bool
+is_factor n = nat_le 1 n && nat_le n 127 || nat_le 65408 n && nat_le n 65535
+
+pub record IsLink (l : Link) : Type 0 where
+  pub factor : is_factor l.factor ≡ true
+  pub sum : l.sum < 65536
+
+pub record IsPairFacts (f : PairFacts) : Type 0 where
+  pub last : f.bounds.last < 65536
+  pub link : IfSome f.link IsLink
+
+-- what may be known of pairs
+pub record ArePairs (s : Pairs) : Type 0 where
+  pub each : (p : WordPair) → IsPairFacts (facts_of p s)

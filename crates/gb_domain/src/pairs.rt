@@ -1,0 +1,78 @@
+//! What is known of register pairs beside their bytes: bounds of 16 bits, and links with what else a register holds (abstract
+//! interpretation: a weakly relational domain; own format).
+
+ghost use Rattle.std.specs.Prelude.{◌≡◌};
+ghost use Rattle.gb_domain.specs.Pairs.{no_pairs};
+
+use gb_ops::op::Register;
+
+/// A pair of registers that holds a word.
+#[derive(Clone, Copy)]
+pub enum WordPair {
+    Bc,
+    De,
+    Hl,
+}
+
+/// An interval of words, both ends included.
+#[derive(Clone, Copy)]
+pub struct Bounds {
+    pub first: u16,
+    pub last: u16,
+}
+
+/// What a link reads beside its own pair.
+#[derive(Clone, Copy)]
+pub enum Other {
+    Register(Register),
+    Pair(WordPair),
+}
+
+/// Of its pair: pair + factor * other = sum, modulo 65,536.
+#[derive(Clone, Copy)]
+pub struct Link {
+    pub other: Other,
+    /// -128 to 127, but 0, modulo 65,536.
+    pub factor: u16,
+    pub sum: u16,
+}
+
+/// What is known of a pair.
+#[derive(Clone, Copy)]
+pub struct PairFacts {
+    pub bounds: Bounds,
+    pub link: Option<Link>,
+}
+
+/// What is known of each pair.
+#[derive(Clone, Copy)]
+pub struct Pairs {
+    pub bc: PairFacts,
+    pub de: PairFacts,
+    pub hl: PairFacts,
+}
+
+/// Any word.
+pub const ANY_BOUNDS: Bounds = Bounds {
+    first: 0,
+    last: 0xFFFF,
+};
+
+/// Nothing is known of a pair.
+pub const NOTHING_KNOWN: PairFacts = PairFacts {
+    bounds: ANY_BOUNDS,
+    link: None,
+};
+
+impl Default for Pairs {
+    ghost is_default = { λ pairs. pairs ≡ no_pairs };
+
+    /// Nothing is known of any pair.
+    fn default() -> Pairs {
+        Pairs {
+            bc: NOTHING_KNOWN,
+            de: NOTHING_KNOWN,
+            hl: NOTHING_KNOWN,
+        }
+    }
+}

@@ -1,0 +1,57 @@
+//! Places that hold one and the same byte, and what the flags say of it (own format).
+
+ghost use Rattle.std.specs.Prelude.{◌≡◌};
+ghost use Rattle.gb_domain.specs.Places.{no_byte};
+
+use gb_ops::op::Register;
+use gb_ops::registers::Registers;
+
+/// A place that holds a byte: a register, or an address of RAM outside the stack region.
+#[derive(Clone, Copy)]
+pub enum Place {
+    Register(Register),
+    Address(u16),
+}
+
+/// What the flags say of a byte.
+#[derive(Clone, Copy)]
+pub enum Test {
+    /// Z is set exactly where the byte is this one, and C exactly where it is below it.
+    Compare(u8),
+    /// Z is set exactly where the byte has none of these bits.
+    Bits(u8),
+}
+
+/// Some places that hold one and the same byte, and what the flags say of it.
+#[derive(Clone, Copy)]
+pub struct OneByte {
+    /// Which registers are among them.
+    pub registers: Registers<bool>,
+    /// Which address is among them.
+    pub address: Option<u16>,
+    pub test: Option<Test>,
+}
+
+/// No register.
+pub const NO_REGISTER: Registers<bool> = Registers {
+    a: false,
+    b: false,
+    c: false,
+    d: false,
+    e: false,
+    h: false,
+    l: false,
+};
+
+impl Default for OneByte {
+    ghost is_default = { λ byte. byte ≡ no_byte };
+
+    /// No place, and nothing is said.
+    fn default() -> OneByte {
+        OneByte {
+            registers: NO_REGISTER,
+            address: None,
+            test: None,
+        }
+    }
+}

@@ -1,0 +1,66 @@
+-- What registers hold lies in the bounds of their pairs, and of what links read.
+use Rattle.std.proofs.Common.{◌≡◌, ℕ, ◌<◌, refl, sym, subst, arith}
+use Rattle.std.proofs.lemmas.Bool.Decides.{nat_tests}
+use Rattle.gb_ops.specs.declared.registers.Registers.{Registers}
+use Rattle.gb_ops.specs.Registers.{get}
+use Rattle.gb_ops.specs.Pairs.{word}
+use Rattle.gb_domain.specs.declared.types.Val.{Val}
+use Rattle.gb_domain.specs.declared.pairs.WordPair.{WordPair}
+use Rattle.gb_domain.specs.declared.pairs.WordPair.TheVariants as pair
+use Rattle.gb_domain.specs.declared.pairs.Bounds.{Bounds}
+use Rattle.gb_domain.specs.declared.pairs.Other.{Other}
+use Rattle.gb_domain.specs.declared.pairs.Other.TheVariants as other
+use Rattle.gb_vals.specs.Meaning.{In}
+use Rattle.gb_pairs.specs.declared.values.Values.{Values}
+use Rattle.gb_pairs.specs.Bounds.{cut, high_of, low_of, box, bounds_of, bounds_of_other}
+use Rattle.gb_pairs.specs.Meaning.{word_of, other_of, AreBytes, Holds}
+use Rattle.gb_pairs.specs.Sound.{Within, IsSoundBounds}
+
+pub Within-cut : (b c : Bounds) (w : ℕ) → Within b w → Within c w → Within (cut b c) w
+Within-cut b c w h k = record { least = grind (arith, nat_tests); most = grind (arith, nat_tests) }
+
+Within-box : (h l : Val) (x y : ℕ) → In h x → In l y → Within (box h l) (word x y)
+Within-box h l x y p q =
+    record {
+      least = let a = p.least in let b = q.least in omega arith;
+      most = let a = p.most in let b = q.most in omega arith;
+    }
+
+-- a pair's word, by the registers of its bytes
+pub word_of-is : (p : WordPair) (x : Registers ℕ) → word (get (high_of p) x) (get (low_of p) x) ≡ word_of p x
+word_of-is pair.Bc x = refl
+word_of-is pair.De x = refl
+word_of-is pair.Hl x = refl
+
+pub Within-bounds_of : (p : WordPair) (v : Values) (x : Registers ℕ) → Holds v x → Within (bounds_of p v) (word_of p x)
+unfolding bounds_of
+Within-bounds_of p v x h =
+    let own = h.pairs.each p in
+    let bytes : Within (box (get (high_of p) v.registers) (get (low_of p) v.registers)) (word_of p x) =
+    subst (λ w. Within (box (get (high_of p) v.registers) (get (low_of p) v.registers)) w) (word_of-is p x)
+    (Within-box _ _ _ _ (h.registers (high_of p)) (h.registers (low_of p))) in
+    Within-cut _ _ _ bytes (record { least = own.first; most = own.last })
+
+pub Within-bounds_of_other : (o : Other) (v : Values) (x : Registers ℕ) → Holds v x → Within (bounds_of_other o v) (other_of o x)
+unfolding bounds_of_other
+Within-bounds_of_other (other.Register r) v x h = record { least = (h.registers r).least; most = (h.registers r).most }
+Within-bounds_of_other (other.Pair p) v x h = Within-bounds_of p v x h
+
+pub bounds_of_sound : (p : WordPair) (v : Values) (b : Bounds) → b ≡ bounds_of p v → IsSoundBounds (word_of p) v b
+bounds_of_sound p v b e = subst (λ c. IsSoundBounds (word_of p) v c) (sym e) (record { gives = Within-bounds_of p v })
+
+pub bounds_of_other_sound : (o : Other) (v : Values) (b : Bounds) → b ≡ bounds_of_other o v → IsSoundBounds (other_of o) v b
+bounds_of_other_sound o v b e = subst (λ c. IsSoundBounds (other_of o) v c) (sym e) (record { gives = Within-bounds_of_other o v })
+
+-- ---- words and bytes in range
+
+pub word_below : (p : WordPair) (x : Registers ℕ) → AreBytes x → word_of p x < 65536
+word_below p x h =
+    let a = h.each (high_of p) in
+    let b = h.each (low_of p) in
+    let less : word (get (high_of p) x) (get (low_of p) x) < 65536 = omega arith in
+    subst (λ w. w < 65536) (word_of-is p x) less
+
+pub other_below : (o : Other) (x : Registers ℕ) → AreBytes x → other_of o x < 65536
+other_below (other.Register r) x h = let a = h.each r in omega arith
+other_below (other.Pair p) x h = word_below p x h

@@ -1,0 +1,224 @@
+-- Reducing only cuts: values and bounds become smaller, origins and links stay.
+use Rattle.std.proofs.Common.{◌≡◌, ◌-◌, ◌*◌, ◌≤◌, Bool, true, false, ◌||◌, cond, nat_lt, Option, Some, None, refl, sym, ◌∙◌, subst, arith}
+use Rattle.std.specs.Prelude.{IfSome, option_and_then}
+use Rattle.std.proofs.lemmas.Bool.Decides.{nat_tests}
+use Rattle.gb_ops.specs.declared.op.Register.{Register}
+use Rattle.gb_ops.specs.Registers.{get}
+use Rattle.gb_domain.specs.declared.types.Val.{Val}
+use Rattle.gb_domain.specs.declared.pairs.WordPair.{WordPair}
+use Rattle.gb_domain.specs.declared.pairs.WordPair.TheVariants as pair
+use Rattle.gb_domain.specs.declared.pairs.Bounds.{Bounds}
+use Rattle.gb_domain.specs.declared.pairs.Other.{Other}
+use Rattle.gb_domain.specs.declared.pairs.Other.TheVariants as other
+use Rattle.gb_domain.specs.declared.pairs.Link.{Link}
+use Rattle.gb_domain.specs.Pairs.{facts_of}
+use Rattle.gb_vals.specs.Logic.{smaller, larger}
+use Rattle.gb_pairs.specs.declared.values.Values.{Values}
+use Rattle.gb_pairs.specs.Bounds.{cut, is_empty, high_of, low_of, box, bounds_of}
+use Rattle.gb_pairs.specs.Reduced.{size, pairs_at, cut_by_other, others_at, cut_val, with_register, with_bounds, with_register_if, with_bounds_if, cut_other, cut_other_if, high_bounds, low_bounds, with_bytes_if, settled, reduced_by_link, reduced_within, reduced_pair, reduced_once, reduced}
+use Rattle.gb_pairs.specs.Sound.{IsCut}
+use Rattle.gb_pairs.proofs.RegisterLaws.{each_set, each_facts}
+
+-- ---- on bounds and values
+
+-- bounds within others
+pub record IsPart (b c : Bounds) : Type 0 where
+  pub first : c.first ≤ b.first
+  pub last : b.last ≤ c.last
+
+IsPart-cut_left : (b c : Bounds) → IsPart (cut b c) b
+IsPart-cut_left b c = record { first = grind (arith, nat_tests); last = grind (arith, nat_tests) }
+
+IsPart-cut_right : (b c : Bounds) → IsPart (cut b c) c
+IsPart-cut_right b c = record { first = grind (arith, nat_tests); last = grind (arith, nat_tests) }
+
+IsPart-trans : (b c d : Bounds) → IsPart b c → IsPart c d → IsPart b d
+IsPart-trans b c d h k =
+    let f1 = h.first in
+    let f2 = k.first in
+    let l1 = h.last in
+    let l2 = k.last in
+    record { first = omega arith; last = omega arith }
+
+IsPart-cut_by_other : (l : Link) (o b : Bounds) → IsPart (cut_by_other l o b) b
+unfolding cut_by_other
+IsPart-cut_by_other l o b = choose (nat_lt 65535 (size l * (o.last - o.first)) || is_empty (pairs_at l o))
+  where
+    choose : (c : Bool) → IsPart (cond c b (cut b (pairs_at l o))) b
+    choose true = record { first = omega arith; last = omega arith }
+    choose false = IsPart-cut_left b _
+
+pub IsPart-bounds_of : (p : WordPair) (v : Values) → IsPart (bounds_of p v) (facts_of p v.pairs).bounds
+unfolding bounds_of
+IsPart-bounds_of p v = IsPart-cut_right (box (get (high_of p) v.registers) (get (low_of p) v.registers)) _
+
+-- a value within another, with its origin
+record IsPartVal (y v : Val) : Type 0 where
+  least : v.lo ≤ y.lo
+  most : y.hi ≤ v.hi
+  origin : y.origin ≡ v.origin
+
+IfSome-cut_val : (v : Val) (d : Bounds) → IfSome (cut_val v d) (λ y. IsPartVal y v)
+unfolding cut_val
+IfSome-cut_val v d = choose (nat_lt (smaller v.hi d.last) (larger v.lo d.first))
+  where
+    choose :
+        (b : Bool)
+        → IfSome (cond b None (Some (record v { lo = larger v.lo d.first; hi = smaller v.hi d.last }))) (λ y. IsPartVal y v)
+    choose true = tt
+    choose false = record { least = grind (arith, nat_tests); most = grind (arith, nat_tests); origin = refl }
+
+-- ---- on values of all registers
+
+IsCut-itself : (v : Values) → IsCut v v
+IsCut-itself v =
+    record {
+      least = λ r. omega arith;
+      most = λ r. omega arith;
+      origin = λ r. refl;
+      first = λ p. omega arith;
+      last = λ p. omega arith;
+      link = λ p. refl;
+    }
+
+IsCut-trans : (u v w : Values) → IsCut u v → IsCut v w → IsCut u w
+IsCut-trans u v w h k =
+    record {
+      least = λ r. let a = h.least r in let b = k.least r in omega arith;
+      most = λ r. let a = h.most r in let b = k.most r in omega arith;
+      origin = λ r. k.origin r ∙ h.origin r;
+      first = λ p. let a = h.first p in let b = k.first p in omega arith;
+      last = λ p. let a = h.last p in let b = k.last p in omega arith;
+      link = λ p. k.link p ∙ h.link p;
+    }
+
+IsCut-with_register :
+    (u v : Values) (r : Register) (y : Val) → IsCut u v → IsPartVal y (get r v.registers) → IsCut u (with_register r y v)
+IsCut-with_register u v r y h k =
+    let least : (get r u.registers).lo ≤ y.lo = let a = h.least r in let b = k.least in omega arith in
+    let most : y.hi ≤ (get r u.registers).hi = let a = h.most r in let b = k.most in omega arith in
+    record {
+      least = each_set (λ q z. (get q u.registers).lo ≤ z.lo) r y v.registers least h.least;
+      most = each_set (λ q z. z.hi ≤ (get q u.registers).hi) r y v.registers most h.most;
+      origin = each_set (λ q z. z.origin ≡ (get q u.registers).origin) r y v.registers (k.origin ∙ h.origin r) h.origin;
+      first = h.first;
+      last = h.last;
+      link = h.link;
+    }
+
+IsCut-with_bounds :
+    (u v : Values) (p : WordPair) (b : Bounds) → IsCut u v → IsPart b (facts_of p u.pairs).bounds → IsCut u (with_bounds p b v)
+IsCut-with_bounds u v p b h k =
+    record {
+      least = h.least;
+      most = h.most;
+      origin = h.origin;
+      first = each_facts (λ q f. (facts_of q u.pairs).bounds.first ≤ f.bounds.first) p _ v.pairs k.first h.first;
+      last = each_facts (λ q f. f.bounds.last ≤ (facts_of q u.pairs).bounds.last) p _ v.pairs k.last h.last;
+      link = each_facts (λ q f. f.link ≡ (facts_of q u.pairs).link) p _ v.pairs (h.link p) h.link;
+    }
+
+-- ---- the steps of reducing
+
+with_register_if_cuts :
+    (u v : Values) (r : Register) (o : Option Val)
+    → IsCut u v → IfSome o (λ y. IsPartVal y (get r v.registers)) → IfSome (with_register_if r o v) (IsCut u)
+with_register_if_cuts u v r None h k = tt
+with_register_if_cuts u v r (Some y) h k = IsCut-with_register u v r y h k
+
+with_bounds_if_cuts :
+    (u v : Values) (p : WordPair) (b : Bounds) → IsCut u v → IsPart b (facts_of p u.pairs).bounds → IfSome (with_bounds_if p b v) (IsCut u)
+with_bounds_if_cuts u v p b h k = choose (is_empty b)
+  where
+    choose : (c : Bool) → IfSome (cond c None (Some (with_bounds p b v))) (IsCut u)
+    choose true = tt
+    choose false = IsCut-with_bounds u v p b h k
+
+cut_other_cuts : (o : Other) (d : Bounds) (v : Values) → IfSome (cut_other o d v) (IsCut v)
+unfolding cut_other
+cut_other_cuts (other.Register r) d v = with_register_if_cuts v v r _ (IsCut-itself v) (IfSome-cut_val _ d)
+cut_other_cuts (other.Pair p) d v = with_bounds_if_cuts v v p _ (IsCut-itself v) (IsPart-cut_left _ d)
+
+cut_other_if_cuts : (o : Other) (d : Option Bounds) (v : Values) → IfSome (cut_other_if o d v) (IsCut v)
+cut_other_if_cuts o None v = IsCut-itself v
+cut_other_if_cuts o (Some d) v = cut_other_cuts o d v
+
+high_differs : (p : WordPair) (y : Val) (v : Values) → get (low_of p) (with_register (high_of p) y v).registers ≡ get (low_of p) v.registers
+high_differs pair.Bc y v = refl
+high_differs pair.De y v = refl
+high_differs pair.Hl y v = refl
+
+with_bytes_if_cuts :
+    (u v : Values) (p : WordPair) (high low : Option Val)
+    → IsCut u v → IfSome high (λ y. IsPartVal y (get (high_of p) v.registers))
+    → IfSome low (λ y. IsPartVal y (get (low_of p) v.registers)) → IfSome (with_bytes_if p high low v) (IsCut u)
+with_bytes_if_cuts u v p None low h j k = tt
+with_bytes_if_cuts u v p (Some y) low h j k =
+    with_register_if_cuts u (with_register (high_of p) y v) (low_of p) low (IsCut-with_register u v (high_of p) y h j)
+    (subst (λ w. IfSome low (λ z. IsPartVal z w)) (sym (high_differs p y v)) k)
+
+settled_cuts :
+    (u v : Values) (p : WordPair) (b : Bounds) → IsCut u v → IsPart b (facts_of p u.pairs).bounds → IfSome (settled p b v) (IsCut u)
+unfolding settled
+settled_cuts u v p b h k =
+    with_bytes_if_cuts u (with_bounds p b v) p _ _ (IsCut-with_bounds u v p b h k) (IfSome-cut_val _ (high_bounds b)) (IfSome-cut_val _ (low_bounds b))
+
+then_settled_cuts :
+    (u : Values) (o : Option Values) (p : WordPair) (b : Bounds)
+    → IfSome o (IsCut u) → IsPart b (facts_of p u.pairs).bounds → IfSome (option_and_then (settled p b) o) (IsCut u)
+then_settled_cuts u None p b h k = tt
+then_settled_cuts u (Some v) p b h k = settled_cuts u v p b h k
+
+reduced_by_link_cuts :
+    (p : WordPair) (l : Link) (o b : Bounds) (v : Values)
+    → IsPart b (facts_of p v.pairs).bounds → IfSome (reduced_by_link p l o b v) (IsCut v)
+unfolding reduced_by_link
+reduced_by_link_cuts p l o b v h = choose (is_empty o || is_empty (cut_by_other l o b))
+  where
+    choose :
+        (c : Bool)
+        → IfSome
+        (cond c None (option_and_then (settled p (cut_by_other l o b)) (cut_other_if l.other (others_at l o (cut_by_other l o b)) v)))
+        (IsCut v)
+    choose true = tt
+    choose false =
+        then_settled_cuts v _ p (cut_by_other l o b) (cut_other_if_cuts l.other (others_at l o (cut_by_other l o b)) v)
+        (IsPart-trans _ b _ (IsPart-cut_by_other l o b) h)
+
+reduced_within_cuts :
+    (p : WordPair) (l : Option Link) (b : Bounds) (v : Values)
+    → IsPart b (facts_of p v.pairs).bounds → IfSome (reduced_within p l b v) (IsCut v)
+reduced_within_cuts p None b v h = settled_cuts v v p b (IsCut-itself v) h
+reduced_within_cuts p (Some l) b v h = reduced_by_link_cuts p l _ b v h
+
+pub reduced_pair_cuts : (p : WordPair) (v : Values) → IfSome (reduced_pair p v) (IsCut v)
+unfolding reduced_pair
+reduced_pair_cuts p v = choose (is_empty (bounds_of p v))
+  where
+    choose : (c : Bool) → IfSome (cond c None (reduced_within p (facts_of p v.pairs).link (bounds_of p v) v)) (IsCut v)
+    choose true = tt
+    choose false = reduced_within_cuts p _ (bounds_of p v) v (IsPart-bounds_of p v)
+
+-- ---- all of them
+
+then_cuts :
+    (f : Values → Option Values) (u : Values) (o : Option Values)
+    → IfSome o (IsCut u) → ((v : Values) → IfSome (f v) (IsCut v)) → IfSome (option_and_then f o) (IsCut u)
+then_cuts f u None h k = tt
+then_cuts f u (Some v) h k = further (f v) (k v)
+  where
+    further : (o : Option Values) → IfSome o (IsCut v) → IfSome o (IsCut u)
+    further None m = tt
+    further (Some w) m = IsCut-trans u v w h m
+
+pub reduced_by_two_cuts :
+    (v : Values) → IfSome (option_and_then (reduced_pair pair.De) (reduced_pair pair.Bc v)) (IsCut v)
+reduced_by_two_cuts v = then_cuts _ v _ (reduced_pair_cuts pair.Bc v) (reduced_pair_cuts pair.De)
+
+pub reduced_once_cuts : (v : Values) → IfSome (reduced_once v) (IsCut v)
+unfolding reduced_once
+reduced_once_cuts v = then_cuts _ v _ (reduced_by_two_cuts v) (reduced_pair_cuts pair.Hl)
+
+pub reduced_cuts : (v : Values) (o : Option Values) → o ≡ reduced v → IfSome o (IsCut v)
+unfolding reduced
+reduced_cuts v o e = subst (λ r. IfSome r (IsCut v)) (sym e) (then_cuts _ v _ (reduced_once_cuts v) reduced_once_cuts)

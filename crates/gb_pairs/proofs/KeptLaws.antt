@@ -1,0 +1,189 @@
+-- Bounds and sums stay words, and factors stay what they were.
+use Rattle.std.proofs.Common.{◌≡◌, ℕ, ◌+◌, ◌-◌, ◌*◌, ◌%◌, ◌<◌, ◌≤◌, Bool, true, false, not, ◌&&◌, ◌||◌, cond, nat_lt, nat_le, Option, Some, None, refl, sym, subst, arith}
+use Rattle.std.specs.Prelude.{IfSome}
+use Rattle.std.proofs.lemmas.Bool.Decides.{nat_tests}
+use Rattle.gb_ops.specs.declared.op.Register.{Register}
+use Rattle.gb_ops.specs.declared.op.Register.TheVariants.{H, L}
+use Rattle.gb_ops.specs.Registers.{get}
+use Rattle.gb_domain.specs.declared.pairs.WordPair.{WordPair}
+use Rattle.gb_domain.specs.declared.pairs.WordPair.TheVariants as pair
+use Rattle.gb_domain.specs.declared.pairs.Bounds.{Bounds}
+use Rattle.gb_domain.specs.declared.pairs.Link.{Link}
+use Rattle.gb_domain.specs.declared.pairs.PairFacts.{PairFacts}
+use Rattle.gb_domain.specs.declared.pairs.Pairs.{Pairs}
+use Rattle.gb_domain.specs.Pairs.{any_bounds, nothing_known, facts_of, is_factor, IsLink, IsPairFacts, ArePairs}
+use Rattle.gb_vals.specs.Logic.{smaller, larger}
+use Rattle.gb_pairs.specs.declared.values.Values.{Values}
+use Rattle.gb_pairs.specs.declared.moved.HlSum.{HlSum}
+use Rattle.gb_pairs.specs.Bounds.{is_one, bounds_of}
+use Rattle.gb_pairs.specs.Written.{is_half, is_same_pair, reads, link_without, facts_without, without_register}
+use Rattle.gb_pairs.specs.Moved.{moved_link, by_if, bounds_up, bounds_down, reads_half, reads_pair, link_of_step, facts_of_step, stepped, incremented, decremented, link_of_byte, weight, facts_of_byte_up, facts_of_byte_down, byte_incremented, byte_decremented, carry_of, sums, without_hl, added}
+use Rattle.gb_pairs.specs.Sound.{IsCut}
+use Rattle.gb_pairs.proofs.CutLaws.{IsPart-bounds_of}
+
+pub bounds_of_below : (p : WordPair) (v : Values) → ArePairs v.pairs → (bounds_of p v).last < 65536
+bounds_of_below p v h =
+    let own = (h.each p).last in
+    let part = (IsPart-bounds_of p v).last in
+    omega arith
+
+are_pairs : (b d h : PairFacts) → IsPairFacts b → IsPairFacts d → IsPairFacts h → ArePairs (record { bc = b; de = d; hl = h })
+are_pairs b d h i j k = record { each = each }
+  where
+    each : (p : WordPair) → IsPairFacts (facts_of p (record { bc = b; de = d; hl = h }))
+    each pair.Bc = i
+    each pair.De = j
+    each pair.Hl = k
+
+-- ---- forgetting
+
+link_without_kept : (r : Register) (l : Option Link) → IfSome l IsLink → IfSome (link_without r l) IsLink
+link_without_kept r None h = tt
+link_without_kept r (Some l) h = choose (reads r l.other)
+  where
+    choose : (b : Bool) → IfSome (cond b None (Some l)) IsLink
+    choose true = tt
+    choose false = h
+
+facts_without_kept : (r : Register) (p : WordPair) (f : PairFacts) → IsPairFacts f → IsPairFacts (facts_without r p f)
+facts_without_kept r p f h = choose (is_half r p)
+  where
+    choose : (b : Bool) → IsPairFacts (cond b nothing_known (record f { link = link_without r f.link }))
+    choose true = record { last = omega arith; link = tt }
+    choose false = record { last = h.last; link = link_without_kept r f.link h.link }
+
+ArePairs-without_register : (r : Register) (s : Pairs) → ArePairs s → ArePairs (without_register r s)
+unfolding without_register
+ArePairs-without_register r s h =
+    are_pairs _ _ _ (facts_without_kept r pair.Bc s.bc (h.each pair.Bc)) (facts_without_kept r pair.De s.de (h.each pair.De))
+    (facts_without_kept r pair.Hl s.hl (h.each pair.Hl))
+
+pub without_register_kept : (r : Register) (s o : Pairs) → o ≡ without_register r s → ArePairs s → ArePairs o
+without_register_kept r s o e h = subst ArePairs (sym e) (ArePairs-without_register r s h)
+
+-- ---- steps
+
+IsLink-moved : (a b : ℕ) (l : Link) → IsLink l → IsLink (moved_link a b l)
+IsLink-moved a b l h = record { factor = h.factor; sum = omega arith }
+
+link_of_step_kept : (p : WordPair) (a : ℕ) (q : WordPair) (l : Option Link) → IfSome l IsLink → IfSome (link_of_step p a q l) IsLink
+link_of_step_kept p a q None h = tt
+link_of_step_kept p a q (Some l) h = choose (reads_half p l.other || (is_same_pair p q && reads_pair p l.other))
+  where
+    choose : (b : Bool) → IfSome (cond b None (Some (moved_link (by_if (is_same_pair p q) a) (by_if (reads_pair p l.other) a) l))) IsLink
+    choose true = tt
+    choose false = IsLink-moved _ _ l h
+
+either_below : (c : Bool) (b d : Bounds) → b.last < 65536 → d.last < 65536 → (cond c b d).last < 65536
+either_below true b d h k = h
+either_below false b d h k = k
+
+facts_of_step_kept :
+    (p : WordPair) (a : ℕ) (b : Bounds) (q : WordPair) (f : PairFacts)
+    → b.last < 65536 → IsPairFacts f → IsPairFacts (facts_of_step p a b q f)
+facts_of_step_kept p a b q f below h =
+    record { last = either_below (is_same_pair p q) b f.bounds below h.last; link = link_of_step_kept p a q f.link h.link }
+
+ArePairs-stepped : (p : WordPair) (a : ℕ) (b : Bounds) (s : Pairs) → b.last < 65536 → ArePairs s → ArePairs (stepped p a b s)
+unfolding stepped
+ArePairs-stepped p a b s below h =
+    are_pairs _ _ _ (facts_of_step_kept p a b pair.Bc s.bc below (h.each pair.Bc)) (facts_of_step_kept p a b pair.De s.de below (h.each pair.De))
+    (facts_of_step_kept p a b pair.Hl s.hl below (h.each pair.Hl))
+
+bounds_up_below : (n : ℕ) (b : Bounds) → (bounds_up n b).last < 65536
+unfolding bounds_up
+bounds_up_below n b = choose (nat_lt (larger b.first b.last + n) 65536) refl
+  where
+    choose :
+        (c : Bool) → nat_lt (larger b.first b.last + n) 65536 ≡ c
+        → (cond c (record { first = b.first + n; last = b.last + n }) any_bounds).last < 65536
+    choose true e = grind (arith, nat_tests)
+    choose false e = omega arith
+
+bounds_down_below : (n : ℕ) (b : Bounds) → b.last < 65536 → (bounds_down n b).last < 65536
+unfolding bounds_down
+bounds_down_below n b h = either_below (nat_le n (smaller b.first b.last)) _ any_bounds (omega arith) (omega arith)
+
+pub incremented_kept : (p : WordPair) (v : Values) (o : Pairs) → o ≡ incremented p v → ArePairs v.pairs → ArePairs o
+unfolding incremented
+incremented_kept p v o e h = subst ArePairs (sym e) (ArePairs-stepped p 1 _ v.pairs (bounds_up_below 1 _) h)
+
+pub decremented_kept : (p : WordPair) (v : Values) (o : Pairs) → o ≡ decremented p v → ArePairs v.pairs → ArePairs o
+unfolding decremented
+decremented_kept p v o e h =
+    subst ArePairs (sym e) (ArePairs-stepped p 65535 _ v.pairs (bounds_down_below 1 _ (bounds_of_below p v h)) h)
+
+-- ---- a byte's step
+
+link_of_byte_kept :
+    (r : Register) (low high : ℕ) (q : WordPair) (l : Option Link) → IfSome l IsLink → IfSome (link_of_byte r low high q l) IsLink
+link_of_byte_kept r low high q None h = tt
+link_of_byte_kept r low high q (Some l) h = IsLink-moved _ _ l h
+
+facts_of_byte_up_kept : (r : Register) (v : Values) (q : WordPair) → ArePairs v.pairs → IsPairFacts (facts_of_byte_up r v q)
+facts_of_byte_up_kept r v q h =
+    record {
+      last = either_below (is_half r q) _ (facts_of q v.pairs).bounds (bounds_up_below (weight r) (bounds_of q v)) (h.each q).last;
+      link = link_of_byte_kept r 1 256 q _ (h.each q).link;
+    }
+
+facts_of_byte_down_kept : (r : Register) (v : Values) (q : WordPair) → ArePairs v.pairs → IsPairFacts (facts_of_byte_down r v q)
+facts_of_byte_down_kept r v q h =
+    record {
+      last =
+        either_below (is_half r q) _ (facts_of q v.pairs).bounds (bounds_down_below (weight r) _ (bounds_of_below q v h)) (h.each q).last;
+      link = link_of_byte_kept r 65535 65280 q _ (h.each q).link;
+    }
+
+either_kept : (c : Bool) (s t : Pairs) → ArePairs s → ArePairs t → ArePairs (cond c s t)
+either_kept true s t h k = h
+either_kept false s t h k = k
+
+pub byte_incremented_kept : (r : Register) (v : Values) (o : Pairs) → o ≡ byte_incremented r v → ArePairs v.pairs → ArePairs o
+unfolding byte_incremented
+byte_incremented_kept r v o e h =
+    subst ArePairs (sym e)
+    (either_kept (nat_lt (get r v.registers).hi 255) _ _
+        (are_pairs _ _ _ (facts_of_byte_up_kept r v pair.Bc h) (facts_of_byte_up_kept r v pair.De h) (facts_of_byte_up_kept r v pair.Hl h))
+        (ArePairs-without_register r v.pairs h))
+
+pub byte_decremented_kept : (r : Register) (v : Values) (o : Pairs) → o ≡ byte_decremented r v → ArePairs v.pairs → ArePairs o
+unfolding byte_decremented
+byte_decremented_kept r v o e h =
+    subst ArePairs (sym e)
+    (either_kept (nat_lt 0 (get r v.registers).lo) _ _
+        (are_pairs _ _ _ (facts_of_byte_down_kept r v pair.Bc h) (facts_of_byte_down_kept r v pair.De h) (facts_of_byte_down_kept r v pair.Hl h))
+        (ArePairs-without_register r v.pairs h))
+
+-- ---- sums
+
+sums_below : (carry : Option Bool) (x y : Bounds) → (sums carry x y).last < 65536
+sums_below None x y = omega arith
+sums_below (Some carry) x y = omega arith
+
+ArePairs-without_hl : (b : Bounds) (s : Pairs) → b.last < 65536 → ArePairs s → ArePairs (without_hl b s)
+ArePairs-without_hl b s below h =
+    let left = ArePairs-without_register H _ (ArePairs-without_register L s h) in
+    are_pairs _ _ _ (left.each pair.Bc) (left.each pair.De) (record { last = below; link = tt })
+
+pub added_kept : (y : Bounds) (is_hl : Bool) (v : Values) (o : HlSum) → o ≡ added y is_hl v → ArePairs v.pairs → ArePairs o.pairs
+unfolding added
+added_kept y is_hl v o e h =
+    let below = sums_below (carry_of (bounds_of pair.Hl v) y) (bounds_of pair.Hl v) y in
+    subst (λ s. ArePairs s.pairs) (sym e)
+    (either_kept (is_one y && not is_hl) _ _ (ArePairs-stepped pair.Hl y.first _ v.pairs below h) (ArePairs-without_hl _ v.pairs below h))
+
+-- ---- reducing
+
+ArePairs-cut : (v w : Values) → IsCut v w → ArePairs v.pairs → ArePairs w.pairs
+ArePairs-cut v w h k =
+    record {
+      each = λ p.
+        let cut = h.last p in
+        let below = (k.each p).last in
+        record { last = omega arith; link = subst (λ l. IfSome l IsLink) (sym (h.link p)) (k.each p).link };
+    }
+
+pub reduced_kept : (v : Values) (o : Option Values) → IfSome o (IsCut v) → ArePairs v.pairs → IfSome o (λ w. ArePairs w.pairs)
+reduced_kept v None h k = tt
+reduced_kept v (Some w) h k = ArePairs-cut v w h k

@@ -1,0 +1,11 @@
+pub mod BoundsLaws
+pub mod ByteLaws
+pub mod CoveringLaws
+pub mod CutLaws
+pub mod KeptLaws
+pub mod LinkLaws
+pub mod ReducedLaws
+pub mod RegisterLaws
+pub mod StepLaws
+pub mod SumLaws
+pub mod WrittenLaws

@@ -1,0 +1,270 @@
+-- Reducing loses no registers.
+use Rattle.std.proofs.Common.{◌≡◌, ℕ, ◌/◌, ◌%◌, ◌<◌, Bool, true, false, ◌==◌, ◌||◌, cond, nat_lt, Option, Some, None, refl, sym, subst, arith}
+use Rattle.std.specs.Prelude.{IfSome, option_and_then}
+use Rattle.std.proofs.lemmas.Bool.{eqb-true}
+use Rattle.std.proofs.lemmas.Bool.Decides.{nat_tests}
+use Rattle.gb_ops.specs.declared.op.Register.{Register}
+use Rattle.gb_ops.specs.declared.registers.Registers.{Registers}
+use Rattle.gb_ops.specs.Registers.{get}
+use Rattle.gb_ops.specs.Pairs.{word}
+use Rattle.gb_domain.specs.declared.types.Val.{Val}
+use Rattle.gb_domain.specs.declared.pairs.WordPair.{WordPair}
+use Rattle.gb_domain.specs.declared.pairs.WordPair.TheVariants as pair
+use Rattle.gb_domain.specs.declared.pairs.Bounds.{Bounds}
+use Rattle.gb_domain.specs.declared.pairs.Other.{Other}
+use Rattle.gb_domain.specs.declared.pairs.Other.TheVariants as other
+use Rattle.gb_domain.specs.declared.pairs.Link.{Link}
+use Rattle.gb_domain.specs.declared.pairs.Pairs.{Pairs}
+use Rattle.gb_domain.specs.Pairs.{facts_of}
+use Rattle.gb_vals.specs.Logic.{smaller, larger}
+use Rattle.gb_vals.specs.Meaning.{In}
+use Rattle.gb_pairs.specs.declared.values.Values.{Values}
+use Rattle.gb_pairs.specs.Bounds.{is_empty, high_of, low_of, bounds_of, bounds_of_other}
+use Rattle.gb_pairs.specs.Meaning.{word_of, other_of, IsLinked, HoldsPair, AreBytes, Holds}
+use Rattle.gb_pairs.specs.Reduced.{cut_by_other, others_at, cut_val, with_register, with_bounds, with_register_if, with_bounds_if, cut_other, cut_other_if, high_bounds, low_bounds, with_bytes_if, settled, reduced_by_link, reduced_within, reduced_pair, reduced_once, reduced}
+use Rattle.gb_pairs.specs.Sound.{Within, HoldsIn, IsSoundByLink, IsSoundReducing, IsCut}
+use Rattle.gb_pairs.proofs.RegisterLaws.{each_set, each_facts}
+use Rattle.gb_pairs.proofs.BoundsLaws.{Within-cut, Within-bounds_of, Within-bounds_of_other, word_of-is, word_below, other_below}
+use Rattle.gb_pairs.proofs.CutLaws.{IsPart-bounds_of, reduced_pair_cuts, reduced_by_two_cuts, reduced_once_cuts}
+use Rattle.gb_pairs.proofs.LinkLaws.{WithinIf, Within-cut_by_other, cut_by_other-last, Within-others_at}
+
+-- ---- parts are replaced
+
+Holds-with_register :
+    (r : Register) (y : Val) (v : Values) (x : Registers ℕ) → In y (get r x) → Holds v x → Holds (with_register r y v) x
+Holds-with_register r y v x k h =
+    record { registers = each_set (λ q z. In z (get q x)) r y v.registers k h.registers; pairs = h.pairs }
+
+Holds-with_bounds :
+    (p : WordPair) (b : Bounds) (v : Values) (x : Registers ℕ) → Within b (word_of p x) → Holds v x → Holds (with_bounds p b v) x
+Holds-with_bounds p b v x k h =
+    record {
+      registers = h.registers;
+      pairs = record {
+        each = each_facts (λ q f. HoldsPair f q x) p _ v.pairs
+            (record { first = k.least; last = k.most; link = (h.pairs.each p).link })
+            h.pairs.each;
+      };
+    }
+
+-- ---- values are cut
+
+InIf : Option Val → ℕ → Type 0
+InIf None n = ⊥
+InIf (Some v) n = In v n
+
+InIf-cut_val : (v : Val) (d : Bounds) (n : ℕ) → In v n → Within d n → InIf (cut_val v d) n
+unfolding cut_val InIf
+InIf-cut_val v d n h k = choose (nat_lt (smaller v.hi d.last) (larger v.lo d.first)) refl
+  where
+    choose :
+        (b : Bool) → nat_lt (smaller v.hi d.last) (larger v.lo d.first) ≡ b
+        → InIf (cond b None (Some (record v { lo = larger v.lo d.first; hi = smaller v.hi d.last }))) n
+    choose true e = absurd (grind (arith, nat_tests))
+    choose false e = record { least = grind (arith, nat_tests); most = grind (arith, nat_tests) }
+
+HoldsIn-with_register_if :
+    (r : Register) (o : Option Val) (v : Values) (x : Registers ℕ) → InIf o (get r x) → Holds v x → HoldsIn (with_register_if r o v) x
+unfolding InIf
+HoldsIn-with_register_if r None v x k h = k
+HoldsIn-with_register_if r (Some y) v x k h = Holds-with_register r y v x k h
+
+not_empty : (b : Bounds) (w : ℕ) → Within b w → is_empty b ≡ false
+not_empty b w h = grind (arith, nat_tests)
+
+HoldsIn-with_bounds_if :
+    (p : WordPair) (b : Bounds) (v : Values) (x : Registers ℕ) → Within b (word_of p x) → Holds v x → HoldsIn (with_bounds_if p b v) x
+HoldsIn-with_bounds_if p b v x k h =
+    subst (λ c. HoldsIn (cond c None (Some (with_bounds p b v))) x) (sym (not_empty b _ k)) (Holds-with_bounds p b v x k h)
+
+HoldsIn-cut_other :
+    (o : Other) (d : Bounds) (v : Values) (x : Registers ℕ) → Within d (other_of o x) → Holds v x → HoldsIn (cut_other o d v) x
+unfolding cut_other
+HoldsIn-cut_other (other.Register r) d v x k h = HoldsIn-with_register_if r _ v x (InIf-cut_val _ d _ (h.registers r) k) h
+HoldsIn-cut_other (other.Pair p) d v x k h =
+    let own = h.pairs.each p in
+    HoldsIn-with_bounds_if p _ v x (Within-cut _ d _ (record { least = own.first; most = own.last }) k) h
+
+HoldsIn-cut_other_if :
+    (o : Other) (d : Option Bounds) (v : Values) (x : Registers ℕ) → WithinIf d (other_of o x) → Holds v x → HoldsIn (cut_other_if o d v) x
+HoldsIn-cut_other_if o None v x k h = h
+HoldsIn-cut_other_if o (Some d) v x k h = HoldsIn-cut_other o d v x k h
+
+-- ---- a pair's bytes are cut
+
+Within-high_bounds : (b : Bounds) (h l : ℕ) → l < 256 → Within b (word h l) → Within (high_bounds b) h
+Within-high_bounds b h l small k =
+    let least = k.least in
+    let most = k.most in
+    record { least = omega arith; most = omega arith }
+
+Within-low_bounds : (b : Bounds) (h l : ℕ) → l < 256 → Within b (word h l) → Within (low_bounds b) l
+Within-low_bounds b h l small k = choose (b.first / 256 == b.last / 256) refl
+  where
+    choose :
+        (c : Bool) → (b.first / 256 == b.last / 256) ≡ c
+        → Within (cond c (record { first = b.first % 256; last = b.last % 256 }) (record { first = 0; last = 255 })) l
+    choose true e =
+        let least = k.least in
+        let most = k.most in
+        let is : b.first / 256 ≡ b.last / 256 = eqb-true _ _ e in
+        record { least = omega arith; most = omega arith }
+    choose false e = record { least = omega arith; most = omega arith }
+
+HoldsIn-with_bytes_if :
+    (p : WordPair) (high low : Option Val) (v : Values) (x : Registers ℕ)
+    → InIf high (get (high_of p) x) → InIf low (get (low_of p) x) → Holds v x → HoldsIn (with_bytes_if p high low v) x
+unfolding InIf
+HoldsIn-with_bytes_if p None low v x j k h = j
+HoldsIn-with_bytes_if p (Some y) low v x j k h = HoldsIn-with_register_if (low_of p) low _ x k (Holds-with_register (high_of p) y v x j h)
+
+HoldsIn-settled :
+    (p : WordPair) (b : Bounds) (v : Values) (x : Registers ℕ)
+    → AreBytes x → Within b (word_of p x) → Holds v x → HoldsIn (settled p b v) x
+unfolding settled
+HoldsIn-settled p b v x bytes k h =
+    let small = bytes.each (low_of p) in
+    let within : Within b (word (get (high_of p) x) (get (low_of p) x)) = subst (λ w. Within b w) (sym (word_of-is p x)) k in
+    HoldsIn-with_bytes_if p _ _ _ x
+    (InIf-cut_val _ _ _ (h.registers (high_of p)) (Within-high_bounds b _ _ small within))
+    (InIf-cut_val _ _ _ (h.registers (low_of p)) (Within-low_bounds b _ _ small within))
+    (Holds-with_bounds p b v x k h)
+
+-- ---- a link
+
+HoldsIn-then :
+    (f : Values → Option Values) (o : Option Values) (x : Registers ℕ)
+    → HoldsIn o x → ((v : Values) → Holds v x → HoldsIn (f v) x) → HoldsIn (option_and_then f o) x
+HoldsIn-then f None x h k = absurd h
+HoldsIn-then f (Some v) x h k = k v h
+
+none_empty : (b c : Bounds) (m n : ℕ) → Within b m → Within c n → (is_empty b || is_empty c) ≡ false
+none_empty b c m n h k = grind (arith, nat_tests)
+
+pub HoldsIn-reduced_by_link :
+    (p : WordPair) (l : Link) (o b : Bounds) (v : Values) (x : Registers ℕ)
+    → l.factor < 65536 → b.last < 65536 → AreBytes x → Within o (other_of l.other x) → Within b (word_of p x)
+    → IsLinked (Some l) p x → Holds v x → HoldsIn (reduced_by_link p l o b v) x
+unfolding reduced_by_link
+HoldsIn-reduced_by_link p l o b v x factor last bytes j k linked h =
+    let c : Bounds = cut_by_other l o b in
+    let within : Within c (word_of p x) = Within-cut_by_other l o b _ _ factor (word_below p x bytes) j k linked in
+    subst
+    (λ e. HoldsIn (cond e None (option_and_then (settled p c) (cut_other_if l.other (others_at l o c) v))) x)
+    (sym (none_empty o c _ _ j within))
+    (HoldsIn-then (settled p c) _ x
+    (HoldsIn-cut_other_if l.other _ v x
+    (Within-others_at l o c _ _ factor (cut_by_other-last l o b last) (word_below p x bytes) (other_below l.other x bytes) j within linked)
+    h)
+    (λ w m. HoldsIn-settled p c w x bytes within m))
+
+-- ---- the registers of all pairs
+
+-- what types say of pairs: bounds and factors are words
+pub record AreWords (s : Pairs) : Type 0 where
+  pub last : (p : WordPair) → (facts_of p s).bounds.last < 65536
+  pub factor : (p : WordPair) → IfSome (facts_of p s).link (λ l. l.factor < 65536)
+
+AreWords-cut : (v w : Values) → IsCut v w → AreWords v.pairs → AreWords w.pairs
+AreWords-cut v w h k =
+    record {
+      last = λ p. let a = h.last p in let b = k.last p in omega arith;
+      factor = λ p. subst (λ o. IfSome o (λ l. l.factor < 65536)) (sym (h.link p)) (k.factor p);
+    }
+
+HoldsIn-reduced_within :
+    (p : WordPair) (o : Option Link) (b : Bounds) (v : Values) (x : Registers ℕ)
+    → IfSome o (λ l. l.factor < 65536) → b.last < 65536 → AreBytes x → Within b (word_of p x) → IsLinked o p x → Holds v x
+    → HoldsIn (reduced_within p o b v) x
+HoldsIn-reduced_within p None b v x factor last bytes k linked h = HoldsIn-settled p b v x bytes k h
+HoldsIn-reduced_within p (Some l) b v x factor last bytes k linked h =
+    HoldsIn-reduced_by_link p l _ b v x factor last bytes (Within-bounds_of_other l.other v x h) k linked h
+
+HoldsIn-reduced_pair :
+    (p : WordPair) (v : Values) (x : Registers ℕ) → AreWords v.pairs → AreBytes x → Holds v x → HoldsIn (reduced_pair p v) x
+unfolding reduced_pair
+HoldsIn-reduced_pair p v x words bytes h =
+    let within = Within-bounds_of p v x h in
+    let most = (IsPart-bounds_of p v).last in
+    let below = words.last p in
+    let last : (bounds_of p v).last < 65536 = omega arith in
+    subst
+    (λ e. HoldsIn (cond e None (reduced_within p (facts_of p v.pairs).link (bounds_of p v) v)) x)
+    (sym (not_empty (bounds_of p v) _ within))
+    (HoldsIn-reduced_within p _ (bounds_of p v) v x (words.factor p) last bytes within (h.pairs.each p).link h)
+
+HoldsIn-then_cut :
+    (f : Values → Option Values) (v : Values) (o : Option Values) (x : Registers ℕ)
+    → AreWords v.pairs → HoldsIn o x → IfSome o (IsCut v) → ((w : Values) → AreWords w.pairs → Holds w x → HoldsIn (f w) x)
+    → HoldsIn (option_and_then f o) x
+HoldsIn-then_cut f v None x words h c k = absurd h
+HoldsIn-then_cut f v (Some w) x words h c k = k w (AreWords-cut v w c words) h
+
+HoldsIn-reduced_once : (v : Values) (x : Registers ℕ) → AreBytes x → AreWords v.pairs → Holds v x → HoldsIn (reduced_once v) x
+unfolding reduced_once
+HoldsIn-reduced_once v x bytes words h =
+    HoldsIn-then_cut _ v _ x words
+    (HoldsIn-then_cut _ v _ x words
+    (HoldsIn-reduced_pair pair.Bc v x words bytes h)
+    (reduced_pair_cuts pair.Bc v)
+    (λ w k m. HoldsIn-reduced_pair pair.De w x k bytes m))
+    (reduced_by_two_cuts v)
+    (λ w k m. HoldsIn-reduced_pair pair.Hl w x k bytes m)
+
+pub reduced_sound : (v : Values) (o : Option Values) → o ≡ reduced v → AreWords v.pairs → IsSoundReducing v o
+unfolding reduced
+reduced_sound v o e words = subst (λ r. IsSoundReducing v r) (sym e) (record { gives = gives })
+  where
+    gives : (x : Registers ℕ) → AreBytes x → Holds v x → HoldsIn (reduced v) x
+    gives x bytes h =
+        HoldsIn-then_cut _ v _ x words (HoldsIn-reduced_once v x bytes words h) (reduced_once_cuts v)
+        (λ w k m. HoldsIn-reduced_once w x bytes k m)
+
+-- ---- the clauses of functions
+
+pub reduced_by_link_sound :
+    (p : WordPair) (l : Link) (o b : Bounds) (v : Values) (r : Option Values)
+    → r ≡ reduced_by_link p l o b v → l.factor < 65536 → b.last < 65536 → IsSoundByLink p l o b v r
+reduced_by_link_sound p l o b v r e factor last =
+    subst (λ s. IsSoundByLink p l o b v s) (sym e)
+    (record { gives = λ x bytes j k linked h. HoldsIn-reduced_by_link p l o b v x factor last bytes j k linked h })
+
+-- bounds that are empty leave nothing
+pub empty_sound : (p : WordPair) (v : Values) (b : Bounds) → b ≡ bounds_of p v → b.last < b.first → IsSoundReducing v None
+empty_sound p v b e h =
+    record {
+      gives = λ x bytes m.
+          let within : Within b (word_of p x) = subst (λ c. Within c (word_of p x)) (sym e) (Within-bounds_of p v x m) in
+          let least = within.least in
+          let most = within.most in
+          omega arith;
+    }
+
+pub no_link_sound : (p : WordPair) (v : Values) (b : Bounds) (r : Option Values) → b ≡ bounds_of p v → r ≡ settled p b v → IsSoundReducing v r
+no_link_sound p v b r e f =
+    subst (λ s. IsSoundReducing v s) (sym f)
+    (record {
+      gives = λ x bytes h. HoldsIn-settled p b v x bytes (subst (λ c. Within c (word_of p x)) (sym e) (Within-bounds_of p v x h)) h;
+    })
+
+pub link_sound :
+    (p : WordPair) (v : Values) (l : Link) (o b : Bounds) (r : Option Values)
+    → (facts_of p v.pairs).link ≡ Some l → o ≡ bounds_of_other l.other v → b ≡ bounds_of p v → IsSoundByLink p l o b v r
+    → IsSoundReducing v r
+link_sound p v l o b r e f g h =
+    record {
+      gives = λ x bytes m.
+          h.gives x bytes
+          (subst (λ c. Within c (other_of l.other x)) (sym f) (Within-bounds_of_other l.other v x m))
+          (subst (λ c. Within c (word_of p x)) (sym g) (Within-bounds_of p v x m))
+          (subst (λ k. IsLinked k p x) e (m.pairs.each p).link)
+          m;
+    }
+
+pub sound_then :
+    (v w : Values) (o r : Option Values) → o ≡ Some w → IsSoundReducing v o → IsSoundReducing w r → IsSoundReducing v r
+sound_then v w o r e h k =
+    record { gives = λ x bytes m. k.gives x bytes (subst (λ s. HoldsIn s x) e (h.gives x bytes m)) }
+
+pub sound_none : (v : Values) (o r : Option Values) → o ≡ None → IsSoundReducing v o → IsSoundReducing v r
+sound_none v o r e h = record { gives = λ x bytes m. absurd (subst (λ s. HoldsIn s x) e (h.gives x bytes m)) }

@@ -1,0 +1,59 @@
+-- Forgetting: what is left of the pairs where a register was written (abstract interpretation: forget; own).
+use Rattle.std.specs.Prelude.{ℕ, Bool, true, false, ◌==◌, if◌then◌else◌, Option, Some, None}
+use Rattle.gb_ops.specs.declared.op.Register.{Register}
+use Rattle.gb_ops.specs.declared.op.Register.TheVariants.{A, B, C, D, E, H, L}
+use Rattle.gb_domain.specs.declared.pairs.WordPair.{WordPair}
+use Rattle.gb_domain.specs.declared.pairs.WordPair.TheVariants as pair
+use Rattle.gb_domain.specs.declared.pairs.Other.{Other}
+use Rattle.gb_domain.specs.declared.pairs.Other.TheVariants as other
+use Rattle.gb_domain.specs.declared.pairs.Link.{Link}
+use Rattle.gb_domain.specs.declared.pairs.PairFacts.{PairFacts}
+use Rattle.gb_domain.specs.declared.pairs.Pairs.{Pairs}
+use Rattle.gb_domain.specs.Pairs.{nothing_known}
+
+-- the register is one of the pair's two
+abbrev pub is_half : Register → WordPair → Bool
+is_half B pair.Bc = true
+is_half C pair.Bc = true
+is_half D pair.De = true
+is_half E pair.De = true
+is_half H pair.Hl = true
+is_half L pair.Hl = true
+is_half _ _ = false
+
+abbrev pub register_number : Register → ℕ
+register_number A = 0
+register_number B = 1
+register_number C = 2
+register_number D = 3
+register_number E = 4
+register_number H = 5
+register_number L = 6
+
+abbrev pub is_same : Register → Register → Bool
+is_same r s = register_number r == register_number s
+
+abbrev pub pair_number : WordPair → ℕ
+pair_number pair.Bc = 0
+pair_number pair.De = 1
+pair_number pair.Hl = 2
+
+abbrev pub is_same_pair : WordPair → WordPair → Bool
+is_same_pair p q = pair_number p == pair_number q
+
+-- what a link reads is read from the register
+abbrev pub reads : Register → Other → Bool
+reads r (other.Register s) = is_same r s
+reads r (other.Pair p) = is_half r p
+
+abbrev pub link_without : Register → Option Link → Option Link
+link_without r None = None
+link_without r (Some l) = if reads r l.other then None else Some l
+
+abbrev pub facts_without : Register → WordPair → PairFacts → PairFacts
+facts_without r p f = if is_half r p then nothing_known else record f { link = link_without r f.link }
+
+-- a register was written: its pair is forgotten, and each link that reads it
+unfoldable pub without_register : Register → Pairs → Pairs
+without_register r s =
+    record { bc = facts_without r pair.Bc s.bc; de = facts_without r pair.De s.de; hl = facts_without r pair.Hl s.hl }

@@ -1,0 +1,110 @@
+//! Intervals of words, and the bounds of pairs and of what links read.
+
+ghost use Rattle.std.specs.Prelude.{◌≡◌};
+ghost use Rattle.gb_domain.specs.Pairs.{facts_of};
+ghost use Rattle.gb_pairs.specs.Bounds.{cut, is_empty, is_one, high_of, low_of, box, bounds_of, bounds_of_val, bounds_of_other};
+ghost use Rattle.gb_pairs.specs.Meaning.{word_of, other_of};
+ghost use Rattle.gb_pairs.specs.Sound.{IsSoundBounds};
+
+use crate::values::Values;
+use gb_domain::pairs::{Bounds, Other, PairFacts, Pairs, WordPair};
+use gb_domain::types::Val;
+use gb_ops::op::Register;
+use gb_vals::word;
+
+/// What is known of a pair.
+pub fn facts_of(pair: WordPair, pairs: &Pairs) -> PairFacts
+    ensures { result ≡ facts_of pair pairs.now }
+{
+    match pair {
+        WordPair::Bc => pairs.bc,
+        WordPair::De => pairs.de,
+        WordPair::Hl => pairs.hl,
+    }
+}
+
+pub(crate) fn cut(x: Bounds, y: Bounds) -> Bounds
+    ensures { result ≡ cut x y }
+{
+    Bounds {
+        first: x.first.max(y.first),
+        last: x.last.min(y.last),
+    }
+}
+
+pub(crate) fn is_empty(bounds: Bounds) -> bool
+    ensures { result ≡ is_empty bounds }
+{
+    bounds.last < bounds.first
+}
+
+/// Whether bounds leave one word.
+pub fn is_one(bounds: Bounds) -> bool
+    ensures { result ≡ is_one bounds }
+{
+    bounds.first == bounds.last
+}
+
+/// The register that holds a pair's high byte.
+pub fn high_of(pair: WordPair) -> Register
+    ensures { result ≡ high_of pair }
+{
+    match pair {
+        WordPair::Bc => Register::B,
+        WordPair::De => Register::D,
+        WordPair::Hl => Register::H,
+    }
+}
+
+/// The register that holds a pair's low byte.
+pub fn low_of(pair: WordPair) -> Register
+    ensures { result ≡ low_of pair }
+{
+    match pair {
+        WordPair::Bc => Register::C,
+        WordPair::De => Register::E,
+        WordPair::Hl => Register::L,
+    }
+}
+
+/// The words whose bytes are among those of two values.
+fn box_of(high: Val, low: Val) -> Bounds
+    ensures { result ≡ box high low }
+{
+    Bounds {
+        first: word(high.lo, low.lo),
+        last: word(high.hi, low.hi),
+    }
+}
+
+/// The bounds of a pair: by its bytes, and by its own bounds.
+#[tactic(auto, using(crate::proofs::BoundsLaws::bounds_of_sound), unfolding(crate::specs::Bounds::bounds_of))]
+pub fn bounds_of(pair: WordPair, values: &Values) -> Bounds
+    ensures exact { result ≡ bounds_of pair values.now }
+    ensures sound { IsSoundBounds (word_of pair) values.now result }
+{
+    let high = values.registers.get(high_of(pair));
+    let low = values.registers.get(low_of(pair));
+    cut(box_of(high, low), facts_of(pair, &values.pairs).bounds)
+}
+
+fn bounds_of_val(val: Val) -> Bounds
+    ensures { result ≡ bounds_of_val val }
+{
+    Bounds {
+        first: u16::from(val.lo),
+        last: u16::from(val.hi),
+    }
+}
+
+/// The bounds of what a link reads beside its pair.
+#[tactic(auto, using(crate::proofs::BoundsLaws::bounds_of_other_sound), unfolding(crate::specs::Bounds::bounds_of_other))]
+pub fn bounds_of_other(other: Other, values: &Values) -> Bounds
+    ensures exact { result ≡ bounds_of_other other values.now }
+    ensures sound { IsSoundBounds (other_of other) values.now result }
+{
+    match other {
+        Other::Register(register) => bounds_of_val(values.registers.get(register)),
+        Other::Pair(pair) => bounds_of(pair, values),
+    }
+}

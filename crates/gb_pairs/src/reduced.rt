@@ -1,0 +1,297 @@
+//! Reducing: values are cut to what their pairs and links leave.
+
+ghost use Rattle.std.specs.Prelude.{◌≡◌, ◌*◌, ◌<◌, IfSome};
+ghost use Rattle.gb_pairs.specs.Reduced.{is_rising, size, pair_at, pairs_at, cut_by_other, multiple_at, multiples_at, divided, others_at, cut_val, with_facts, with_bounds, with_bounds_if, cut_other, high_bounds, low_bounds, settled, reduced_by_link, reduced_pair, reduced_once, reduced};
+ghost use Rattle.gb_pairs.specs.Sound.{IsSoundByLink, IsSoundReducing, IsCut};
+
+use crate::bounds::{bounds_of, bounds_of_other, cut, facts_of, high_of, is_empty, low_of};
+use crate::values::Values;
+use gb_domain::pairs::{Bounds, Link, Other, PairFacts, WordPair};
+use gb_domain::types::Val;
+
+/// Whether a link's factor is above 0.
+fn is_rising(link: Link) -> bool
+    ensures { result ≡ is_rising link }
+{
+    link.factor < 128
+}
+
+/// A link's factor without its sign.
+fn size(link: Link) -> u16
+    ensures { result ≡ size link }
+{
+    if is_rising(link) {
+        link.factor
+    } else {
+        link.factor.wrapping_neg()
+    }
+}
+
+fn product(x: u16, y: u16) -> u32
+    ensures { result ≡ x * y }
+{
+    u32::from(x) * u32::from(y)
+}
+
+/// The pair where what its link reads is known.
+#[tactic(auto, using(crate::proofs::LinkLaws::pair_by_wrapping))]
+fn pair_at(link: Link, other: u16) -> u16
+    ensures { result ≡ pair_at link other }
+{
+    link.sum.wrapping_sub(link.factor.wrapping_mul(other))
+}
+
+/// The pair from one end of what its link reads to the other end; they stand in order unless they go round.
+fn pairs_at(link: Link, other: Bounds) -> Bounds
+    ensures { result ≡ pairs_at link other }
+{
+    let at_first = pair_at(link, other.first);
+    let at_last = pair_at(link, other.last);
+    if is_rising(link) {
+        Bounds {
+            first: at_last,
+            last: at_first,
+        }
+    } else {
+        Bounds {
+            first: at_first,
+            last: at_last,
+        }
+    }
+}
+
+/// Bounds of a pair, cut to what its link leaves.
+#[tactic(auto, unfolding(crate::specs::Reduced::cut_by_other))]
+fn cut_by_other(link: Link, other: Bounds, bounds: Bounds) -> Bounds
+    ensures { result ≡ cut_by_other link other bounds }
+{
+    let pairs = pairs_at(link, other);
+    let width = other.last.saturating_sub(other.first);
+    if product(size(link), width) > 65_535 || is_empty(pairs) {
+        bounds
+    } else {
+        cut(bounds, pairs)
+    }
+}
+
+/// What a link reads, times the size of its factor, where the pair is known.
+fn multiple_at(link: Link, word: u16) -> u16
+    ensures { result ≡ multiple_at link word }
+{
+    if is_rising(link) {
+        link.sum.wrapping_sub(word)
+    } else {
+        word.wrapping_sub(link.sum)
+    }
+}
+
+/// The same from one end of the pair to the other end.
+fn multiples_at(link: Link, bounds: Bounds) -> Bounds
+    ensures { result ≡ multiples_at link bounds }
+{
+    let at_first = multiple_at(link, bounds.first);
+    let at_last = multiple_at(link, bounds.last);
+    if is_rising(link) {
+        Bounds {
+            first: at_last,
+            last: at_first,
+        }
+    } else {
+        Bounds {
+            first: at_first,
+            last: at_last,
+        }
+    }
+}
+
+/// The numbers whose multiples lie in some bounds.
+fn divided(size: u16, multiples: Bounds) -> Bounds
+    requires { 0 < size }
+    ensures { result ≡ divided size multiples }
+{
+    let up = u32::from(multiples.first) + u32::from(size - 1);
+    Bounds {
+        first: (up / u32::from(size)) as u16,
+        last: multiples.last / size,
+    }
+}
+
+/// What a link leaves of what it reads, where interval arithmetic doesn't go round.
+#[tactic(auto, unfolding(crate::specs::Reduced::others_at))]
+fn others_at(link: Link, other: Bounds, bounds: Bounds) -> Option<Bounds>
+    ensures { result ≡ others_at link other bounds }
+{
+    let multiples = multiples_at(link, bounds);
+    let size = size(link);
+    if is_empty(multiples) {
+        None
+    } else if size == 1 {
+        Some(multiples)
+    } else if size == 0 || product(size, other.last) > 65_535 {
+        None
+    } else {
+        Some(divided(size, multiples))
+    }
+}
+
+/// What of a value is in some bounds.
+#[tactic(auto, unfolding(crate::specs::Reduced::cut_val))]
+fn cut_val(val: Val, bounds: Bounds) -> Option<Val>
+    ensures { result ≡ cut_val val bounds }
+{
+    let lo = u16::from(val.lo).max(bounds.first);
+    let hi = u16::from(val.hi).min(bounds.last);
+    if hi < lo {
+        return None;
+    }
+    Some(Val {
+        lo: lo as u8,
+        hi: hi as u8,
+        origin: val.origin,
+    })
+}
+
+fn set_facts(pair: WordPair, facts: PairFacts, values: &mut Values)
+    ensures { values.new ≡ record values.old { pairs = with_facts pair facts values.old.pairs } }
+{
+    match pair {
+        WordPair::Bc => values.pairs.bc = facts,
+        WordPair::De => values.pairs.de = facts,
+        WordPair::Hl => values.pairs.hl = facts,
+    }
+}
+
+fn set_bounds(pair: WordPair, bounds: Bounds, values: &mut Values)
+    ensures { values.new ≡ with_bounds pair bounds values.old }
+{
+    let facts = facts_of(pair, &values.pairs);
+    set_facts(pair, PairFacts { bounds, ..facts }, values);
+}
+
+/// What a link reads is cut: a register's value, or a pair's own bounds.
+#[tactic(auto, unfolding(crate::specs::Reduced::cut_other))]
+fn cut_other(other: Other, bounds: Bounds, values: &Values) -> Option<Values>
+    ensures { result ≡ cut_other other bounds values.now }
+{
+    let mut reduced = *values;
+    match other {
+        Other::Register(register) => {
+            let val = cut_val(values.registers.get(register), bounds)?;
+            reduced.registers.set(register, val);
+        }
+        Other::Pair(pair) => {
+            let left = cut(facts_of(pair, &values.pairs).bounds, bounds);
+            if is_empty(left) {
+                return None;
+            }
+            set_bounds(pair, left, &mut reduced);
+        }
+    }
+    Some(reduced)
+}
+
+fn high_bounds(bounds: Bounds) -> Bounds
+    ensures { result ≡ high_bounds bounds }
+{
+    Bounds {
+        first: bounds.first / 256,
+        last: bounds.last / 256,
+    }
+}
+
+/// Bounds of a low byte: any, where the high one isn't known.
+fn low_bounds(bounds: Bounds) -> Bounds
+    ensures { result ≡ low_bounds bounds }
+{
+    if bounds.first / 256 == bounds.last / 256 {
+        Bounds {
+            first: bounds.first % 256,
+            last: bounds.last % 256,
+        }
+    } else {
+        Bounds {
+            first: 0,
+            last: 255,
+        }
+    }
+}
+
+/// A pair's bounds become its own, and its bytes are cut to them.
+#[tactic(auto, unfolding(crate::specs::Reduced::settled))]
+fn settled(pair: WordPair, bounds: Bounds, values: &Values) -> Option<Values>
+    ensures { result ≡ settled pair bounds values.now }
+{
+    let high = cut_val(values.registers.get(high_of(pair)), high_bounds(bounds))?;
+    let low = cut_val(values.registers.get(low_of(pair)), low_bounds(bounds))?;
+    let mut settled = *values;
+    set_bounds(pair, bounds, &mut settled);
+    settled.registers.set(high_of(pair), high);
+    settled.registers.set(low_of(pair), low);
+    Some(settled)
+}
+
+/// A pair in some bounds and what its link reads in others, cut to what the link leaves.
+#[tactic(auto, using(crate::proofs::ReducedLaws::reduced_by_link_sound), unfolding(crate::specs::Reduced::reduced_by_link))]
+fn reduced_by_link(
+    pair: WordPair,
+    link: Link,
+    other: Bounds,
+    bounds: Bounds,
+    values: &Values,
+) -> Option<Values>
+    ensures exact { result ≡ reduced_by_link pair link other bounds values.now }
+    ensures sound { IsSoundByLink pair link other bounds values.now result }
+{
+    let left = cut_by_other(link, other, bounds);
+    if is_empty(other) || is_empty(left) {
+        return None;
+    }
+    match others_at(link, other, left) {
+        None => settled(pair, left, values),
+        Some(others) => settled(pair, left, &cut_other(link.other, others, values)?),
+    }
+}
+
+/// Values cut by one pair.
+#[tactic(auto, using(crate::proofs::ReducedLaws::no_link_sound, crate::proofs::ReducedLaws::link_sound, crate::proofs::ReducedLaws::empty_sound), unfolding(crate::specs::Reduced::reduced_pair))]
+fn reduced_pair(pair: WordPair, values: &Values) -> Option<Values>
+    ensures exact { result ≡ reduced_pair pair values.now }
+    ensures sound { IsSoundReducing values.now result }
+{
+    let bounds = bounds_of(pair, values);
+    if is_empty(bounds) {
+        return None;
+    }
+    match facts_of(pair, &values.pairs).link {
+        None => settled(pair, bounds, values),
+        Some(link) => reduced_by_link(
+            pair,
+            link,
+            bounds_of_other(link.other, values),
+            bounds,
+            values,
+        ),
+    }
+}
+
+/// Values cut by each pair.
+#[tactic(auto, using(crate::proofs::ReducedLaws::sound_then, crate::proofs::ReducedLaws::sound_none), unfolding(crate::specs::Reduced::reduced_once))]
+fn reduced_once(values: &Values) -> Option<Values>
+    ensures exact { result ≡ reduced_once values.now }
+    ensures sound { IsSoundReducing values.now result }
+{
+    let by_bc = reduced_pair(WordPair::Bc, values)?;
+    let by_de = reduced_pair(WordPair::De, &by_bc)?;
+    reduced_pair(WordPair::Hl, &by_de)
+}
+
+/// The same values, cut to what pairs and links leave: none where they stand for nothing. Each pair may cut what an earlier
+/// one reads, so that all are asked twice.
+#[tactic(auto, using(crate::proofs::ReducedLaws::sound_then, crate::proofs::ReducedLaws::sound_none, crate::proofs::CutLaws::reduced_cuts), unfolding(crate::specs::Reduced::reduced))]
+pub fn reduced(values: &Values) -> Option<Values>
+    ensures exact { result ≡ reduced values.now }
+    ensures sound { IsSoundReducing values.now result }
+    ensures cuts { IfSome result (IsCut values.now) }
+{
+    reduced_once(&reduced_once(values)?)
+}

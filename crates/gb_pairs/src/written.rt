@@ -1,0 +1,105 @@
+//! Forgetting: what is left of the pairs where a register was written.
+
+ghost use Rattle.std.specs.Prelude.{◌≡◌};
+ghost use Rattle.gb_pairs.specs.Sound.{IsSoundForgetting};
+ghost use Rattle.gb_pairs.specs.Written.{is_half, register_number, is_same, pair_number, is_same_pair, reads, link_without, facts_without, without_register};
+
+use gb_domain::pairs::{Link, NOTHING_KNOWN, Other, PairFacts, Pairs, WordPair};
+use gb_ops::op::Register;
+
+/// Whether a register is one of a pair's two.
+pub(crate) fn is_half(register: Register, pair: WordPair) -> bool
+    ensures { result ≡ is_half register pair }
+{
+    matches!(
+        (register, pair),
+        (Register::B | Register::C, WordPair::Bc)
+            | (Register::D | Register::E, WordPair::De)
+            | (Register::H | Register::L, WordPair::Hl)
+    )
+}
+
+/// A register's number, by which two registers are compared.
+fn register_number(register: Register) -> u8
+    ensures { result ≡ register_number register }
+{
+    match register {
+        Register::A => 0,
+        Register::B => 1,
+        Register::C => 2,
+        Register::D => 3,
+        Register::E => 4,
+        Register::H => 5,
+        Register::L => 6,
+    }
+}
+
+pub(crate) fn is_same(x: Register, y: Register) -> bool
+    ensures { result ≡ is_same x y }
+{
+    register_number(x) == register_number(y)
+}
+
+/// A pair's number, by which two pairs are compared.
+fn pair_number(pair: WordPair) -> u8
+    ensures { result ≡ pair_number pair }
+{
+    match pair {
+        WordPair::Bc => 0,
+        WordPair::De => 1,
+        WordPair::Hl => 2,
+    }
+}
+
+pub(crate) fn is_same_pair(x: WordPair, y: WordPair) -> bool
+    ensures { result ≡ is_same_pair x y }
+{
+    pair_number(x) == pair_number(y)
+}
+
+/// Whether what a link reads is read from a register.
+fn reads(register: Register, other: Other) -> bool
+    ensures { result ≡ reads register other }
+{
+    match other {
+        Other::Register(read) => is_same(register, read),
+        Other::Pair(pair) => is_half(register, pair),
+    }
+}
+
+fn link_without(register: Register, link: Option<Link>) -> Option<Link>
+    ensures { result ≡ link_without register link }
+{
+    let link = link?;
+    if reads(register, link.other) {
+        None
+    } else {
+        Some(link)
+    }
+}
+
+fn facts_without(register: Register, pair: WordPair, facts: PairFacts) -> PairFacts
+    ensures { result ≡ facts_without register pair facts }
+{
+    if is_half(register, pair) {
+        return NOTHING_KNOWN;
+    }
+    PairFacts {
+        link: link_without(register, facts.link),
+        ..facts
+    }
+}
+
+/// What is left of the pairs where a register was written, whatever it holds now: nothing of its own pair, and no link that
+/// reads it.
+#[tactic(auto, using(crate::proofs::WrittenLaws::without_register_sound), unfolding(crate::specs::Written::without_register))]
+pub fn without_register(register: Register, pairs: &Pairs) -> Pairs
+    ensures exact { result ≡ without_register register pairs.now }
+    ensures sound { IsSoundForgetting register pairs.now result }
+{
+    Pairs {
+        bc: facts_without(register, WordPair::Bc, pairs.bc),
+        de: facts_without(register, WordPair::De, pairs.de),
+        hl: facts_without(register, WordPair::Hl, pairs.hl),
+    }
+}
