@@ -1,5 +1,5 @@
 -- Certificates that are to be written, and the limits that they may not keep.
-use Rattle.std.specs.Prelude.{◌≡◌, ◌≤◌, ◌<◌, ℕ, Bool, true, false, nat_le, nat_lt, List, [], ◌∷◌, ◌++◌, length, map, Option, Some, None}
+use Rattle.std.specs.Prelude.{◌≡◌, ◌≤◌, ◌<◌, ◌%◌, ◌||◌, ◌==◌, ℕ, Bool, true, false, nat_le, nat_lt, List, [], ◌∷◌, ◌++◌, length, map, Option, Some, None}
 use Rattle.std.specs.Borrow.{Bor}
 use Rattle.std.specs.List.{list_any}
 use Rattle.gb_ops.specs.declared.machine.Region.{Region}
@@ -49,6 +49,24 @@ is_deep p = nat_lt 8192 p.need
 abbrev pub has_no_entry : ℕ → ProcedurePlan → Bool
 has_no_entry nodes p = nat_le nodes p.entry
 
+-- an odd number of bytes is no number of words
+abbrev pub is_odd : ℕ → Bool
+is_odd n = n % 2 == 1
+
+abbrev pub has_half_word : Option AbsState → Bool
+has_half_word None = false
+has_half_word (Some s) = is_odd (length s.items)
+
+abbrev pub is_half_procedure : ProcedurePlan → Bool
+is_half_procedure p = is_odd p.need || has_half_word (exit_of p.exit)
+
+abbrev pub is_half_node : NodePlan → Bool
+is_half_node n = is_odd (length n.state.now.items)
+
+-- one of them has an odd number of bytes of stack
+abbrev pub have_half_words : List ProcedurePlan → List NodePlan → Bool
+have_half_words procedures nodes = list_any is_half_procedure procedures || list_any is_half_node nodes
+
 -- what stands before so many procedures and nodes
 abbrev pub head_of : Version → Region → ℕ → ℕ → List ℕ
 head_of version region procedures nodes = (0x47 ∷ 0x42 ∷ 0x42 ∷ 0x43 ∷ number_of version ∷ []) ++ (word region.first ++ (word region.last ++ (procedures ∷ node_number (number_of version) nodes)))
@@ -61,11 +79,12 @@ IsProcedureFault nodes procedures fault.Need = list_any is_deep procedures ≡ t
 IsProcedureFault nodes procedures fault.Entry = list_any (has_no_entry nodes) procedures ≡ true
 IsProcedureFault nodes procedures _ = ⊥
 
--- There are no more procedures and nodes than the version takes, no procedure declares too many ranges or needs too many bytes,
--- and each begins at a node.
+-- There are no more procedures and nodes than the version takes, bytes of stack are whole words, no procedure declares too many
+-- ranges or needs too many bytes, and each begins at a node.
 pub record KeepsLimits (version : Version) (procedures : List ProcedurePlan) (nodes : List NodePlan) : Type 0 where
   pub procedure_count : length procedures ≤ procedure_limit
   pub node_count : length nodes ≤ node_limit (number_of version)
+  pub words : have_half_words procedures nodes ≡ false
   pub ranges : list_any is_wide procedures ≡ false
   pub needs : list_any is_deep procedures ≡ false
   pub entries : list_any (has_no_entry (length nodes)) procedures ≡ false
@@ -75,6 +94,7 @@ abbrev pub IsWriteFault : Version → List ProcedurePlan → List NodePlan → W
 IsWriteFault version procedures nodes fault.Memory = Unit {0}
 IsWriteFault version procedures nodes fault.Procedures = procedure_limit < length procedures
 IsWriteFault version procedures nodes fault.Nodes = node_limit (number_of version) < length nodes
+IsWriteFault version procedures nodes fault.HalfWord = have_half_words procedures nodes ≡ true
 IsWriteFault version procedures nodes fault.Ranges = list_any is_wide procedures ≡ true
 IsWriteFault version procedures nodes fault.Need = list_any is_deep procedures ≡ true
 IsWriteFault version procedures nodes fault.Entry = list_any (has_no_entry (length nodes)) procedures ≡ true

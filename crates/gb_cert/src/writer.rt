@@ -7,7 +7,7 @@ ghost use Rattle.gb_states.specs.Rules.{IsCertificate};
 ghost use Rattle.gb_states.specs.Spelling as spelled;
 ghost use Rattle.gb_states.specs.Spelling.{Spells};
 ghost use Rattle.gb_cert.specs.declared.writer.WriteFault.TheVariants.{Memory};
-ghost use Rattle.gb_cert.specs.Written.{number_of, exit_of, procedure_of, node_of, certificate_of, is_wide, is_deep, has_no_entry, head_of, IsProcedureFault, IsWriteFault, KeepsLimits};
+ghost use Rattle.gb_cert.specs.Written.{number_of, exit_of, procedure_of, node_of, certificate_of, has_half_word, is_half_procedure, is_half_node, have_half_words, is_wide, is_deep, has_no_entry, head_of, IsProcedureFault, IsWriteFault, KeepsLimits};
 
 use crate::spelled::{put, put_state, word};
 use gb_domain::types::{Abs, Range};
@@ -58,6 +58,8 @@ pub enum WriteFault {
     Procedures,
     /// There are more nodes than the version takes: 65,535, or 1,048,576.
     Nodes,
+    /// A procedure's need, or a state's bytes of the stack, are odd in number: they are spelled as words.
+    HalfWord,
     /// A procedure has more than 8 ranges.
     Ranges,
     /// A procedure needs more than 8,192 bytes of stack.
@@ -218,6 +220,56 @@ fn put_nodes(nodes: &[NodePlan<'_>], out: &mut Vec<u8>) -> Result<(), AllocError
     Ok(())
 }
 
+/// Whether the exit's state has an odd number of bytes of the stack.
+fn has_half_word(exit: Option<&Abs>) -> bool
+    ensures { result ≡ has_half_word (exit_of exit.entry) }
+{
+    match exit {
+        None => false,
+        Some(state) => state.items().len() % 2 == 1,
+    }
+}
+
+fn is_half_procedure(procedure: &ProcedurePlan<'_>) -> bool
+    ensures { result ≡ is_half_procedure procedure.now }
+{
+    procedure.need % 2 == 1 || has_half_word(procedure.exit)
+}
+
+fn is_half_node(node: &NodePlan<'_>) -> bool
+    ensures { result ≡ is_half_node node.now }
+{
+    node.state.items().len() % 2 == 1
+}
+
+fn is_one_half_procedure(procedures: &[ProcedurePlan<'_>]) -> bool
+    ensures { result ≡ list_any is_half_procedure procedures.now }
+{
+    for procedure in procedures {
+        if is_half_procedure(procedure) {
+            return true;
+        }
+    }
+    false
+}
+
+fn is_one_half_node(nodes: &[NodePlan<'_>]) -> bool
+    ensures { result ≡ list_any is_half_node nodes.now }
+{
+    for node in nodes {
+        if is_half_node(node) {
+            return true;
+        }
+    }
+    false
+}
+
+fn have_half_words(procedures: &[ProcedurePlan<'_>], nodes: &[NodePlan<'_>]) -> bool
+    ensures { result ≡ have_half_words procedures.now nodes.now }
+{
+    is_one_half_procedure(procedures) || is_one_half_node(nodes)
+}
+
 /// Adds all procedures, where they keep their limits.
 fn put_procedures(
     version: Version,
@@ -300,6 +352,9 @@ pub fn write_certificate(
     }
     if nodes.len() > version.node_limit() as usize {
         return Err(WriteFault::Nodes);
+    }
+    if have_half_words(procedures, nodes) {
+        return Err(WriteFault::HalfWord);
     }
     let mut bytes = Vec::new(alloc);
     put_certificate(version, region, procedures, nodes, &mut bytes)?;

@@ -418,6 +418,7 @@ const LIMITS: &[(Amounts, Option<WriteFault>)] = &[
         },
         Some(WriteFault::Need),
     ),
+    (Amounts { need: 3, ..LEAST }, Some(WriteFault::HalfWord)),
     (
         Amounts {
             entry: 1,
