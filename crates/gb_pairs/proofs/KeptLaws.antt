@@ -1,5 +1,5 @@
 -- Bounds and sums stay words, and factors stay what they were.
-use Rattle.std.proofs.Common.{◌≡◌, ℕ, ◌+◌, ◌-◌, ◌*◌, ◌%◌, ◌<◌, ◌≤◌, Bool, true, false, not, ◌&&◌, ◌||◌, cond, nat_lt, nat_le, Option, Some, None, refl, sym, subst, arith}
+use Rattle.std.proofs.Common.{◌≡◌, ℕ, ◌+◌, ◌<◌, Bool, true, false, not, ◌&&◌, ◌||◌, cond, nat_lt, nat_le, Option, Some, None, refl, sym, subst, arith}
 use Rattle.std.specs.Prelude.{IfSome}
 use Rattle.std.proofs.lemmas.Bool.Decides.{nat_tests}
 use Rattle.gb_ops.specs.declared.op.Register.{Register}
@@ -11,15 +11,16 @@ use Rattle.gb_domain.specs.declared.pairs.Bounds.{Bounds}
 use Rattle.gb_domain.specs.declared.pairs.Link.{Link}
 use Rattle.gb_domain.specs.declared.pairs.PairFacts.{PairFacts}
 use Rattle.gb_domain.specs.declared.pairs.Pairs.{Pairs}
-use Rattle.gb_domain.specs.Pairs.{any_bounds, nothing_known, facts_of, is_factor, IsLink, IsPairFacts, ArePairs}
+use Rattle.gb_domain.specs.Pairs.{any_bounds, nothing_known, facts_of, IsLink, IsPairFacts, ArePairs}
 use Rattle.gb_vals.specs.Logic.{smaller, larger}
 use Rattle.gb_pairs.specs.declared.values.Values.{Values}
 use Rattle.gb_pairs.specs.declared.moved.HlSum.{HlSum}
 use Rattle.gb_pairs.specs.Bounds.{is_one, bounds_of}
 use Rattle.gb_pairs.specs.Written.{is_half, is_same_pair, reads, link_without, facts_without, without_register}
 use Rattle.gb_pairs.specs.Moved.{moved_link, by_if, bounds_up, bounds_down, reads_half, reads_pair, link_of_step, facts_of_step, stepped, incremented, decremented, link_of_byte, weight, facts_of_byte_up, facts_of_byte_down, byte_incremented, byte_decremented, carry_of, sums, without_hl, added}
+use Rattle.gb_pairs.specs.Reduced.{reduced}
 use Rattle.gb_pairs.specs.Sound.{IsCut}
-use Rattle.gb_pairs.proofs.CutLaws.{IsPart-bounds_of}
+use Rattle.gb_pairs.proofs.CutLaws.{IsPart-bounds_of, reduced_cuts}
 
 pub bounds_of_below : (p : WordPair) (v : Values) → ArePairs v.pairs → (bounds_of p v).last < 65536
 bounds_of_below p v h =
@@ -131,7 +132,7 @@ facts_of_byte_down_kept : (r : Register) (v : Values) (q : WordPair) → ArePair
 facts_of_byte_down_kept r v q h =
     record {
       last =
-        either_below (is_half r q) _ (facts_of q v.pairs).bounds (bounds_down_below (weight r) _ (bounds_of_below q v h)) (h.each q).last;
+          either_below (is_half r q) _ (facts_of q v.pairs).bounds (bounds_down_below (weight r) _ (bounds_of_below q v h)) (h.each q).last;
       link = link_of_byte_kept r 65535 65280 q _ (h.each q).link;
     }
 
@@ -144,16 +145,16 @@ unfolding byte_incremented
 byte_incremented_kept r v o e h =
     subst ArePairs (sym e)
     (either_kept (nat_lt (get r v.registers).hi 255) _ _
-        (are_pairs _ _ _ (facts_of_byte_up_kept r v pair.Bc h) (facts_of_byte_up_kept r v pair.De h) (facts_of_byte_up_kept r v pair.Hl h))
-        (ArePairs-without_register r v.pairs h))
+    (are_pairs _ _ _ (facts_of_byte_up_kept r v pair.Bc h) (facts_of_byte_up_kept r v pair.De h) (facts_of_byte_up_kept r v pair.Hl h))
+    (ArePairs-without_register r v.pairs h))
 
 pub byte_decremented_kept : (r : Register) (v : Values) (o : Pairs) → o ≡ byte_decremented r v → ArePairs v.pairs → ArePairs o
 unfolding byte_decremented
 byte_decremented_kept r v o e h =
     subst ArePairs (sym e)
     (either_kept (nat_lt 0 (get r v.registers).lo) _ _
-        (are_pairs _ _ _ (facts_of_byte_down_kept r v pair.Bc h) (facts_of_byte_down_kept r v pair.De h) (facts_of_byte_down_kept r v pair.Hl h))
-        (ArePairs-without_register r v.pairs h))
+    (are_pairs _ _ _ (facts_of_byte_down_kept r v pair.Bc h) (facts_of_byte_down_kept r v pair.De h) (facts_of_byte_down_kept r v pair.Hl h))
+    (ArePairs-without_register r v.pairs h))
 
 -- ---- sums
 
@@ -175,15 +176,18 @@ added_kept y is_hl v o e h =
 
 -- ---- reducing
 
-ArePairs-cut : (v w : Values) → IsCut v w → ArePairs v.pairs → ArePairs w.pairs
+pub ArePairs-cut : (v w : Values) → IsCut v w → ArePairs v.pairs → ArePairs w.pairs
 ArePairs-cut v w h k =
     record {
       each = λ p.
-        let cut = h.last p in
-        let below = (k.each p).last in
-        record { last = omega arith; link = subst (λ l. IfSome l IsLink) (sym (h.link p)) (k.each p).link };
+          let cut = h.last p in
+          let below = (k.each p).last in
+          record { last = omega arith; link = subst (λ l. IfSome l IsLink) (sym (h.link p)) (k.each p).link };
     }
 
-pub reduced_kept : (v : Values) (o : Option Values) → IfSome o (IsCut v) → ArePairs v.pairs → IfSome o (λ w. ArePairs w.pairs)
-reduced_kept v None h k = tt
-reduced_kept v (Some w) h k = ArePairs-cut v w h k
+cut_kept : (v : Values) (o : Option Values) → IfSome o (IsCut v) → ArePairs v.pairs → IfSome o (λ w. ArePairs w.pairs)
+cut_kept v None h k = tt
+cut_kept v (Some w) h k = ArePairs-cut v w h k
+
+pub reduced_kept : (v : Values) (o : Option Values) → o ≡ reduced v → ArePairs v.pairs → IfSome o (λ w. ArePairs w.pairs)
+reduced_kept v o e = cut_kept v o (reduced_cuts v o e)

@@ -2,7 +2,9 @@
 use Rattle.std.proofs.Common.{◌≡◌, ℕ, ◌+◌, ◌-◌, ◌*◌, ◌/◌, ◌%◌, ◌<◌, ◌≤◌, Bool, true, false, ◌==◌, ◌||◌, cond, nat_lt, Option, Some, None, refl, sym, ap, subst, arith}
 use Rattle.std.proofs.lemmas.Bool.{eqb-true}
 use Rattle.std.proofs.lemmas.Bool.Decides.{nat_tests}
-use Rattle.std.proofs.Math.Nat.{mul-le-mul_left, le-div_iff_mul-le, div-lt_iff_lt-mul}
+use Rattle.std.proofs.Math.Nat.{mul-le-mul_left, le-div_iff_mul-le, lt_of_mul-lt-mul_right}
+use Rattle.std.proofs.lemmas.Grind.{div_ceil_times}
+use Rattle.std.specs.Int.{div_ceil}
 use Rattle.gb_domain.specs.declared.pairs.Bounds.{Bounds}
 use Rattle.gb_domain.specs.declared.pairs.Link.{Link}
 use Rattle.gb_vals.specs.Logic.{smaller}
@@ -49,10 +51,11 @@ rises :
     → u ≤ v → (u ≤ p) × (p ≤ v)
 rises k k1 k2 p u v s a b c hu hp hv order = (omega arith, omega arith)
 
-divided_least : (d m o : ℕ) → 0 < m → d ≤ m * o → (d + (m - 1)) / m ≤ o
+divided_least : (d m o : ℕ) → 0 < m → d ≤ m * o → div_ceil d m ≤ o
 divided_least d m o pos h =
-    let less : d + (m - 1) < (o + 1) * m = omega arith in
-    let q : (d + (m - 1)) / m < o + 1 = (div-lt_iff_lt-mul pos).1 less in
+    let times : div_ceil d m * m < d + m = (div_ceil_times d m pos).1 in
+    let less : div_ceil d m * m < (o + 1) * m = omega arith in
+    let below : div_ceil d m < o + 1 = lt_of_mul-lt-mul_right m less in
     omega arith
 
 divided_most : (d m o : ℕ) → 0 < m → m * o ≤ d → o ≤ d / m

@@ -14,8 +14,7 @@ use Rattle.gb_domain.specs.declared.pairs.Bounds.{Bounds}
 use Rattle.gb_domain.specs.declared.pairs.Other.{Other}
 use Rattle.gb_domain.specs.declared.pairs.Other.TheVariants as other
 use Rattle.gb_domain.specs.declared.pairs.Link.{Link}
-use Rattle.gb_domain.specs.declared.pairs.Pairs.{Pairs}
-use Rattle.gb_domain.specs.Pairs.{facts_of}
+use Rattle.gb_domain.specs.Pairs.{facts_of, IsLink, ArePairs}
 use Rattle.gb_vals.specs.Logic.{smaller, larger}
 use Rattle.gb_vals.specs.Meaning.{In}
 use Rattle.gb_pairs.specs.declared.values.Values.{Values}
@@ -25,7 +24,8 @@ use Rattle.gb_pairs.specs.Reduced.{cut_by_other, others_at, cut_val, with_regist
 use Rattle.gb_pairs.specs.Sound.{Within, HoldsIn, IsSoundByLink, IsSoundReducing, IsCut}
 use Rattle.gb_pairs.proofs.RegisterLaws.{each_set, each_facts}
 use Rattle.gb_pairs.proofs.BoundsLaws.{Within-cut, Within-bounds_of, Within-bounds_of_other, word_of-is, word_below, other_below}
-use Rattle.gb_pairs.proofs.CutLaws.{IsPart-bounds_of, reduced_pair_cuts, reduced_by_two_cuts, reduced_once_cuts}
+use Rattle.gb_pairs.proofs.CutLaws.{reduced_pair_cuts, reduced_by_two_cuts, reduced_once_cuts}
+use Rattle.gb_pairs.proofs.KeptLaws.{bounds_of_below, ArePairs-cut}
 use Rattle.gb_pairs.proofs.LinkLaws.{WithinIf, Within-cut_by_other, cut_by_other-last, Within-others_at}
 
 -- ---- parts are replaced
@@ -160,64 +160,53 @@ HoldsIn-reduced_by_link p l o b v x factor last bytes j k linked h =
 
 -- ---- the registers of all pairs
 
--- what types say of pairs: bounds and factors are words
-pub record AreWords (s : Pairs) : Type 0 where
-  pub last : (p : WordPair) → (facts_of p s).bounds.last < 65536
-  pub factor : (p : WordPair) → IfSome (facts_of p s).link (λ l. l.factor < 65536)
-
-AreWords-cut : (v w : Values) → IsCut v w → AreWords v.pairs → AreWords w.pairs
-AreWords-cut v w h k =
-    record {
-      last = λ p. let a = h.last p in let b = k.last p in omega arith;
-      factor = λ p. subst (λ o. IfSome o (λ l. l.factor < 65536)) (sym (h.link p)) (k.factor p);
-    }
+factor_below : (l : Link) → IsLink l → l.factor < 65536
+factor_below l h = let is = h.factor in grind (arith, nat_tests)
 
 HoldsIn-reduced_within :
     (p : WordPair) (o : Option Link) (b : Bounds) (v : Values) (x : Registers ℕ)
-    → IfSome o (λ l. l.factor < 65536) → b.last < 65536 → AreBytes x → Within b (word_of p x) → IsLinked o p x → Holds v x
+    → IfSome o IsLink → b.last < 65536 → AreBytes x → Within b (word_of p x) → IsLinked o p x → Holds v x
     → HoldsIn (reduced_within p o b v) x
-HoldsIn-reduced_within p None b v x factor last bytes k linked h = HoldsIn-settled p b v x bytes k h
-HoldsIn-reduced_within p (Some l) b v x factor last bytes k linked h =
-    HoldsIn-reduced_by_link p l _ b v x factor last bytes (Within-bounds_of_other l.other v x h) k linked h
+HoldsIn-reduced_within p None b v x link last bytes k linked h = HoldsIn-settled p b v x bytes k h
+HoldsIn-reduced_within p (Some l) b v x link last bytes k linked h =
+    HoldsIn-reduced_by_link p l _ b v x (factor_below l link) last bytes (Within-bounds_of_other l.other v x h) k linked h
 
 HoldsIn-reduced_pair :
-    (p : WordPair) (v : Values) (x : Registers ℕ) → AreWords v.pairs → AreBytes x → Holds v x → HoldsIn (reduced_pair p v) x
+    (p : WordPair) (v : Values) (x : Registers ℕ) → ArePairs v.pairs → AreBytes x → Holds v x → HoldsIn (reduced_pair p v) x
 unfolding reduced_pair
-HoldsIn-reduced_pair p v x words bytes h =
+HoldsIn-reduced_pair p v x pairs bytes h =
     let within = Within-bounds_of p v x h in
-    let most = (IsPart-bounds_of p v).last in
-    let below = words.last p in
-    let last : (bounds_of p v).last < 65536 = omega arith in
     subst
     (λ e. HoldsIn (cond e None (reduced_within p (facts_of p v.pairs).link (bounds_of p v) v)) x)
     (sym (not_empty (bounds_of p v) _ within))
-    (HoldsIn-reduced_within p _ (bounds_of p v) v x (words.factor p) last bytes within (h.pairs.each p).link h)
+    (HoldsIn-reduced_within p _ (bounds_of p v) v x (pairs.each p).link (bounds_of_below p v pairs) bytes within (h.pairs.each p).link h)
 
 HoldsIn-then_cut :
     (f : Values → Option Values) (v : Values) (o : Option Values) (x : Registers ℕ)
-    → AreWords v.pairs → HoldsIn o x → IfSome o (IsCut v) → ((w : Values) → AreWords w.pairs → Holds w x → HoldsIn (f w) x)
+    → ArePairs v.pairs → HoldsIn o x → IfSome o (IsCut v) → ((w : Values) → ArePairs w.pairs → Holds w x → HoldsIn (f w) x)
     → HoldsIn (option_and_then f o) x
-HoldsIn-then_cut f v None x words h c k = absurd h
-HoldsIn-then_cut f v (Some w) x words h c k = k w (AreWords-cut v w c words) h
+HoldsIn-then_cut f v None x pairs h c k = absurd h
+HoldsIn-then_cut f v (Some w) x pairs h c k = k w (ArePairs-cut v w c pairs) h
 
-HoldsIn-reduced_once : (v : Values) (x : Registers ℕ) → AreBytes x → AreWords v.pairs → Holds v x → HoldsIn (reduced_once v) x
+HoldsIn-reduced_once : (v : Values) (x : Registers ℕ) → AreBytes x → ArePairs v.pairs → Holds v x → HoldsIn (reduced_once v) x
 unfolding reduced_once
-HoldsIn-reduced_once v x bytes words h =
-    HoldsIn-then_cut _ v _ x words
-    (HoldsIn-then_cut _ v _ x words
-    (HoldsIn-reduced_pair pair.Bc v x words bytes h)
+HoldsIn-reduced_once v x bytes pairs h =
+    HoldsIn-then_cut _ v _ x pairs
+    (HoldsIn-then_cut _ v _ x pairs
+    (HoldsIn-reduced_pair pair.Bc v x pairs bytes h)
     (reduced_pair_cuts pair.Bc v)
     (λ w k m. HoldsIn-reduced_pair pair.De w x k bytes m))
     (reduced_by_two_cuts v)
     (λ w k m. HoldsIn-reduced_pair pair.Hl w x k bytes m)
 
-pub reduced_sound : (v : Values) (o : Option Values) → o ≡ reduced v → AreWords v.pairs → IsSoundReducing v o
+-- of pairs that are some, whatever types say
+pub reduced_sound : (v : Values) (o : Option Values) → o ≡ reduced v → ArePairs v.pairs → IsSoundReducing v o
 unfolding reduced
-reduced_sound v o e words = subst (λ r. IsSoundReducing v r) (sym e) (record { gives = gives })
+reduced_sound v o e pairs = subst (λ r. IsSoundReducing v r) (sym e) (record { gives = gives })
   where
     gives : (x : Registers ℕ) → AreBytes x → Holds v x → HoldsIn (reduced v) x
     gives x bytes h =
-        HoldsIn-then_cut _ v _ x words (HoldsIn-reduced_once v x bytes words h) (reduced_once_cuts v)
+        HoldsIn-then_cut _ v _ x pairs (HoldsIn-reduced_once v x bytes pairs h) (reduced_once_cuts v)
         (λ w k m. HoldsIn-reduced_once w x bytes k m)
 
 -- ---- the clauses of functions

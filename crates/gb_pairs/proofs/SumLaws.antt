@@ -105,11 +105,11 @@ pairs_added c is_hl v x n p q bytes h k = choose (is_one c && not is_hl) refl
 
 pub added_sound :
     (c : Bounds) (is_hl : Bool) (v : Values) (o : HlSum)
-    → o ≡ added c is_hl v → (bounds_of pair.Hl v).last < 65536 → c.last < 65536 → IsSoundSum c is_hl v o
+    → o ≡ added c is_hl v → (bounds_of pair.Hl v).last < 65536 → c.last < 65536 → IsSoundSum c v o
 unfolding added
 added_sound c is_hl v o e p q =
-    subst (λ s. IsSoundSum c is_hl v s) (sym e)
+    subst (λ s. IsSoundSum c v s) (sym e)
     (record {
-      pairs = λ x n bytes h least most same. pairs_added c is_hl v x n p q bytes h (record { least = least; most = most });
+      pairs = λ x n bytes h least most. pairs_added c is_hl v x n p q bytes h (record { least = least; most = most });
       carry = λ x n bytes h least most. IsCarry-carry_of _ c _ n (Within-bounds_of pair.Hl v x h) (record { least = least; most = most });
     })

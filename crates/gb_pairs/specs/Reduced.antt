@@ -1,6 +1,7 @@
 -- Reducing: values are cut to what their pairs and links leave (abstract interpretation: a reduced product; own). Interval
 -- arithmetic is used only where it doesn't go round at 65536.
 use Rattle.std.specs.Prelude.{ℕ, ◌+◌, ◌-◌, ◌*◌, ◌/◌, ◌%◌, Bool, ◌||◌, ◌==◌, if◌then◌else◌, nat_lt, Option, Some, None, option_and_then}
+use Rattle.std.specs.Int.{div_ceil}
 use Rattle.gb_ops.specs.declared.op.Register.{Register}
 use Rattle.gb_ops.specs.Registers.{get, set}
 use Rattle.gb_domain.specs.declared.types.Val.{Val}
@@ -58,7 +59,7 @@ multiples_at l b =
 
 -- the numbers whose multiples lie in d
 abbrev pub divided : ℕ → Bounds → Bounds
-divided m d = record { first = (d.first + (m - 1)) / m; last = d.last / m }
+divided m d = record { first = div_ceil d.first m; last = d.last / m }
 
 -- what a link leaves of the other, which is in o, where the pair is in b; none where that goes round, or the factor is 0
 unfoldable pub others_at : Link → Bounds → Bounds → Option Bounds

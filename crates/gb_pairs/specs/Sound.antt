@@ -1,5 +1,5 @@
 -- What operations on pairs promise of the registers (abstract interpretation: soundness; own).
-use Rattle.std.specs.Prelude.{◌≡◌, ℕ, ◌+◌, ◌/◌, ◌%◌, ◌≤◌, Bool, true, nat_lt, Option, Some, None}
+use Rattle.std.specs.Prelude.{◌≡◌, ℕ, ◌+◌, ◌/◌, ◌%◌, ◌≤◌, Bool, nat_lt, Option, Some, None}
 use Rattle.gb_ops.specs.declared.op.Register.{Register}
 use Rattle.gb_ops.specs.declared.registers.Registers.{Registers}
 use Rattle.gb_ops.specs.Registers.{get, set}
@@ -77,10 +77,10 @@ abbrev pub IsCarry : Option Bool → ℕ → Type 0
 IsCarry None sum = Unit {0}
 IsCarry (Some carry) sum = nat_lt 65535 sum ≡ carry
 
--- to HL a word from the bounds is added, or HL itself
-pub record IsSoundSum (y : Bounds) (is_hl : Bool) (v : Values) (a : HlSum) : Type 0 where
+-- to HL a word from the bounds is added
+pub record IsSoundSum (y : Bounds) (v : Values) (a : HlSum) : Type 0 where
   pub pairs :
-      (x : Registers ℕ) (n : ℕ) → AreBytes x → Holds v x → y.first ≤ n → n ≤ y.last → (is_hl ≡ true → n ≡ word_of pair.Hl x)
+      (x : Registers ℕ) (n : ℕ) → AreBytes x → Holds v x → y.first ≤ n → n ≤ y.last
       → HoldPairs a.pairs (with_word pair.Hl ((word_of pair.Hl x + n) % 65536) x)
   pub carry :
       (x : Registers ℕ) (n : ℕ) → AreBytes x → Holds v x → y.first ≤ n → n ≤ y.last

@@ -1,6 +1,7 @@
 //! Steps: registers that move by a known amount move the bounds of their pairs, and the sums of links.
 
 ghost use Rattle.std.specs.Prelude.{◌≡◌};
+ghost use Rattle.gb_domain.specs.Pairs.{ArePairs};
 ghost use Rattle.gb_pairs.specs.Moved.{moved_link, by_if, bounds_up, bounds_down, reads_half, reads_pair, link_of_step, facts_of_step, stepped, incremented, decremented, by_byte, other_by_byte, link_of_byte, weight, facts_of_byte_up, facts_of_byte_down, byte_incremented, byte_decremented, goes_round, carry_of, sums, without_hl, added};
 ghost use Rattle.gb_pairs.specs.Sound.{IsSoundStep, IsSoundByteStep, IsSoundSum};
 
@@ -127,10 +128,11 @@ fn stepped(moved: WordPair, amount: u16, bounds: Bounds, pairs: &Pairs) -> Pairs
 }
 
 /// What is known of pairs where one was incremented, as INC of a pair does.
-#[tactic(auto, using(crate::proofs::StepLaws::incremented_sound), unfolding(crate::specs::Moved::incremented))]
+#[tactic(auto, using(crate::proofs::StepLaws::incremented_sound, crate::proofs::KeptLaws::incremented_kept), unfolding(crate::specs::Moved::incremented))]
 pub fn incremented(pair: WordPair, values: &Values) -> Pairs
     ensures exact { result ≡ incremented pair values.now }
     ensures sound { IsSoundStep pair 1 values.now result }
+    ensures kept { ArePairs values.now.pairs → ArePairs result }
 {
     stepped(
         pair,
@@ -141,10 +143,11 @@ pub fn incremented(pair: WordPair, values: &Values) -> Pairs
 }
 
 /// What is known of pairs where one was decremented, as DEC of a pair does.
-#[tactic(auto, using(crate::proofs::StepLaws::decremented_sound), unfolding(crate::specs::Moved::decremented))]
+#[tactic(auto, using(crate::proofs::StepLaws::decremented_sound, crate::proofs::KeptLaws::decremented_kept), unfolding(crate::specs::Moved::decremented))]
 pub fn decremented(pair: WordPair, values: &Values) -> Pairs
     ensures exact { result ≡ decremented pair values.now }
     ensures sound { IsSoundStep pair 65535 values.now result }
+    ensures kept { ArePairs values.now.pairs → ArePairs result }
 {
     stepped(
         pair,
@@ -232,10 +235,11 @@ fn facts_of_byte_down(register: Register, values: &Values, pair: WordPair) -> Pa
 }
 
 /// What is known of pairs where a register was incremented. Where it may go round all is forgotten that reads it.
-#[tactic(auto, using(crate::proofs::ByteLaws::byte_incremented_sound), unfolding(crate::specs::Moved::byte_incremented))]
+#[tactic(auto, using(crate::proofs::ByteLaws::byte_incremented_sound, crate::proofs::KeptLaws::byte_incremented_kept), unfolding(crate::specs::Moved::byte_incremented))]
 pub fn byte_incremented(register: Register, values: &Values) -> Pairs
     ensures exact { result ≡ byte_incremented register values.now }
     ensures sound { IsSoundByteStep register 1 values.now result }
+    ensures kept { ArePairs values.now.pairs → ArePairs result }
 {
     if values.registers.get(register).hi < 255 {
         Pairs {
@@ -249,10 +253,11 @@ pub fn byte_incremented(register: Register, values: &Values) -> Pairs
 }
 
 /// What is known of pairs where a register was decremented. Where it may go round all is forgotten that reads it.
-#[tactic(auto, using(crate::proofs::ByteLaws::byte_decremented_sound), unfolding(crate::specs::Moved::byte_decremented))]
+#[tactic(auto, using(crate::proofs::ByteLaws::byte_decremented_sound, crate::proofs::KeptLaws::byte_decremented_kept), unfolding(crate::specs::Moved::byte_decremented))]
 pub fn byte_decremented(register: Register, values: &Values) -> Pairs
     ensures exact { result ≡ byte_decremented register values.now }
     ensures sound { IsSoundByteStep register 255 values.now result }
+    ensures kept { ArePairs values.now.pairs → ArePairs result }
 {
     if values.registers.get(register).lo > 0 {
         Pairs {
@@ -310,10 +315,11 @@ fn without_hl(bounds: Bounds, pairs: &Pairs) -> Pairs
 }
 
 /// What is known of pairs where a word is added to HL. One that is known, and isn't HL itself, is a step.
-#[tactic(auto, using(crate::proofs::SumLaws::added_sound), unfolding(crate::specs::Moved::added))]
+#[tactic(auto, unfolding(crate::specs::Moved::added))]
 pub fn added(addend: Bounds, is_hl: bool, values: &Values) -> HlSum
     ensures exact { result ≡ added addend is_hl values.now }
-    ensures sound { IsSoundSum addend is_hl values.now result }
+    ensures sound { IsSoundSum addend values.now result }
+    ensures kept { ArePairs values.now.pairs → ArePairs result.pairs }
 {
     let hl = bounds_of(WordPair::Hl, values);
     let carry = carry_of(hl, addend);

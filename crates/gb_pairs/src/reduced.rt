@@ -1,7 +1,8 @@
 //! Reducing: values are cut to what their pairs and links leave.
 
-ghost use Rattle.std.specs.Prelude.{◌≡◌, ◌*◌, ◌<◌, IfSome};
-ghost use Rattle.gb_pairs.specs.Reduced.{is_rising, size, pair_at, pairs_at, cut_by_other, multiple_at, multiples_at, divided, others_at, cut_val, with_facts, with_bounds, with_bounds_if, cut_other, high_bounds, low_bounds, settled, reduced_by_link, reduced_pair, reduced_once, reduced};
+ghost use Rattle.std.specs.Prelude.{◌≡◌, ◌*◌, IfSome};
+ghost use Rattle.gb_domain.specs.Pairs.{ArePairs};
+ghost use Rattle.gb_pairs.specs.Reduced.{is_rising, size, pair_at, pairs_at, cut_by_other, multiple_at, multiples_at, others_at, cut_val, with_facts, with_bounds, with_bounds_if, cut_other, high_bounds, low_bounds, settled, reduced_by_link, reduced_pair, reduced_once, reduced};
 ghost use Rattle.gb_pairs.specs.Sound.{IsSoundByLink, IsSoundReducing, IsCut};
 
 use crate::bounds::{bounds_of, bounds_of_other, cut, facts_of, high_of, is_empty, low_of};
@@ -104,18 +105,6 @@ fn multiples_at(link: Link, bounds: Bounds) -> Bounds
     }
 }
 
-/// The numbers whose multiples lie in some bounds.
-fn divided(size: u16, multiples: Bounds) -> Bounds
-    requires { 0 < size }
-    ensures { result ≡ divided size multiples }
-{
-    let up = u32::from(multiples.first) + u32::from(size - 1);
-    Bounds {
-        first: (up / u32::from(size)) as u16,
-        last: multiples.last / size,
-    }
-}
-
 /// What a link leaves of what it reads, where interval arithmetic doesn't go round.
 #[tactic(auto, unfolding(crate::specs::Reduced::others_at))]
 fn others_at(link: Link, other: Bounds, bounds: Bounds) -> Option<Bounds>
@@ -130,7 +119,10 @@ fn others_at(link: Link, other: Bounds, bounds: Bounds) -> Option<Bounds>
     } else if size == 0 || product(size, other.last) > 65_535 {
         None
     } else {
-        Some(divided(size, multiples))
+        Some(Bounds {
+            first: multiples.first.div_ceil(size),
+            last: multiples.last / size,
+        })
     }
 }
 
@@ -287,11 +279,12 @@ fn reduced_once(values: &Values) -> Option<Values>
 
 /// The same values, cut to what pairs and links leave: none where they stand for nothing. Each pair may cut what an earlier
 /// one reads, so that all are asked twice.
-#[tactic(auto, using(crate::proofs::ReducedLaws::sound_then, crate::proofs::ReducedLaws::sound_none, crate::proofs::CutLaws::reduced_cuts), unfolding(crate::specs::Reduced::reduced))]
+#[tactic(auto, using(crate::proofs::ReducedLaws::sound_then, crate::proofs::ReducedLaws::sound_none, crate::proofs::CutLaws::reduced_cuts, crate::proofs::KeptLaws::reduced_kept), unfolding(crate::specs::Reduced::reduced))]
 pub fn reduced(values: &Values) -> Option<Values>
     ensures exact { result ≡ reduced values.now }
     ensures sound { IsSoundReducing values.now result }
     ensures cuts { IfSome result (IsCut values.now) }
+    ensures kept { ArePairs values.now.pairs → IfSome result (λ w. ArePairs w.pairs) }
 {
     reduced_once(&reduced_once(values)?)
 }

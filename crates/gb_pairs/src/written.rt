@@ -1,6 +1,7 @@
 //! Forgetting: what is left of the pairs where a register was written.
 
 ghost use Rattle.std.specs.Prelude.{◌≡◌};
+ghost use Rattle.gb_domain.specs.Pairs.{ArePairs};
 ghost use Rattle.gb_pairs.specs.Sound.{IsSoundForgetting};
 ghost use Rattle.gb_pairs.specs.Written.{is_half, register_number, is_same, pair_number, is_same_pair, reads, link_without, facts_without, without_register};
 
@@ -92,10 +93,11 @@ fn facts_without(register: Register, pair: WordPair, facts: PairFacts) -> PairFa
 
 /// What is left of the pairs where a register was written, whatever it holds now: nothing of its own pair, and no link that
 /// reads it.
-#[tactic(auto, using(crate::proofs::WrittenLaws::without_register_sound), unfolding(crate::specs::Written::without_register))]
+#[tactic(auto, using(crate::proofs::WrittenLaws::without_register_sound, crate::proofs::KeptLaws::without_register_kept), unfolding(crate::specs::Written::without_register))]
 pub fn without_register(register: Register, pairs: &Pairs) -> Pairs
     ensures exact { result ≡ without_register register pairs.now }
     ensures sound { IsSoundForgetting register pairs.now result }
+    ensures kept { ArePairs pairs.now → ArePairs result }
 {
     Pairs {
         bc: facts_without(register, WordPair::Bc, pairs.bc),
