@@ -73,7 +73,7 @@ fn procedure_plan<'a>(procedure: &'a Procedure, places: &[usize]) -> ProcedurePl
     };
     ProcedurePlan {
         entry: u32::try_from(entry).unwrap_or(u32::MAX),
-        need: u16::try_from(procedure.need).unwrap_or(u16::MAX),
+        need: u16::try_from(procedure.need).unwrap_or(u16::MAX - 1),
         ranges: procedure.ranges.as_slice(),
         exit: exit_of(procedure),
     }

@@ -292,7 +292,10 @@ fn fmt_other<W: fmt::Write>(
             let rounds = *rounds;
             write!(f, "After {rounds} rounds there still was no certificate.")
         }
-        Obstacle::Refused => write!(f, "A certificate was made that the checker refuses."),
+        Obstacle::Refused => write!(
+            f,
+            "A certificate was made that can't be written, or that the checker refuses."
+        ),
     }
 }
 
