@@ -1,0 +1,10 @@
+pub mod ResultLaws
+pub mod MachineLaws
+pub mod AddressLaws
+pub mod ByteLaws
+pub mod AluLaws
+pub mod ByteAfterLaws
+pub mod FreeLaws
+pub mod ZeroLaws
+pub mod PairLaws
+pub mod TransferLaws

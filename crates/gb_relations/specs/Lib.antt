@@ -1,0 +1,7 @@
+pub mod Meaning
+pub mod Written
+pub mod Places
+pub mod Pairs
+pub mod Bytes
+pub mod Transfer
+pub mod Sound

@@ -1,0 +1,68 @@
+-- What an instruction leaves of what is known of several parts together (abstract interpretation: transfer functions; own).
+use Rattle.std.specs.Prelude.{◌&&◌, List, [], ◌∷◌, Option, Some, None, if◌then◌else◌}
+use Rattle.gb_ops.specs.declared.op.Register.{Register}
+use Rattle.gb_ops.specs.declared.op.Register.TheVariants.{A, B, C, D, E, H, L}
+use Rattle.gb_ops.specs.declared.op.AluOp.TheVariants as alu
+use Rattle.gb_ops.specs.declared.op.Operand.TheVariants as operand
+use Rattle.gb_ops.specs.declared.op.Op.{Op}
+use Rattle.gb_ops.specs.declared.op.Op.TheVariants as op
+use Rattle.gb_ops.specs.declared.machine.Region.{Region}
+use Rattle.gb_ops.specs.declared.registers.Registers.{Registers}
+use Rattle.gb_ops.specs.Registers.{get}
+use Rattle.gb_domain.specs.declared.types.Val.{Val}
+use Rattle.gb_domain.specs.declared.pairs.WordPair.{WordPair}
+use Rattle.gb_domain.specs.declared.pairs.WordPair.TheVariants as words
+use Rattle.gb_domain.specs.declared.pairs.Bounds.{Bounds}
+use Rattle.gb_domain.specs.declared.pairs.Pairs.{Pairs}
+use Rattle.gb_domain.specs.declared.places.OneByte.{OneByte}
+use Rattle.gb_domain.specs.declared.relations.Relations.{Relations}
+use Rattle.gb_pairs.specs.declared.values.Values.{Values}
+use Rattle.gb_pairs.specs.Written.{is_half}
+use Rattle.gb_relations.specs.Written.{written, writes_flags}
+use Rattle.gb_relations.specs.Pairs.{pairs_after}
+use Rattle.gb_relations.specs.Bytes.{byte_after}
+
+-- ---- a pair that is 0
+
+abbrev pub zero_without : Register → Option WordPair → Option WordPair
+zero_without r None = None
+zero_without r (Some p) = if is_half r p then None else Some p
+
+abbrev pub zero_without_registers : List Register → Option WordPair → Option WordPair
+zero_without_registers [] zero = zero
+zero_without_registers (r ∷ rest) zero = zero_without_registers rest (zero_without r zero)
+
+-- the other byte of a register's pair, and the pair
+abbrev pub other_half : Register → Option (Register × WordPair)
+other_half A = None
+other_half B = Some (C, words.Bc)
+other_half C = Some (B, words.Bc)
+other_half D = Some (E, words.De)
+other_half E = Some (D, words.De)
+other_half H = Some (L, words.Hl)
+other_half L = Some (H, words.Hl)
+
+abbrev pub zero_by : Option (Register × WordPair) → OneByte → Option WordPair
+zero_by None b = None
+zero_by (Some half) b = if b.registers.a && get half.0 b.registers then Some half.1 else None
+
+-- OR with one byte of a pair, where A holds the other one: Z says whether the pair is 0
+unfoldable pub zero_after : Op → OneByte → Option WordPair → Option WordPair
+zero_after (op.Alu alu.Or (operand.Register r)) b zero = zero_by (other_half r) b
+zero_after o b zero = if writes_flags o then None else zero_without_registers (written o) zero
+
+-- ---- all of it
+
+abbrev pub values_of : Registers Val → Pairs → Values
+values_of registers pairs = record { registers = registers; pairs = pairs }
+
+-- what is known together behind a taken instruction; registers and relations are those before it, sp has SP's bounds, and low is
+-- what was read at an address
+unfoldable pub relations_after : Region → Op → Bounds → Registers Val → Val → Relations → Relations
+relations_after region o sp registers low r =
+    let v = values_of registers r.pairs in
+    record {
+      byte = byte_after region o v low r.byte;
+      zero = zero_after o r.byte r.zero;
+      pairs = pairs_after o sp v;
+    }

@@ -1,0 +1,14 @@
+//! What an instruction leaves of what is known of several parts of a state together: places that hold one byte with what the
+//! flags say of it, a pair of which they say whether it is 0, bounds of pairs and links between them (abstract interpretation:
+//! transfer functions of relational domains).
+//!
+//! Read `transfer`, whose `relations_after` is what its definition says and holds behind every effect of the instruction. It
+//! stands on `written`, the registers that are overwritten, on `places`, where a byte is stored or read, and on `bytes` and
+//! `pairs`, what is left of each part.
+#![tactic(auto)]
+
+mod bytes;
+mod pairs;
+mod places;
+pub mod transfer;
+mod written;

@@ -1,0 +1,102 @@
+//! What an instruction leaves of the pairs.
+
+ghost use Rattle.std.specs.Prelude.{◌≡◌};
+ghost use Rattle.gb_relations.specs.Written.{list_of};
+ghost use Rattle.gb_relations.specs.Pairs.{without_registers, pair_of, after_increment, after_decrement, after_indirect, addend, is_hl, pairs_after};
+
+use crate::written::{Written, written_by};
+use gb_domain::pairs::{Bounds, Pairs, WordPair};
+use gb_ops::op::{Indirect, Op, Operand, Pair, Register};
+use gb_pairs::bounds::bounds_of;
+use gb_pairs::moved::{added, byte_decremented, byte_incremented, decremented, incremented};
+use gb_pairs::values::Values;
+use gb_pairs::written::without_register;
+
+fn without_registers(written: Written, pairs: &Pairs) -> Pairs
+    ensures { result ≡ without_registers (list_of written) pairs.now }
+{
+    match written {
+        Written::Nothing => *pairs,
+        Written::One(q) => without_register(q, pairs),
+        Written::Two(q, r) => without_register(r, &without_register(q, pairs)),
+        Written::Three(q, r, s) => {
+            let left = without_register(r, &without_register(q, pairs));
+            without_register(s, &left)
+        }
+    }
+}
+
+fn pair_of(pair: Pair) -> Option<WordPair>
+    ensures { result ≡ pair_of pair }
+{
+    match pair {
+        Pair::Bc => Some(WordPair::Bc),
+        Pair::De => Some(WordPair::De),
+        Pair::Hl => Some(WordPair::Hl),
+        Pair::Sp => None,
+    }
+}
+
+fn after_increment(pair: Option<WordPair>, values: &Values) -> Pairs
+    ensures { result ≡ after_increment pair values.now }
+{
+    match pair {
+        None => values.pairs,
+        Some(pair) => incremented(pair, values),
+    }
+}
+
+fn after_decrement(pair: Option<WordPair>, values: &Values) -> Pairs
+    ensures { result ≡ after_decrement pair values.now }
+{
+    match pair {
+        None => values.pairs,
+        Some(pair) => decremented(pair, values),
+    }
+}
+
+/// HL counts, where the operand says so.
+fn after_indirect(indirect: Indirect, values: &Values) -> Pairs
+    ensures { result ≡ after_indirect indirect values.now }
+{
+    match indirect {
+        Indirect::HlIncrement => incremented(WordPair::Hl, values),
+        Indirect::HlDecrement => decremented(WordPair::Hl, values),
+        _ => values.pairs,
+    }
+}
+
+/// What ADD HL adds, where SP has these bounds.
+fn addend(pair: Pair, sp: Bounds, values: &Values) -> Bounds
+    ensures { result ≡ addend pair sp values.now }
+{
+    match pair {
+        Pair::Bc => bounds_of(WordPair::Bc, values),
+        Pair::De => bounds_of(WordPair::De, values),
+        Pair::Hl => bounds_of(WordPair::Hl, values),
+        Pair::Sp => sp,
+    }
+}
+
+fn is_hl(pair: Pair) -> bool
+    ensures { result ≡ is_hl pair }
+{
+    matches!(pair, Pair::Hl)
+}
+
+/// The pairs behind a taken instruction; the values are those before it, and SP has these bounds.
+#[tactic(auto, unfolding(crate::specs::Pairs::pairs_after))]
+pub(crate) fn pairs_after(op: Op, sp: Bounds, values: &Values) -> Pairs
+    ensures { result ≡ pairs_after op sp values.now }
+{
+    match op {
+        Op::StoreA(to) => after_indirect(to, values),
+        Op::LoadA(from) => without_register(Register::A, &after_indirect(from, values)),
+        Op::IncrementPair(pair) => after_increment(pair_of(pair), values),
+        Op::DecrementPair(pair) => after_decrement(pair_of(pair), values),
+        Op::Increment(Operand::Register(register)) => byte_incremented(register, values),
+        Op::Decrement(Operand::Register(register)) => byte_decremented(register, values),
+        Op::AddHl(pair) => added(addend(pair, sp, values), is_hl(pair), values).pairs,
+        _ => without_registers(written_by(op), &values.pairs),
+    }
+}

@@ -1,0 +1,146 @@
+//! What an instruction leaves of what is known of several parts together.
+
+ghost use Rattle.std.specs.Prelude.{◌≡◌, ◌<◌};
+ghost use Rattle.gb_domain.specs.Pairs.{ArePairs};
+ghost use Rattle.gb_pairs.specs.Written as Halves;
+ghost use Rattle.gb_relations.specs.Written.{list_of};
+ghost use Rattle.gb_relations.specs.Transfer as Transfer;
+ghost use Rattle.gb_relations.specs.Sound.{HasBytes, IsSoundTransfer};
+
+use crate::bytes::byte_after;
+use crate::pairs::pairs_after;
+use crate::written::{Written, writes_flags, written_by};
+use gb_domain::pairs::{Bounds, Pairs, WordPair};
+use gb_domain::places::OneByte;
+use gb_domain::relations::Relations;
+use gb_domain::types::Val;
+use gb_ops::machine::Region;
+use gb_ops::op::{AluOp, Op, Operand, Register};
+use gb_ops::registers::Registers;
+use gb_pairs::values::Values;
+
+/// Whether a register is one of a pair's two.
+fn is_half(register: Register, pair: WordPair) -> bool
+    ensures { result ≡ Halves.is_half register pair }
+{
+    matches!(
+        (register, pair),
+        (Register::B | Register::C, WordPair::Bc)
+            | (Register::D | Register::E, WordPair::De)
+            | (Register::H | Register::L, WordPair::Hl)
+    )
+}
+
+fn zero_without(register: Register, zero: Option<WordPair>) -> Option<WordPair>
+    ensures { result ≡ Transfer.zero_without register zero }
+{
+    let pair = zero?;
+    if is_half(register, pair) {
+        None
+    } else {
+        Some(pair)
+    }
+}
+
+fn zero_without_registers(written: Written, zero: Option<WordPair>) -> Option<WordPair>
+    ensures { result ≡ Transfer.zero_without_registers (list_of written) zero }
+{
+    match written {
+        Written::Nothing => zero,
+        Written::One(q) => zero_without(q, zero),
+        Written::Two(q, r) => zero_without(r, zero_without(q, zero)),
+        Written::Three(q, r, s) => zero_without(s, zero_without(r, zero_without(q, zero))),
+    }
+}
+
+/// The other byte of a register's pair, and the pair.
+fn other_half(register: Register) -> Option<(Register, WordPair)>
+    ensures { result ≡ Transfer.other_half register }
+{
+    match register {
+        Register::A => None,
+        Register::B => Some((Register::C, WordPair::Bc)),
+        Register::C => Some((Register::B, WordPair::Bc)),
+        Register::D => Some((Register::E, WordPair::De)),
+        Register::E => Some((Register::D, WordPair::De)),
+        Register::H => Some((Register::L, WordPair::Hl)),
+        Register::L => Some((Register::H, WordPair::Hl)),
+    }
+}
+
+fn zero_by(half: Option<(Register, WordPair)>, byte: &OneByte) -> Option<WordPair>
+    ensures { result ≡ Transfer.zero_by half byte.now }
+{
+    let (register, pair) = half?;
+    if byte.registers.a && byte.registers.get(register) {
+        Some(pair)
+    } else {
+        None
+    }
+}
+
+/// The pair of which Z says whether it is 0. OR with one of its bytes computes that, where A holds the other one.
+#[tactic(auto, unfolding(crate::specs::Transfer::zero_after))]
+fn zero_after(op: Op, byte: &OneByte, zero: Option<WordPair>) -> Option<WordPair>
+    ensures { result ≡ Transfer.zero_after op byte.now zero }
+{
+    match op {
+        Op::Alu(AluOp::Or, Operand::Register(register)) => zero_by(other_half(register), byte),
+        _ if writes_flags(op) => None,
+        _ => zero_without_registers(written_by(op), zero),
+    }
+}
+
+/// An instruction's numbers are bytes and words.
+fn holds_bytes(op: Op)
+    ensures { HasBytes op }
+{}
+
+/// The bounds of pairs are words.
+fn holds_words(pairs: Pairs)
+    ensures bc { pairs.bc.bounds.last < 65536 }
+    ensures de { pairs.de.bounds.last < 65536 }
+    ensures hl { pairs.hl.bounds.last < 65536 }
+{}
+
+#[tactic(auto, unfolding(crate::specs::Transfer::relations_after))]
+fn apply(
+    region: Region,
+    op: Op,
+    sp: Bounds,
+    registers: &Registers<Val>,
+    low: Val,
+    relations: &Relations,
+) -> Relations
+    ensures { result ≡ Transfer.relations_after region op sp registers.now low relations.now }
+{
+    let values = Values {
+        registers: *registers,
+        pairs: relations.pairs,
+    };
+    Relations {
+        byte: byte_after(region, op, &values, low, &relations.byte),
+        zero: zero_after(op, &relations.byte, relations.zero),
+        pairs: pairs_after(op, sp, &values),
+    }
+}
+
+/// What is known together behind a taken instruction. Registers and relations are those before it, SP has these bounds, and
+/// `low` is what it read at an address.
+#[tactic(auto, using(crate::proofs::TransferLaws::relations_after_sound, crate::proofs::TransferLaws::relations_after_kept))]
+pub fn relations_after(
+    region: Region,
+    op: Op,
+    sp: Bounds,
+    registers: &Registers<Val>,
+    low: Val,
+    relations: &Relations,
+) -> Relations
+    ensures exact { result ≡ Transfer.relations_after region op sp registers.now low relations.now }
+    ensures sound { IsSoundTransfer region op sp registers.now low relations.now result }
+    ensures kept { ArePairs relations.now.pairs → ArePairs result.pairs }
+{
+    holds_bytes(op);
+    holds_words(relations.pairs);
+    apply(region, op, sp, registers, low, relations)
+}
