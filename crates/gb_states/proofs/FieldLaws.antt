@@ -45,11 +45,11 @@ pub is_within : (limit n : ℕ) → n ≤ limit → is_between 0 limit n ≡ tru
 is_within limit n h = grind (arith, nat_tests)
 
 -- a test of all numbers below one
-all_below : ℕ → (ℕ → Bool) → Bool
+unfoldable pub all_below : ℕ → (ℕ → Bool) → Bool
 all_below zero p = true
 all_below (suc n) p = p n && all_below n p
 
-below : (n : ℕ) (p : ℕ → Bool) → all_below n p ≡ true → (b : ℕ) → b < n → p b ≡ true
+pub below : (n : ℕ) (p : ℕ → Bool) → all_below n p ≡ true → (b : ℕ) → b < n → p b ≡ true
 unfolding all_below
 below zero p h b l = absurd (omega arith)
 below (suc n) p h b l =
@@ -59,7 +59,7 @@ below (suc n) p h b l =
     below-cases : (b n : ℕ) → b < suc n → (b ≡ n) ⊎ (b < n)
     below-cases b n l = grind arith
 
-same : (a b : ℕ) → (a == b) ≡ true → a ≡ b
+pub same : (a b : ℕ) → (a == b) ≡ true → a ≡ b
 same a b h = grind (arith, nat_tests)
 
 -- ---- numbers
@@ -381,7 +381,7 @@ number-flags : (b : ℕ) → b < 256 → number_of (to_flags b) ≡ b
 unfolding all_below
 number-flags b h = same _ _ (below 256 (λ c. number_of (to_flags c) == c) refl b h)
 
-flag_small : (b : Bool) → spelled.flag b ≤ 1
+pub flag_small : (b : Bool) → spelled.flag b ≤ 1
 flag_small true = omega arith
 flag_small false = omega arith
 
@@ -392,7 +392,7 @@ bits-number : (a b c d e f g h : ℕ) → a ≤ 1 → b ≤ 1 → c ≤ 1 → d 
     → (n / 128 ≡ a) × (n / 64 % 2 ≡ b) × (n / 32 % 2 ≡ c) × (n / 16 % 2 ≡ d) × (n / 8 % 2 ≡ e) × (n / 4 % 2 ≡ f) × (n / 2 % 2 ≡ g) × (n % 2 ≡ h)
 bits-number a b c d e f g h a1 b1 c1 d1 e1 f1 g1 h1 n e0 = (omega arith, omega arith, omega arith, omega arith, omega arith, omega arith, omega arith, omega arith)
 
-one-flag : (n : ℕ) (b : Bool) → n ≡ spelled.flag b → (n == 1) ≡ b
+pub one-flag : (n : ℕ) (b : Bool) → n ≡ spelled.flag b → (n == 1) ≡ b
 one-flag n b e = rw e (of-flag b)
 
 flags-same : (a b c d e f g h a2 b2 c2 d2 e2 f2 g2 h2 : Bool) → a ≡ a2 → b ≡ b2 → c ≡ c2 → d ≡ d2 → e ≡ e2 → f ≡ f2 → g ≡ g2 → h ≡ h2 → all_flags a b c d e f g h ≡ all_flags a2 b2 c2 d2 e2 f2 g2 h2

@@ -1,4 +1,5 @@
 pub mod FieldLaws
 pub mod Formats
+pub mod RelationLaws
 pub mod Several
 pub mod StateLaws

@@ -50,7 +50,7 @@ fn items_at(
 
 /// Whether the addresses from first to last are in RAM, and outside the region.
 #[inline(always)]
-fn is_free(region: Region, first: u16, last: u16) -> bool
+pub fn is_free(region: Region, first: u16, last: u16) -> bool
     ensures { result ≡ is_free region (first, last) }
 {
     let is_in_work_ram = 0xC000 <= first && last <= 0xDFFF;

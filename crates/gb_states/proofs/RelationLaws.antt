@@ -1,0 +1,641 @@
+-- What a state says of several of its parts together: what is read is spelled so, and what is spelled so is read.
+use Rattle.std.proofs.Common.{◌≡◌, ℕ, ◌+◌, ◌*◌, ◌/◌, ◌%◌, ◌<◌, ◌≤◌, Bool, true, false, ◌&&◌, ◌||◌, ◌==◌, nat_le, List, [], ◌∷◌, ◌++◌, Option, Some, None, Ok, refl, sym, ◌∙◌, ap, subst, arith}
+use Rattle.std.specs.Prelude.{not, IfSome, is_some, is_none}
+use Rattle.std.proofs.lemmas.Bool.Decides.{nat_tests}
+use Rattle.gb_ops.specs.declared.machine.Region.{Region}
+use Rattle.gb_ops.specs.declared.op.Register.TheVariants.{A, B, C, D, E, H, L}
+use Rattle.gb_ops.specs.declared.registers.Registers.{Registers}
+use Rattle.gb_fields.specs.declared.fault.CertFault.TheVariants as fault
+use Rattle.gb_domain.specs.declared.pairs.WordPair.{WordPair}
+use Rattle.gb_domain.specs.declared.pairs.WordPair.TheVariants.{Bc, De, Hl}
+use Rattle.gb_domain.specs.declared.pairs.Bounds.{Bounds}
+use Rattle.gb_domain.specs.declared.pairs.Other.{Other}
+use Rattle.gb_domain.specs.declared.pairs.Other.TheVariants.{Register as Of, Pair}
+use Rattle.gb_domain.specs.declared.pairs.Link.{Link}
+use Rattle.gb_domain.specs.declared.pairs.PairFacts.{PairFacts}
+use Rattle.gb_domain.specs.declared.pairs.Pairs.{Pairs}
+use Rattle.gb_domain.specs.declared.places.Test.{Test}
+use Rattle.gb_domain.specs.declared.places.Test.TheVariants.{Compare, Bits}
+use Rattle.gb_domain.specs.declared.places.OneByte.{OneByte}
+use Rattle.gb_domain.specs.declared.relations.Relations.{Relations}
+use Rattle.gb_domain.specs.Areas.{is_area, meets}
+use Rattle.gb_domain.specs.Pairs.{nothing_known, facts_of, is_factor, IsLink, IsPairFacts}
+use Rattle.gb_domain.specs.Places.{no_byte}
+use Rattle.gb_fields.specs.Format.{Read, both, followed, optional, byte}
+use Rattle.gb_fields.specs.Reading.{is_between, is_ordered, word, byte_between}
+use Rattle.gb_states.specs.declared.relations.Present.{Present}
+use Rattle.gb_states.specs.Reading.{is_free_byte}
+use Rattle.gb_states.specs.RelationRules.{is_some_register, has_place, operand, compared, bits_of, IsOneByte, is_known, IsRelations}
+use Rattle.gb_states.specs.RelationReading.{defaulted, to_present, is_present, present_at, to_registers, have_place, registers_at, address_at, test_of, to_byte, byte_at, pair_of, pair_at, to_bounds, bounds_at, other_of, other_at, to_factor, factor_at, to_link, link_of, link_at, to_facts, facts_at, to_pairs, pairs_at, to_relations, relations_at}
+use Rattle.gb_states.specs.Spelling as spelled
+use Rattle.gb_states.specs.RelationSpelling as told
+use Rattle.gb_states.proofs.Formats.{IsBytes, Takes, IsFormat, same_pair, IsFormat-byte, IsFormat-both, IsFormat-followed, IsFormat-checked, IsFormat-onto, IsFormat-mapped, IsFormat-as, IsFormat-spelled, IsFormat-optional, spelled_option, is_there}
+use Rattle.gb_states.proofs.FieldLaws.{le_is, is_le, and_both, is_within, all_below, below, same, flag_small, one-flag, spelled_byte, IsFormat-word, IsFormat-byte_between}
+use Rattle.gb_states.proofs.StateLaws.{area_small}
+
+-- ---- what may be there
+
+-- nothing is read, and it stands for this
+abbrev nothing : {X : Type 0} → X → Read X
+nothing n bytes = Ok (n, bytes)
+
+IsFormat-nothing : {X : Type 0} (n : X) (w : X → List ℕ) → w n ≡ [] → IsFormat (nothing n) w (λ x. x ≡ n)
+IsFormat-nothing {X} n w none = record { takes = takes; again = again }
+  where
+    takes : (bytes : List ℕ) (x : X) (rest : List ℕ) → IsBytes bytes → nothing n bytes ≡ Ok (x, rest) → Takes w (λ x. x ≡ n) bytes x rest
+    takes bytes x rest i e =
+        let s = same_pair n x bytes rest e in
+        record { parts = s.1 ∙ sym (ap (λ y. y ++ rest) (ap w (sym s.0) ∙ none)); is_good = sym s.0; are_bytes = subst IsBytes s.1 i }
+
+    again : (x : X) (rest : List ℕ) → x ≡ n → nothing n (w x ++ rest) ≡ Ok (x, rest)
+    again x rest e = subst (λ y. nothing n (w y ++ rest) ≡ Ok (y, rest)) (sym e) (ap (λ (y : List ℕ). nothing n (y ++ rest)) none)
+
+-- right where it is there, and else what stands for it
+abbrev IsWhere : {X : Type 0} → X → (X → Type 0) → Bool → X → Type 0
+IsWhere n g true x = g x
+IsWhere n g false x = x ≡ n
+
+IsFormat-defaulted : {X : Type 0} (n : X) (shows : X → Bool) (there : Bool) (r : Read X) (w : X → List ℕ) (g : X → Type 0) → shows n ≡ false → ((x : X) → g x → shows x ≡ true)
+    → IsFormat r w g → IsFormat (defaulted n there r) (λ x. told.where_there (shows x) (w x)) (IsWhere n g there)
+IsFormat-defaulted n shows true r w g hidden shown a = IsFormat-spelled r w (λ x. told.where_there (shows x) (w x)) g (λ x h. sym (ap (λ b. told.where_there b (w x)) (shown x h))) a
+IsFormat-defaulted n shows false r w g hidden shown a = IsFormat-nothing n (λ x. told.where_there (shows x) (w x)) (ap (λ b. told.where_there b (w n)) hidden)
+
+some-there : {X : Type 0} (o : Option X) → is_some o ≡ is_there o
+some-there None = refl
+some-there (Some x) = refl
+
+option-told : {X : Type 0} (w : X → List ℕ) (o : Option X) → spelled_option w o ≡ told.optional w o
+option-told w None = refl
+option-told w (Some x) = refl
+
+IsFormat-option : {X : Type 0} (there : Bool) (r : Read X) (w : X → List ℕ) (g : X → Type 0) → IsFormat r w g → IsFormat (optional there r) (told.optional w) (λ o. (is_some o ≡ there) × IfSome o g)
+IsFormat-option {X} there r w g a =
+    IsFormat-as (optional there r) (told.optional w) (λ o. (is_there o ≡ there) × IfSome o g) (λ o. (is_some o ≡ there) × IfSome o g) (λ o h. (some-there o ∙ h.0, h.1)) (λ o h. (sym (some-there o) ∙ h.0, h.1))
+    (IsFormat-spelled (optional there r) (spelled_option w) (told.optional w) (λ o. (is_there o ≡ there) × IfSome o g) (λ o h. option-told w o) (IsFormat-optional there r w g a))
+
+-- ---- seven bits
+
+abbrev seven : Bool → Bool → Bool → Bool → Bool → Bool → Bool → ℕ
+seven a b c d e f g = 64 * spelled.flag g + 32 * spelled.flag f + 16 * spelled.flag e + 8 * spelled.flag d + 4 * spelled.flag c + 2 * spelled.flag b + spelled.flag a
+
+bits-number : (a b c d e f g : ℕ) → a ≤ 1 → b ≤ 1 → c ≤ 1 → d ≤ 1 → e ≤ 1 → f ≤ 1 → g ≤ 1 → (n : ℕ) → n ≡ 64 * g + 32 * f + 16 * e + 8 * d + 4 * c + 2 * b + a
+    → (n % 2 ≡ a) × (n / 2 % 2 ≡ b) × (n / 4 % 2 ≡ c) × (n / 8 % 2 ≡ d) × (n / 16 % 2 ≡ e) × (n / 32 % 2 ≡ f) × (n / 64 ≡ g) × (n ≤ 127)
+bits-number a b c d e f g a1 b1 c1 d1 e1 f1 g1 n e0 = (omega arith, omega arith, omega arith, omega arith, omega arith, omega arith, omega arith, omega arith)
+
+seven-bits : (a b c d e f g : Bool) (n : ℕ) → n ≡ seven a b c d e f g
+    → ((n % 2 == 1) ≡ a) × ((n / 2 % 2 == 1) ≡ b) × ((n / 4 % 2 == 1) ≡ c) × ((n / 8 % 2 == 1) ≡ d) × ((n / 16 % 2 == 1) ≡ e) × ((n / 32 % 2 == 1) ≡ f) × ((n / 64 == 1) ≡ g) × (n ≤ 127)
+seven-bits a b c d e f g n same =
+    let k = bits-number (spelled.flag a) (spelled.flag b) (spelled.flag c) (spelled.flag d) (spelled.flag e) (spelled.flag f) (spelled.flag g) (flag_small a) (flag_small b) (flag_small c) (flag_small d) (flag_small e) (flag_small f) (flag_small g) n same in
+    (one-flag _ a k.0, one-flag _ b k.1, one-flag _ c k.2, one-flag _ d k.3, one-flag _ e k.4, one-flag _ f k.5, one-flag _ g k.6, k.7)
+
+-- so small a byte
+abbrev IsSeven : ℕ → Type 0
+IsSeven n = (n < 256) × (is_between 0 127 n ≡ true)
+
+is_seven : (n : ℕ) → n ≤ 127 → IsSeven n
+is_seven n h = (omega arith, is_within 127 n h)
+
+below_seven : (n : ℕ) → is_between 0 127 n ≡ true → n < 128
+below_seven n h = grind (arith, nat_tests)
+
+abbrev present : Bool → Bool → Bool → Bool → Bool → Bool → Bool → Present
+present a b c d e f g = record { byte = a; address = b; bits = c; zero = d; bc = e; de = f; hl = g }
+
+present-same : (a b c d e f g a2 b2 c2 d2 e2 f2 g2 : Bool) → a ≡ a2 → b ≡ b2 → c ≡ c2 → d ≡ d2 → e ≡ e2 → f ≡ f2 → g ≡ g2 → present a b c d e f g ≡ present a2 b2 c2 d2 e2 f2 g2
+present-same a b c d e f g a2 b2 c2 d2 e2 f2 g2 ea eb ec ed ee ef eg = rw (ea, eb, ec, ed, ee, ef, eg) refl
+
+present-number : (p : Present) → (to_present (told.present_number p) ≡ p) × (told.present_number p ≤ 127)
+present-number p = by p.byte p.address p.bits p.zero p.bc p.de p.hl
+  where
+    by : (a b c d e f g : Bool) → (to_present (seven a b c d e f g) ≡ present a b c d e f g) × (seven a b c d e f g ≤ 127)
+    by a b c d e f g =
+        let n : ℕ = seven a b c d e f g in
+        let k = seven-bits a b c d e f g n refl in
+        (present-same (n % 2 == 1) (n / 2 % 2 == 1) (n / 4 % 2 == 1) (n / 8 % 2 == 1) (n / 16 % 2 == 1) (n / 32 % 2 == 1) (n / 64 == 1) a b c d e f g k.0 k.1 k.2 k.3 k.4 k.5 k.6, k.7)
+
+number-present : (n : ℕ) → IsSeven n → told.present_number (to_present n) ≡ n
+unfolding all_below
+number-present n h = same _ _ (below 128 (λ c. told.present_number (to_present c) == c) refl n (below_seven n h.1))
+
+abbrev spelled_present : Present → List ℕ
+spelled_present p = told.byte (told.present_number p)
+
+IsFormat-present : (test : Option ℕ) → IsFormat (present_at test) spelled_present (λ p. is_present test p ≡ true)
+unfolding present_at
+IsFormat-present test =
+    IsFormat-as (present_at test) spelled_present (λ p. IsSeven (told.present_number p) × (is_present test p ≡ true)) (λ p. is_present test p ≡ true) (λ p h. h.1) (λ p h. (is_seven (told.present_number p) (present-number p).1, h))
+    (IsFormat-checked fault.Field (is_present test) _ spelled_present _ (IsFormat-mapped to_present told.present_number (byte_between 0 127) spelled_byte _ number-present (λ p h. (present-number p).0) (IsFormat-byte_between 0 127)))
+
+-- ---- places that hold one byte
+
+abbrev registers : Bool → Bool → Bool → Bool → Bool → Bool → Bool → Registers Bool
+registers a b c d e f g = record { a = a; b = b; c = c; d = d; e = e; h = f; l = g }
+
+registers-same : (a b c d e f g a2 b2 c2 d2 e2 f2 g2 : Bool) → a ≡ a2 → b ≡ b2 → c ≡ c2 → d ≡ d2 → e ≡ e2 → f ≡ f2 → g ≡ g2 → registers a b c d e f g ≡ registers a2 b2 c2 d2 e2 f2 g2
+registers-same a b c d e f g a2 b2 c2 d2 e2 f2 g2 ea eb ec ed ee ef eg = rw (ea, eb, ec, ed, ee, ef, eg) refl
+
+registers-number : (s : Registers Bool) → (to_registers (told.registers_number s) ≡ s) × (told.registers_number s ≤ 127)
+registers-number s = by s.a s.b s.c s.d s.e s.h s.l
+  where
+    by : (a b c d e f g : Bool) → (to_registers (seven a b c d e f g) ≡ registers a b c d e f g) × (seven a b c d e f g ≤ 127)
+    by a b c d e f g =
+        let n : ℕ = seven a b c d e f g in
+        let k = seven-bits a b c d e f g n refl in
+        (registers-same (n % 2 == 1) (n / 2 % 2 == 1) (n / 4 % 2 == 1) (n / 8 % 2 == 1) (n / 16 % 2 == 1) (n / 32 % 2 == 1) (n / 64 == 1) a b c d e f g k.0 k.1 k.2 k.3 k.4 k.5 k.6, k.7)
+
+number-registers : (n : ℕ) → IsSeven n → told.registers_number (to_registers n) ≡ n
+unfolding all_below
+number-registers n h = same _ _ (below 128 (λ c. told.registers_number (to_registers c) == c) refl n (below_seven n h.1))
+
+abbrev spelled_registers : Registers Bool → List ℕ
+spelled_registers s = told.byte (told.registers_number s)
+
+IsFormat-registers : (address : Bool) → IsFormat (registers_at address) spelled_registers (λ s. have_place address s ≡ true)
+unfolding registers_at
+IsFormat-registers address =
+    IsFormat-as (registers_at address) spelled_registers (λ s. IsSeven (told.registers_number s) × (have_place address s ≡ true)) (λ s. have_place address s ≡ true) (λ s h. h.1) (λ s h. (is_seven (told.registers_number s) (registers-number s).1, h))
+    (IsFormat-checked fault.Field (have_place address) _ spelled_registers _ (IsFormat-mapped to_registers told.registers_number (byte_between 0 127) spelled_byte _ number-registers (λ s h. (registers-number s).0) (IsFormat-byte_between 0 127)))
+
+IsFormat-address : (region : Region) → IsFormat (address_at region) spelled.word (λ a. is_free_byte region a ≡ true)
+unfolding address_at
+IsFormat-address region =
+    IsFormat-as (address_at region) spelled.word (λ a. (a < 65536) × (is_free_byte region a ≡ true)) (λ a. is_free_byte region a ≡ true) (λ a h. h.1) (λ a h. ((area_small a a (and_both (is_area a a) (not (meets region a a)) h).0).0, h))
+    (IsFormat-checked fault.Field (is_free_byte region) word spelled.word (λ a. a < 65536) IsFormat-word)
+
+-- the state's test and the bits of another aren't there both
+abbrev IsOneTest : Option ℕ → Bool → Type 0
+IsOneTest test bits = not (is_some test && bits) ≡ true
+
+-- one byte at some place, an address and bits there as these say
+record IsPlaces (region : Region) (test : Option ℕ) (address bits : Bool) (b : OneByte) : Type 0 where
+  place : has_place b ≡ true
+  has_address : is_some b.address ≡ address
+  has_bits : is_some (bits_of b.test) ≡ bits
+  compares : compared b.test ≡ test
+  free : IfSome b.address (λ a. is_free_byte region a ≡ true)
+  small : IfSome b.test (λ t. operand t < 256)
+
+from_byte : OneByte → Registers Bool × (Option ℕ × Option ℕ)
+from_byte b = (b.registers, (b.address, bits_of b.test))
+
+abbrev ArePlaces : Region → Bool → Bool → Registers Bool × (Option ℕ × Option ℕ) → Type 0
+ArePlaces region address bits p = (have_place address p.0 ≡ true) × (((is_some p.1.0 ≡ address) × IfSome p.1.0 (λ a. is_free_byte region a ≡ true)) × ((is_some p.1.1 ≡ bits) × IfSome p.1.1 (λ m. m < 256)))
+
+not_both : {X : Type 0} (bits : Bool) → not (true && bits) ≡ true → true ≡ bits → X
+not_both true h e = absurd cc
+not_both false h e = absurd cc
+
+bits-kept : (test o : Option ℕ) (bits : Bool) → IsOneTest test bits → is_some o ≡ bits → bits_of (test_of test o) ≡ o
+bits-kept (Some n) (Some m) bits h e = not_both bits h e
+bits-kept (Some n) None bits h e = refl
+bits-kept None (Some m) bits h e = refl
+bits-kept None None bits h e = refl
+
+test-compares : (test o : Option ℕ) → compared (test_of test o) ≡ test
+test-compares (Some n) o = refl
+test-compares None (Some m) = refl
+test-compares None None = refl
+
+test-small : (test o : Option ℕ) → IfSome test (λ n. n < 256) → IfSome o (λ m. m < 256) → IfSome (test_of test o) (λ t. operand t < 256)
+test-small (Some n) o h g = h
+test-small None (Some m) h g = g
+test-small None None h g = tt
+
+test-again : (t : Option Test) → test_of (compared t) (bits_of t) ≡ t
+test-again (Some (Compare n)) = refl
+test-again (Some (Bits m)) = refl
+test-again None = refl
+
+bits-small : (t : Option Test) → IfSome t (λ t. operand t < 256) → IfSome (bits_of t) (λ m. m < 256)
+bits-small (Some (Compare n)) h = tt
+bits-small (Some (Bits m)) h = h
+bits-small None h = tt
+
+byte-there : (region : Region) (test : Option ℕ) (address bits : Bool) → IsOneTest test bits → IfSome test (λ n. n < 256) → (p : Registers Bool × (Option ℕ × Option ℕ)) → ArePlaces region address bits p
+    → (from_byte (to_byte test p) ≡ p) × IsPlaces region test address bits (to_byte test p)
+unfolding from_byte
+byte-there region test address bits one small p h = (
+  ap (λ (o : Option ℕ). (let q : Registers Bool × (Option ℕ × Option ℕ) = (p.0, (p.1.0, o)) in q)) (bits-kept test p.1.1 bits one h.1.1.0),
+  record {
+    place = ap (λ a. a || is_some_register p.0) h.1.0.0 ∙ h.0;
+    has_address = h.1.0.0;
+    has_bits = ap is_some (bits-kept test p.1.1 bits one h.1.1.0) ∙ h.1.1.0;
+    compares = test-compares test p.1.1;
+    free = h.1.0.1;
+    small = test-small test p.1.1 small h.1.1.1;
+  },
+)
+
+byte-again : (region : Region) (test : Option ℕ) (address bits : Bool) (b : OneByte) → IsPlaces region test address bits b → ArePlaces region address bits (from_byte b) × (to_byte test (from_byte b) ≡ b)
+unfolding from_byte
+byte-again region test address bits b h = (
+  (sym (ap (λ a. a || is_some_register b.registers) h.has_address) ∙ h.place, ((h.has_address, h.free), (h.has_bits, bits-small b.test h.small))),
+  ap (λ (t : Option Test). (let q : OneByte = record { registers = b.registers; address = b.address; test = t } in q)) (ap (λ c. test_of c (bits_of b.test)) (sym h.compares) ∙ test-again b.test),
+)
+
+IsFormat-places : (region : Region) (test : Option ℕ) (address bits : Bool) → IsOneTest test bits → IfSome test (λ n. n < 256) → IsFormat (byte_at region test address bits) told.places (IsPlaces region test address bits)
+unfolding byte_at from_byte told.places
+IsFormat-places region test address bits one small =
+    IsFormat-onto (to_byte test) from_byte _ (λ p. spelled_registers p.0 ++ (told.optional spelled.word p.1.0 ++ told.optional spelled_byte p.1.1)) (ArePlaces region address bits) (IsPlaces region test address bits) (byte-there region test address bits one small) (byte-again region test address bits)
+    (IsFormat-both (registers_at address) (both (optional address (address_at region)) (optional bits byte)) _ _ _ _ (IsFormat-registers address)
+    (IsFormat-both (optional address (address_at region)) (optional bits byte) _ _ _ _ (IsFormat-option address (address_at region) spelled.word _ (IsFormat-address region)) (IsFormat-option bits byte spelled_byte (λ m. m < 256) IsFormat-byte)))
+
+-- what holds of one byte where these parts are there
+record IsByteFor (region : Region) (test : Option ℕ) (there address bits : Bool) (b : OneByte) : Type 0 where
+  is_byte : IsOneByte region b
+  place : has_place b ≡ there
+  has_address : is_some b.address ≡ address
+  has_bits : is_some (bits_of b.test) ≡ bits
+  compares : compared b.test ≡ test
+
+-- there are a byte's parts only with the byte, and not two tests
+abbrev AreParts : Option ℕ → Bool → Bool → Bool → Type 0
+AreParts test there address bits = ((there || not (address || is_some test || bits)) && not (is_some test && bits)) ≡ true
+
+absent-byte : (region : Region) (test : Option ℕ) (address bits : Bool) → AreParts test false address bits → IsByteFor region test false address bits no_byte
+absent-byte region None false false h = record { is_byte = record { address = tt; place = refl; test = tt }; place = refl; has_address = refl; has_bits = refl; compares = refl }
+absent-byte region None false true h = absurd cc
+absent-byte region None true false h = absurd cc
+absent-byte region None true true h = absurd cc
+absent-byte region (Some n) false false h = absurd cc
+absent-byte region (Some n) false true h = absurd cc
+absent-byte region (Some n) true false h = absurd cc
+absent-byte region (Some n) true true h = absurd cc
+
+neither : (a b : Bool) → (a || b) ≡ false → (a ≡ false) × (b ≡ false)
+neither true b h = cc
+neither false b h = (refl, h)
+
+no-registers : (s : Registers Bool) → is_some_register s ≡ false → s ≡ registers false false false false false false false
+no-registers s h =
+    let l = neither (s.a || s.b || s.c || s.d || s.e || s.h) s.l h in
+    let k = neither (s.a || s.b || s.c || s.d || s.e) s.h l.0 in
+    let e = neither (s.a || s.b || s.c || s.d) s.e k.0 in
+    let d = neither (s.a || s.b || s.c) s.d e.0 in
+    let c = neither (s.a || s.b) s.c d.0 in
+    let b = neither s.a s.b c.0 in
+    registers-same s.a s.b s.c s.d s.e s.h s.l false false false false false false false b.0 b.1 c.1 d.1 e.1 k.1 l.1
+
+none-is : {X : Type 0} (o : Option X) → is_some o ≡ false → o ≡ None
+none-is None h = refl
+none-is (Some x) h = absurd cc
+
+none_is : {X : Type 0} (o : Option X) → is_none o ≡ true → o ≡ None
+none_is None h = refl
+none_is (Some x) h = absurd cc
+
+or-second : (a b : Bool) → (a || b) ≡ true → a ≡ false → b ≡ true
+or-second true b h e = absurd cc
+or-second false b h e = h
+
+byte-same : (s t : Registers Bool) (a b : Option ℕ) (x y : Option Test) → s ≡ t → a ≡ b → x ≡ y → (let q : OneByte = record { registers = s; address = a; test = x } in q) ≡ record { registers = t; address = b; test = y }
+byte-same s t a b x y es ea ex = rw (es, ea, ex) refl
+
+byte-absent : (region : Region) (b : OneByte) → IsOneByte region b → has_place b ≡ false → b ≡ no_byte
+byte-absent region b g h =
+    let k = neither (is_some b.address) (is_some_register b.registers) h in
+    byte-same b.registers _ b.address None b.test None (no-registers b.registers k.1) (none-is b.address k.0) (none_is b.test (or-second (has_place b) (is_none b.test) g.place h))
+
+byte-is : (region : Region) (test : Option ℕ) (there address bits : Bool) → AreParts test there address bits → (b : OneByte) → IsWhere no_byte (IsPlaces region test address bits) there b → IsByteFor region test there address bits b
+byte-is region test true address bits parts b h = record {
+  is_byte = record { address = h.free; place = ap (λ p. p || is_none b.test) h.place; test = h.small };
+  place = h.place;
+  has_address = h.has_address;
+  has_bits = h.has_bits;
+  compares = h.compares;
+}
+byte-is region test false address bits parts b h = subst (IsByteFor region test false address bits) (sym h) (absent-byte region test address bits parts)
+
+is-byte : (region : Region) (test : Option ℕ) (there address bits : Bool) (b : OneByte) → IsByteFor region test there address bits b → IsWhere no_byte (IsPlaces region test address bits) there b
+is-byte region test true address bits b h = record { place = h.place; has_address = h.has_address; has_bits = h.has_bits; compares = h.compares; free = h.is_byte.address; small = h.is_byte.test }
+is-byte region test false address bits b h = byte-absent region b h.is_byte h.place
+
+told_byte : OneByte → List ℕ
+told_byte b = told.where_there (has_place b) (told.places b)
+
+IsFormat-one_byte : (region : Region) (test : Option ℕ) (there address bits : Bool) → AreParts test there address bits → IfSome test (λ n. n < 256)
+    → IsFormat (defaulted no_byte there (byte_at region test address bits)) told_byte (IsByteFor region test there address bits)
+unfolding told_byte
+IsFormat-one_byte region test there address bits parts small =
+    IsFormat-as (defaulted no_byte there (byte_at region test address bits)) told_byte (IsWhere no_byte (IsPlaces region test address bits) there) (IsByteFor region test there address bits) (byte-is region test there address bits parts) (is-byte region test there address bits)
+    (IsFormat-defaulted no_byte has_place there (byte_at region test address bits) told.places (IsPlaces region test address bits) refl (λ b h. h.place) (IsFormat-places region test address bits (and_both (there || not (address || is_some test || bits)) (not (is_some test && bits)) parts).1 small))
+
+-- ---- pairs
+
+number-pair : (n : ℕ) → (n < 256) × (is_between 0 2 n ≡ true) → told.pair_number (pair_of n) ≡ n
+number-pair n h = grind (arith, nat_tests)
+
+pair-number : (p : WordPair) → pair_of (told.pair_number p) ≡ p
+pair-number Bc = refl
+pair-number De = refl
+pair-number Hl = refl
+
+pair_fits : (p : WordPair) → (told.pair_number p < 256) × (is_between 0 2 (told.pair_number p) ≡ true)
+pair_fits Bc = (omega arith, refl)
+pair_fits De = (omega arith, refl)
+pair_fits Hl = (omega arith, refl)
+
+IsFormat-pair : IsFormat pair_at told.pair (λ p. Unit {0})
+unfolding pair_at
+IsFormat-pair =
+    IsFormat-as pair_at told.pair (λ p. (told.pair_number p < 256) × (is_between 0 2 (told.pair_number p) ≡ true)) (λ p. Unit {0}) (λ p h. tt) (λ p h. pair_fits p)
+    (IsFormat-mapped pair_of told.pair_number (byte_between 0 2) spelled_byte _ number-pair (λ p h. pair-number p) (IsFormat-byte_between 0 2))
+
+from_bounds : Bounds → ℕ × ℕ
+from_bounds b = (b.first, b.last)
+
+told_bounds : Bounds → List ℕ
+told_bounds b = spelled.word b.first ++ spelled.word b.last
+
+-- words in order
+abbrev AreBounds : Bounds → Type 0
+AreBounds b = (b.first ≤ b.last) × (b.last < 65536)
+
+are_bounds : (first last : ℕ) → first ≤ last → last < 65536 → ((first < 65536) × (last < 65536)) × (nat_le first last ≡ true)
+are_bounds first last order small = ((omega arith, small), is_le first last order)
+
+IsFormat-bounds : IsFormat bounds_at told_bounds AreBounds
+unfolding bounds_at from_bounds told_bounds
+IsFormat-bounds =
+    IsFormat-as bounds_at told_bounds (λ b. ((b.first < 65536) × (b.last < 65536)) × (nat_le b.first b.last ≡ true)) AreBounds (λ b h. (le_is b.first b.last h.1, h.0.1)) (λ b h. are_bounds b.first b.last h.0 h.1)
+    (IsFormat-mapped to_bounds from_bounds _ _ _ (λ x h. refl) (λ y h. refl)
+    (IsFormat-checked fault.Field is_ordered _ _ _ (IsFormat-both word word _ _ _ _ IsFormat-word IsFormat-word)))
+
+abbrev option_number : Option Other → ℕ
+option_number None = 0
+option_number (Some o) = 1 + told.other_number o
+
+other-number : (o : Option Other) → other_of (option_number o) ≡ o
+other-number None = refl
+other-number (Some (Of A)) = refl
+other-number (Some (Of B)) = refl
+other-number (Some (Of C)) = refl
+other-number (Some (Of D)) = refl
+other-number (Some (Of E)) = refl
+other-number (Some (Of H)) = refl
+other-number (Some (Of L)) = refl
+other-number (Some (Pair Bc)) = refl
+other-number (Some (Pair De)) = refl
+other-number (Some (Pair Hl)) = refl
+
+abbrev IsOtherNumber : ℕ → Type 0
+IsOtherNumber n = (n < 256) × (is_between 0 10 n ≡ true)
+
+number-other : (n : ℕ) → IsOtherNumber n → option_number (other_of n) ≡ n
+unfolding all_below
+number-other n h = same _ _ (below 11 (λ c. option_number (other_of c) == c) refl n (high n h.1))
+  where
+    high : (n : ℕ) → is_between 0 10 n ≡ true → n < 11
+    high n h = grind (arith, nat_tests)
+
+other_fits : (o : Option Other) → IsOtherNumber (option_number o)
+other_fits None = (omega arith, refl)
+other_fits (Some (Of A)) = (omega arith, refl)
+other_fits (Some (Of B)) = (omega arith, refl)
+other_fits (Some (Of C)) = (omega arith, refl)
+other_fits (Some (Of D)) = (omega arith, refl)
+other_fits (Some (Of E)) = (omega arith, refl)
+other_fits (Some (Of H)) = (omega arith, refl)
+other_fits (Some (Of L)) = (omega arith, refl)
+other_fits (Some (Pair Bc)) = (omega arith, refl)
+other_fits (Some (Pair De)) = (omega arith, refl)
+other_fits (Some (Pair Hl)) = (omega arith, refl)
+
+abbrev spelled_other : Option Other → List ℕ
+spelled_other o = told.byte (option_number o)
+
+IsFormat-other : IsFormat other_at spelled_other (λ o. Unit {0})
+unfolding other_at
+IsFormat-other =
+    IsFormat-as other_at spelled_other (λ o. IsOtherNumber (option_number o)) (λ o. Unit {0}) (λ o h. tt) (λ o h. other_fits o)
+    (IsFormat-mapped other_of option_number (byte_between 0 10) spelled_byte _ number-other (λ o h. other-number o) (IsFormat-byte_between 0 10))
+
+abbrev low_byte : ℕ → ℕ
+low_byte n = n % 256
+
+factor-there : (n : ℕ) → (n < 256) × (is_between 1 255 n ≡ true) → (low_byte (to_factor n) ≡ n) × (is_factor (to_factor n) ≡ true)
+factor-there n h = (back n h.0, small n h.1)
+  where
+    back : (n : ℕ) → n < 256 → low_byte (to_factor n) ≡ n
+    back n h = grind (arith, nat_tests)
+
+    small : (n : ℕ) → is_between 1 255 n ≡ true → is_factor (to_factor n) ≡ true
+    small n h = grind (arith, nat_tests)
+
+factor-again : (n : ℕ) → is_factor n ≡ true → ((low_byte n < 256) × (is_between 1 255 (low_byte n) ≡ true)) × (to_factor (low_byte n) ≡ n)
+factor-again n h = ((omega arith, small n h), back n h)
+  where
+    small : (n : ℕ) → is_factor n ≡ true → is_between 1 255 (low_byte n) ≡ true
+    small n h = grind (arith, nat_tests)
+
+    back : (n : ℕ) → is_factor n ≡ true → to_factor (low_byte n) ≡ n
+    back n h = grind (arith, nat_tests)
+
+abbrev spelled_factor : ℕ → List ℕ
+spelled_factor n = told.byte (low_byte n)
+
+IsFormat-factor : IsFormat factor_at spelled_factor (λ n. is_factor n ≡ true)
+unfolding factor_at
+IsFormat-factor = IsFormat-onto to_factor low_byte (byte_between 1 255) spelled_byte (λ n. (n < 256) × (is_between 1 255 n ≡ true)) (λ n. is_factor n ≡ true) factor-there factor-again (IsFormat-byte_between 1 255)
+
+-- a link's factor and sum, and what else it reads
+abbrev from_link : Option Link → ℕ × ℕ
+from_link None = (0, 0)
+from_link (Some l) = (l.factor, l.sum)
+
+abbrev other_in : Option Link → Option Other
+other_in None = None
+other_in (Some l) = Some l.other
+
+abbrev told_sum : Option Link → List ℕ
+told_sum None = []
+told_sum (Some l) = low_byte l.factor ∷ spelled.word l.sum
+
+-- a link with this other, or none
+abbrev IsLinkOf : Option Other → Option Link → Type 0
+IsLinkOf o l = (other_in l ≡ o) × IfSome l IsLink
+
+no-link : (l : Option Link) → IsLinkOf None l → l ≡ None
+no-link None h = refl
+no-link (Some l) h = absurd (apart l.other h.0)
+  where
+    apart : (o : Other) → Some o ≡ None → ⊥
+    apart o e = cc
+
+some-is : (x y : Other) → Some x ≡ Some y → x ≡ y
+some-is x y e = cc
+
+abbrev AreFactorSum : ℕ × ℕ → Type 0
+AreFactorSum p = (is_factor p.0 ≡ true) × (p.1 < 65536)
+
+link-there : (other : Other) (p : ℕ × ℕ) → AreFactorSum p → (from_link (to_link other p) ≡ p) × IsLinkOf (Some other) (to_link other p)
+link-there other p h = (refl, (refl, record { factor = h.0; sum = h.1 }))
+
+link-again : (other : Other) (l : Option Link) → IsLinkOf (Some other) l → AreFactorSum (from_link l) × (to_link other (from_link l) ≡ l)
+link-again other None h = absurd cc
+link-again other (Some l) h = ((h.1.factor, h.1.sum), ap (λ o. to_link o (l.factor, l.sum)) (sym (some-is l.other other h.0)))
+
+sum-told : (other : Other) (l : Option Link) → IsLinkOf (Some other) l → spelled_factor (from_link l).0 ++ spelled.word (from_link l).1 ≡ told_sum l
+sum-told other None h = absurd cc
+sum-told other (Some l) h = refl
+
+IsFormat-link_of : (o : Option Other) → IsFormat (link_of o) told_sum (IsLinkOf o)
+IsFormat-link_of None = IsFormat-as (nothing None) told_sum (λ l. l ≡ None) (IsLinkOf None) (λ l e. subst (IsLinkOf None) (sym e) (refl, tt)) no-link (IsFormat-nothing None told_sum refl)
+IsFormat-link_of (Some other) =
+    IsFormat-spelled (link_of (Some other)) (λ l. spelled_factor (from_link l).0 ++ spelled.word (from_link l).1) told_sum (IsLinkOf (Some other)) (sum-told other)
+    (IsFormat-onto (to_link other) from_link (both factor_at word) (λ p. spelled_factor p.0 ++ spelled.word p.1) AreFactorSum (IsLinkOf (Some other)) (link-there other) (link-again other)
+    (IsFormat-both factor_at word spelled_factor spelled.word (λ n. is_factor n ≡ true) (λ n. n < 65536) IsFormat-factor IsFormat-word))
+
+link-told : (l : Option Link) → spelled_other (other_in l) ++ told_sum l ≡ told.link l
+link-told None = refl
+link-told (Some l) = refl
+
+IsFormat-link : IsFormat link_at told.link (λ l. IfSome l IsLink)
+unfolding link_at
+IsFormat-link =
+    IsFormat-spelled link_at (λ l. spelled_other (other_in l) ++ told_sum l) told.link (λ l. IfSome l IsLink) (λ l h. link-told l)
+    (IsFormat-onto (λ (p : Option Other × Option Link). p.1) (λ l. (other_in l, l)) (followed other_at link_of) (λ p. spelled_other p.0 ++ told_sum p.1) (λ p. Unit {0} × IsLinkOf p.0 p.1) (λ l. IfSome l IsLink)
+    (λ p h. (ap (λ (o : Option Other). (let q : Option Other × Option Link = (o, p.1) in q)) h.1.0, h.1.1)) (λ l h. ((tt, (refl, h)), refl))
+    (IsFormat-followed other_at link_of spelled_other (λ o. told_sum) (λ o. Unit {0}) IsLinkOf IsFormat-other (λ o h. IsFormat-link_of o)))
+
+from_facts : PairFacts → Bounds × Option Link
+from_facts f = (f.bounds, f.link)
+
+-- bounds in order, and a link that may be
+abbrev AreFacts : PairFacts → Type 0
+AreFacts f = AreBounds f.bounds × IfSome f.link IsLink
+
+IsFormat-facts : IsFormat facts_at told.facts (λ f. AreFacts f × (is_known f ≡ true))
+unfolding facts_at from_facts told_bounds told.facts
+IsFormat-facts =
+    IsFormat-checked fault.Field is_known _ told.facts AreFacts
+    (IsFormat-mapped to_facts from_facts _ (λ p. told_bounds p.0 ++ told.link p.1) (λ p. AreBounds p.0 × IfSome p.1 IsLink) (λ x h. refl) (λ y h. refl)
+    (IsFormat-both bounds_at link_at told_bounds told.link AreBounds (λ l. IfSome l IsLink) IsFormat-bounds IsFormat-link))
+
+-- what may be known of a pair that is there or not
+abbrev AreFactsFor : Bool → PairFacts → Type 0
+AreFactsFor there f = AreFacts f × (is_known f ≡ there)
+
+not-false : (b : Bool) → not b ≡ false → b ≡ true
+not-false true h = refl
+not-false false h = cc
+
+facts-same : (a b c d : ℕ) (k l : Option Link) → a ≡ b → c ≡ d → k ≡ l → (let q : PairFacts = record { bounds = record { first = a; last = c }; link = k } in q) ≡ record { bounds = record { first = b; last = d }; link = l }
+facts-same a b c d k l ea ec ek = rw (ea, ec, ek) refl
+
+facts-absent : (f : PairFacts) → is_known f ≡ false → f ≡ nothing_known
+facts-absent f h =
+    let n = neither (is_some f.link) (not (f.bounds.first == 0 && f.bounds.last == 0xFFFF)) h in
+    let b = and_both (f.bounds.first == 0) (f.bounds.last == 0xFFFF) (not-false (f.bounds.first == 0 && f.bounds.last == 0xFFFF) n.1) in
+    facts-same f.bounds.first 0 f.bounds.last 0xFFFF f.link None (same f.bounds.first 0 b.0) (same f.bounds.last 0xFFFF b.1) (none-is f.link n.0)
+
+absent-facts : AreFactsFor false nothing_known
+absent-facts = (((omega arith, omega arith), tt), refl)
+
+facts-are : (there : Bool) (f : PairFacts) → IsWhere nothing_known (AreFactsFor true) there f → AreFactsFor there f
+facts-are true f h = h
+facts-are false f h = subst (AreFactsFor false) (sym h) absent-facts
+
+are-facts : (there : Bool) (f : PairFacts) → AreFactsFor there f → IsWhere nothing_known (AreFactsFor true) there f
+are-facts true f h = h
+are-facts false f h = facts-absent f h.1
+
+IsFormat-known : (there : Bool) → IsFormat (defaulted nothing_known there facts_at) told.known_facts (AreFactsFor there)
+IsFormat-known there =
+    IsFormat-as (defaulted nothing_known there facts_at) told.known_facts (IsWhere nothing_known (AreFactsFor true) there) (AreFactsFor there) (facts-are there) (are-facts there)
+    (IsFormat-defaulted nothing_known is_known there facts_at told.facts (AreFactsFor true) refl (λ f h. h.1) IsFormat-facts)
+
+from_pairs : Pairs → PairFacts × (PairFacts × PairFacts)
+from_pairs s = (s.bc, (s.de, s.hl))
+
+abbrev ArePairsFor : Present → Pairs → Type 0
+ArePairsFor p s = AreFactsFor p.bc s.bc × (AreFactsFor p.de s.de × AreFactsFor p.hl s.hl)
+
+IsFormat-pairs : (p : Present) → IsFormat (pairs_at p) told.pairs (ArePairsFor p)
+unfolding pairs_at from_pairs told.pairs
+IsFormat-pairs p =
+    IsFormat-mapped to_pairs from_pairs _ (λ s. told.known_facts s.0 ++ (told.known_facts s.1.0 ++ told.known_facts s.1.1)) (λ s. AreFactsFor p.bc s.0 × (AreFactsFor p.de s.1.0 × AreFactsFor p.hl s.1.1)) (λ x h. refl) (λ y h. refl)
+    (IsFormat-both (defaulted nothing_known p.bc facts_at) _ _ _ _ _ (IsFormat-known p.bc)
+    (IsFormat-both (defaulted nothing_known p.de facts_at) _ _ _ _ _ (IsFormat-known p.de) (IsFormat-known p.hl)))
+
+-- ---- all of them
+
+abbrev All : Type 0
+All = Present × (OneByte × (Option WordPair × Pairs))
+
+from_relations : Relations → All
+from_relations r = (told.present_in r, (r.byte, (r.zero, r.pairs)))
+
+-- what is behind those that there are
+abbrev ArePresent : Region → Option ℕ → Present → OneByte × (Option WordPair × Pairs) → Type 0
+ArePresent region test p q = IsByteFor region test p.byte p.address p.bits q.0 × (((is_some q.1.0 ≡ p.zero) × IfSome q.1.0 (λ z. Unit {0})) × ArePairsFor p q.1.1)
+
+-- what there may be beside a state's test
+abbrev pub IsTold : Region → Option ℕ → Relations → Type 0
+IsTold region test r = IsRelations region r × (compared r.byte.test ≡ test)
+
+pair-facts : (f : PairFacts) (there : Bool) → AreFactsFor there f → IsPairFacts f
+pair-facts f there h = record { last = h.0.0.1; link = h.0.1 }
+
+pairs-each : (p : Present) (s : Pairs) → ArePairsFor p s → (w : WordPair) → IsPairFacts (facts_of w s)
+pairs-each p s h Bc = pair-facts s.bc p.bc h.0
+pairs-each p s h De = pair-facts s.de p.de h.1.0
+pairs-each p s h Hl = pair-facts s.hl p.hl h.1.1
+
+pairs-ordered : (p : Present) (s : Pairs) → ArePairsFor p s → (w : WordPair) → (facts_of w s).bounds.first ≤ (facts_of w s).bounds.last
+pairs-ordered p s h Bc = h.0.0.0.0
+pairs-ordered p s h De = h.1.0.0.0.0
+pairs-ordered p s h Hl = h.1.1.0.0.0
+
+relations-there : (region : Region) (test : Option ℕ) (x : All) → (is_present test x.0 ≡ true) × ArePresent region test x.0 x.1 → (from_relations (to_relations x) ≡ x) × IsTold region test (to_relations x)
+unfolding from_relations
+relations-there region test x h =
+    let p = x.0 in
+    let b = h.1.0 in
+    let s = h.1.1.1 in (
+      ap (λ (p : Present). (let q : All = (p, x.1) in q)) (present-same _ _ _ _ _ _ _ x.0.byte x.0.address x.0.bits x.0.zero x.0.bc x.0.de x.0.hl b.place b.has_address b.has_bits h.1.1.0.0 s.0.1 s.1.0.1 s.1.1.1),
+      (record { byte = b.is_byte; pairs = record { each = pairs-each x.0 x.1.1.1 s }; order = pairs-ordered x.0 x.1.1.1 s }, b.compares),
+    )
+
+-- the parts that there are, are such
+present-parts : (address register : Bool) (t : Option Test) → ((address || register) || is_none t) ≡ true → AreParts (compared t) (address || register) address (is_some (bits_of t))
+present-parts true register None h = refl
+present-parts true register (Some (Compare n)) h = refl
+present-parts true register (Some (Bits m)) h = refl
+present-parts false true None h = refl
+present-parts false true (Some (Compare n)) h = refl
+present-parts false true (Some (Bits m)) h = refl
+present-parts false false None h = refl
+present-parts false false (Some t) h = absurd cc
+
+some-pair : (o : Option WordPair) → IfSome o (λ z. Unit {0})
+some-pair None = tt
+some-pair (Some z) = tt
+
+facts-for : (f : PairFacts) → IsPairFacts f → f.bounds.first ≤ f.bounds.last → AreFactsFor (is_known f) f
+facts-for f h order = (((order, h.last), h.link), refl)
+
+relations-again : (region : Region) (test : Option ℕ) (r : Relations) → IsTold region test r
+    → ((is_present test (from_relations r).0 ≡ true) × ArePresent region test (from_relations r).0 (from_relations r).1) × (to_relations (from_relations r) ≡ r)
+unfolding from_relations
+relations-again region test r h =
+    let e = h.0.pairs.each in
+    let o = h.0.order in (
+      (
+        subst (λ t. is_present t (told.present_in r) ≡ true) h.1 (present-parts (is_some r.byte.address) (is_some_register r.byte.registers) r.byte.test h.0.byte.place),
+        (
+          record { is_byte = h.0.byte; place = refl; has_address = refl; has_bits = refl; compares = h.1 },
+          ((refl, some-pair r.zero), (facts-for r.pairs.bc (e Bc) (o Bc), (facts-for r.pairs.de (e De) (o De), facts-for r.pairs.hl (e Hl) (o Hl)))),
+        ),
+      ),
+      refl,
+    )
+
+-- What is read beside a state's test is the spelling of what there may be, whose test compares where the state's does.
+pub IsFormat-relations : (region : Region) (test : Option ℕ) → IfSome test (λ n. n < 256) → IsFormat (relations_at region test) told.relations (IsTold region test)
+unfolding relations_at from_relations told_byte told.relations
+IsFormat-relations region test small =
+    IsFormat-onto to_relations from_relations _ (λ x. spelled_present x.0 ++ (told_byte x.1.0 ++ (told.optional told.pair x.1.1.0 ++ told.pairs x.1.1.1))) (λ x. (is_present test x.0 ≡ true) × ArePresent region test x.0 x.1) (IsTold region test) (relations-there region test) (relations-again region test)
+    (IsFormat-followed (present_at test) (λ p. both (defaulted no_byte p.byte (byte_at region test p.address p.bits)) (both (optional p.zero pair_at) (pairs_at p))) spelled_present (λ p q. told_byte q.0 ++ (told.optional told.pair q.1.0 ++ told.pairs q.1.1)) (λ p. is_present test p ≡ true) (ArePresent region test) (IsFormat-present test)
+    (λ p h. IsFormat-both (defaulted no_byte p.byte (byte_at region test p.address p.bits)) (both (optional p.zero pair_at) (pairs_at p)) told_byte (λ q. told.optional told.pair q.0 ++ told.pairs q.1) (IsByteFor region test p.byte p.address p.bits) (λ q. ((is_some q.0 ≡ p.zero) × IfSome q.0 (λ z. Unit {0})) × ArePairsFor p q.1) (IsFormat-one_byte region test p.byte p.address p.bits h small)
+    (IsFormat-both (optional p.zero pair_at) (pairs_at p) (told.optional told.pair) told.pairs (λ z. (is_some z ≡ p.zero) × IfSome z (λ z. Unit {0})) (ArePairsFor p) (IsFormat-option p.zero pair_at told.pair (λ z. Unit {0}) IsFormat-pair) (IsFormat-pairs p))))

@@ -1,0 +1,145 @@
+-- Reading what a state says of several of its parts together, field by field (own format). A test of two fields is made behind the later one.
+use Rattle.std.specs.Prelude.{ℕ, ◌+◌, ◌/◌, ◌%◌, Bool, true, false, not, ◌&&◌, ◌||◌, ◌==◌, nat_lt, Option, Some, None, Ok, is_some, if◌then◌else◌}
+use Rattle.gb_ops.specs.declared.machine.Region.{Region}
+use Rattle.gb_ops.specs.declared.op.Register.TheVariants.{A, B, C, D, E, H, L}
+use Rattle.gb_ops.specs.declared.registers.Registers.{Registers}
+use Rattle.gb_fields.specs.declared.fault.CertFault.TheVariants as fault
+use Rattle.gb_domain.specs.declared.pairs.WordPair.{WordPair}
+use Rattle.gb_domain.specs.declared.pairs.WordPair.TheVariants.{Bc, De, Hl}
+use Rattle.gb_domain.specs.declared.pairs.Bounds.{Bounds}
+use Rattle.gb_domain.specs.declared.pairs.Other.{Other}
+use Rattle.gb_domain.specs.declared.pairs.Other.TheVariants.{Register as Of, Pair}
+use Rattle.gb_domain.specs.declared.pairs.Link.{Link}
+use Rattle.gb_domain.specs.declared.pairs.PairFacts.{PairFacts}
+use Rattle.gb_domain.specs.declared.pairs.Pairs.{Pairs}
+use Rattle.gb_domain.specs.declared.places.Test.{Test}
+use Rattle.gb_domain.specs.declared.places.Test.TheVariants.{Compare, Bits}
+use Rattle.gb_domain.specs.declared.places.OneByte.{OneByte}
+use Rattle.gb_domain.specs.declared.relations.Relations.{Relations}
+use Rattle.gb_domain.specs.Pairs.{nothing_known}
+use Rattle.gb_domain.specs.Places.{no_byte}
+use Rattle.gb_states.specs.declared.relations.Present.{Present}
+use Rattle.gb_fields.specs.Format.{Read, followed, both, mapped, checked, optional, byte}
+use Rattle.gb_fields.specs.Reading.{is_ordered, word, byte_between}
+use Rattle.gb_states.specs.Reading.{is_free_byte}
+use Rattle.gb_states.specs.RelationRules.{is_some_register, is_known}
+
+-- a field, or what stands for it where it isn't there
+abbrev pub defaulted : {X : Type 0} → X → Bool → Read X → Read X
+defaulted x true r = r
+defaulted x false r = λ bytes. Ok (x, bytes)
+
+-- ---- which parts there are
+
+-- bit 0: one byte; 1: its address; 2: bits; 3: what is zero; 4, 5 and 6: the pairs BC, DE and HL
+abbrev pub to_present : ℕ → Present
+to_present n = record { byte = n % 2 == 1; address = n / 2 % 2 == 1; bits = n / 4 % 2 == 1; zero = n / 8 % 2 == 1; bc = n / 16 % 2 == 1; de = n / 32 % 2 == 1; hl = n / 64 == 1 }
+
+-- An address and a test, which either compares or has bits, are of one byte.
+abbrev pub is_present : Option ℕ → Present → Bool
+is_present test p = (p.byte || not (p.address || is_some test || p.bits)) && not (is_some test && p.bits)
+
+unfoldable pub present_at : Option ℕ → Read Present
+present_at test = checked fault.Field (is_present test) (mapped to_present (byte_between 0 127))
+
+-- ---- places that hold one byte
+
+-- bits 0 to 6: A, B, C, D, E, H and L are among them
+abbrev pub to_registers : ℕ → Registers Bool
+to_registers n = record { a = n % 2 == 1; b = n / 2 % 2 == 1; c = n / 4 % 2 == 1; d = n / 8 % 2 == 1; e = n / 16 % 2 == 1; h = n / 32 % 2 == 1; l = n / 64 == 1 }
+
+-- there is a place, be it an address or a register
+abbrev pub have_place : Bool → Registers Bool → Bool
+have_place address registers = address || is_some_register registers
+
+unfoldable pub registers_at : Bool → Read (Registers Bool)
+registers_at address = checked fault.Field (have_place address) (mapped to_registers (byte_between 0 127))
+
+unfoldable pub address_at : Region → Read ℕ
+address_at region = checked fault.Field (is_free_byte region) word
+
+-- A state's test compares; where it has none there may be bits.
+abbrev pub test_of : Option ℕ → Option ℕ → Option Test
+test_of (Some n) bits = Some (Compare n)
+test_of None (Some m) = Some (Bits m)
+test_of None None = None
+
+abbrev pub to_byte : Option ℕ → Registers Bool × (Option ℕ × Option ℕ) → OneByte
+to_byte test p = record { registers = p.0; address = p.1.0; test = test_of test p.1.1 }
+
+unfoldable pub byte_at : Region → Option ℕ → Bool → Bool → Read OneByte
+byte_at region test address bits = mapped (to_byte test) (both (registers_at address) (both (optional address (address_at region)) (optional bits byte)))
+
+-- ---- pairs
+
+abbrev pub pair_of : ℕ → WordPair
+pair_of n =
+    if n == 0 then Bc
+    else if n == 1 then De
+    else Hl
+
+unfoldable pub pair_at : Read WordPair
+pair_at = mapped pair_of (byte_between 0 2)
+
+abbrev pub to_bounds : ℕ × ℕ → Bounds
+to_bounds p = record { first = p.0; last = p.1 }
+
+unfoldable pub bounds_at : Read Bounds
+bounds_at = mapped to_bounds (checked fault.Field is_ordered (both word word))
+
+abbrev pub other_of : ℕ → Option Other
+other_of n =
+    if n == 0 then None
+    else if n == 1 then Some (Of A)
+    else if n == 2 then Some (Of B)
+    else if n == 3 then Some (Of C)
+    else if n == 4 then Some (Of D)
+    else if n == 5 then Some (Of E)
+    else if n == 6 then Some (Of H)
+    else if n == 7 then Some (Of L)
+    else if n == 8 then Some (Pair Bc)
+    else if n == 9 then Some (Pair De)
+    else Some (Pair Hl)
+
+unfoldable pub other_at : Read (Option Other)
+other_at = mapped other_of (byte_between 0 10)
+
+-- a byte in two's complement as a word
+abbrev pub to_factor : ℕ → ℕ
+to_factor n = if nat_lt n 128 then n else n + 65280
+
+unfoldable pub factor_at : Read ℕ
+factor_at = mapped to_factor (byte_between 1 255)
+
+abbrev pub to_link : Other → ℕ × ℕ → Option Link
+to_link other p = Some (record { other = other; factor = p.0; sum = p.1 })
+
+-- no link, or the factor and the sum of one
+abbrev pub link_of : Option Other → Read (Option Link)
+link_of None = λ bytes. Ok (None, bytes)
+link_of (Some other) = mapped (to_link other) (both factor_at word)
+
+unfoldable pub link_at : Read (Option Link)
+link_at = mapped (λ p. p.1) (followed other_at link_of)
+
+abbrev pub to_facts : Bounds × Option Link → PairFacts
+to_facts p = record { bounds = p.0; link = p.1 }
+
+-- what is known of a pair, which is something
+unfoldable pub facts_at : Read PairFacts
+facts_at = checked fault.Field is_known (mapped to_facts (both bounds_at link_at))
+
+abbrev pub to_pairs : PairFacts × (PairFacts × PairFacts) → Pairs
+to_pairs p = record { bc = p.0; de = p.1.0; hl = p.1.1 }
+
+unfoldable pub pairs_at : Present → Read Pairs
+pairs_at p = mapped to_pairs (both (defaulted nothing_known p.bc facts_at) (both (defaulted nothing_known p.de facts_at) (defaulted nothing_known p.hl facts_at)))
+
+-- ---- all of them
+
+abbrev pub to_relations : Present × (OneByte × (Option WordPair × Pairs)) → Relations
+to_relations p = record { byte = p.1.0; zero = p.1.1.0; pairs = p.1.1.1 }
+
+-- those that there are, behind which these are; the test is the state's
+unfoldable pub relations_at : Region → Option ℕ → Read Relations
+relations_at region test = mapped to_relations (followed (present_at test) (λ p. both (defaulted no_byte p.byte (byte_at region test p.address p.bits)) (both (optional p.zero pair_at) (pairs_at p))))

@@ -1,0 +1,90 @@
+-- The one spelling of what a state says of several of its parts together, in bytes (own format). Words have their low byte first.
+use Rattle.std.specs.Prelude.{ℕ, ◌+◌, ◌*◌, ◌%◌, Bool, true, false, List, [], ◌∷◌, ◌++◌, Option, Some, None, is_some}
+use Rattle.gb_ops.specs.declared.op.Register.TheVariants.{A, B, C, D, E, H, L}
+use Rattle.gb_ops.specs.declared.registers.Registers.{Registers}
+use Rattle.gb_domain.specs.declared.pairs.WordPair.{WordPair}
+use Rattle.gb_domain.specs.declared.pairs.WordPair.TheVariants.{Bc, De, Hl}
+use Rattle.gb_domain.specs.declared.pairs.Other.{Other}
+use Rattle.gb_domain.specs.declared.pairs.Other.TheVariants.{Register as Of, Pair}
+use Rattle.gb_domain.specs.declared.pairs.Link.{Link}
+use Rattle.gb_domain.specs.declared.pairs.PairFacts.{PairFacts}
+use Rattle.gb_domain.specs.declared.pairs.Pairs.{Pairs}
+use Rattle.gb_domain.specs.declared.places.OneByte.{OneByte}
+use Rattle.gb_domain.specs.declared.relations.Relations.{Relations}
+use Rattle.gb_states.specs.declared.relations.Present.{Present}
+use Rattle.gb_states.specs.RelationRules.{has_place, bits_of, is_known}
+use Rattle.gb_states.specs.Spelling.{word, flag}
+
+-- bytes that are there or not
+abbrev pub where_there : Bool → List ℕ → List ℕ
+where_there true bytes = bytes
+where_there false bytes = []
+
+-- a field that is there or not
+abbrev pub optional : {X : Type 0} → (X → List ℕ) → Option X → List ℕ
+optional spell None = []
+optional spell (Some x) = spell x
+
+-- one byte
+abbrev pub byte : ℕ → List ℕ
+byte n = n ∷ []
+
+-- ---- which parts there are
+
+-- There is one byte exactly where there is a place for it, and a pair exactly where something is known of it.
+abbrev pub present_in : Relations → Present
+present_in r = record { byte = has_place r.byte; address = is_some r.byte.address; bits = is_some (bits_of r.byte.test); zero = is_some r.zero; bc = is_known r.pairs.bc; de = is_known r.pairs.de; hl = is_known r.pairs.hl }
+
+-- bit 0: one byte; 1: its address; 2: bits; 3: what is zero; 4, 5 and 6: the pairs BC, DE and HL
+abbrev pub present_number : Present → ℕ
+present_number p = 64 * flag p.hl + 32 * flag p.de + 16 * flag p.bc + 8 * flag p.zero + 4 * flag p.bits + 2 * flag p.address + flag p.byte
+
+-- ---- places that hold one byte
+
+-- bits 0 to 6: A, B, C, D, E, H and L are among them
+abbrev pub registers_number : Registers Bool → ℕ
+registers_number s = 64 * flag s.l + 32 * flag s.h + 16 * flag s.e + 8 * flag s.d + 4 * flag s.c + 2 * flag s.b + flag s.a
+
+-- What a test compares with stands elsewhere in the state.
+unfoldable pub places : OneByte → List ℕ
+places b = registers_number b.registers ∷ (optional word b.address ++ optional byte (bits_of b.test))
+
+-- ---- pairs
+
+abbrev pub pair_number : WordPair → ℕ
+pair_number Bc = 0
+pair_number De = 1
+pair_number Hl = 2
+
+abbrev pub pair : WordPair → List ℕ
+pair p = byte (pair_number p)
+
+abbrev pub other_number : Other → ℕ
+other_number (Of A) = 0
+other_number (Of B) = 1
+other_number (Of C) = 2
+other_number (Of D) = 3
+other_number (Of E) = 4
+other_number (Of H) = 5
+other_number (Of L) = 6
+other_number (Pair p) = 7 + pair_number p
+
+-- 0, or 1 and what else is read, its factor in two's complement and the sum
+abbrev pub link : Option Link → List ℕ
+link None = 0 ∷ []
+link (Some l) = (1 + other_number l.other) ∷ l.factor % 256 ∷ word l.sum
+
+unfoldable pub facts : PairFacts → List ℕ
+facts f = (word f.bounds.first ++ word f.bounds.last) ++ link f.link
+
+-- of a pair, where something is known
+abbrev pub known_facts : PairFacts → List ℕ
+known_facts f = where_there (is_known f) (facts f)
+
+unfoldable pub pairs : Pairs → List ℕ
+pairs s = known_facts s.bc ++ (known_facts s.de ++ known_facts s.hl)
+
+-- ---- all of them
+
+unfoldable pub relations : Relations → List ℕ
+relations r = present_number (present_in r) ∷ (where_there (has_place r.byte) (places r.byte) ++ (optional pair r.zero ++ pairs r.pairs))

@@ -1,0 +1,346 @@
+//! Reading what a state says of several of its parts together.
+
+ghost use Rattle.std.specs.Prelude.{◌≡◌};
+ghost use Rattle.gb_fields.specs.Format.{Gives, optional, byte};
+ghost use Rattle.gb_domain.specs.Pairs.{nothing_known};
+ghost use Rattle.gb_domain.specs.Places.{no_byte};
+ghost use Rattle.gb_states.specs.RelationRules.{is_some_register, is_known};
+ghost use Rattle.gb_states.specs.RelationReading.{defaulted, is_present, present_at, registers_at, address_at, test_of, byte_at, pair_of, pair_at, bounds_at, other_of, other_at, factor_at, link_of, link_at, facts_at, pairs_at, relations_at};
+
+use crate::states::is_free;
+use gb_domain::pairs::{Bounds, Link, NOTHING_KNOWN, Other, PairFacts, Pairs, WordPair};
+use gb_domain::places::{OneByte, Test};
+use gb_domain::relations::Relations;
+use gb_fields::CertFault;
+use gb_fields::numbers::{byte, byte_between, word};
+use gb_ops::machine::Region;
+use gb_ops::op::Register;
+use gb_ops::registers::Registers;
+
+/// Which parts there are.
+#[derive(Clone, Copy)]
+pub struct Present {
+    /// Places that hold one byte.
+    pub byte: bool,
+    /// An address among them.
+    pub address: bool,
+    /// The bits of a test.
+    pub bits: bool,
+    /// The pair that is 0 where Z is set.
+    pub zero: bool,
+    pub bc: bool,
+    pub de: bool,
+    pub hl: bool,
+}
+
+// ---- which parts there are
+
+/// Whether an address and a test are of one byte, and the test either compares or has bits.
+fn is_present(test: Option<u8>, present: Present) -> bool
+    ensures { result ≡ is_present test present }
+{
+    let needs_byte = present.address || test.is_some() || present.bits;
+    (present.byte || !needs_byte) && !(test.is_some() && present.bits)
+}
+
+#[tactic(auto, unfolding(crate::specs::RelationReading::present_at))]
+fn present_at(test: Option<u8>, bytes: &[u8]) -> Result<(Present, &[u8]), CertFault>
+    ensures { Gives (λ x. (x.0, x.1.now)) result (present_at test bytes.now) }
+{
+    let (number, rest) = byte_between(0, 127, bytes)?;
+    let present = Present {
+        byte: number % 2 == 1,
+        address: number / 2 % 2 == 1,
+        bits: number / 4 % 2 == 1,
+        zero: number / 8 % 2 == 1,
+        bc: number / 16 % 2 == 1,
+        de: number / 32 % 2 == 1,
+        hl: number / 64 == 1,
+    };
+    if !is_present(test, present) {
+        return Err(CertFault::Field);
+    }
+    Ok((present, rest))
+}
+
+// ---- places that hold one byte
+
+fn is_some_register(registers: Registers<bool>) -> bool
+    ensures { result ≡ is_some_register registers }
+{
+    registers.a
+        || registers.b
+        || registers.c
+        || registers.d
+        || registers.e
+        || registers.h
+        || registers.l
+}
+
+/// The registers among the places, one at least where there is no address.
+#[tactic(auto, unfolding(crate::specs::RelationReading::registers_at))]
+fn registers_at(address: bool, bytes: &[u8]) -> Result<(Registers<bool>, &[u8]), CertFault>
+    ensures { Gives (λ x. (x.0, x.1.now)) result (registers_at address bytes.now) }
+{
+    let (number, rest) = byte_between(0, 127, bytes)?;
+    let registers = Registers {
+        a: number % 2 == 1,
+        b: number / 2 % 2 == 1,
+        c: number / 4 % 2 == 1,
+        d: number / 8 % 2 == 1,
+        e: number / 16 % 2 == 1,
+        h: number / 32 % 2 == 1,
+        l: number / 64 == 1,
+    };
+    if !(address || is_some_register(registers)) {
+        return Err(CertFault::Field);
+    }
+    Ok((registers, rest))
+}
+
+#[tactic(auto, unfolding(crate::specs::RelationReading::address_at))]
+fn address_at(region: Region, bytes: &[u8]) -> Result<(u16, &[u8]), CertFault>
+    ensures { Gives (λ x. (x.0, x.1.now)) result (address_at region bytes.now) }
+{
+    let (address, rest) = word(bytes)?;
+    if !is_free(region, address, address) {
+        return Err(CertFault::Field);
+    }
+    Ok((address, rest))
+}
+
+/// What the state's test says of the byte, or else the bits.
+fn test_of(test: Option<u8>, bits: Option<u8>) -> Option<Test>
+    ensures { result ≡ test_of test bits }
+{
+    match test {
+        Some(value) => Some(Test::Compare(value)),
+        None => bits.map(Test::Bits),
+    }
+}
+
+/// The address among the places, where it is there.
+fn address_where(
+    there: bool,
+    region: Region,
+    bytes: &[u8],
+) -> Result<(Option<u16>, &[u8]), CertFault>
+    ensures { Gives (λ x. (x.0, x.1.now)) result (optional there (address_at region) bytes.now) }
+{
+    if !there {
+        return Ok((None, bytes));
+    }
+    let (address, rest) = address_at(region, bytes)?;
+    Ok((Some(address), rest))
+}
+
+/// The bits of a test, where they are there.
+fn bits_where(there: bool, bytes: &[u8]) -> Result<(Option<u8>, &[u8]), CertFault>
+    ensures { Gives (λ x. (x.0, x.1.now)) result (optional there byte bytes.now) }
+{
+    if !there {
+        return Ok((None, bytes));
+    }
+    let (bits, rest) = byte(bytes)?;
+    Ok((Some(bits), rest))
+}
+
+#[tactic(auto, unfolding(crate::specs::RelationReading::byte_at))]
+fn byte_at(
+    region: Region,
+    test: Option<u8>,
+    present: Present,
+    bytes: &[u8],
+) -> Result<(OneByte, &[u8]), CertFault>
+    ensures { Gives (λ x. (x.0, x.1.now)) result (byte_at region test present.address present.bits bytes.now) }
+{
+    let (registers, rest) = registers_at(present.address, bytes)?;
+    let (address, rest) = address_where(present.address, region, rest)?;
+    let (bits, rest) = bits_where(present.bits, rest)?;
+    let byte = OneByte {
+        registers,
+        address,
+        test: test_of(test, bits),
+    };
+    Ok((byte, rest))
+}
+
+/// The places that hold one byte, where they are there.
+fn byte_where(
+    region: Region,
+    test: Option<u8>,
+    present: Present,
+    bytes: &[u8],
+) -> Result<(OneByte, &[u8]), CertFault>
+    ensures { Gives (λ x. (x.0, x.1.now)) result (defaulted no_byte present.byte (byte_at region test present.address present.bits) bytes.now) }
+{
+    if present.byte {
+        byte_at(region, test, present, bytes)
+    } else {
+        Ok((OneByte::default(), bytes))
+    }
+}
+
+// ---- pairs
+
+fn pair_of(number: u8) -> WordPair
+    ensures { result ≡ pair_of number }
+{
+    match number {
+        0 => WordPair::Bc,
+        1 => WordPair::De,
+        _ => WordPair::Hl,
+    }
+}
+
+#[tactic(auto, unfolding(crate::specs::RelationReading::pair_at))]
+fn pair_at(bytes: &[u8]) -> Result<(WordPair, &[u8]), CertFault>
+    ensures { Gives (λ x. (x.0, x.1.now)) result (pair_at bytes.now) }
+{
+    let (number, rest) = byte_between(0, 2, bytes)?;
+    Ok((pair_of(number), rest))
+}
+
+/// The pair that is 0 where Z is set, where it is there.
+fn zero_where(there: bool, bytes: &[u8]) -> Result<(Option<WordPair>, &[u8]), CertFault>
+    ensures { Gives (λ x. (x.0, x.1.now)) result (optional there pair_at bytes.now) }
+{
+    if !there {
+        return Ok((None, bytes));
+    }
+    let (pair, rest) = pair_at(bytes)?;
+    Ok((Some(pair), rest))
+}
+
+#[tactic(auto, unfolding(crate::specs::RelationReading::bounds_at))]
+fn bounds_at(bytes: &[u8]) -> Result<(Bounds, &[u8]), CertFault>
+    ensures { Gives (λ x. (x.0, x.1.now)) result (bounds_at bytes.now) }
+{
+    let (first, rest) = word(bytes)?;
+    let (last, rest) = word(rest)?;
+    if first > last {
+        return Err(CertFault::Field);
+    }
+    Ok((Bounds { first, last }, rest))
+}
+
+fn other_of(number: u8) -> Option<Other>
+    ensures { result ≡ other_of number }
+{
+    match number {
+        0 => None,
+        1 => Some(Other::Register(Register::A)),
+        2 => Some(Other::Register(Register::B)),
+        3 => Some(Other::Register(Register::C)),
+        4 => Some(Other::Register(Register::D)),
+        5 => Some(Other::Register(Register::E)),
+        6 => Some(Other::Register(Register::H)),
+        7 => Some(Other::Register(Register::L)),
+        8 => Some(Other::Pair(WordPair::Bc)),
+        9 => Some(Other::Pair(WordPair::De)),
+        _ => Some(Other::Pair(WordPair::Hl)),
+    }
+}
+
+/// What a link reads beside its pair, where there is a link.
+#[tactic(auto, unfolding(crate::specs::RelationReading::other_at))]
+fn other_at(bytes: &[u8]) -> Result<(Option<Other>, &[u8]), CertFault>
+    ensures { Gives (λ x. (x.0, x.1.now)) result (other_at bytes.now) }
+{
+    let (number, rest) = byte_between(0, 10, bytes)?;
+    Ok((other_of(number), rest))
+}
+
+/// A factor, which is spelled in two's complement, modulo 65,536.
+#[tactic(auto, unfolding(crate::specs::RelationReading::factor_at))]
+fn factor_at(bytes: &[u8]) -> Result<(u16, &[u8]), CertFault>
+    ensures { Gives (λ x. (x.0, x.1.now)) result (factor_at bytes.now) }
+{
+    let (number, rest) = byte_between(1, 255, bytes)?;
+    let factor = if number < 128 {
+        number as u16
+    } else {
+        number as u16 + 0xFF00
+    };
+    Ok((factor, rest))
+}
+
+/// A link, where there is one: its factor and its sum behind what it reads.
+fn link_of(other: Option<Other>, bytes: &[u8]) -> Result<(Option<Link>, &[u8]), CertFault>
+    ensures { Gives (λ x. (x.0, x.1.now)) result (link_of other bytes.now) }
+{
+    let Some(other) = other else {
+        return Ok((None, bytes));
+    };
+    let (factor, rest) = factor_at(bytes)?;
+    let (sum, rest) = word(rest)?;
+    let link = Link { other, factor, sum };
+    Ok((Some(link), rest))
+}
+
+#[tactic(auto, unfolding(crate::specs::RelationReading::link_at))]
+fn link_at(bytes: &[u8]) -> Result<(Option<Link>, &[u8]), CertFault>
+    ensures { Gives (λ x. (x.0, x.1.now)) result (link_at bytes.now) }
+{
+    let (other, rest) = other_at(bytes)?;
+    link_of(other, rest)
+}
+
+/// Whether a pair isn't any word, or has a link.
+fn is_known(facts: PairFacts) -> bool
+    ensures { result ≡ is_known facts }
+{
+    facts.link.is_some() || !(facts.bounds.first == 0 && facts.bounds.last == 0xFFFF)
+}
+
+#[tactic(auto, unfolding(crate::specs::RelationReading::facts_at))]
+fn facts_at(bytes: &[u8]) -> Result<(PairFacts, &[u8]), CertFault>
+    ensures { Gives (λ x. (x.0, x.1.now)) result (facts_at bytes.now) }
+{
+    let (bounds, rest) = bounds_at(bytes)?;
+    let (link, rest) = link_at(rest)?;
+    let facts = PairFacts { bounds, link };
+    if !is_known(facts) {
+        return Err(CertFault::Field);
+    }
+    Ok((facts, rest))
+}
+
+/// What is known of a pair, where it is there.
+fn facts_where(there: bool, bytes: &[u8]) -> Result<(PairFacts, &[u8]), CertFault>
+    ensures { Gives (λ x. (x.0, x.1.now)) result (defaulted nothing_known there facts_at bytes.now) }
+{
+    if there {
+        facts_at(bytes)
+    } else {
+        Ok((NOTHING_KNOWN, bytes))
+    }
+}
+
+#[tactic(auto, unfolding(crate::specs::RelationReading::pairs_at))]
+fn pairs_at(present: Present, bytes: &[u8]) -> Result<(Pairs, &[u8]), CertFault>
+    ensures { Gives (λ x. (x.0, x.1.now)) result (pairs_at present bytes.now) }
+{
+    let (bc, rest) = facts_where(present.bc, bytes)?;
+    let (de, rest) = facts_where(present.de, rest)?;
+    let (hl, rest) = facts_where(present.hl, rest)?;
+    Ok((Pairs { bc, de, hl }, rest))
+}
+
+// ---- all of them
+
+/// What is known of several parts of a state together; the test is the state's.
+#[tactic(auto, unfolding(crate::specs::RelationReading::relations_at))]
+pub fn relations_at(
+    region: Region,
+    test: Option<u8>,
+    bytes: &[u8],
+) -> Result<(Relations, &[u8]), CertFault>
+    ensures { Gives (λ x. (x.0, x.1.now)) result (relations_at region test bytes.now) }
+{
+    let (present, rest) = present_at(test, bytes)?;
+    let (byte, rest) = byte_where(region, test, present, rest)?;
+    let (zero, rest) = zero_where(present.zero, rest)?;
+    let (pairs, rest) = pairs_at(present, rest)?;
+    Ok((Relations { byte, zero, pairs }, rest))
+}
