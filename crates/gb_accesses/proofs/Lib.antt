@@ -1,3 +1,4 @@
 pub mod Fetching
 pub mod Joining
 pub mod Below
+pub mod Plainly

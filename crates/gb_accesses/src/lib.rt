@@ -5,12 +5,14 @@
 //! bytes were free.
 #![tactic(auto)]
 
-ghost use Rattle.std.specs.Prelude.{[], ◌∷◌, ◌≡◌, ◌&&◌, true};
+ghost use Rattle.std.specs.Prelude.{[], ◌∷◌, ◌++◌, ◌≡◌, ◌<◌, ◌&&◌, nat_le, true};
 ghost use Rattle.gb_ops.specs.Memory.{is_free, stored};
-ghost use Rattle.gb_ops.specs.Machine.{fetched, loaded, is_bytes};
+ghost use Rattle.gb_ops.specs.Machine.{fetched, loaded, is_bytes, length_of};
 ghost use Rattle.gb_ops.specs.Accesses.{Joined, where_wanted, fetch_log, load_log, store_log};
 ghost use Rattle.gb_ops.specs.Accesses as access;
 ghost use Rattle.gb_accesses.specs.Access.{Gave, queued, queued_two, free_fetches, free_reads};
+
+pub mod plain;
 
 use gb_bus::Taken;
 use gb_effects::advance::{length_of, second_address, third_address};
@@ -25,7 +27,7 @@ pub use gb_effects::effect::{perform, read_of, with_pc, with_sp};
 /// Reads a byte.
 #[inline(always)]
 #[tactic(auto, using(crate::proofs::Fetching::gave))]
-fn take<B: Bus>(bus: &mut B, address: u16) -> Taken
+pub fn take<B: Bus>(bus: &mut B, address: u16) -> Taken
     ensures view { B.shows bus.new ≡ B.shows bus.old }
     ensures gave { Gave true (B.shows bus.old) address result.is_free result.byte }
     ensures free { result.is_free ≡ is_free (B.shows bus.old) address }
@@ -86,6 +88,32 @@ pub struct Fetched {
     pub free: [u8; 3],
 }
 
+/// An instruction's second and third byte; one behind its length is 00, and not free.
+#[derive(Clone, Copy)]
+pub struct Rest {
+    pub second: Taken,
+    pub third: Taken,
+}
+
+/// Reads the bytes of an instruction behind its first, at these addresses.
+#[inline(always)]
+#[tactic(auto, using(crate::proofs::Joining::joined_append))]
+pub fn fetch_rest<B: Bus>(bus: &mut B, opcode: u8, second: u16, third: u16) -> Rest
+    ensures view { B.shows bus.new ≡ B.shows bus.old }
+    ensures second_gave { Gave (nat_le 2 (length_of opcode)) (B.shows bus.old) second result.second.is_free result.second.byte }
+    ensures third_gave { Gave (nat_le 3 (length_of opcode)) (B.shows bus.old) third result.third.is_free result.third.byte }
+    ensures second_free { result.second.is_free ≡ (nat_le 2 (length_of opcode) && is_free (B.shows bus.old) second) }
+    ensures third_free { result.third.is_free ≡ (nat_le 3 (length_of opcode) && is_free (B.shows bus.old) third) }
+    ensures second_byte { result.second.byte < 256 }
+    ensures third_byte { result.third.byte < 256 }
+    ensures joined { Joined B.does bus.old (where_wanted (nat_le 2 (length_of opcode)) (access.Reads second result.second.byte) ++ where_wanted (nat_le 3 (length_of opcode)) (access.Reads third result.third.byte)) bus.new }
+{
+    let length = length_of(opcode);
+    let second = take_where(bus, length >= 2, second);
+    let third = take_where(bus, length >= 3, third);
+    Rest { second, third }
+}
+
 /// Reads the bytes of the instruction at PC.
 #[inline(always)]
 #[tactic(auto, using(crate::proofs::Fetching::fetched_is, crate::proofs::Joining::joined_append), unfolding(gb_ops::specs::Accesses::fetch_log, crate::specs::Access::free_fetches))]
@@ -97,12 +125,15 @@ pub fn fetch<B: Bus>(bus: &mut B, processor: Processor) -> Fetched
     ensures joined { Joined B.does bus.old (fetch_log processor result.bytes) bus.new }
 {
     let first = take(bus, processor.pc);
-    let length = length_of(first.byte);
-    let second = take_where(bus, length >= 2, second_address(processor));
-    let third = take_where(bus, length >= 3, third_address(processor));
+    let rest = fetch_rest(
+        bus,
+        first.byte,
+        second_address(processor),
+        third_address(processor),
+    );
     Fetched {
-        bytes: [first.byte, second.byte, third.byte],
-        free: queue(first, queue(second, queue(third, [0, 0, 0]))),
+        bytes: [first.byte, rest.second.byte, rest.third.byte],
+        free: queue(first, queue(rest.second, queue(rest.third, [0, 0, 0]))),
     }
 }
 

@@ -1,13 +1,12 @@
 -- M-cycles in which nothing happens, passed at once, are as many one by one.
-use Rattle.std.proofs.Common.{◌≡◌, ℕ, zero, suc, ◌+◌, ◌-◌, ◌≤◌, Bool, true, false, if◌then◌else◌, refl, sym, ap, ◌∙◌, arith}
+use Rattle.std.proofs.Common.{◌≡◌, ℕ, zero, suc, ◌+◌, ◌-◌, Bool, true, false, if◌then◌else◌, refl, sym, ap, ◌∙◌, arith}
 use Rattle.gb_ops.specs.Memory.{View, passed}
 use Rattle.gb_ppu.specs.Below.gb_timer.Timer as Timer
 use Rattle.gb_ppu.proofs.Below.gb_timer_laws.Passing.{advanced_append, advanced_zero}
 use Rattle.gb_ppu.specs.Picture as Picture
 use Rattle.gb_ppu.proofs.Passing.{advanced-append}
 use Rattle.gb_bus.specs.Contents.{Contents}
-use Rattle.gb_bus.specs.Access.{shared, advanced, timed}
-use Rattle.gb_bus.specs.Screen.{pictured}
+use Rattle.gb_bus.specs.Access.{shared, advanced}
 use Rattle.gb_devices.specs.Devices.{IsStill, after}
 use Rattle.gb_bus.specs.Waiting.{Waits}
 use Rattle.gb_devices.proofs.Stillness.{still_first, still_behind}

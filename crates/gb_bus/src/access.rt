@@ -89,16 +89,27 @@ impl Memory<'_> {
         self.open_taken(address).byte
     }
 
+    /// Lets the picture see what is owed, where an address asks for it.
+    fn settle_at(&mut self, address: u16)
+        ensures { self.new ≡ self.old }
+    {
+        if matches!(address, 0x8000..=0x9FFF | 0xFE00..=0xFE9F | 0xFF40..=0xFF4B) {
+            self.devices.settle();
+        }
+    }
+
     /// What is read, and whether it is free; kept out of the callers of `taken`.
     #[inline(never)]
     #[tactic(auto, unfolding(crate::specs::Access::byte_read, gb_ops::specs::Memory::is_free, gb_ops::specs::Memory::place_of))]
-    fn taken_anywhere(&self, address: u16) -> Taken
-        ensures byte { result.byte ≡ Access.byte_read self.now address }
-        ensures free { result.is_free ≡ Spec.is_free self.now.view address }
+    fn taken_anywhere(&mut self, address: u16) -> Taken
+        ensures same { self.new ≡ self.old }
+        ensures byte { result.byte ≡ Access.byte_read self.old address }
+        ensures free { result.is_free ≡ Spec.is_free self.old.view address }
     {
         if self.is_closed(address) {
             free(0xFF)
         } else {
+            self.settle_at(address);
             self.open_taken(address)
         }
     }
@@ -106,9 +117,10 @@ impl Memory<'_> {
     /// The same; ROM, from where most instructions come, is read in place.
     #[inline(always)]
     #[tactic(auto, using(crate::proofs::Reading::rom_reads))]
-    fn taken(&self, address: u16) -> Taken
-        ensures byte { result.byte ≡ Access.byte_read self.now address }
-        ensures free { result.is_free ≡ Spec.is_free self.now.view address }
+    fn taken(&mut self, address: u16) -> Taken
+        ensures same { self.new ≡ self.old }
+        ensures byte { result.byte ≡ Access.byte_read self.old address }
+        ensures free { result.is_free ≡ Spec.is_free self.old.view address }
     {
         if address < 0x8000 && self.transfer.left() == 0 {
             fixed(self.rom_byte(address))
@@ -164,6 +176,7 @@ impl Memory<'_> {
         requires { 0x8000 ≤ address }
         ensures { self.new ≡ Access.hardware_written (Map.hardware_at address) self.old value }
     {
+        self.settle_at(address);
         match hardware_at(address) {
             Hardware::VideoRam(i) => {
                 if !self.uses_video_ram() {

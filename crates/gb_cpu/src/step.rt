@@ -81,7 +81,7 @@ pub struct Cpu {
 /// An undefined opcode.
 #[inline(always)]
 #[tactic(auto, unfolding(gb_ops::specs::Machine::locked))]
-fn lock<B: Bus>(processor: &mut Processor, bus: &mut B)
+pub(crate) fn lock<B: Bus>(processor: &mut Processor, bus: &mut B)
     ensures state { state processor.new (B.shows bus.new) ≡ Machine.locked (state processor.old (B.shows bus.old)) }
     ensures joined { Joined B.does bus.old (access.Passes 1 ∷ []) bus.new }
 {
@@ -95,7 +95,7 @@ fn lock<B: Bus>(processor: &mut Processor, bus: &mut B)
 /// A row's instruction, or an undefined opcode.
 #[inline(always)]
 #[tactic(auto, unfolding(gb_ops::specs::Machine::run_row))]
-pub(crate) fn run_row<B: Bus>(processor: &mut Processor, bus: &mut B, row: Option<Row>) -> Executed
+fn run_row<B: Bus>(processor: &mut Processor, bus: &mut B, row: Option<Row>) -> Executed
     ensures state { state processor.new (B.shows bus.new) ≡ Machine.run_row row (state processor.old (B.shows bus.old)) result.reads }
     ensures joined { Joined B.does bus.old (row_log row (state processor.old (B.shows bus.old)) result.reads) bus.new }
     ensures cycles { result.cycles ≡ row_cycles row (state processor.old (B.shows bus.old)) result.reads }

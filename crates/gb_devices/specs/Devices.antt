@@ -4,7 +4,7 @@ use Rattle.gb_ppu.specs.Below.gb_timer.Timer.{Counters, IsInRange, counts, overf
 use Rattle.gb_ppu.specs.Below.gb_timer.Timer as Timer
 use Rattle.gb_ppu.specs.declared.picture.Picture.{Picture}
 use Rattle.gb_ppu.specs.Picture as Picture
-use Rattle.gb_ppu.specs.QuietCycles.{IsQuietFor}
+use Rattle.gb_ppu.specs.QuietCycles.{IsSilentFor}
 use Rattle.gb_ppu.specs.WellFormed.{IsWellFormed}
 
 pub record DeviceState : Type 0 where
@@ -18,6 +18,6 @@ after d n = record { timer = Timer.advanced d.timer n; picture = Picture.advance
 -- in n M-cycles nothing overflows, is requested or drawn
 pub record IsStill (d : DeviceState) (n : ℕ) : Type 0 where
   pub overflows : overflows d.timer (counts d.timer n) ≡ 0
-  pub quiet : IsQuietFor n d.picture
+  pub quiet : IsSilentFor n d.picture
   pub range : IsInRange d.timer
   pub formed : IsWellFormed d.picture

@@ -49,7 +49,7 @@ fn least(a: u16, b: u16) -> u8
 fn quiet_of(timer: &Timer, ppu: &Ppu) -> u8
     ensures { IsStill (record { timer = timer.now; picture = ppu.now }) result }
 {
-    least(timer.quiet(), ppu.quiet())
+    least(timer.quiet(), ppu.silent())
 }
 
 impl Devices {
@@ -104,6 +104,16 @@ impl Devices {
         ensures { self.new ≡ record self.old { picture = ppu } }
     {
         *self = Devices::of(self.timer(), ppu);
+    }
+
+    /// Lets timer and picture see what is owed, where the picture changes in it more than its place: whoever asks for it
+    /// again and again then goes through a change once.
+    pub fn settle(&mut self)
+        ensures { self.new ≡ self.old }
+    {
+        if u16::from(self.owed) > self.ppu.quiet() {
+            *self = Devices::of(self.timer(), self.ppu());
+        }
     }
 
     /// Lets M-cycles pass in which nothing is requested and no line is drawn: so many at most. Answers how many.

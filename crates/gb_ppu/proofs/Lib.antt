@@ -2,6 +2,7 @@ pub mod LineObjects
 pub mod MapRows
 pub mod PaletteBits
 pub mod Passing
+pub mod Silent
 pub mod LaneLaws
 pub mod NearerLanes
 pub mod FrontLines

@@ -7,7 +7,7 @@ begins : (x : ℕ) → x % 114 ≡ 20 → x / 114 < 144 → begins_drawing x ≡
 unfolding begins_drawing
 begins x column line = grind (arith, nat_tests)
 
-begins-not : (x : ℕ) → (x % 114 ≡ 20 → 144 ≤ x / 114) → begins_drawing x ≡ false
+pub begins-not : (x : ℕ) → (x % 114 ≡ 20 → 144 ≤ x / 114) → begins_drawing x ≡ false
 unfolding begins_drawing
 begins-not x not_here = grind (arith, nat_tests)
 

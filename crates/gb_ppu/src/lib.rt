@@ -4,7 +4,8 @@
 //! number of earlier lines of the frame that showed the window, whatever was written meanwhile. `line::render_line` gives
 //! each pixel of a line its shade (`pixels`), and says which object is in front there (`front`).
 //!
-//! Read `picture` (the state and one M-cycle), `course` (several), `registers` and `ppu`; then `lanes` (rows of tiles and
+//! Read `picture` (the state and one M-cycle), `course` (several), `silence` (how long
+//! nothing is requested or drawn), `registers` and `ppu`; then `lanes` (rows of tiles and
 //! palettes, eight or sixteen pixels at once), `maps` and `background`, `objects` and `front` (the objects in front), `mixing`
 //! and `line` (a whole line). The definitions are in `specs/Picture.antt`, `Frames.antt` (the window's own line),
 //! `LcdRegisters.antt`, `Pixel.antt`, `FrontObject.antt` (the object in front) and `FrontLine.antt` (what lanes hold of it).
@@ -24,6 +25,7 @@ pub mod picture;
 pub mod ppu;
 pub mod registers;
 pub mod scene;
+mod silence;
 
 // What lies below, for the crates above.
 pub use gb_timer::irqs::{Irqs, Keys, next_irq};

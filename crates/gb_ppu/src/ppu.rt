@@ -11,6 +11,7 @@ use crate::mode::Mode;
 use crate::picture::{DRAWN_LINES, FRAME_CYCLES, LINE_CYCLES, LINES, Picture, Requests};
 use crate::registers::LcdRegister;
 use crate::scene::{OAM, Scene, VIDEO_RAM};
+use crate::silence::silent_from;
 use bitflags::Flags;
 use gb_timer::irqs::Irqs;
 use std::marker::Model;
@@ -62,7 +63,7 @@ impl Ppu {
     ghost use Rattle.gb_ppu.specs.SameRegisters.{HasSameRegisters};
     ghost use Rattle.gb_ppu.specs.WellFormed.{IsWellFormed};
     ghost use Rattle.gb_ppu.specs.PowerUp.{power_up};
-    ghost use Rattle.gb_ppu.specs.QuietCycles.{IsQuietFor};
+    ghost use Rattle.gb_ppu.specs.QuietCycles.{IsQuietFor, IsSilentFor};
     ghost use Rattle.gb_ppu.specs.Seen.{seen, seen_by};
     ghost use Rattle.gb_ppu.specs.Frames.{IsFramed, IsWindowLine};
 
@@ -134,6 +135,19 @@ impl Ppu {
     {
         if is_on(self.picture.lcdc) {
             quiet_at(self.picture.position)
+        } else {
+            u16::MAX
+        }
+    }
+
+    /// So many M-cycles pass in which nothing is requested and no line is drawn; more may.
+    #[tactic(auto, using(crate::proofs::Silent::off_silent))]
+    pub fn silent(&self) -> u16
+        ensures silent { IsSilentFor result self.now }
+        ensures formed { IsWellFormed self.now }
+    {
+        if is_on(self.picture.lcdc) {
+            silent_from(&self.picture)
         } else {
             u16::MAX
         }
