@@ -2,7 +2,8 @@
 //!
 //! They see M-cycles pass as one of them comes to a change, or as they are asked for. Until then the M-cycles
 //! are owed, and contracts see both as they are with those passed. The key contracts are `owe` and `wait`: M-cycles pass
-//! only where nothing is requested and no line is drawn in them.
+//! only where nothing is requested and no line is drawn in them. `settle` lets them be seen where someone asks for the picture
+//! again and again, and changes nothing that contracts see.
 #![tactic(auto)]
 
 ghost use Rattle.std.specs.Prelude.{◌≡◌, ◌≤◌, true, false};
