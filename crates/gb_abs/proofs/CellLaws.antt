@@ -40,9 +40,9 @@ ArePlaced-entered region c cells p h =
     AllByRecursion-append (IsPlaced region) (filter (is_below c.address) cells) (c ∷ filter (is_above c.address) cells)
     (ArePlaced-where region (is_below c.address) cells h) (p, ArePlaced-where region (is_above c.address) cells h)
 
-pub ArePlaced-with_cell : (region : Region) (c : Cell) (cells : List Cell) → IsPlaced region c → ArePlaced region cells → ArePlaced region (with_cell c cells)
+pub ArePlaced-with_cell : (region : Region) (room : ℕ) (c : Cell) (cells : List Cell) → IsPlaced region c → ArePlaced region cells → ArePlaced region (with_cell room c cells)
 unfolding with_cell
-ArePlaced-with_cell region c cells p h = choose (list_any (is_at c.address) cells || nat_lt (length cells) 32)
+ArePlaced-with_cell region room c cells p h = choose (list_any (is_at c.address) cells || nat_lt (length cells) room)
   where
     choose : (b : Bool) → ArePlaced region (cond b (entered c cells) cells)
     choose true = ArePlaced-entered region c cells p h
@@ -105,9 +105,9 @@ AreInOrder-entered region least c cells k h =
 
 -- a state's cells stay in order where one gets a value
 pub AreInOrder-with_cell :
-    (region : Region) (least : ℕ) (c : Cell) (cells : List Cell) → IsCell region least c → AreInOrder region least cells → AreInOrder region least (with_cell c cells)
+    (region : Region) (least room : ℕ) (c : Cell) (cells : List Cell) → IsCell region least c → AreInOrder region least cells → AreInOrder region least (with_cell room c cells)
 unfolding with_cell
-AreInOrder-with_cell region least c cells k h = choose (list_any (is_at c.address) cells || nat_lt (length cells) 32)
+AreInOrder-with_cell region least room c cells k h = choose (list_any (is_at c.address) cells || nat_lt (length cells) room)
   where
     choose : (b : Bool) → AreInOrder region least (cond b (entered c cells) cells)
     choose true = AreInOrder-entered region least c cells k h
@@ -119,9 +119,9 @@ pub AreInOrder-without_cells :
 unfolding without_cells
 AreInOrder-without_cells region least first last cells h = AreInOrder-where region (is_outside first last) least cells h
 
-pub with_cell_ordered : (s o : AbsState) (c : Cell) → o ≡ record s { cells = with_cell c s.cells } → IsEntryInOrder c s.cells o.cells
-with_cell_ordered s o c e =
-    record { gives = λ region least k h. subst (λ (w : AbsState). AreInOrder region least w.cells) (sym e) (AreInOrder-with_cell region least c s.cells k h) }
+pub with_cell_ordered : (s o : AbsState) (room : ℕ) (c : Cell) → o ≡ record s { cells = with_cell room c s.cells } → IsEntryInOrder c s.cells o.cells
+with_cell_ordered s o room c e =
+    record { gives = λ region least k h. subst (λ (w : AbsState). AreInOrder region least w.cells) (sym e) (AreInOrder-with_cell region least room c s.cells k h) }
 
 pub without_cells_ordered : (s o : AbsState) (first last : ℕ) → o ≡ record s { cells = without_cells first last s.cells } → IsDropInOrder s.cells o.cells
 without_cells_ordered s o first last e =
@@ -159,17 +159,18 @@ some-at test (x ∷ xs) h = choose (test x) h (some-at test xs)
     choose true h rest = omega arith
     choose false h rest = rest h
 
--- a cell that finds its place leaves at most 32
+-- a cell that finds its place leaves at most 64
 pub entered_fits :
-    (c : Cell) (cells : List Cell) → (list_any (is_at c.address) cells || nat_lt (length cells) 32) ≡ true → length cells ≤ 32 → length (entered c cells) ≤ 32
+    (room : ℕ) (c : Cell) (cells : List Cell)
+    → room ≤ 64 → (list_any (is_at c.address) cells || nat_lt (length cells) room) ≡ true → length cells ≤ 64 → length (entered c cells) ≤ 64
 unfolding entered
-entered_fits c cells h most =
+entered_fits room c cells small h most =
     let three = length-three c.address cells in
     let sum = length-append (filter (is_below c.address) cells) (c ∷ filter (is_above c.address) cells) in
-    let room = spare (list_any (is_at c.address) cells) (length cells) (length (filter (is_at c.address) cells)) h (some-at (is_at c.address) cells) most in
+    let left = spare (list_any (is_at c.address) cells) (length cells) (length (filter (is_at c.address) cells)) h (some-at (is_at c.address) cells) most in
     omega arith
   where
-    spare : (b : Bool) (n k : ℕ) → (b || nat_lt n 32) ≡ true → (b ≡ true → 1 ≤ k) → n ≤ 32 → n < 32 + k
+    spare : (b : Bool) (n k : ℕ) → (b || nat_lt n room) ≡ true → (b ≡ true → 1 ≤ k) → n ≤ 64 → n < 64 + k
     spare true n k h some most = let one = some refl in omega arith
     spare false n k h some most = grind (arith, nat_tests)
 
@@ -189,7 +190,7 @@ left test (x ∷ xs) (suc i) d lt h = left test xs i d (omega arith) h
 -- a loop over a list that has kept what passes has room for the next
 pub room_left :
     {X : Type 0} (test : X → Bool) (kept xs before : List X) (i : ℕ) (d : X) → kept ++ filter test (drop i xs) ≡ before ++ filter test xs → i < length xs
-    → test (get_or xs i d) ≡ true → length before + length (filter test xs) ≤ 32 → length kept < 32
+    → test (get_or xs i d) ≡ true → length before + length (filter test xs) ≤ 64 → length kept < 64
 room_left test kept xs before i d e lt h most =
     let some = left test xs i d lt h in
     let one = length-append kept (filter test (drop i xs)) in

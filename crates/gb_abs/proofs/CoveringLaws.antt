@@ -23,12 +23,11 @@ use Rattle.gb_domain.specs.declared.types.Cell.{Cell}
 use Rattle.gb_domain.specs.declared.types.Core.{Core}
 use Rattle.gb_domain.specs.Types.{AbsState}
 use Rattle.gb_abs.specs.Storage.{peek}
-use Rattle.gb_abs.specs.Meaning.{Holds, HoldsFlags, HoldsController, MeansCore, AreItems, Means, IsMemory, ime_may_be}
-use Rattle.gb_abs.specs.Covering.{origin_number, covers_origin, covers_val, covers_may, covers_flags, covers_ime, covers_controller, covers_registers, covers_test, covers_core, covers_items, cell_at, covers_cells, covers, implied}
+use Rattle.gb_abs.specs.Meaning.{Holds, HoldsFlags, HoldsController, MeansCore, AreItems, MeansParts, IsMemory, ime_may_be}
+use Rattle.gb_abs.specs.Covering.{origin_number, covers_origin, covers_val, covers_may, covers_flags, covers_ime, covers_controller, covers_registers, covers_core, covers_items, cell_at, covers_cells, covers_parts, implied}
 use Rattle.gb_abs.specs.Sound.{IsPartOf}
 use Rattle.gb_vals.specs.Vals.{any_val}
 use Rattle.gb_vals.specs.Meaning.{may_be}
-use Rattle.gb_vals.specs.Tests.{IsTested}
 
 -- ---- tests and what they say
 
@@ -48,7 +47,9 @@ origin_at n =
     else if n == 5 then origin.Register H
     else if n == 6 then origin.Register L
     else if n == 7 then origin.F
-    else origin.Ie
+    else if n == 8 then origin.Ie
+    else if n == 9 then origin.ReturnHigh
+    else origin.ReturnLow
 
 origin_at-number : (o : Origin) → origin_at (origin_number o) ≡ o
 unfolding origin_at
@@ -61,11 +62,13 @@ origin_at-number (origin.Register H) = refl
 origin_at-number (origin.Register L) = refl
 origin_at-number origin.F = refl
 origin_at-number origin.Ie = refl
+origin_at-number origin.ReturnHigh = refl
+origin_at-number origin.ReturnLow = refl
 
 pub same_origin : (s t : Origin) → (origin_number s == origin_number t) ≡ true → s ≡ t
 same_origin s t h = sym (origin_at-number s) ∙ ap origin_at (eqb-true (origin_number s) (origin_number t) h) ∙ origin_at-number t
 
-origin_from : (from to : Option Origin) (o : Origin) → covers_origin from to ≡ true → to ≡ Some o → from ≡ Some o
+pub origin_from : (from to : Option Origin) (o : Origin) → covers_origin from to ≡ true → to ≡ Some o → from ≡ Some o
 origin_from from None o h e = cc
 origin_from None (Some to) o h e = cc
 origin_from (Some from) (Some to) o h e = ap Some (same_origin from to h) ∙ e
@@ -144,16 +147,10 @@ register_covered s t r h =
     let b = and_parts _ _ c.0 in
     elim r as (λ q. covers_val (get q s) (get q t) ≡ true) [ A ↦ b.0 | B ↦ b.1 | C ↦ c.1 | D ↦ d.1 | E ↦ e.1 | H ↦ h'.1 | L ↦ l.1 ]
 
-test_covered : (s t : Option ℕ) (a : ℕ) (f : Flags) → covers_test s t ≡ true → IsTested s a f → IsTested t a f
-test_covered s None a f h m = tt
-test_covered None (Some t) a f h m = cc
-test_covered (Some s) (Some t) a f h m = subst (λ n. IsTested (Some n) a f) (eqb-true s t h) m
-
 core_covered : (s t : Core) (entry x : MState) → covers_core s t ≡ true → MeansCore s entry x → MeansCore t entry x
 unfolding covers_core
 core_covered s t entry x h m =
-    let test = and_parts _ _ h in
-    let stack = and_parts _ _ test.0 in
+    let stack = and_parts _ _ h in
     let bound = and_parts _ _ stack.0 in
     let controller = and_parts _ _ bound.0 in
     let ime = and_parts _ _ controller.0 in
@@ -167,7 +164,6 @@ core_covered s t entry x h m =
       ime = ime_covered s.ime t.ime x.processor.ime ime.1 m.ime;
       controller = controller_covered s.ctl t.ctl entry x.storage.banks controller.1 m.controller;
       count = let a = m.count in omega arith;
-      test = test_covered s.test t.test _ _ test.1 m.test;
       locked = m.locked;
       stopped = m.stopped;
     }
@@ -175,8 +171,7 @@ core_covered s t entry x h m =
 stack_covered : (s t : Core) → covers_core s t ≡ true → t.stack_set ≡ true → s.stack_set ≡ true
 unfolding covers_core
 stack_covered s t h e =
-    let test = and_parts _ _ h in
-    let stack = and_parts _ _ test.0 in
+    let stack = and_parts _ _ h in
     implied_use _ _ stack.1 e
 
 -- ---- items and cells
@@ -192,7 +187,7 @@ items_covered (s ∷ ss) (t ∷ ts) entry top m h a =
 abbrev pub AreCells : List Cell → MState → Storage → Type 0
 AreCells cells entry m = AllByRecursion (λ c. Holds c.val entry (peek m c.address)) cells
 
-Holds-any : (entry : MState) (x : ℕ) → x ≤ 255 → Holds any_val entry x
+pub Holds-any : (entry : MState) (x : ℕ) → x ≤ 255 → Holds any_val entry x
 Holds-any entry x h = record { least = omega arith; most = h; origin = λ o e. cc }
 
 -- what is known of a byte holds of it
@@ -212,9 +207,9 @@ cells_covered ss (t ∷ ts) entry m k h a =
     (Holds-covered _ _ _ _ p.0 (Holds-cell ss t.address entry m k a), cells_covered ss ts entry m k p.1 a)
 
 -- what covers an abstract state stands for each of its machine states
-pub Means-covered : (s t : AbsState) (entry : MState) (base : ℕ) (x : MState) → covers s t ≡ true → Means s entry base x → Means t entry base x
-unfolding covers covers_cells
-Means-covered s t entry base x h m =
+pub MeansParts-covered : (s t : AbsState) (entry : MState) (base : ℕ) (x : MState) → covers_parts s t ≡ true → MeansParts s entry base x → MeansParts t entry base x
+unfolding covers_parts covers_cells
+MeansParts-covered s t entry base x h m =
     let cells = and_parts _ _ h in
     let items = and_parts _ _ cells.0 in
     record {
@@ -232,5 +227,5 @@ Means-covered s t entry base x h m =
     lengths (s ∷ ss) [] h = cc
     lengths (s ∷ ss) (t ∷ ts) h = ap suc (lengths ss ts (and_parts _ _ h).1)
 
-pub covers_sound : (s t : AbsState) (o : Bool) → o ≡ covers s t → o ≡ true → IsPartOf s t
-covers_sound s t o e h = record { gives = λ entry base x m. Means-covered s t entry base x (sym e ∙ h) m }
+pub covers_parts_sound : (s t : AbsState) (o : Bool) → o ≡ covers_parts s t → o ≡ true → IsPartOf s t
+covers_parts_sound s t o e h = record { gives = λ entry base x m. MeansParts-covered s t entry base x (sym e ∙ h) m }

@@ -4,4 +4,7 @@ pub mod ListLaws
 pub mod StorageLaws
 pub mod StackLaws
 pub mod OperationLaws
+pub mod LocatedLaws
+pub mod ByteLaws
+pub mod WideningLaws
 pub mod Below

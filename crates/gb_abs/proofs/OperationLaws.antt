@@ -1,9 +1,8 @@
 -- Each operation follows its change of the machine.
-use Rattle.std.proofs.Common.{◌≡◌, ℕ, ◌-◌, ◌≤◌, ◌<◌, Bool, true, false, ◌||◌, List, Option, refl, sym, ◌∙◌, ap, subst, arith}
+use Rattle.std.proofs.Common.{◌≡◌, ℕ, ◌-◌, ◌≤◌, ◌<◌, Bool, true, false, ◌||◌, List, refl, sym, ◌∙◌, ap, subst, arith}
 use Rattle.gb_ops.specs.declared.op.Register.{Register}
 use Rattle.gb_ops.specs.declared.op.Register.TheVariants.{A, B, C, D, E, H, L}
 use Rattle.gb_ops.specs.declared.registers.Registers.{Registers}
-use Rattle.gb_ops.specs.declared.registers.Flags.{Flags}
 use Rattle.gb_ops.specs.declared.registers.Ime.{Ime}
 use Rattle.gb_ops.specs.declared.registers.Ime.TheVariants.{Off, Pending, On}
 use Rattle.gb_ops.specs.Registers.{get, set}
@@ -17,12 +16,10 @@ use Rattle.gb_domain.specs.declared.types.ImeSet.{ImeSet}
 use Rattle.gb_domain.specs.declared.types.Core.{Core}
 use Rattle.gb_domain.specs.Types.{AbsState}
 use Rattle.gb_domain.specs.Rules.{IsVal, IsCore, may_be_any}
-use Rattle.std.specs.Prelude.{IfSome}
-use Rattle.gb_abs.specs.Meaning.{Holds, MeansCore, Means, ime_may_be}
+use Rattle.gb_abs.specs.Meaning.{Holds, MeansCore, MeansParts, ime_may_be}
 use Rattle.gb_abs.specs.Sound.{IsSoundSet, IsSoundValue, IsSoundSettling, IsSoundEnd}
 use Rattle.gb_vals.specs.Vals.{single}
-use Rattle.gb_vals.specs.Tests.{IsTested}
-use Rattle.gb_abs.specs.Operations.{test_after, core_set_register, core_with_value, ime_set_after, core_settle, core_end, with_core}
+use Rattle.gb_abs.specs.Operations.{core_set_register, core_with_value, ime_set_after, core_settle, core_end, with_core}
 
 -- a fact about two records of registers, after a write to both
 pub set_both :
@@ -43,15 +40,6 @@ set_both P H q v x vs xs n o = o q
 set_both P L L v x vs xs n o = n
 set_both P L q v x vs xs n o = o q
 
-tested_after : (r : Register) (n : ℕ) (test : Option ℕ) (xs : Registers ℕ) (f : Flags) → IsTested test xs.a f → IsTested (test_after r test) (set r n xs).a f
-tested_after A n test xs f h = tt
-tested_after B n test xs f h = h
-tested_after C n test xs f h = h
-tested_after D n test xs f h = h
-tested_after E n test xs f h = h
-tested_after H n test xs f h = h
-tested_after L n test xs f h = h
-
 -- the machine with a register changed
 abbrev pub register_set : Register → ℕ → MState → MState
 register_set r n s = record s { processor = with_registers s.processor (set r n s.processor.registers) }
@@ -68,7 +56,6 @@ MeansCore-set_register s entry x r v n h m =
       ime = m.ime;
       controller = m.controller;
       count = m.count;
-      test = tested_after r n s.test x.processor.registers x.processor.flags m.test;
       locked = m.locked;
       stopped = m.stopped;
     }
@@ -97,7 +84,6 @@ MeansCore-settle s entry x pc m =
       ime = ime_settled s.ime x.processor.ime m.ime;
       controller = m.controller;
       count = m.count;
-      test = m.test;
       locked = m.locked;
       stopped = m.stopped;
     }
@@ -117,7 +103,6 @@ MeansCore-pass s entry x n m =
       ime = m.ime;
       controller = m.controller;
       count = let a = m.count in omega arith;
-      test = m.test;
       locked = m.locked;
       stopped = m.stopped;
     }
@@ -132,7 +117,6 @@ MeansCore-wait s entry x n m =
       ime = m.ime;
       controller = m.controller;
       count = let a = m.count in omega arith;
-      test = m.test;
       locked = m.locked;
       stopped = m.stopped;
     }
@@ -175,16 +159,15 @@ MeansCore-with_value r s entry x m =
       ime = m.ime;
       controller = m.controller;
       count = m.count;
-      test = m.test;
       locked = m.locked;
       stopped = m.stopped;
     }
 
-pub Means-with_value :
+pub MeansParts-with_value :
     (r : Register) (s : AbsState) (entry : MState) (base : ℕ) (x : MState)
-    → Means s entry base x → Means (with_core s (core_with_value r (get r x.processor.registers) s.core)) entry base x
+    → MeansParts s entry base x → MeansParts (with_core s (core_with_value r (get r x.processor.registers) s.core)) entry base x
 unfolding core_with_value
-Means-with_value r s entry base x m =
+MeansParts-with_value r s entry base x m =
     record { core = MeansCore-with_value r s.core entry x m.core; memory = m.memory; sp = m.sp; stack = m.stack; items = m.items; cells = m.cells }
 
 -- ---- the operations
@@ -210,7 +193,6 @@ MeansCore-start s entry x m =
       ime = m.ime;
       controller = m.controller;
       count = omega arith;
-      test = m.test;
       locked = m.locked;
       stopped = m.stopped;
     }
@@ -238,22 +220,12 @@ pub set_one :
     → P v → ((p : Register) → P (get p vs)) → P (get q (set r v vs))
 set_one P r q v vs n o = set_both (λ w y. P w) r q v v vs vs n o
 
-test_after-byte : (r : Register) (test : Option ℕ) → IfSome test (λ a. a < 256) → IfSome (test_after r test) (λ a. a < 256)
-test_after-byte A test h = tt
-test_after-byte B test h = h
-test_after-byte C test h = h
-test_after-byte D test h = h
-test_after-byte E test h = h
-test_after-byte H test h = h
-test_after-byte L test h = h
-
 pub IsCore-set_register : (s : Core) (r : Register) (v : Val) → IsVal v → IsCore s → IsCore (core_set_register r v s)
 unfolding core_set_register
 IsCore-set_register s r v h c =
     record {
       ime = c.ime;
       bound = c.bound;
-      test = test_after-byte r s.test c.test;
       ctl = c.ctl;
       flags = c.flags;
       ie = c.ie;
@@ -266,7 +238,6 @@ IsCore-with_value s r n h c =
     record {
       ime = c.ime;
       bound = c.bound;
-      test = c.test;
       ctl = c.ctl;
       flags = c.flags;
       ie = c.ie;
@@ -286,7 +257,6 @@ IsCore-settle s c =
     record {
       ime = ime_set_after-any s.ime c.ime;
       bound = c.bound;
-      test = c.test;
       ctl = c.ctl;
       flags = c.flags;
       ie = c.ie;
@@ -298,7 +268,6 @@ IsCore-bound s bound h c =
     record {
       ime = c.ime;
       bound = h;
-      test = c.test;
       ctl = c.ctl;
       flags = c.flags;
       ie = c.ie;

@@ -23,7 +23,7 @@ use Rattle.gb_domain.specs.Types.{AbsState}
 use Rattle.gb_domain.specs.Areas.{IsRegion, meets}
 use Rattle.gb_abs.specs.Storage.{is_ram, peek, peek_by}
 use Rattle.gb_abs.specs.Operations.{with_core}
-use Rattle.gb_abs.specs.Meaning.{Holds, MeansCore, AreItems, Means, IsMemory}
+use Rattle.gb_abs.specs.Meaning.{Holds, MeansCore, AreItems, MeansParts, IsMemory}
 use Rattle.gb_abs.specs.Cells.{ArePlaced}
 use Rattle.gb_abs.specs.Stack.{AreInRegion, pushed, word_of, last_word, youngest, popped}
 use Rattle.gb_abs.specs.Poked.{IsPoked}
@@ -188,7 +188,7 @@ AreCells-region region (c ∷ cells) entry s t same placed h = (
   AreCells-region region cells entry s t same placed.1 h.1,
 )
 
-MeansCore-sp : (core : Core) (entry x : MState) (sp : ℕ) → MeansCore core entry x → MeansCore core entry (record x { processor = with_sp x.processor sp })
+pub MeansCore-sp : (core : Core) (entry x : MState) (sp : ℕ) → MeansCore core entry x → MeansCore core entry (record x { processor = with_sp x.processor sp })
 MeansCore-sp core entry x sp m =
     record {
       registers = m.registers;
@@ -197,7 +197,6 @@ MeansCore-sp core entry x sp m =
       ime = m.ime;
       controller = m.controller;
       count = m.count;
-      test = m.test;
       locked = m.locked;
       stopped = m.stopped;
     }
@@ -205,13 +204,13 @@ MeansCore-sp core entry x sp m =
 apart-from : (region : Region) (a b : ℕ) → region.first ≤ a → a ≤ region.last → meets region b b ≡ false → b ≡ a → ⊥
 apart-from region a b low high h e = grind (arith, nat_tests)
 
-Means-pushed-to :
+MeansParts-pushed-to :
     (region : Region) (s : AbsState) (entry : MState) (base : ℕ) (x : MState) (i : Halves) (w sp : ℕ) (t : Storage)
     → IsRegion region → AreInRegion region base (length s.items + 2) → ArePlaced region s.cells → s.core.stack_set ≡ true
     → Holds i.high entry (w / 256) → Holds i.low entry (w % 256) → IsTop region x.processor.sp → ArePushed x.processor.sp w x.storage t
-    → Means s entry base x → Means (pushed i s) entry base (with_stack x (x.processor.sp - 2) t)
+    → MeansParts s entry base x → MeansParts (pushed i s) entry base (with_stack x (x.processor.sp - 2) t)
 unfolding pushed
-Means-pushed-to region s entry base x i w sp t r room placed set high low top p m =
+MeansParts-pushed-to region s entry base x i w sp t r room placed set high low top p m =
     let stack = m.stack set in
     let some = top.some in
     let first = top.first in
@@ -272,7 +271,7 @@ machine p t = record { processor = p; storage = t }
 
 pushes :
     (region : Region) (s : AbsState) (entry : MState) (base : ℕ) (p : Processor) (m : View) (i : Halves) (w : ℕ)
-    → Means s entry base (machine p m.storage) → s.core.stack_set ≡ true → AreInRegion region base (length s.items + 2)
+    → MeansParts s entry base (machine p m.storage) → s.core.stack_set ≡ true → AreInRegion region base (length s.items + 2)
     → IsRegion region → ArePlaced region s.cells → IsRegionOpen m.storage region → Holds i.high entry (w / 256) → Holds i.low entry (w % 256) → w < 65536
     → Pushes region (pushed i s) entry base (machine p m.storage) m w
 pushes region s entry base p m i w means set room r placed clear high low lt =
@@ -281,8 +280,8 @@ pushes region s entry base p m i w means set room r placed clear high low lt =
     let done = are-pushed region m p.sp w r top clear means.memory lt in
     let others = stored-starting region m p.sp w r top clear means.memory lt in
     record {
-      means = subst (λ n. Means (pushed i s) entry base (with_stack (machine p m.storage) n (stored m (write.Push p.sp w)).storage)) (sym top.low)
-          (Means-pushed-to region s entry base (machine p m.storage) i w p.sp (stored m (write.Push p.sp w)).storage r room placed set high low top done means);
+      means = subst (λ n. MeansParts (pushed i s) entry base (with_stack (machine p m.storage) n (stored m (write.Push p.sp w)).storage)) (sym top.low)
+          (MeansParts-pushed-to region s entry base (machine p m.storage) i w p.sp (stored m (write.Push p.sp w)).storage r room placed set high low top done means);
       faults = push-faultless region m p.sp w r inside clear means.memory lt;
       starting = others.0;
       rom = others.1;
@@ -293,14 +292,14 @@ pushes region s entry base p m i w means set room r placed clear high low lt =
     }
 
 -- a word is pushed: the high byte at SP-1, the low byte at SP-2
-pub Means-pushed :
+pub MeansParts-pushed :
     (region : Region) (s : AbsState) (entry : MState) (base : ℕ) (x : MState) (m : View) (i : Halves) (w : ℕ)
-    → Means s entry base x → m.storage ≡ x.storage → s.core.stack_set ≡ true → AreInRegion region base (length s.items + 2)
+    → MeansParts s entry base x → m.storage ≡ x.storage → s.core.stack_set ≡ true → AreInRegion region base (length s.items + 2)
     → IsRegion region → ArePlaced region s.cells → IsRegionOpen x.storage region → Holds i.high entry (w / 256) → Holds i.low entry (w % 256) → w < 65536
     → Pushes region (pushed i s) entry base x m w
-Means-pushed region s entry base x m i w means same set room r placed clear high low lt =
+MeansParts-pushed region s entry base x m i w means same set room r placed clear high low lt =
     let moved = ap (machine x.processor) same in
-    let held = pushes region s entry base x.processor m i w (subst (λ y. Means s entry base y) (sym moved) means) set room r placed
+    let held = pushes region s entry base x.processor m i w (subst (λ y. MeansParts s entry base y) (sym moved) means) set room r placed
     (subst (λ t. IsRegionOpen t region) (sym same) clear) high low lt in
     subst (λ y. Pushes region (pushed i s) entry base y m w) moved held
 
@@ -397,7 +396,7 @@ loaded-faultless m sp e ram ram' clear clear' = rw (e, read_ram-faultless m sp r
 
 pops :
     (region : Region) (s : AbsState) (entry : MState) (base : ℕ) (p : Processor) (m : View) (i : Halves) (free : List ℕ)
-    → Means s entry base (machine p m.storage) → s.core.stack_set ≡ true → youngest s ≡ Some i → AreInRegion region base (length s.items)
+    → MeansParts s entry base (machine p m.storage) → s.core.stack_set ≡ true → youngest s ≡ Some i → AreInRegion region base (length s.items)
     → IsRegion region → IsRegionOpen m.storage region → Pops (popped s) i entry base (machine p m.storage) m free
 unfolding popped youngest
 pops region s entry base p m i free means set is room r clear =
@@ -439,11 +438,11 @@ pops region s entry base p m i free means set is room r clear =
 -- a word is popped: the two bytes that the machine reads are the youngest word's
 pub Pops-popped :
     (region : Region) (s : AbsState) (entry : MState) (base : ℕ) (x : MState) (m : View) (i : Halves) (free : List ℕ)
-    → Means s entry base x → m.storage ≡ x.storage → s.core.stack_set ≡ true → youngest s ≡ Some i → AreInRegion region base (length s.items)
+    → MeansParts s entry base x → m.storage ≡ x.storage → s.core.stack_set ≡ true → youngest s ≡ Some i → AreInRegion region base (length s.items)
     → IsRegion region → IsRegionOpen x.storage region → Pops (popped s) i entry base x m free
 Pops-popped region s entry base x m i free means same set is room r clear =
     let moved = ap (machine x.processor) same in
-    let held = pops region s entry base x.processor m i free (subst (λ y. Means s entry base y) (sym moved) means) set is room r
+    let held = pops region s entry base x.processor m i free (subst (λ y. MeansParts s entry base y) (sym moved) means) set is room r
     (subst (λ t. IsRegionOpen t region) (sym same) clear) in
     subst (λ y. Pops (popped s) i entry base y m free) moved held
 
@@ -473,11 +472,11 @@ AreCells-all [] entry s t same h = tt
 AreCells-all (c ∷ cells) entry s t same h = (subst (λ n. Holds c.val entry n) (sym (same c.address)) h.0, AreCells-all cells entry s t same h.1)
 
 -- a core that holds of a machine with the same memory, its stack pointer where the items say
-pub Means-with_stack :
+pub MeansParts-with_stack :
     (s : AbsState) (core : Core) (entry : MState) (base : ℕ) (x y : MState)
-    → Means s entry base x → MeansCore core entry y → y.storage.work ≡ x.storage.work → y.storage.high ≡ x.storage.high → y.processor.sp < 65536
-    → (core.stack_set ≡ true → y.processor.sp + length s.items ≡ base) → Means (with_core s core) entry base y
-Means-with_stack s core entry base x y m c work high sp stack =
+    → MeansParts s entry base x → MeansCore core entry y → y.storage.work ≡ x.storage.work → y.storage.high ≡ x.storage.high → y.processor.sp < 65536
+    → (core.stack_set ≡ true → y.processor.sp + length s.items ≡ base) → MeansParts (with_core s core) entry base y
+MeansParts-with_stack s core entry base x y m c work high sp stack =
     record {
       core = c;
       memory = IsMemory-same x.storage y.storage work high m.memory;
@@ -488,22 +487,22 @@ Means-with_stack s core entry base x y m c work high sp stack =
     }
 
 -- a core that holds of a machine with the same memory and stack pointer
-pub Means-with_core :
+pub MeansParts-with_core :
     (s : AbsState) (core : Core) (entry : MState) (base : ℕ) (x y : MState)
-    → Means s entry base x → MeansCore core entry y → y.storage.work ≡ x.storage.work → y.storage.high ≡ x.storage.high
-    → y.processor.sp ≡ x.processor.sp → (core.stack_set ≡ true → s.core.stack_set ≡ true) → Means (with_core s core) entry base y
-Means-with_core s core entry base x y m c work high sp set =
-    Means-with_stack s core entry base x y m c work high (subst (λ n. n < 65536) (sym sp) m.sp) (λ e. ap (λ n. n + length s.items) sp ∙ m.stack (set e))
+    → MeansParts s entry base x → MeansCore core entry y → y.storage.work ≡ x.storage.work → y.storage.high ≡ x.storage.high
+    → y.processor.sp ≡ x.processor.sp → (core.stack_set ≡ true → s.core.stack_set ≡ true) → MeansParts (with_core s core) entry base y
+MeansParts-with_core s core entry base x y m c work high sp set =
+    MeansParts-with_stack s core entry base x y m c work high (subst (λ n. n < 65536) (sym sp) m.sp) (λ e. ap (λ n. n + length s.items) sp ∙ m.stack (set e))
 
 -- ---- the operations
 
-pub push_sound : (s : AbsState) (i : Halves) (o : Option AbsState) → o ≡ cond (nat_lt 32 (length s.items + 2)) None (Some (pushed i s)) → IfSome o (λ after. IsSoundPush s i after)
-push_sound s i o e = subst (λ r. IfSome r (λ after. IsSoundPush s i after)) (sym e) (choose (nat_lt 32 (length s.items + 2)))
+pub push_sound : (s : AbsState) (i : Halves) (room : ℕ) (o : Option AbsState) → o ≡ cond (nat_lt room (length s.items + 2)) None (Some (pushed i s)) → IfSome o (λ after. IsSoundPush s i after)
+push_sound s i room o e = subst (λ r. IfSome r (λ after. IsSoundPush s i after)) (sym e) (choose (nat_lt room (length s.items + 2)))
   where
     choose : (b : Bool) → IfSome (cond b None (Some (pushed i s))) (λ after. IsSoundPush s i after)
     choose true = tt
     choose false =
-        record { gives = λ region entry base x m w means same set room r placed clear high low lt. Means-pushed region s entry base x m i w means same set room r placed clear high low lt }
+        record { gives = λ region entry base x m w means same set room r placed clear high low lt. MeansParts-pushed region s entry base x m i w means same set room r placed clear high low lt }
 
 pub pop_sound : (s : AbsState) (i : Halves) (after : AbsState) → youngest s ≡ Some i → after ≡ popped s → IsSoundPop s i after
 pop_sound s i after is e =

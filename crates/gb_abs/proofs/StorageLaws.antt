@@ -16,7 +16,7 @@ use Rattle.gb_domain.specs.declared.types.Core.{Core}
 use Rattle.gb_domain.specs.declared.types.Cell.{Cell}
 use Rattle.gb_domain.specs.Types.{AbsState}
 use Rattle.gb_domain.specs.Areas.{IsRegion, meets}
-use Rattle.gb_abs.specs.Meaning.{Holds, HoldsController, MeansCore, AreItems, Means, IsMemory}
+use Rattle.gb_abs.specs.Meaning.{Holds, HoldsController, MeansCore, AreItems, MeansParts, IsMemory}
 use Rattle.gb_abs.specs.Cells.{IsPlaced, ArePlaced, is_below, is_above, is_at, entered, with_cell, is_outside, without_cells}
 use Rattle.gb_abs.specs.Stack.{AreInRegion}
 use Rattle.gb_abs.proofs.CoveringLaws.{AreCells}
@@ -217,7 +217,6 @@ MeansCore-storage core entry x t banks ie count m =
       ime = m.ime;
       controller = subst (λ b. HoldsController core.ctl entry b) (sym banks) m.controller;
       count = subst (λ n. n ≤ core.bound) (sym count) m.count;
-      test = m.test;
       locked = m.locked;
       stopped = m.stopped;
     }
@@ -240,7 +239,7 @@ outside-region : (region : Region) (a b : ℕ) → meets region a a ≡ false �
 outside-region region a b h low high = grind (arith, nat_tests)
 
 -- the items stay where the byte lies outside the region
-AreItems-poked :
+pub AreItems-poked :
     (region : Region) (items : List Val) (entry : MState) (base a n : ℕ) (s t : Storage)
     → IsPoked a n s t → IsRegion region → AreInRegion region base (length items) → meets region a a ≡ false
     → AreItems items entry base s → AreItems items entry base t
@@ -294,31 +293,31 @@ AreCells-entered region cells entry a n v s t p k placed h =
     (subst (λ y. Holds v entry y) (sym p.byte) k, AreCells-poked region (is_above a) cells entry a n s t p (λ c e. higher a c.address e) placed h)
 
 AreCells-with_cell :
-    (region : Region) (cells : List Cell) (entry : MState) (a n : ℕ) (v : Val) (s t : Storage)
+    (region : Region) (room : ℕ) (cells : List Cell) (entry : MState) (a n : ℕ) (v : Val) (s t : Storage)
     → IsPoked a n s t → Holds v entry n → ArePlaced region cells → AreCells cells entry s
-    → AreCells (with_cell (record { address = a; val = v }) cells) entry t
+    → AreCells (with_cell room (record { address = a; val = v }) cells) entry t
 unfolding with_cell
-AreCells-with_cell region cells entry a n v s t p k placed h = choose (list_any (is_at a) cells) (nat_lt (length cells) 32) refl
+AreCells-with_cell region room cells entry a n v s t p k placed h = choose (list_any (is_at a) cells) (nat_lt (length cells) room) refl
   where
-    choose : (held room : Bool) → list_any (is_at a) cells ≡ held → AreCells (cond (held || room) (entered (record { address = a; val = v }) cells) cells) entry t
-    choose true room e = AreCells-entered region cells entry a n v s t p k placed h
+    choose : (held fits : Bool) → list_any (is_at a) cells ≡ held → AreCells (cond (held || fits) (entered (record { address = a; val = v }) cells) cells) entry t
+    choose true fits e = AreCells-entered region cells entry a n v s t p k placed h
     choose false true e = AreCells-entered region cells entry a n v s t p k placed h
     choose false false e = AreCells-apart region cells entry a n s t p e placed h
 
 -- a byte is stored at one address: its cell gets the value
-pub Means-with_cell :
-    (region : Region) (s : AbsState) (entry : MState) (base : ℕ) (x : MState) (t : Storage) (a n : ℕ) (v : Val)
-    → Means s entry base x → IsPoked a n x.storage t → Holds v entry n → IsPlaced region (record { address = a; val = v })
+pub MeansParts-with_cell :
+    (region : Region) (most : ℕ) (s : AbsState) (entry : MState) (base : ℕ) (x : MState) (t : Storage) (a n : ℕ) (v : Val)
+    → MeansParts s entry base x → IsPoked a n x.storage t → Holds v entry n → IsPlaced region (record { address = a; val = v })
     → ArePlaced region s.cells → AreInRegion region base (length s.items) → IsRegion region
-    → Means (record s { cells = with_cell (record { address = a; val = v }) s.cells }) entry base (record x { storage = t })
-Means-with_cell region s entry base x t a n v m p k place placed room r =
+    → MeansParts (record s { cells = with_cell most (record { address = a; val = v }) s.cells }) entry base (record x { storage = t })
+MeansParts-with_cell region most s entry base x t a n v m p k place placed room r =
     record {
       core = MeansCore-storage s.core entry x t p.banks p.ie p.count m.core;
       memory = p.memory;
       sp = m.sp;
       stack = m.stack;
       items = AreItems-poked region s.items entry base a n x.storage t p r room place.apart m.items;
-      cells = AreCells-with_cell region s.cells entry a n v x.storage t p k placed m.cells;
+      cells = AreCells-with_cell region most s.cells entry a n v x.storage t p k placed m.cells;
     }
 
 pub meets-inside : (region : Region) (first last a : ℕ) → meets region first last ≡ false → first ≤ a → a ≤ last → meets region a a ≡ false
@@ -335,12 +334,12 @@ AreCells-without_cells region cells entry a n first last s t p low high placed h
     AreCells-poked region (is_outside first last) cells entry a n s t p (λ c e. outside-differs first last a c.address low high e) placed h
 
 -- a byte is stored at one of several addresses: their cells are dropped
-pub Means-without_cells :
+pub MeansParts-without_cells :
     (region : Region) (s : AbsState) (entry : MState) (base : ℕ) (x : MState) (t : Storage) (a n first last : ℕ)
-    → Means s entry base x → IsPoked a n x.storage t → first ≤ a → a ≤ last → meets region first last ≡ false
+    → MeansParts s entry base x → IsPoked a n x.storage t → first ≤ a → a ≤ last → meets region first last ≡ false
     → ArePlaced region s.cells → AreInRegion region base (length s.items) → IsRegion region
-    → Means (record s { cells = without_cells first last s.cells }) entry base (record x { storage = t })
-Means-without_cells region s entry base x t a n first last m p low high apart placed room r =
+    → MeansParts (record s { cells = without_cells first last s.cells }) entry base (record x { storage = t })
+MeansParts-without_cells region s entry base x t a n first last m p low high apart placed room r =
     record {
       core = MeansCore-storage s.core entry x t p.banks p.ie p.count m.core;
       memory = p.memory;
@@ -353,16 +352,16 @@ Means-without_cells region s entry base x t a n first last m p low high apart pl
 -- ---- the operations
 
 pub with_cell_sound :
-    (s o : AbsState) (a : ℕ) (v : Val) → o ≡ record s { cells = with_cell (record { address = a; val = v }) s.cells } → IsSoundEntry a v s o
-with_cell_sound s o a v e =
+    (s o : AbsState) (most a : ℕ) (v : Val) → o ≡ record s { cells = with_cell most (record { address = a; val = v }) s.cells } → IsSoundEntry a v s o
+with_cell_sound s o most a v e =
     record {
-      gives = λ region entry base x t n m p k place placed room r. subst (λ (w : AbsState). Means w entry base (record x { storage = t })) (sym e)
-          (Means-with_cell region s entry base x t a n v m p k place placed room r);
+      gives = λ region entry base x t n m p k place placed room r. subst (λ (w : AbsState). MeansParts w entry base (record x { storage = t })) (sym e)
+          (MeansParts-with_cell region most s entry base x t a n v m p k place placed room r);
     }
 
 pub without_cells_sound : (s o : AbsState) (first last : ℕ) → o ≡ record s { cells = without_cells first last s.cells } → IsSoundDrop first last s o
 without_cells_sound s o first last e =
     record {
-      gives = λ region entry base x t a n m p low high apart placed room r. subst (λ (w : AbsState). Means w entry base (record x { storage = t })) (sym e)
-          (Means-without_cells region s entry base x t a n first last m p low high apart placed room r);
+      gives = λ region entry base x t a n m p low high apart placed room r. subst (λ (w : AbsState). MeansParts w entry base (record x { storage = t })) (sym e)
+          (MeansParts-without_cells region s entry base x t a n first last m p low high apart placed room r);
     }

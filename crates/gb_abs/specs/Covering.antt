@@ -30,6 +30,8 @@ abbrev pub origin_number : Origin → ℕ
 origin_number (origin.Register r) = register_number r
 origin_number origin.F = 7
 origin_number origin.Ie = 8
+origin_number origin.ReturnHigh = 9
+origin_number origin.ReturnLow = 10
 
 -- one fact asks for another
 abbrev pub implied : Bool → Bool → Bool
@@ -65,16 +67,10 @@ covers_registers s t =
     covers_val s.a t.a && covers_val s.b t.b && covers_val s.c t.c && covers_val s.d t.d && covers_val s.e t.e
     && covers_val s.h t.h && covers_val s.l t.l
 
--- a test is asked for only where there is one, and then it must be equal
-abbrev pub covers_test : Option ℕ → Option ℕ → Bool
-covers_test from None = true
-covers_test None (Some to) = false
-covers_test (Some from) (Some to) = from == to
-
 unfoldable pub covers_core : Core → Core → Bool
 covers_core s t =
     covers_registers s.registers t.registers && covers_flags s.flags t.flags && covers_val s.ie t.ie && covers_ime s.ime t.ime
-    && covers_controller s.ctl t.ctl && nat_le s.bound t.bound && implied t.stack_set s.stack_set && covers_test s.test t.test
+    && covers_controller s.ctl t.ctl && nat_le s.bound t.bound && implied t.stack_set s.stack_set
 
 -- equally many, each covered
 abbrev pub covers_items : List Val → List Val → Bool
@@ -91,6 +87,6 @@ cell_at a (c ∷ cs) = if c.address == a then c.val else cell_at a cs
 unfoldable pub covers_cells : List Cell → List Cell → Bool
 covers_cells s t = list_all (λ c. covers_val (cell_at c.address s) c.val) t
 
--- t stands for each state that s stands for
-unfoldable pub covers : AbsState → AbsState → Bool
-covers s t = covers_core s.core t.core && covers_items s.items t.items && covers_cells s.cells t.cells
+-- each part of t stands for what that part of s stands for, by itself
+unfoldable pub covers_parts : AbsState → AbsState → Bool
+covers_parts s t = covers_core s.core t.core && covers_items s.items t.items && covers_cells s.cells t.cells

@@ -1,5 +1,7 @@
+pub mod Bytes
 pub mod Cells
 pub mod Covering
+pub mod Located
 pub mod Mark
 pub mod Meaning
 pub mod Operations

@@ -19,14 +19,15 @@ use Rattle.gb_domain.specs.declared.types.Ctl.{Ctl}
 use Rattle.gb_domain.specs.declared.types.Core.{Core}
 use Rattle.gb_domain.specs.Types.{AbsState}
 use Rattle.gb_vals.specs.Meaning.{may_be}
-use Rattle.gb_vals.specs.Tests.{IsTested}
 use Rattle.gb_abs.specs.Storage.{peek}
 
--- what an origin held
+-- what an origin held in the state in which a procedure was entered; the return word is on top of the stack there
 abbrev pub origin_value : Origin → MState → ℕ
 origin_value (origin.Register r) s = get r s.processor.registers
 origin_value origin.F s = flags_byte s.processor.flags
 origin_value origin.Ie s = s.storage.ie
+origin_value origin.ReturnHigh s = peek s.storage (s.processor.sp + 1)
+origin_value origin.ReturnLow s = peek s.storage s.processor.sp
 
 -- x is a value that v stands for, where entry is the state as the procedure was entered
 pub record Holds (v : Val) (entry : MState) (x : ℕ) : Type 0 where
@@ -63,7 +64,6 @@ pub record MeansCore (core : Core) (entry s : MState) : Type 0 where
   pub ime : ime_may_be core.ime s.processor.ime ≡ true
   pub controller : HoldsController core.ctl entry s.storage.banks
   pub count : s.storage.count ≤ core.bound
-  pub test : IsTested core.test s.processor.registers.a s.processor.flags
   pub locked : s.processor.locked ≡ false
   pub stopped : s.processor.stopped ≡ false
 
@@ -78,9 +78,9 @@ pub record IsMemory (s : Storage) : Type 0 where
   pub high : length s.high ≡ 127
   pub bytes : (a : ℕ) → peek s a ≤ 255
 
--- s is one of the states that abs means, in a procedure that was entered in the state entry, with its
--- return word at base (main: base is the address after the region)
-pub record Means (abs : AbsState) (entry : MState) (base : ℕ) (s : MState) : Type 0 where
+-- s is one of the states that each part of abs means by itself, in a procedure that was entered in the state entry, with
+-- base the address above its items: where its return word stands (main: the address after the region)
+pub record MeansParts (abs : AbsState) (entry : MState) (base : ℕ) (s : MState) : Type 0 where
   pub core : MeansCore abs.core entry s
   pub memory : IsMemory s.storage
   pub sp : s.processor.sp < 65536

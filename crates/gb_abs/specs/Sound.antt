@@ -16,7 +16,7 @@ use Rattle.gb_domain.specs.declared.types.Core.{Core}
 use Rattle.gb_domain.specs.declared.types.Halves.{Halves}
 use Rattle.gb_domain.specs.Types.{AbsState}
 use Rattle.gb_domain.specs.Areas.{IsRegion, meets}
-use Rattle.gb_abs.specs.Meaning.{Holds, MeansCore, Means}
+use Rattle.gb_abs.specs.Meaning.{Holds, MeansCore, MeansParts}
 use Rattle.gb_abs.specs.Cells.{IsPlaced, ArePlaced}
 use Rattle.gb_abs.specs.Poked.{IsPoked}
 use Rattle.gb_abs.specs.Storage.{is_ram, peek}
@@ -24,7 +24,7 @@ use Rattle.gb_abs.specs.Stack.{AreInRegion}
 
 -- t means each machine state that s means
 pub record IsPartOf (s t : AbsState) : Type 0 where
-  pub gives : (entry : MState) (base : ℕ) (x : MState) → Means s entry base x → Means t entry base x
+  pub gives : (entry : MState) (base : ℕ) (x : MState) → MeansParts s entry base x → MeansParts t entry base x
 
 -- ---- cores
 
@@ -54,17 +54,25 @@ pub record IsSoundEnd (starts : Bool) (n : ℕ) (s after : Core) : Type 0 where
 pub record IsSoundEntry (a : ℕ) (v : Val) (s after : AbsState) : Type 0 where
   pub gives :
       (region : Region) (entry : MState) (base : ℕ) (x : MState) (t : Storage) (n : ℕ)
-      → Means s entry base x → IsPoked a n x.storage t → Holds v entry n → IsPlaced region (record { address = a; val = v })
+      → MeansParts s entry base x → IsPoked a n x.storage t → Holds v entry n → IsPlaced region (record { address = a; val = v })
       → ArePlaced region s.cells → AreInRegion region base (length s.items) → IsRegion region
-      → Means after entry base (record x { storage = t })
+      → MeansParts after entry base (record x { storage = t })
 
 -- of each of these states, where any byte is stored at one of the addresses, all outside the stack region
 pub record IsSoundDrop (first last : ℕ) (s after : AbsState) : Type 0 where
   pub gives :
       (region : Region) (entry : MState) (base : ℕ) (x : MState) (t : Storage) (a n : ℕ)
-      → Means s entry base x → IsPoked a n x.storage t → first ≤ a → a ≤ last → meets region first last ≡ false
+      → MeansParts s entry base x → IsPoked a n x.storage t → first ≤ a → a ≤ last → meets region first last ≡ false
       → ArePlaced region s.cells → AreInRegion region base (length s.items) → IsRegion region
-      → Means after entry base (record x { storage = t })
+      → MeansParts after entry base (record x { storage = t })
+
+-- of each of these states, where a byte that v stands for is stored at one of the addresses, outside the stack region
+pub record IsSoundWidening (first last : ℕ) (v : Val) (s after : AbsState) : Type 0 where
+  pub gives :
+      (region : Region) (entry : MState) (base : ℕ) (x : MState) (t : Storage) (a n : ℕ)
+      → MeansParts s entry base x → IsPoked a n x.storage t → Holds v entry n → first ≤ a → a ≤ last → meets region a a ≡ false
+      → ArePlaced region s.cells → AreInRegion region base (length s.items) → IsRegion region
+      → MeansParts after entry base (record x { storage = t })
 
 -- ---- words
 
@@ -78,7 +86,7 @@ with_stack x sp t = record { processor = with_sp x.processor sp; storage = t }
 
 -- what a push leaves: the state with the word pushed, no fault, and all bytes of RAM but the word's two
 pub record Pushes (region : Region) (after : AbsState) (entry : MState) (base : ℕ) (x : MState) (m : View) (w : ℕ) : Type 0 where
-  pub means : Means after entry base (with_stack x ((x.processor.sp + 65534) % 65536) (stored m (write.Push x.processor.sp w)).storage)
+  pub means : MeansParts after entry base (with_stack x ((x.processor.sp + 65534) % 65536) (stored m (write.Push x.processor.sp w)).storage)
   pub faults : store_faults region m (write.Push x.processor.sp w) ≡ no_faults
   pub starting : (stored m (write.Push x.processor.sp w)).starting ≡ m.starting
   pub rom : (stored m (write.Push x.processor.sp w)).rom ≡ m.rom
@@ -94,13 +102,13 @@ pub record Pops (after : AbsState) (i : Halves) (entry : MState) (base : ℕ) (x
   pub low : Holds i.low entry (loaded m (read.Word x.processor.sp) free).low
   pub high : Holds i.high entry (loaded m (read.Word x.processor.sp) free).high
   pub faults : load_faults m (read.Word x.processor.sp) ≡ no_faults
-  pub means : Means after entry base (record x { processor = with_sp x.processor ((x.processor.sp + 2) % 65536) })
+  pub means : MeansParts after entry base (record x { processor = with_sp x.processor ((x.processor.sp + 2) % 65536) })
 
 -- of each of these states, with its stack set and room for the word, each word that i stands for
 pub record IsSoundPush (s : AbsState) (i : Halves) (after : AbsState) : Type 0 where
   pub gives :
       (region : Region) (entry : MState) (base : ℕ) (x : MState) (m : View) (w : ℕ)
-      → Means s entry base x → m.storage ≡ x.storage → s.core.stack_set ≡ true → AreInRegion region base (length s.items + 2)
+      → MeansParts s entry base x → m.storage ≡ x.storage → s.core.stack_set ≡ true → AreInRegion region base (length s.items + 2)
       → IsRegion region → ArePlaced region s.cells → IsRegionOpen x.storage region → Holds i.high entry (w / 256) → Holds i.low entry (w % 256) → w < 65536
       → Pushes region after entry base x m w
 
@@ -108,5 +116,5 @@ pub record IsSoundPush (s : AbsState) (i : Halves) (after : AbsState) : Type 0 w
 pub record IsSoundPop (s : AbsState) (i : Halves) (after : AbsState) : Type 0 where
   pub gives :
       (region : Region) (entry : MState) (base : ℕ) (x : MState) (m : View) (free : List ℕ)
-      → Means s entry base x → m.storage ≡ x.storage → s.core.stack_set ≡ true → AreInRegion region base (length s.items)
+      → MeansParts s entry base x → m.storage ≡ x.storage → s.core.stack_set ≡ true → AreInRegion region base (length s.items)
       → IsRegion region → IsRegionOpen x.storage region → Pops after i entry base x m free

@@ -3,26 +3,28 @@
 ghost use Rattle.std.specs.Prelude.{◌≡◌, ◌+◌, ◌≤◌, ◌++◌, ◌||◌, nat_lt, length};
 ghost use Rattle.std.specs.List.{filter, list_any};
 ghost use Rattle.arrayvec.specs.ArrayVec.{array_vec_len};
-ghost use Rattle.gb_abs.specs.Cells.{is_below, is_above, is_at, is_outside, entered, with_cell, without_cells, IsEntryInOrder, IsDropInOrder};
-ghost use Rattle.gb_abs.specs.Sound.{IsSoundEntry, IsSoundDrop};
+ghost use Rattle.gb_domain.specs.Limits.{cell_room};
+ghost use Rattle.gb_abs.specs.Cells.{is_below, is_above, is_at, is_outside, entered, with_cell, without_cells, widened, widened_at, widened_cells, IsEntryInOrder, IsDropInOrder, IsWideningInOrder};
+ghost use Rattle.gb_abs.specs.Sound.{IsSoundEntry, IsSoundDrop, IsSoundWidening};
 
+use crate::covering::covers_origin;
 use arrayvec::ArrayVec;
-use gb_domain::types::{Abs, CELLS, Cell, Val};
+use gb_domain::types::{Abs, Cell, Rules, Val};
 
-/// The state with other cells: its core and items stay.
-fn with_cells(state: &Abs, cells: ArrayVec<Cell, 32>) -> Abs
+/// The state with other cells. All else stays.
+fn with_cells(state: &Abs, cells: ArrayVec<Cell, 64>) -> Abs
     ensures { result ≡ record state.now { cells = cells.items } }
 {
     let mut items = ArrayVec::new();
     if items.try_extend_from_slice(state.items()).is_err() {
         unreachable!();
     }
-    Abs::of_parts(*state.core(), items, cells)
+    Abs::of_parts(*state.core(), items, cells, *state.relations())
 }
 
 /// Appends the cells below an address. There must be room.
-fn append_below(cells: &mut ArrayVec<Cell, 32>, address: u16, from: &[Cell])
-    requires { array_vec_len cells.old + length (filter (is_below address) from.now) ≤ 32 }
+fn append_below(cells: &mut ArrayVec<Cell, 64>, address: u16, from: &[Cell])
+    requires { array_vec_len cells.old + length (filter (is_below address) from.now) ≤ 64 }
     ensures { cells.new.items ≡ cells.old.items ++ filter (is_below address) from.now }
 {
     for cell in from {
@@ -33,8 +35,8 @@ fn append_below(cells: &mut ArrayVec<Cell, 32>, address: u16, from: &[Cell])
 }
 
 /// Appends the cells above an address. There must be room.
-fn append_above(cells: &mut ArrayVec<Cell, 32>, address: u16, from: &[Cell])
-    requires { array_vec_len cells.old + length (filter (is_above address) from.now) ≤ 32 }
+fn append_above(cells: &mut ArrayVec<Cell, 64>, address: u16, from: &[Cell])
+    requires { array_vec_len cells.old + length (filter (is_above address) from.now) ≤ 64 }
     ensures { cells.new.items ≡ cells.old.items ++ filter (is_above address) from.now }
 {
     for cell in from {
@@ -46,8 +48,8 @@ fn append_above(cells: &mut ArrayVec<Cell, 32>, address: u16, from: &[Cell])
 
 /// The cells with this one in its place. There must be room.
 #[tactic(auto, unfolding(crate::specs::Cells::entered))]
-fn entered(cell: Cell, held: &[Cell]) -> ArrayVec<Cell, 32>
-    requires { length (entered cell held.now) ≤ 32 }
+fn entered(cell: Cell, held: &[Cell]) -> ArrayVec<Cell, 64>
+    requires { length (entered cell held.now) ≤ 64 }
     ensures { result.items ≡ entered cell held.now }
 {
     let mut cells = ArrayVec::new();
@@ -64,33 +66,33 @@ fn is_held(address: u16, held: &[Cell]) -> bool
 }
 
 /// Whether a cell at an address finds its place: one there goes, or there is room.
-fn has_place(address: u16, held: &[Cell]) -> bool
-    ensures { result ≡ (list_any (is_at address) held.now || nat_lt (length held.now) 32) }
+fn has_place(room: usize, address: u16, held: &[Cell]) -> bool
+    ensures { result ≡ (list_any (is_at address) held.now || nat_lt (length held.now) room) }
 {
-    held.len() < CELLS || is_held(address, held)
+    held.len() < room || is_held(address, held)
 }
 
 /// The state with a cell in its place, if it finds one.
 #[tactic(auto, using(crate::proofs::CellLaws::entered_fits), unfolding(crate::specs::Cells::with_cell))]
-fn entered_or_same(state: &Abs, address: u16, val: Val) -> Abs
-    ensures { result ≡ record state.now { cells = with_cell (record { address = address; val = val }) state.now.cells } }
+fn entered_or_same(rules: Rules, state: &Abs, address: u16, val: Val) -> Abs
+    ensures { result ≡ record state.now { cells = with_cell (cell_room rules) (record { address = address; val = val }) state.now.cells } }
 {
-    if has_place(address, state.cells()) {
+    if has_place(rules.cell_room(), address, state.cells()) {
         with_cells(state, entered(Cell { address, val }, state.cells()))
     } else {
         state.with_core(*state.core())
     }
 }
 
-/// The byte at an address gets a value. Where 32 cells are held and none of them is there, nothing is
-/// known of the byte, and the state stays.
+/// The byte at an address gets a value. Where as many cells are held as there is room for and none of them is there, nothing
+/// is known of the byte, and the state stays.
 #[tactic(auto, using(crate::proofs::StorageLaws::with_cell_sound, crate::proofs::CellLaws::with_cell_ordered))]
-pub fn with_cell(state: &Abs, address: u16, val: Val) -> Abs
-    ensures exact { result ≡ record state.now { cells = with_cell (record { address = address; val = val }) state.now.cells } }
+pub fn with_cell(rules: Rules, state: &Abs, address: u16, val: Val) -> Abs
+    ensures exact { result ≡ record state.now { cells = with_cell (cell_room rules) (record { address = address; val = val }) state.now.cells } }
     ensures sound { IsSoundEntry address val state.now result }
     ensures ordered { IsEntryInOrder (record { address = address; val = val }) state.now.cells result.cells }
 {
-    entered_or_same(state, address, val)
+    entered_or_same(rules, state, address, val)
 }
 
 fn is_outside(first: u16, last: u16, cell: &Cell) -> bool
@@ -121,4 +123,53 @@ pub fn without_cells(state: &Abs, first: u16, last: u16) -> Abs
     ensures ordered { IsDropInOrder state.now.cells result.cells }
 {
     dropped(state, first, last)
+}
+
+/// The least interval that holds both values; a copy of what both are copies of.
+fn widened(val: Val, other: Val) -> Val
+    ensures { result ≡ widened val other }
+{
+    let lo = if other.lo < val.lo { other.lo } else { val.lo };
+    let hi = if val.hi < other.hi { other.hi } else { val.hi };
+    let origin = if covers_origin(val.origin, other.origin) {
+        other.origin
+    } else {
+        None
+    };
+    Val { lo, hi, origin }
+}
+
+fn widened_at(first: u16, last: u16, val: Val, cell: Cell) -> Cell
+    ensures { result ≡ widened_at first last val cell }
+{
+    if first <= cell.address && cell.address <= last {
+        Cell {
+            address: cell.address,
+            val: widened(cell.val, val),
+        }
+    } else {
+        cell
+    }
+}
+
+/// The state where the cells from first to last may hold another value too.
+#[tactic(auto, unfolding(crate::specs::Cells::widened_cells))]
+fn widened_or_same(state: &Abs, first: u16, last: u16, val: Val) -> Abs
+    ensures { result ≡ record state.now { cells = widened_cells first last val state.now.cells } }
+{
+    let mut cells = ArrayVec::new();
+    for cell in state.cells() {
+        cells.push(widened_at(first, last, val, *cell));
+    }
+    with_cells(state, cells)
+}
+
+/// One of the bytes from first to last gets a value: each of their cells may hold it too.
+#[tactic(auto, using(crate::proofs::WideningLaws::widened_sound, crate::proofs::WideningLaws::widened_ordered))]
+pub fn widened_cells(state: &Abs, first: u16, last: u16, val: Val) -> Abs
+    ensures exact { result ≡ record state.now { cells = widened_cells first last val state.now.cells } }
+    ensures sound { IsSoundWidening first last val state.now result }
+    ensures ordered { IsWideningInOrder val state.now.cells result.cells }
+{
+    widened_or_same(state, first, last, val)
 }

@@ -1,7 +1,8 @@
 //! Abstract states (abstract interpretation: an abstract domain): which machine states one stands for
-//! (`Meaning` of the definitions), whether one stands for all that another does (`covers`: `exact`,
-//! `sound`), and operations that follow the machine's changes (`sound`): a register or a memory cell
-//! gets a value, a word is pushed or popped, and time passes.
+//! (`Meaning` of the definitions) as far as each of its parts goes by itself, whether one stands for all that another
+//! does (`covers_parts`: `exact`, `sound`), and operations that follow the machine's changes (`sound`): a register or a
+//! memory cell gets a value, a word is pushed or popped, and time passes. What is known of several parts together stands
+//! in `gb_product`.
 //!
 //! The meaning leaves the HALT mark open; `Mark` says where it does no harm.
 //!
@@ -9,8 +10,10 @@
 //! of the crates above: the addresses of an access, RAM, and why a node is refused.
 #![tactic(auto)]
 
+pub mod bytes;
 pub mod cells;
 pub mod covering;
+pub mod located;
 pub mod operations;
 pub mod reason;
 pub mod span;
@@ -19,7 +22,7 @@ pub mod storage;
 
 // What lies below, for the crates above.
 pub use gb_domain::types::{
-    Abs, Cell, Core, Ctl, Flg, Halves, ITEMS, ImeSet, May, Origin, Range, Val,
+    Abs, Cell, Core, Ctl, Flg, Halves, ImeSet, May, Origin, Range, Rules, Setting, Val,
 };
 pub use gb_vals::bits::{may_enable, may_have_bit};
 pub use gb_vals::flags::known;

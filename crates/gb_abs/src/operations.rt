@@ -17,9 +17,6 @@ fn register_set(register: Register, value: Val, core: &Core) -> Core
 {
     let mut after = *core;
     after.registers.set(register, value);
-    if register == Register::A {
-        after.test = None;
-    }
     after
 }
 

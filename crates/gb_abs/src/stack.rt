@@ -1,11 +1,12 @@
 //! The bytes that a procedure pushed, word by word, in abstract states.
 
 ghost use Rattle.std.specs.Prelude.{◌≡◌, ◌+◌, ◌≤◌, ◌↔◌, nat_lt, length, Some, None, IsSome, IfSome, if◌then◌else◌};
+ghost use Rattle.gb_domain.specs.Limits.{item_room};
 ghost use Rattle.gb_abs.specs.Stack.{pushed, youngest, popped};
 ghost use Rattle.gb_abs.specs.Sound.{IsSoundPush, IsSoundPop};
 
 use arrayvec::ArrayVec;
-use gb_domain::types::{Abs, Halves, ITEMS, Val};
+use gb_domain::types::{Abs, Halves, Rules, Val};
 
 /// A word that was popped, and the state without it.
 #[derive(Drop)]
@@ -14,24 +15,24 @@ pub struct Popped {
     pub state: Abs,
 }
 
-/// The state with other items: its core and cells stay.
-fn with_items(state: &Abs, items: ArrayVec<Val, 32>) -> Abs
+/// The state with other items. All else stays.
+pub(crate) fn with_items(state: &Abs, items: ArrayVec<Val, 255>) -> Abs
     ensures { result ≡ record state.now { items = items.items } }
 {
     let mut cells = ArrayVec::new();
     if cells.try_extend_from_slice(state.cells()).is_err() {
         unreachable!();
     }
-    Abs::of_parts(*state.core(), items, cells)
+    Abs::of_parts(*state.core(), items, cells, *state.relations())
 }
 
 /// The state with the word's bytes behind the others, if there is room for them.
 #[tactic(auto, unfolding(crate::specs::Stack::pushed))]
-fn pushed_or_full(state: &Abs, word: Halves) -> Option<Abs>
-    ensures { result ≡ (if nat_lt 32 (length state.now.items + 2) then None else Some (pushed word state.now)) }
+fn pushed_or_full(rules: Rules, state: &Abs, word: Halves) -> Option<Abs>
+    ensures { result ≡ (if nat_lt (item_room rules) (length state.now.items + 2) then None else Some (pushed word state.now)) }
 {
     let held = state.items();
-    if held.len() + 2 > ITEMS {
+    if held.len() + 2 > rules.item_room() {
         return None;
     }
     let mut items = ArrayVec::new();
@@ -66,13 +67,13 @@ fn split(state: &Abs) -> Option<Popped>
     })
 }
 
-/// A word is pushed, its high byte first. None where 31 bytes or more are held already, so that there is no room for it.
+/// A word is pushed, its high byte first. None where there is no room for it.
 #[tactic(auto, using(crate::proofs::StackLaws::push_sound))]
-pub fn push(state: &Abs, word: Halves) -> Option<Abs>
-    ensures exact { result ≡ (if nat_lt 32 (length state.now.items + 2) then None else Some (pushed word state.now)) }
+pub fn push(rules: Rules, state: &Abs, word: Halves) -> Option<Abs>
+    ensures exact { result ≡ (if nat_lt (item_room rules) (length state.now.items + 2) then None else Some (pushed word state.now)) }
     ensures sound { IfSome result (λ after. IsSoundPush state.now word after) }
 {
-    pushed_or_full(state, word)
+    pushed_or_full(rules, state, word)
 }
 
 /// The word that was pushed last, and the state without it, if there is one.

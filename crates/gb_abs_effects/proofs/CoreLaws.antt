@@ -1,6 +1,5 @@
--- Changes of a core's registers, flags, test and interrupts, and the machine's.
-use Rattle.std.proofs.Common.{◌≡◌, ℕ, ◌≤◌, ◌<◌, true, false, Option, Some, None, arith}
-use Rattle.std.specs.Prelude.{IfSome}
+-- Changes of a core's registers, flags and interrupts, and the machine's.
+use Rattle.std.proofs.Common.{◌≡◌, ℕ, ◌≤◌, true, false, Some, None, arith}
 use Rattle.gb_ops.specs.declared.op.Register.{Register}
 use Rattle.gb_ops.specs.declared.op.Register.TheVariants.{A}
 use Rattle.gb_ops.specs.declared.registers.Registers.{Registers}
@@ -16,7 +15,6 @@ use Rattle.gb_domain.specs.declared.types.ImeSet.{ImeSet}
 use Rattle.gb_domain.specs.declared.types.Core.{Core}
 use Rattle.gb_domain.specs.Rules.{IsVal, IsFlg, IsCore, may_be_any}
 use Rattle.gb_vals.specs.Meaning.{In, FlagsIn}
-use Rattle.gb_vals.specs.Tests.{IsTested}
 use Rattle.gb_abs.specs.Span.{IsIn, pair_span}
 use Rattle.gb_abs.specs.Meaning.{Holds, HoldsFlags, MeansCore, ime_may_be}
 use Rattle.gb_abs.proofs.OperationLaws.{set_both, set_one}
@@ -58,12 +56,12 @@ IsIn-pair high low entry a b h l =
 -- ---- the meaning of a core
 
 pub MeansCore-changed :
-    (s : Core) (entry x : MState) (rs : Registers Val) (f : Flg) (test : Option ℕ) (i : ImeSet) (q : Processor)
+    (s : Core) (entry x : MState) (rs : Registers Val) (f : Flg) (i : ImeSet) (q : Processor)
     → ((r : Register) → Holds (get r rs) entry (get r q.registers)) → HoldsFlags f entry q.flags
-    → ime_may_be i q.ime ≡ true → IsTested test q.registers.a q.flags
+    → ime_may_be i q.ime ≡ true
     → q.locked ≡ false → q.stopped ≡ false → MeansCore s entry x
-    → MeansCore (record s { registers = rs; flags = f; test = test; ime = i }) entry (record x { processor = q })
-MeansCore-changed s entry x rs f test i q registers flags ime tested locked stopped m =
+    → MeansCore (record s { registers = rs; flags = f; ime = i }) entry (record x { processor = q })
+MeansCore-changed s entry x rs f i q registers flags ime locked stopped m =
     record {
       registers = registers;
       flags = flags;
@@ -71,7 +69,6 @@ MeansCore-changed s entry x rs f test i q registers flags ime tested locked stop
       ime = ime;
       controller = m.controller;
       count = m.count;
-      test = tested;
       locked = locked;
       stopped = stopped;
     }
@@ -81,41 +78,40 @@ pub MeansCore-at :
     (s : Core) (entry x : MState) (sp pc : ℕ)
     → MeansCore s entry x → MeansCore s entry (record x { processor = record x.processor { sp = sp; pc = pc } })
 MeansCore-at s entry x sp pc m =
-    MeansCore-changed s entry x s.registers s.flags s.test s.ime (record x.processor { sp = sp; pc = pc }) m.registers m.flags m.ime m.test m.locked m.stopped m
+    MeansCore-changed s entry x s.registers s.flags s.ime (record x.processor { sp = sp; pc = pc }) m.registers m.flags m.ime m.locked m.stopped m
 
 pub MeansCore-flags :
     (s : Core) (entry x : MState) (f : Flg) (g : Flags)
     → HoldsFlags f entry g → MeansCore s entry x
     → MeansCore (with_flags f s) entry (record x { processor = record x.processor { flags = g } })
 MeansCore-flags s entry x f g flags m =
-    MeansCore-changed s entry x s.registers f None s.ime (record x.processor { flags = g }) m.registers flags m.ime tt m.locked m.stopped m
+    MeansCore-changed s entry x s.registers f s.ime (record x.processor { flags = g }) m.registers flags m.ime m.locked m.stopped m
 
 pub MeansCore-ime :
     (s : Core) (entry x : MState) (i : ImeSet) (ime : Ime)
     → ime_may_be i ime ≡ true → MeansCore s entry x
     → MeansCore (with_ime i s) entry (record x { processor = record x.processor { ime = ime } })
 MeansCore-ime s entry x i ime holds m =
-    MeansCore-changed s entry x s.registers s.flags s.test i (record x.processor { ime = ime }) m.registers m.flags holds m.test m.locked m.stopped m
+    MeansCore-changed s entry x s.registers s.flags i (record x.processor { ime = ime }) m.registers m.flags holds m.locked m.stopped m
 
--- A, the flags and the test change together
+-- A and the flags change together
 pub MeansCore-a :
-    (s : Core) (entry x : MState) (v : Val) (f : Flg) (test : Option ℕ) (n : ℕ) (g : Flags)
-    → Holds v entry n → HoldsFlags f entry g → IsTested test n g → MeansCore s entry x
-    → MeansCore (record s { registers = set A v s.registers; flags = f; test = test }) entry (record x { processor = record x.processor { registers = set A n x.processor.registers; flags = g } })
-MeansCore-a s entry x v f test n g holds flags tested m =
-    MeansCore-changed s entry x (set A v s.registers) f test s.ime (record x.processor { registers = set A n x.processor.registers; flags = g }) (λ q. set_both (λ w y. Holds w entry y) A q v n s.registers x.processor.registers holds m.registers) flags m.ime tested m.locked m.stopped m
+    (s : Core) (entry x : MState) (v : Val) (f : Flg) (n : ℕ) (g : Flags)
+    → Holds v entry n → HoldsFlags f entry g → MeansCore s entry x
+    → MeansCore (record s { registers = set A v s.registers; flags = f }) entry (record x { processor = record x.processor { registers = set A n x.processor.registers; flags = g } })
+MeansCore-a s entry x v f n g holds flags m =
+    MeansCore-changed s entry x (set A v s.registers) f s.ime (record x.processor { registers = set A n x.processor.registers; flags = g }) (λ q. set_both (λ w y. Holds w entry y) A q v n s.registers x.processor.registers holds m.registers) flags m.ime m.locked m.stopped m
 
 -- ---- the ranges of a core
 
 pub IsCore-changed :
-    (s : Core) (rs : Registers Val) (f : Flg) (test : Option ℕ) (i : ImeSet)
-    → ((r : Register) → IsVal (get r rs)) → IsFlg f → IfSome test (λ a. a < 256) → may_be_any i ≡ true → IsCore s
-    → IsCore (record s { registers = rs; flags = f; test = test; ime = i })
-IsCore-changed s rs f test i registers flags tested ime c =
+    (s : Core) (rs : Registers Val) (f : Flg) (i : ImeSet)
+    → ((r : Register) → IsVal (get r rs)) → IsFlg f → may_be_any i ≡ true → IsCore s
+    → IsCore (record s { registers = rs; flags = f; ime = i })
+IsCore-changed s rs f i registers flags ime c =
     record {
       ime = ime;
       bound = c.bound;
-      test = tested;
       ctl = c.ctl;
       flags = flags;
       ie = c.ie;
@@ -123,11 +119,11 @@ IsCore-changed s rs f test i registers flags tested ime c =
     }
 
 pub IsCore-flags : (s : Core) (f : Flg) → IsFlg f → IsCore s → IsCore (with_flags f s)
-IsCore-flags s f h c = IsCore-changed s s.registers f None s.ime c.registers h tt c.ime c
+IsCore-flags s f h c = IsCore-changed s s.registers f s.ime c.registers h c.ime c
 
 pub IsCore-ime : (s : Core) (i : ImeSet) → may_be_any i ≡ true → IsCore s → IsCore (with_ime i s)
-IsCore-ime s i h c = IsCore-changed s s.registers s.flags s.test i c.registers c.flags c.test h c
+IsCore-ime s i h c = IsCore-changed s s.registers s.flags i c.registers c.flags h c
 
-pub IsCore-a : (s : Core) (v : Val) (f : Flg) (test : Option ℕ) → IsVal v → IsFlg f → IfSome test (λ a. a < 256) → IsCore s → IsCore (record s { registers = set A v s.registers; flags = f; test = test })
-IsCore-a s v f test h k tested c =
-    IsCore-changed s (set A v s.registers) f test s.ime (λ q. set_one IsVal A q v s.registers h c.registers) k tested c.ime c
+pub IsCore-a : (s : Core) (v : Val) (f : Flg) → IsVal v → IsFlg f → IsCore s → IsCore (record s { registers = set A v s.registers; flags = f })
+IsCore-a s v f h k c =
+    IsCore-changed s (set A v s.registers) f s.ime (λ q. set_one IsVal A q v s.registers h c.registers) k c.ime c

@@ -1,6 +1,5 @@
 -- What instructions on a byte do is followed: by operands, by A, and by flags.
-use Rattle.std.proofs.Common.{◌≡◌, ℕ, ◌≤◌, ◌<◌, false, Option, None}
-use Rattle.std.specs.Prelude.{IfSome}
+use Rattle.std.proofs.Common.{◌≡◌, ℕ, ◌≤◌, false, None}
 use Rattle.gb_ops.specs.declared.op.Register.TheVariants.{A}
 use Rattle.gb_ops.specs.declared.op.Operand.{Operand}
 use Rattle.gb_ops.specs.declared.op.Operand.TheVariants as operand
@@ -14,7 +13,6 @@ use Rattle.gb_domain.specs.declared.types.Core.{Core}
 use Rattle.gb_domain.specs.Rules.{IsVal, IsFlg, IsCore}
 use Rattle.gb_vals.specs.declared.outcome.Outcome.{Outcome}
 use Rattle.gb_vals.specs.Meaning.{In, FlagsIn, Gives, IsSound, IsSoundOfVal, IsSoundOfFlags, IsSoundOfTest, IsOutcome, IsComputed}
-use Rattle.gb_vals.specs.Tests.{IsTested}
 use Rattle.gb_abs.specs.Meaning.{Holds, HoldsFlags, MeansCore}
 use Rattle.gb_abs.proofs.OperationLaws.{MeansCore-set_register, IsCore-set_register}
 use Rattle.gb_abs_effects.specs.Transfer.{quiet, with_flags, operand_val, store_operand, update_operand, update_a}
@@ -91,27 +89,27 @@ Follows-change_operand machine which s entry x low l v sound computed is h m =
 -- ---- A
 
 pub Follows-update_a :
-    (s : Core) (entry x : MState) (o : Outcome) (test : Option ℕ) (c : Computed)
-    → Holds o.val entry c.value → HoldsFlags o.flags entry c.flags → IsTested test c.value c.flags → MeansCore s entry x
-    → Follows (update_a o test s) entry x (Effects.update_a x.processor c)
+    (s : Core) (entry x : MState) (o : Outcome) (c : Computed)
+    → Holds o.val entry c.value → HoldsFlags o.flags entry c.flags → MeansCore s entry x
+    → Follows (update_a o s) entry x (Effects.update_a x.processor c)
 unfolding update_a Effects.update_a
-Follows-update_a s entry x o test c value flags tested m =
-    record { core = MeansCore-a s entry x o.val o.flags test c.value c.flags value flags tested m; write = tt }
+Follows-update_a s entry x o c value flags m =
+    record { core = MeansCore-a s entry x o.val o.flags c.value c.flags value flags m; write = tt }
 
 -- A and the flags become what was computed of them
 pub Follows-change_a :
     (machine : ℕ → Flags → Computed) (s : Core) (entry x : MState) (o : Outcome)
     → IsSound machine s.registers.a s.flags o → IsComputed o → MeansCore s entry x
-    → Follows (update_a o None s) entry x (Effects.update_a x.processor (machine x.processor.registers.a x.processor.flags))
+    → Follows (update_a o s) entry x (Effects.update_a x.processor (machine x.processor.registers.a x.processor.flags))
 Follows-change_a machine s entry x o sound computed m =
     let a = x.processor.registers.a in
     let g = x.processor.flags in
     let gives : Gives o (machine a g) = sound.gives a g (In-from s.registers.a entry a (m.registers A)) (FlagsIn-from s.flags entry g m.flags) in
-    Follows-update_a s entry x o None (machine a g) (Holds-computed o.val entry (machine a g).value gives.value computed.origin) (HoldsFlags-written o.flags entry (machine a g).flags gives.flags computed.own) tt m
+    Follows-update_a s entry x o (machine a g) (Holds-computed o.val entry (machine a g).value gives.value computed.origin) (HoldsFlags-written o.flags entry (machine a g).flags gives.flags computed.own) m
 
-pub IsAbsEffect-update_a : (s : Core) (o : Outcome) (test : Option ℕ) → IsOutcome o → IfSome test (λ n. n < 256) → IsCore s → IsAbsEffect (update_a o test s)
+pub IsAbsEffect-update_a : (s : Core) (o : Outcome) → IsOutcome o → IsCore s → IsAbsEffect (update_a o s)
 unfolding update_a
-IsAbsEffect-update_a s o test is tested core = record { core = IsCore-a s o.val o.flags test is.val is.flags tested core; write = tt; at = tt }
+IsAbsEffect-update_a s o is core = record { core = IsCore-a s o.val o.flags is.val is.flags core; write = tt; at = tt }
 
 -- ---- flags
 

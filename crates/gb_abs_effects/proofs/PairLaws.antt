@@ -296,6 +296,8 @@ own-origin None e = cc
 own-origin (Some (origin.Register r)) e = cc
 own-origin (Some origin.F) e = refl
 own-origin (Some origin.Ie) e = cc
+own-origin (Some origin.ReturnHigh) e = cc
+own-origin (Some origin.ReturnLow) e = cc
 
 flags_of_val-own : (v : Val) → (flags_of_val v).is_own ≡ is_own_origin v.origin
 unfolding flags_of_val
@@ -326,7 +328,7 @@ MeansCore-with_stack_pair stack.Bc s entry x w l h low high m = MeansCore-set_re
 MeansCore-with_stack_pair stack.De s entry x w l h low high m = MeansCore-set_read D E s entry x w l h low high m
 MeansCore-with_stack_pair stack.Hl s entry x w l h low high m = MeansCore-set_read H L s entry x w l h low high m
 MeansCore-with_stack_pair stack.Af s entry x w l h low high m =
-    MeansCore-a s entry x w.high (flags_of_val w.low) None h (flags_of l) high (HoldsFlags-popped w.low entry l low) tt m
+    MeansCore-a s entry x w.high (flags_of_val w.low) h (flags_of l) high (HoldsFlags-popped w.low entry l low) m
 
 -- PUSH AF: F's byte is a copy of F where F is its own
 Holds-pushed : (f : Flg) (entry : MState) (g : Flags) → HoldsFlags f entry g → Holds (flags_val f) entry (flags_byte g)

@@ -1,5 +1,5 @@
 -- What instructions leave and write lies in its range.
-use Rattle.std.proofs.Common.{◌≡◌, ℕ, ◌+◌, ◌-◌, ◌/◌, ◌%◌, ◌≤◌, ◌<◌, Bool, true, false, ◌||◌, cond, nat_lt, None, refl, sym, subst, arith}
+use Rattle.std.proofs.Common.{◌≡◌, ℕ, ◌+◌, ◌-◌, ◌/◌, ◌%◌, ◌≤◌, ◌<◌, Bool, true, false, ◌||◌, cond, nat_lt, refl, sym, subst, arith}
 use Rattle.std.proofs.lemmas.Bool.Decides.{nat_tests}
 use Rattle.gb_ops.specs.declared.op.Register.{Register}
 use Rattle.gb_ops.specs.declared.op.Register.TheVariants.{A, B, C, D, E, H, L}
@@ -156,7 +156,7 @@ IsCore-with_stack_pair stack.Bc s w h is = IsCore-with_pair pair.Bc s w h is
 IsCore-with_stack_pair stack.De s w h is = IsCore-with_pair pair.De s w h is
 IsCore-with_stack_pair stack.Hl s w h is = IsCore-with_pair pair.Hl s w h is
 IsCore-with_stack_pair stack.Af s w h is =
-    IsCore-a s w.high (flags_of_val w.low) None h.high (flags_of_val_inhabited w.low (flags_of_val w.low) refl h.low) tt is
+    IsCore-a s w.high (flags_of_val w.low) h.high (flags_of_val_inhabited w.low (flags_of_val w.low) refl h.low) is
 
 -- ---- interrupts
 
@@ -189,65 +189,65 @@ IsFlg-sp_sum : IsFlg sp_sum_flags
 IsFlg-sp_sum = record { zero = refl; subtract = refl; half_carry = refl; carry = refl }
 
 IsAbsEffect-transfer :
-    (o : Op) (next : ℕ) (s : Core) (low high : Val)
-    → HasBytes o → next < 65536 → IsCore s → IsVal low → IsVal high → IsAbsEffect (transfer o next s low high)
+    (o : Op) (next : ℕ) (sp : Halves) (s : Core) (low high : Val)
+    → HasBytes o → next < 65536 → IsCore s → IsVal low → IsVal high → IsWord sp → IsAbsEffect (transfer o next sp s low high)
 unfolding transfer
-IsAbsEffect-transfer (op.LoadPair to w) next s low high bytes small is l h = IsAbsEffect-quiet _ (IsCore-with_pair to s (known_word w) (IsWord-known w bytes) is)
-IsAbsEffect-transfer (op.StoreA to) next s low high bytes small is l h = record { core = IsCore-with_indirect to s is; write = is.registers A; at = indirect_span-last to s is }
-IsAbsEffect-transfer (op.LoadA from) next s low high bytes small is l h = IsAbsEffect-loaded (with_indirect from s) low l (IsCore-with_indirect from s is)
-IsAbsEffect-transfer (op.IncrementPair which) next s low high bytes small is l h = IsAbsEffect-quiet _ (IsCore-with_pair which s _ (IsWord-next _ (IsWord-pair which s is)) is)
-IsAbsEffect-transfer (op.DecrementPair which) next s low high bytes small is l h = IsAbsEffect-quiet _ (IsCore-with_pair which s _ (IsWord-previous _ (IsWord-pair which s is)) is)
-IsAbsEffect-transfer (op.Increment which) next s low high bytes small is l h =
+IsAbsEffect-transfer (op.LoadPair to w) next sp s low high bytes small is l h is_sp = IsAbsEffect-quiet _ (IsCore-with_pair to s (known_word w) (IsWord-known w bytes) is)
+IsAbsEffect-transfer (op.StoreA to) next sp s low high bytes small is l h is_sp = record { core = IsCore-with_indirect to s is; write = is.registers A; at = indirect_span-last to s is }
+IsAbsEffect-transfer (op.LoadA from) next sp s low high bytes small is l h is_sp = IsAbsEffect-loaded (with_indirect from s) low l (IsCore-with_indirect from s is)
+IsAbsEffect-transfer (op.IncrementPair which) next sp s low high bytes small is l h is_sp = IsAbsEffect-quiet _ (IsCore-with_pair which s _ (IsWord-next _ (IsWord-pair which s is)) is)
+IsAbsEffect-transfer (op.DecrementPair which) next sp s low high bytes small is l h is_sp = IsAbsEffect-quiet _ (IsCore-with_pair which s _ (IsWord-previous _ (IsWord-pair which s is)) is)
+IsAbsEffect-transfer (op.Increment which) next sp s low high bytes small is l h is_sp =
     IsAbsEffect-update_operand which s _ (increment_inhabited (operand_val which s low) s.flags _ refl (operand-byte which s low l is) is.flags) is
-IsAbsEffect-transfer (op.Decrement which) next s low high bytes small is l h =
+IsAbsEffect-transfer (op.Decrement which) next sp s low high bytes small is l h is_sp =
     IsAbsEffect-update_operand which s _ (decrement_inhabited (operand_val which s low) s.flags _ refl (operand-byte which s low l is) is.flags) is
-IsAbsEffect-transfer (op.LoadImmediate to v) next s low high bytes small is l h = IsAbsEffect-store_operand to s (single v) (single-byte v bytes) is
-IsAbsEffect-transfer (op.RotateA how) next s low high bytes small is l h =
-    IsAbsEffect-update_a s _ None (rotate_a_inhabited how s.registers.a s.flags _ refl (is.registers A) is.flags) tt is
-IsAbsEffect-transfer (op.StoreSp w) next s low high bytes small is l h = record { core = is; write = (any-byte, any-byte); at = bytes }
-IsAbsEffect-transfer (op.AddHl which) next s low high bytes small is l h = IsAbsEffect-add_hl which s is
-IsAbsEffect-transfer op.DecimalAdjust next s low high bytes small is l h =
-    IsAbsEffect-update_a s _ None (adjust_inhabited s.registers.a s.flags _ refl (is.registers A) is.flags) tt is
-IsAbsEffect-transfer op.Complement next s low high bytes small is l h =
-    IsAbsEffect-update_a s _ None (complement_inhabited s.registers.a s.flags _ refl (is.registers A) is.flags) tt is
-IsAbsEffect-transfer op.SetCarry next s low high bytes small is l h = IsAbsEffect-flags s _ (set_carry_inhabited s.flags _ refl is.flags) is
-IsAbsEffect-transfer op.ComplementCarry next s low high bytes small is l h = IsAbsEffect-flags s _ (complement_carry_inhabited s.flags _ refl is.flags) is
-IsAbsEffect-transfer (op.Load to from) next s low high bytes small is l h = IsAbsEffect-store_operand to s _ (operand-byte from s low l is) is
-IsAbsEffect-transfer (op.Alu how from) next s low high bytes small is l h = IsAbsEffect-apply_alu how from s low l is
-IsAbsEffect-transfer (op.AluImmediate how v) next s low high bytes small is l h = IsAbsEffect-immediate how s v bytes is
-IsAbsEffect-transfer op.ReturnFromInterrupt next s low high bytes small is l h = IsAbsEffect-quiet _ (IsCore-ime s only_on refl is)
-IsAbsEffect-transfer (op.Pop to) next s low high bytes small is l h =
+IsAbsEffect-transfer (op.LoadImmediate to v) next sp s low high bytes small is l h is_sp = IsAbsEffect-store_operand to s (single v) (single-byte v bytes) is
+IsAbsEffect-transfer (op.RotateA how) next sp s low high bytes small is l h is_sp =
+    IsAbsEffect-update_a s _ (rotate_a_inhabited how s.registers.a s.flags _ refl (is.registers A) is.flags) is
+IsAbsEffect-transfer (op.StoreSp w) next sp s low high bytes small is l h is_sp = record { core = is; write = (is_sp.low, is_sp.high); at = bytes }
+IsAbsEffect-transfer (op.AddHl which) next sp s low high bytes small is l h is_sp = IsAbsEffect-add_hl which s is
+IsAbsEffect-transfer op.DecimalAdjust next sp s low high bytes small is l h is_sp =
+    IsAbsEffect-update_a s _ (adjust_inhabited s.registers.a s.flags _ refl (is.registers A) is.flags) is
+IsAbsEffect-transfer op.Complement next sp s low high bytes small is l h is_sp =
+    IsAbsEffect-update_a s _ (complement_inhabited s.registers.a s.flags _ refl (is.registers A) is.flags) is
+IsAbsEffect-transfer op.SetCarry next sp s low high bytes small is l h is_sp = IsAbsEffect-flags s _ (set_carry_inhabited s.flags _ refl is.flags) is
+IsAbsEffect-transfer op.ComplementCarry next sp s low high bytes small is l h is_sp = IsAbsEffect-flags s _ (complement_carry_inhabited s.flags _ refl is.flags) is
+IsAbsEffect-transfer (op.Load to from) next sp s low high bytes small is l h is_sp = IsAbsEffect-store_operand to s _ (operand-byte from s low l is) is
+IsAbsEffect-transfer (op.Alu how from) next sp s low high bytes small is l h is_sp = IsAbsEffect-apply_alu how from s low l is
+IsAbsEffect-transfer (op.AluImmediate how v) next sp s low high bytes small is l h is_sp = IsAbsEffect-immediate how s v bytes is
+IsAbsEffect-transfer op.ReturnFromInterrupt next sp s low high bytes small is l h is_sp = IsAbsEffect-quiet _ (IsCore-ime s only_on refl is)
+IsAbsEffect-transfer (op.Pop to) next sp s low high bytes small is l h is_sp =
     IsAbsEffect-quiet _ (IsCore-with_stack_pair to s (record { high = high; low = low }) (record { high = h; low = l }) is)
-IsAbsEffect-transfer (op.Push from) next s low high bytes small is l h = IsAbsEffect-pushes s _ (IsWord-stack_pair from s is) is
-IsAbsEffect-transfer (op.CallIf c w) next s low high bytes small is l h = IsAbsEffect-pushes s _ (IsWord-known next small) is
-IsAbsEffect-transfer (op.Call w) next s low high bytes small is l h = IsAbsEffect-pushes s _ (IsWord-known next small) is
-IsAbsEffect-transfer (op.Restart w) next s low high bytes small is l h = IsAbsEffect-pushes s _ (IsWord-known next small) is
-IsAbsEffect-transfer (op.StoreHigh n) next s low high bytes small is l h = record { core = is; write = is.registers A; at = high-last n bytes }
-IsAbsEffect-transfer (op.LoadHigh n) next s low high bytes small is l h = IsAbsEffect-loaded s low l is
-IsAbsEffect-transfer op.StoreHighC next s low high bytes small is l h = record { core = is; write = is.registers A; at = high_span-last s is }
-IsAbsEffect-transfer op.LoadHighC next s low high bytes small is l h = IsAbsEffect-loaded s low l is
-IsAbsEffect-transfer (op.StoreAbsolute w) next s low high bytes small is l h = record { core = is; write = is.registers A; at = bytes }
-IsAbsEffect-transfer (op.LoadAbsolute w) next s low high bytes small is l h = IsAbsEffect-loaded s low l is
-IsAbsEffect-transfer (op.AddSp e8) next s low high bytes small is l h = IsAbsEffect-flags s sp_sum_flags IsFlg-sp_sum is
-IsAbsEffect-transfer (op.LoadHlSp e8) next s low high bytes small is l h =
+IsAbsEffect-transfer (op.Push from) next sp s low high bytes small is l h is_sp = IsAbsEffect-pushes s _ (IsWord-stack_pair from s is) is
+IsAbsEffect-transfer (op.CallIf c w) next sp s low high bytes small is l h is_sp = IsAbsEffect-pushes s _ (IsWord-known next small) is
+IsAbsEffect-transfer (op.Call w) next sp s low high bytes small is l h is_sp = IsAbsEffect-pushes s _ (IsWord-known next small) is
+IsAbsEffect-transfer (op.Restart w) next sp s low high bytes small is l h is_sp = IsAbsEffect-pushes s _ (IsWord-known next small) is
+IsAbsEffect-transfer (op.StoreHigh n) next sp s low high bytes small is l h is_sp = record { core = is; write = is.registers A; at = high-last n bytes }
+IsAbsEffect-transfer (op.LoadHigh n) next sp s low high bytes small is l h is_sp = IsAbsEffect-loaded s low l is
+IsAbsEffect-transfer op.StoreHighC next sp s low high bytes small is l h is_sp = record { core = is; write = is.registers A; at = high_span-last s is }
+IsAbsEffect-transfer op.LoadHighC next sp s low high bytes small is l h is_sp = IsAbsEffect-loaded s low l is
+IsAbsEffect-transfer (op.StoreAbsolute w) next sp s low high bytes small is l h is_sp = record { core = is; write = is.registers A; at = bytes }
+IsAbsEffect-transfer (op.LoadAbsolute w) next sp s low high bytes small is l h is_sp = IsAbsEffect-loaded s low l is
+IsAbsEffect-transfer (op.AddSp e8) next sp s low high bytes small is l h is_sp = IsAbsEffect-flags s sp_sum_flags IsFlg-sp_sum is
+IsAbsEffect-transfer (op.LoadHlSp e8) next sp s low high bytes small is l h is_sp =
     IsAbsEffect-flags (with_pair pair.Hl any_word s) sp_sum_flags IsFlg-sp_sum (IsCore-with_pair pair.Hl s any_word IsWord-any is)
-IsAbsEffect-transfer op.DisableInterrupts next s low high bytes small is l h = IsAbsEffect-quiet _ (IsCore-ime s only_off refl is)
-IsAbsEffect-transfer op.EnableInterrupts next s low high bytes small is l h = IsAbsEffect-quiet _ (IsCore-ime s (enabled s.ime) (enabled-any s.ime is.ime) is)
-IsAbsEffect-transfer (op.Shift how which) next s low high bytes small is l h =
+IsAbsEffect-transfer op.DisableInterrupts next sp s low high bytes small is l h is_sp = IsAbsEffect-quiet _ (IsCore-ime s only_off refl is)
+IsAbsEffect-transfer op.EnableInterrupts next sp s low high bytes small is l h is_sp = IsAbsEffect-quiet _ (IsCore-ime s (enabled s.ime) (enabled-any s.ime is.ime) is)
+IsAbsEffect-transfer (op.Shift how which) next sp s low high bytes small is l h is_sp =
     IsAbsEffect-update_operand which s _ (shift_inhabited how (operand_val which s low) s.flags _ refl (operand-byte which s low l is) is.flags) is
-IsAbsEffect-transfer (op.Bit n which) next s low high bytes small is l h =
+IsAbsEffect-transfer (op.Bit n which) next sp s low high bytes small is l h is_sp =
     IsAbsEffect-flags s _ (test_bit_inhabited n (operand_val which s low) s.flags _ refl (operand-byte which s low l is) is.flags) is
-IsAbsEffect-transfer (op.Reset n which) next s low high bytes small is l h =
+IsAbsEffect-transfer (op.Reset n which) next sp s low high bytes small is l h is_sp =
     IsAbsEffect-store_operand which s _ (reset_bit_inhabited n (operand_val which s low) _ refl (operand-byte which s low l is)) is
-IsAbsEffect-transfer (op.Set n which) next s low high bytes small is l h =
+IsAbsEffect-transfer (op.Set n which) next sp s low high bytes small is l h is_sp =
     IsAbsEffect-store_operand which s _ (set_bit_inhabited n (operand_val which s low) _ refl (operand-byte which s low l is)) is
-IsAbsEffect-transfer o next s low high bytes small is l h = IsAbsEffect-quiet s is
+IsAbsEffect-transfer o next sp s low high bytes small is l h is_sp = IsAbsEffect-quiet s is
 
 pub transfer_inhabited :
-    (o : Op) (next : ℕ) (s : Core) (low high : Val) (t : AbsEffect)
-    → t ≡ transfer o next s low high → HasBytes o → next < 65536 → IsCore s → IsVal low → IsVal high → IsAbsEffect t
-transfer_inhabited o next s low high t e bytes small is l h =
-    subst (λ k. IsAbsEffect k) (sym e) (IsAbsEffect-transfer o next s low high bytes small is l h)
+    (o : Op) (next : ℕ) (sp : Halves) (s : Core) (low high : Val) (t : AbsEffect)
+    → t ≡ transfer o next sp s low high → HasBytes o → next < 65536 → IsCore s → IsVal low → IsVal high → IsWord sp → IsAbsEffect t
+transfer_inhabited o next sp s low high t e bytes small is l h is_sp =
+    subst (λ k. IsAbsEffect k) (sym e) (IsAbsEffect-transfer o next sp s low high bytes small is l h is_sp)
 
 pub untaken_inhabited : (s : Core) (t : AbsEffect) → t ≡ untaken s → IsCore s → IsAbsEffect t
 unfolding untaken

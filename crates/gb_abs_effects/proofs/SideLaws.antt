@@ -1,7 +1,6 @@
 -- The side by the machine's own condition is possible, and means what the core means.
 use Rattle.std.proofs.Common.{◌≡◌, ℕ, Bool, true, false, not, Option, Some, None, refl, sym, ◌∙◌, subst}
 use Rattle.std.specs.Prelude.{IfSome}
-use Rattle.gb_ops.specs.declared.op.Register.TheVariants.{A}
 use Rattle.gb_ops.specs.declared.op.Condition.{Condition}
 use Rattle.gb_ops.specs.declared.op.Condition.TheVariants as condition
 use Rattle.gb_ops.specs.declared.op.Operand.{Operand}
@@ -11,21 +10,19 @@ use Rattle.gb_ops.specs.declared.op.Op.TheVariants as op
 use Rattle.gb_ops.specs.declared.registers.Flags.{Flags}
 use Rattle.gb_ops.specs.declared.registers.Processor.{Processor}
 use Rattle.gb_ops.specs.declared.machine.Effect.{Effect}
-use Rattle.gb_ops.specs.Registers.{set}
 use Rattle.gb_ops.specs.Flags.{is_met}
 use Rattle.gb_ops.specs.Effects.{effect_of, only_if, jump, return_to, call, store_operand, update_operand, update_a, push}
 use Rattle.gb_ops.specs.Play.{MState}
 use Rattle.gb_domain.specs.declared.types.Core.{Core}
-use Rattle.gb_domain.specs.Rules.{IsVal, IsCore}
-use Rattle.gb_vals.specs.declared.branch.Branch.{Branch}
+use Rattle.gb_domain.specs.Rules.{IsCore}
+use Rattle.gb_domain.specs.declared.types.Flg.{Flg}
 use Rattle.gb_vals.specs.Tests.{side, IsOnSide, IsKept, IsSide}
 use Rattle.gb_vals.proofs.BranchLaws.{side_sound, side_inhabited, side_kept}
-use Rattle.gb_abs.specs.Meaning.{Holds, HoldsFlags, MeansCore}
-use Rattle.gb_abs.proofs.OperationLaws.{set_both, set_one}
+use Rattle.gb_abs.specs.Meaning.{HoldsFlags, MeansCore}
 use Rattle.gb_abs_effects.specs.declared.sides.Sides.{Sides}
-use Rattle.gb_abs_effects.specs.Sides.{opposite, condition_of, with_branch, side_of, sides_by, sides_of}
+use Rattle.gb_abs_effects.specs.Sides.{opposite, condition_of, with_flags_if, side_of, sides_by, sides_of}
 use Rattle.gb_abs_effects.specs.Sound.{side_by, IsMeant, AreSoundSides, AreSides}
-use Rattle.gb_abs_effects.proofs.CoreLaws.{some-is, In-from, FlagsIn-from, MeansCore-changed, IsCore-changed}
+use Rattle.gb_abs_effects.proofs.CoreLaws.{some-is, FlagsIn-from, MeansCore-changed, IsCore-changed}
 
 -- ---- which instructions are taken
 
@@ -66,25 +63,21 @@ is_taken-with o c p l h e = cc
 
 -- ---- a side
 
-IsMeant-with_branch :
-    (s : Core) (entry x : MState) (b : Option Branch)
-    → IsOnSide b x.processor.registers.a x.processor.flags → IsKept s.registers.a s.flags b → MeansCore s entry x
-    → IsMeant (with_branch s b) entry x
-IsMeant-with_branch s entry x None on kept m = on
-IsMeant-with_branch s entry x (Some b) on kept m =
-    let old : Holds s.registers.a entry x.processor.registers.a = m.registers A in
-    let a : Holds b.a entry x.processor.registers.a = record { least = on.0.least; most = on.0.most; origin = λ o e. old.origin o (sym kept.0 ∙ e) } in
-    let flags : HoldsFlags b.flags entry x.processor.flags = record { zero = on.1.zero; subtract = on.1.subtract; half_carry = on.1.half_carry; carry = on.1.carry; own = λ e. m.flags.own (sym kept.1 ∙ e) } in
-    MeansCore-changed s entry x (set A b.a s.registers) b.flags s.test s.ime x.processor (λ q. set_both (λ w y. Holds w entry y) A q b.a x.processor.registers.a s.registers x.processor.registers a m.registers) flags m.ime m.test m.locked m.stopped m
+IsMeant-with_flags_if :
+    (s : Core) (entry x : MState) (o : Option Flg)
+    → IsOnSide o x.processor.flags → IsKept s.flags o → MeansCore s entry x → IsMeant (with_flags_if s o) entry x
+IsMeant-with_flags_if s entry x None on kept m = on
+IsMeant-with_flags_if s entry x (Some f) on kept m =
+    let flags : HoldsFlags f entry x.processor.flags = record { zero = on.zero; subtract = on.subtract; half_carry = on.half_carry; carry = on.carry; own = λ e. m.flags.own (sym kept ∙ e) } in
+    MeansCore-changed s entry x s.registers f s.ime x.processor m.registers flags m.ime m.locked m.stopped m
 
 IsMeant-side_of :
     (c : Condition) (s : Core) (entry x : MState)
-    → is_met c x.processor.flags ≡ true → IsCore s → MeansCore s entry x → IsMeant (side_of c s) entry x
+    → is_met c x.processor.flags ≡ true → MeansCore s entry x → IsMeant (side_of c s) entry x
 unfolding side_of
-IsMeant-side_of c s entry x met is m =
-    let a = s.registers.a in
-    let on = (side_sound s.test c a s.flags (side s.test c a s.flags) refl (is.registers A).hi).gives x.processor.registers.a x.processor.flags (In-from a entry x.processor.registers.a (m.registers A)) (FlagsIn-from s.flags entry x.processor.flags m.flags) m.test met in
-    IsMeant-with_branch s entry x (side s.test c a s.flags) on (side_kept s.test c a s.flags (side s.test c a s.flags) refl) m
+IsMeant-side_of c s entry x met m =
+    let on = (side_sound c s.flags (side c s.flags) refl).gives x.processor.flags (FlagsIn-from s.flags entry x.processor.flags m.flags) met in
+    IsMeant-with_flags_if s entry x (side c s.flags) on (side_kept c s.flags (side c s.flags) refl) m
 
 set_from : (b : Bool) → not b ≡ false → b ≡ true
 set_from true h = refl
@@ -94,7 +87,7 @@ clear_not : (b : Bool) → b ≡ false → not b ≡ true
 clear_not true h = cc
 clear_not false h = refl
 
-met-opposite : (c : Condition) (g : Flags) → is_met c g ≡ false → is_met (opposite c) g ≡ true
+pub met-opposite : (c : Condition) (g : Flags) → is_met c g ≡ false → is_met (opposite c) g ≡ true
 unfolding is_met
 met-opposite condition.NotZero g h = set_from g.zero h
 met-opposite condition.Zero g h = clear_not g.zero h
@@ -103,38 +96,35 @@ met-opposite condition.Carry g h = clear_not g.carry h
 
 IsMeant-conditional :
     (c : Condition) (s : Core) (entry x : MState) (b : Bool)
-    → is_met c x.processor.flags ≡ b → IsCore s → MeansCore s entry x → IsMeant (side_by b (sides_by (Some c) s)) entry x
-IsMeant-conditional c s entry x true met is m = IsMeant-side_of c s entry x met is m
-IsMeant-conditional c s entry x false met is m = IsMeant-side_of (opposite c) s entry x (met-opposite c x.processor.flags met) is m
+    → is_met c x.processor.flags ≡ b → MeansCore s entry x → IsMeant (side_by b (sides_by (Some c) s)) entry x
+IsMeant-conditional c s entry x true met m = IsMeant-side_of c s entry x met m
+IsMeant-conditional c s entry x false met m = IsMeant-side_of (opposite c) s entry x (met-opposite c x.processor.flags met) m
 
 IsMeant-sides_of :
     (o : Op) (s : Core) (entry x : MState) (l h : ℕ)
-    → IsCore s → MeansCore s entry x → IsMeant (side_by (effect_of o x.processor l h).is_taken (sides_of o s)) entry x
+    → MeansCore s entry x → IsMeant (side_by (effect_of o x.processor l h).is_taken (sides_of o s)) entry x
 unfolding sides_of
-IsMeant-sides_of o s entry x l h is m = choose (condition_of o) refl
+IsMeant-sides_of o s entry x l h m = choose (condition_of o) refl
   where
     choose : (k : Option Condition) → condition_of o ≡ k → IsMeant (side_by (effect_of o x.processor l h).is_taken (sides_by k s)) entry x
     choose None e =
         subst (λ b. IsMeant (side_by b (sides_by None s)) entry x) (sym (is_taken-without o x.processor l h e)) m
     choose (Some c) e =
-        subst (λ b. IsMeant (side_by b (sides_by (Some c) s)) entry x) (sym (is_taken-with o c x.processor l h e)) (IsMeant-conditional c s entry x (is_met c x.processor.flags) refl is m)
+        subst (λ b. IsMeant (side_by b (sides_by (Some c) s)) entry x) (sym (is_taken-with o c x.processor l h e)) (IsMeant-conditional c s entry x (is_met c x.processor.flags) refl m)
 
-pub sides_of_sound : (o : Op) (s : Core) (sides : Sides) → sides ≡ sides_of o s → IsCore s → AreSoundSides o s sides
-sides_of_sound o s sides e is =
-    subst (λ k. AreSoundSides o s k) (sym e) (record { gives = λ entry x l h m. IsMeant-sides_of o s entry x l h is m })
+pub sides_of_sound : (o : Op) (s : Core) (sides : Sides) → sides ≡ sides_of o s → AreSoundSides o s sides
+sides_of_sound o s sides e =
+    subst (λ k. AreSoundSides o s k) (sym e) (record { gives = λ entry x l h m. IsMeant-sides_of o s entry x l h m })
 
 -- ---- its ranges
 
-IsCore-with_branch : (s : Core) (b : Option Branch) → IsSide b → IsCore s → IfSome (with_branch s b) IsCore
-IsCore-with_branch s None h c = tt
-IsCore-with_branch s (Some b) h c =
-    IsCore-changed s (set A b.a s.registers) b.flags s.test s.ime (λ q. set_one IsVal A q b.a s.registers h.0 c.registers) h.1 c.test c.ime c
+IsCore-with_flags_if : (s : Core) (o : Option Flg) → IsSide o → IsCore s → IfSome (with_flags_if s o) IsCore
+IsCore-with_flags_if s None h c = tt
+IsCore-with_flags_if s (Some f) h c = IsCore-changed s s.registers f s.ime c.registers h c.ime c
 
 IsCore-side_of : (c : Condition) (s : Core) → IsCore s → IfSome (side_of c s) IsCore
 unfolding side_of
-IsCore-side_of c s is =
-    let a = s.registers.a in
-    IsCore-with_branch s (side s.test c a s.flags) (side_inhabited s.test c a s.flags (side s.test c a s.flags) refl (is.registers A) is.flags) is
+IsCore-side_of c s is = IsCore-with_flags_if s (side c s.flags) (side_inhabited c s.flags (side c s.flags) refl is.flags) is
 
 AreSides-sides_by : (k : Option Condition) (s : Core) → IsCore s → AreSides (sides_by k s)
 AreSides-sides_by None s is = record { taken = is; not_taken = tt }

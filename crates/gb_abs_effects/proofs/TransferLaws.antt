@@ -16,6 +16,7 @@ use Rattle.gb_ops.specs.Play.{MState}
 use Rattle.gb_domain.specs.declared.types.Val.{Val}
 use Rattle.gb_domain.specs.declared.types.Flg.{Flg}
 use Rattle.gb_domain.specs.declared.types.Core.{Core}
+use Rattle.gb_domain.specs.declared.types.Halves.{Halves}
 use Rattle.gb_domain.specs.Rules.{IsVal, IsCore}
 use Rattle.gb_vals.specs.Vals.{single}
 use Rattle.gb_vals.specs.Logic.{complement, complement_result}
@@ -36,7 +37,7 @@ use Rattle.gb_abs_effects.specs.Pairs.{known_word, with_indirect, stack_pair_hal
 use Rattle.gb_abs_effects.specs.Transfer.{quiet, pushes, with_ime, only_off, only_on, enabled, operand_val, transfer, untaken}
 use Rattle.gb_abs_effects.specs.Sound.{HasBytes, Follows, Begins, IsSoundTransfer, IsSoundUntaken}
 use Rattle.gb_abs_effects.proofs.CoreLaws.{MeansCore-at, MeansCore-ime}
-use Rattle.gb_abs_effects.proofs.PairLaws.{HoldsWord, HoldsWord-known, HoldsWord-any, MeansCore-with_pair, MeansCore-with_stack_pair, HoldsWord-stack_pair}
+use Rattle.gb_abs_effects.proofs.PairLaws.{HoldsWord, HoldsWord-known, MeansCore-with_pair, MeansCore-with_stack_pair, HoldsWord-stack_pair}
 use Rattle.gb_abs_effects.proofs.OperandLaws.{Follows-store_operand, Follows-change_a, Follows-change_flags, Follows-test_operand}
 use Rattle.gb_abs_effects.proofs.AluLaws.{Follows-immediate, Follows-apply_alu}
 use Rattle.gb_abs_effects.proofs.ReadLaws.{IsIn-one, IsIn-indirect, IsIn-high, untaken-reads}
@@ -70,94 +71,93 @@ unfolding complement_carry
 complement_carry-written f = refl
 
 Follows-transfer :
-    (o : Op) (next : ℕ) (s : Core) (low high : Val) (entry x : MState) (l h : ℕ)
-    → HasBytes o → IsCore s → IsVal low → (o ≡ op.Stop → ⊥) → Begins o next s low high entry x l h
-    → Follows (transfer o next s low high) entry x (Effects.effect_of o x.processor l h)
+    (o : Op) (next : ℕ) (sp : Halves) (s : Core) (low high : Val) (entry x : MState) (l h : ℕ)
+    → HasBytes o → IsCore s → IsVal low → (o ≡ op.Stop → ⊥) → Begins o next sp s low high entry x l h
+    → Follows (transfer o next sp s low high) entry x (Effects.effect_of o x.processor l h)
 unfolding transfer Effects.effect_of Effects.push Effects.update_a
-Follows-transfer op.Nop next s low high entry x l h bytes is is_low going b = record { core = b.core; write = tt }
-Follows-transfer op.Stop next s low high entry x l h bytes is is_low going b = absurd (going refl)
-Follows-transfer op.Halt next s low high entry x l h bytes is is_low going b = record { core = b.core; write = tt }
-Follows-transfer (op.LoadPair to w) next s low high entry x l h bytes is is_low going b =
+Follows-transfer op.Nop next sp s low high entry x l h bytes is is_low going b = record { core = b.core; write = tt }
+Follows-transfer op.Stop next sp s low high entry x l h bytes is is_low going b = absurd (going refl)
+Follows-transfer op.Halt next sp s low high entry x l h bytes is is_low going b = record { core = b.core; write = tt }
+Follows-transfer (op.LoadPair to w) next sp s low high entry x l h bytes is is_low going b =
     record { core = MeansCore-with_pair to s entry x (known_word w) w (HoldsWord-known entry w) b.core; write = tt }
-Follows-transfer (op.StoreA to) next s low high entry x l h bytes is is_low going b =
+Follows-transfer (op.StoreA to) next sp s low high entry x l h bytes is is_low going b =
     record { core = MeansCore-with_indirect to s entry x b.sp is b.core; write = (IsIn-indirect to s entry x b.core, b.core.registers A, a-byte s entry x is b.core) }
-Follows-transfer (op.LoadA from) next s low high entry x l h bytes is is_low going b =
+Follows-transfer (op.LoadA from) next sp s low high entry x l h bytes is is_low going b =
     record { core = MeansCore-set_register (with_indirect from s) entry (record x { processor = Effects.with_indirect x.processor from }) A low l b.low_read (MeansCore-with_indirect from s entry x b.sp is b.core); write = tt }
-Follows-transfer (op.IncrementPair which) next s low high entry x l h bytes is is_low going b = Follows-next which s entry x b.sp is b.core
-Follows-transfer (op.DecrementPair which) next s low high entry x l h bytes is is_low going b = Follows-previous which s entry x b.sp is b.core
-Follows-transfer (op.Increment which) next s low high entry x l h bytes is is_low going b = Follows-increment which s entry x low l is_low b.low_read is b.core
-Follows-transfer (op.Decrement which) next s low high entry x l h bytes is is_low going b = Follows-decrement which s entry x low l is_low b.low_read is b.core
-Follows-transfer (op.LoadImmediate to v) next s low high entry x l h bytes is is_low going b =
+Follows-transfer (op.IncrementPair which) next sp s low high entry x l h bytes is is_low going b = Follows-next which s entry x b.sp is b.core
+Follows-transfer (op.DecrementPair which) next sp s low high entry x l h bytes is is_low going b = Follows-previous which s entry x b.sp is b.core
+Follows-transfer (op.Increment which) next sp s low high entry x l h bytes is is_low going b = Follows-increment which s entry x low l is_low b.low_read is b.core
+Follows-transfer (op.Decrement which) next sp s low high entry x l h bytes is is_low going b = Follows-decrement which s entry x low l is_low b.low_read is b.core
+Follows-transfer (op.LoadImmediate to v) next sp s low high entry x l h bytes is is_low going b =
     Follows-store_operand to s entry x (single v) v (Holds-single v entry) (omega arith) b.core
-Follows-transfer (op.RotateA how) next s low high entry x l h bytes is is_low going b =
+Follows-transfer (op.RotateA how) next sp s low high entry x l h bytes is is_low going b =
     Follows-change_a (rotation_result how) s entry x (rotation_of_a how s.registers.a s.flags) (rotate_a_sound how s.registers.a s.flags _ refl (is.registers A).hi) (rotate_a_computed how s.registers.a s.flags _ refl) b.core
-Follows-transfer (op.StoreSp w) next s low high entry x l h bytes is is_low going b =
-    let any = HoldsWord-any entry x.processor.sp b.sp in
-    record { core = b.core; write = (refl, any.low, any.high) }
-Follows-transfer (op.AddHl which) next s low high entry x l h bytes is is_low going b = Follows-add_hl which s entry x b.sp is b.core
-Follows-transfer (op.JumpRelative e8) next s low high entry x l h bytes is is_low going b = Follows-jump s entry x (arithmetic.displaced x.processor.pc e8) b.core
-Follows-transfer (op.JumpRelativeIf c e8) next s low high entry x l h bytes is is_low going b =
+Follows-transfer (op.StoreSp w) next sp s low high entry x l h bytes is is_low going b =
+    record { core = b.core; write = (refl, b.sp_low, b.sp_high) }
+Follows-transfer (op.AddHl which) next sp s low high entry x l h bytes is is_low going b = Follows-add_hl which s entry x b.sp is b.core
+Follows-transfer (op.JumpRelative e8) next sp s low high entry x l h bytes is is_low going b = Follows-jump s entry x (arithmetic.displaced x.processor.pc e8) b.core
+Follows-transfer (op.JumpRelativeIf c e8) next sp s low high entry x l h bytes is is_low going b =
     Follows-only_if (is_met c x.processor.flags) (quiet s) entry x _ b.taken (Follows-jump s entry x (arithmetic.displaced x.processor.pc e8) b.core)
-Follows-transfer op.DecimalAdjust next s low high entry x l h bytes is is_low going b =
+Follows-transfer op.DecimalAdjust next sp s low high entry x l h bytes is is_low going b =
     Follows-change_a arithmetic.adjusted s entry x (adjustment_of s.registers.a s.flags) (adjust_sound s.registers.a s.flags _ refl) (adjust_computed s.registers.a s.flags _ refl) b.core
-Follows-transfer op.Complement next s low high entry x l h bytes is is_low going b =
+Follows-transfer op.Complement next sp s low high entry x l h bytes is is_low going b =
     Follows-change_a complement_result s entry x (complement s.registers.a s.flags) (complement_sound s.registers.a s.flags _ refl) (complement_computed s.registers.a s.flags _ refl) b.core
-Follows-transfer op.SetCarry next s low high entry x l h bytes is is_low going b =
+Follows-transfer op.SetCarry next sp s low high entry x l h bytes is is_low going b =
     Follows-change_flags set_carry_result s entry x (set_carry s.flags) (set_carry_sound s.flags _ refl) (set_carry-written s.flags) b.core
-Follows-transfer op.ComplementCarry next s low high entry x l h bytes is is_low going b =
+Follows-transfer op.ComplementCarry next sp s low high entry x l h bytes is is_low going b =
     Follows-change_flags complement_carry_result s entry x (complement_carry s.flags) (complement_carry_sound s.flags _ refl) (complement_carry-written s.flags) b.core
-Follows-transfer (op.Load to from) next s low high entry x l h bytes is is_low going b = Follows-load to from s entry x low l is_low b.low_read is b.core
-Follows-transfer (op.Alu how from) next s low high entry x l h bytes is is_low going b = Follows-apply_alu how from s entry x low l is_low b.low_read is b.core
-Follows-transfer (op.AluImmediate how v) next s low high entry x l h bytes is is_low going b = Follows-immediate how s entry x v bytes is b.core
-Follows-transfer (op.ReturnIf c) next s low high entry x l h bytes is is_low going b =
+Follows-transfer (op.Load to from) next sp s low high entry x l h bytes is is_low going b = Follows-load to from s entry x low l is_low b.low_read is b.core
+Follows-transfer (op.Alu how from) next sp s low high entry x l h bytes is is_low going b = Follows-apply_alu how from s entry x low l is_low b.low_read is b.core
+Follows-transfer (op.AluImmediate how v) next sp s low high entry x l h bytes is is_low going b = Follows-immediate how s entry x v bytes is b.core
+Follows-transfer (op.ReturnIf c) next sp s low high entry x l h bytes is is_low going b =
     Follows-only_if (is_met c x.processor.flags) (quiet s) entry x _ b.taken (Follows-return s entry x l h b.core)
-Follows-transfer op.Return next s low high entry x l h bytes is is_low going b = Follows-return s entry x l h b.core
-Follows-transfer op.ReturnFromInterrupt next s low high entry x l h bytes is is_low going b =
+Follows-transfer op.Return next sp s low high entry x l h bytes is is_low going b = Follows-return s entry x l h b.core
+Follows-transfer op.ReturnFromInterrupt next sp s low high entry x l h bytes is is_low going b =
     let m = MeansCore-ime s entry x only_on ime.On refl b.core in
     let f = Follows-return (with_ime only_on s) entry (record x { processor = record x.processor { ime = ime.On } }) l h m in
     record { core = f.core; write = f.write }
-Follows-transfer (op.Pop to) next s low high entry x l h bytes is is_low going b =
+Follows-transfer (op.Pop to) next sp s low high entry x l h bytes is is_low going b =
     let m = MeansCore-with_stack_pair to s entry x (record { high = high; low = low }) l h b.low_read b.high_read b.core in
     record { core = MeansCore-at (with_stack_pair to (record { high = high; low = low }) s) entry (record x { processor = machine.with_stack_pair x.processor to l h }) ((x.processor.sp + 2) % 65536) _ m; write = tt }
-Follows-transfer (op.Push from) next s low high entry x l h bytes is is_low going b =
+Follows-transfer (op.Push from) next sp s low high entry x l h bytes is is_low going b =
     Follows-pushed s entry x (stack_pair_halves from s) (machine.stack_pair_value x.processor from) x.processor.pc (HoldsWord-stack_pair from s entry x is b.core) b.core
-Follows-transfer (op.JumpIf c w) next s low high entry x l h bytes is is_low going b =
+Follows-transfer (op.JumpIf c w) next sp s low high entry x l h bytes is is_low going b =
     Follows-only_if (is_met c x.processor.flags) (quiet s) entry x _ b.taken (Follows-jump s entry x w b.core)
-Follows-transfer (op.Jump w) next s low high entry x l h bytes is is_low going b = Follows-jump s entry x w b.core
-Follows-transfer (op.CallIf c w) next s low high entry x l h bytes is is_low going b =
+Follows-transfer (op.Jump w) next sp s low high entry x l h bytes is is_low going b = Follows-jump s entry x w b.core
+Follows-transfer (op.CallIf c w) next sp s low high entry x l h bytes is is_low going b =
     Follows-only_if (is_met c x.processor.flags) (pushes s (known_word next)) entry x _ b.taken (Follows-call s entry x next w b.pc b.core)
-Follows-transfer (op.Call w) next s low high entry x l h bytes is is_low going b = Follows-call s entry x next w b.pc b.core
-Follows-transfer (op.Restart w) next s low high entry x l h bytes is is_low going b = Follows-call s entry x next w b.pc b.core
-Follows-transfer (op.StoreHigh n) next s low high entry x l h bytes is is_low going b =
+Follows-transfer (op.Call w) next sp s low high entry x l h bytes is is_low going b = Follows-call s entry x next w b.pc b.core
+Follows-transfer (op.Restart w) next sp s low high entry x l h bytes is is_low going b = Follows-call s entry x next w b.pc b.core
+Follows-transfer (op.StoreHigh n) next sp s low high entry x l h bytes is is_low going b =
     record { core = b.core; write = (IsIn-one (0xFF00 + n), b.core.registers A, a-byte s entry x is b.core) }
-Follows-transfer (op.LoadHigh n) next s low high entry x l h bytes is is_low going b = Follows-loaded s entry x low l b.low_read b.core
-Follows-transfer op.StoreHighC next s low high entry x l h bytes is is_low going b =
+Follows-transfer (op.LoadHigh n) next sp s low high entry x l h bytes is is_low going b = Follows-loaded s entry x low l b.low_read b.core
+Follows-transfer op.StoreHighC next sp s low high entry x l h bytes is is_low going b =
     record { core = b.core; write = (IsIn-high s entry x b.core, b.core.registers A, a-byte s entry x is b.core) }
-Follows-transfer op.LoadHighC next s low high entry x l h bytes is is_low going b = Follows-loaded s entry x low l b.low_read b.core
-Follows-transfer (op.StoreAbsolute w) next s low high entry x l h bytes is is_low going b =
+Follows-transfer op.LoadHighC next sp s low high entry x l h bytes is is_low going b = Follows-loaded s entry x low l b.low_read b.core
+Follows-transfer (op.StoreAbsolute w) next sp s low high entry x l h bytes is is_low going b =
     record { core = b.core; write = (IsIn-one w, b.core.registers A, a-byte s entry x is b.core) }
-Follows-transfer (op.LoadAbsolute w) next s low high entry x l h bytes is is_low going b = Follows-loaded s entry x low l b.low_read b.core
-Follows-transfer (op.AddSp e8) next s low high entry x l h bytes is is_low going b = Follows-add_sp e8 s entry x b.core
-Follows-transfer (op.LoadHlSp e8) next s low high entry x l h bytes is is_low going b = Follows-load_hl e8 s entry x b.core
-Follows-transfer op.LoadSpHl next s low high entry x l h bytes is is_low going b = Follows-moved s entry x (Effects.hl x.processor) x.processor.pc b.core
-Follows-transfer op.JumpHl next s low high entry x l h bytes is is_low going b = Follows-jump s entry x (Effects.hl x.processor) b.core
-Follows-transfer op.DisableInterrupts next s low high entry x l h bytes is is_low going b =
+Follows-transfer (op.LoadAbsolute w) next sp s low high entry x l h bytes is is_low going b = Follows-loaded s entry x low l b.low_read b.core
+Follows-transfer (op.AddSp e8) next sp s low high entry x l h bytes is is_low going b = Follows-add_sp e8 s entry x b.core
+Follows-transfer (op.LoadHlSp e8) next sp s low high entry x l h bytes is is_low going b = Follows-load_hl e8 s entry x b.core
+Follows-transfer op.LoadSpHl next sp s low high entry x l h bytes is is_low going b = Follows-moved s entry x (Effects.hl x.processor) x.processor.pc b.core
+Follows-transfer op.JumpHl next sp s low high entry x l h bytes is is_low going b = Follows-jump s entry x (Effects.hl x.processor) b.core
+Follows-transfer op.DisableInterrupts next sp s low high entry x l h bytes is is_low going b =
     record { core = MeansCore-ime s entry x only_off ime.Off refl b.core; write = tt }
-Follows-transfer op.EnableInterrupts next s low high entry x l h bytes is is_low going b =
+Follows-transfer op.EnableInterrupts next sp s low high entry x l h bytes is is_low going b =
     record { core = MeansCore-ime s entry x (enabled s.ime) (Effects.enabled x.processor.ime) (enabled-holds s.ime x.processor.ime b.core.ime) b.core; write = tt }
-Follows-transfer (op.Shift how which) next s low high entry x l h bytes is is_low going b = Follows-shift how which s entry x low l is_low b.low_read is b.core
-Follows-transfer (op.Bit n which) next s low high entry x l h bytes is is_low going b =
+Follows-transfer (op.Shift how which) next sp s low high entry x l h bytes is is_low going b = Follows-shift how which s entry x low l is_low b.low_read is b.core
+Follows-transfer (op.Bit n which) next sp s low high entry x l h bytes is is_low going b =
     let v = operand_val which s low in
     Follows-test_operand (arithmetic.bit_tested n) which s entry x low l (test_bit n v s.flags) (test_bit_sound n v s.flags _ refl) (test_bit_written n v s.flags _ refl) b.low_read b.core
-Follows-transfer (op.Reset n which) next s low high entry x l h bytes is is_low going b = Follows-reset n which s entry x low l is_low b.low_read is b.core
-Follows-transfer (op.Set n which) next s low high entry x l h bytes is is_low going b = Follows-set n which s entry x low l is_low b.low_read is b.core
+Follows-transfer (op.Reset n which) next sp s low high entry x l h bytes is is_low going b = Follows-reset n which s entry x low l is_low b.low_read is b.core
+Follows-transfer (op.Set n which) next sp s low high entry x l h bytes is is_low going b = Follows-set n which s entry x low l is_low b.low_read is b.core
 
 pub transfer_sound :
-    (o : Op) (next : ℕ) (s : Core) (low high : Val) (t : AbsEffect)
-    → t ≡ transfer o next s low high → HasBytes o → IsCore s → IsVal low → IsSoundTransfer o next s low high t
-transfer_sound o next s low high t e bytes is is_low =
-    subst (λ k. IsSoundTransfer o next s low high k) (sym e) (record {
-      gives = λ entry x l h going b. Follows-transfer o next s low high entry x l h bytes is is_low going b;
+    (o : Op) (next : ℕ) (sp : Halves) (s : Core) (low high : Val) (t : AbsEffect)
+    → t ≡ transfer o next sp s low high → HasBytes o → IsCore s → IsVal low → IsSoundTransfer o next sp s low high t
+transfer_sound o next sp s low high t e bytes is is_low =
+    subst (λ k. IsSoundTransfer o next sp s low high k) (sym e) (record {
+      gives = λ entry x l h going b. Follows-transfer o next sp s low high entry x l h bytes is is_low going b;
       sp = λ entry x l h b. sp-small o s entry x l h bytes is b.core b.sp;
     })
 

@@ -1,6 +1,6 @@
 -- Words whose bytes are intervals, and the pairs of a core (abstract interpretation: the interval
 -- domain; CPU instruction set: 16-bit arithmetic; own).
-use Rattle.std.specs.Prelude.{ℕ, ◌+◌, ◌-◌, ◌/◌, ◌%◌, Bool, false, ◌&&◌, if◌then◌else◌, nat_lt, None}
+use Rattle.std.specs.Prelude.{ℕ, ◌+◌, ◌-◌, ◌/◌, ◌%◌, Bool, false, ◌&&◌, if◌then◌else◌, nat_lt}
 use Rattle.gb_ops.specs.declared.op.Pair.{Pair}
 use Rattle.gb_ops.specs.declared.op.Pair.TheVariants as pair
 use Rattle.gb_ops.specs.declared.op.StackPair.{StackPair}
@@ -103,10 +103,10 @@ stack_pair_halves stack.De s = record { high = s.registers.d; low = s.registers.
 stack_pair_halves stack.Hl s = record { high = s.registers.h; low = s.registers.l }
 stack_pair_halves stack.Af s = record { high = s.registers.a; low = flags_val s.flags }
 
--- a pair becomes a copy of what was popped; POP AF leaves no test
+-- a pair becomes a copy of what was popped
 unfoldable pub with_stack_pair : StackPair → Halves → Core → Core
 with_stack_pair stack.Bc w s = with_pair pair.Bc w s
 with_stack_pair stack.De w s = with_pair pair.De w s
 with_stack_pair stack.Hl w s = with_pair pair.Hl w s
 with_stack_pair stack.Af w s =
-    record s { registers = record s.registers { a = w.high }; flags = flags_of_val w.low; test = None }
+    record s { registers = record s.registers { a = w.high }; flags = flags_of_val w.low }

@@ -1,13 +1,11 @@
 -- The sides of an instruction: taken, and not taken (abstract interpretation: branch refinement; own).
 use Rattle.std.specs.Prelude.{Option, Some, None}
-use Rattle.gb_ops.specs.declared.op.Register.TheVariants.{A}
 use Rattle.gb_ops.specs.declared.op.Condition.{Condition}
 use Rattle.gb_ops.specs.declared.op.Condition.TheVariants as condition
 use Rattle.gb_ops.specs.declared.op.Op.{Op}
 use Rattle.gb_ops.specs.declared.op.Op.TheVariants as op
-use Rattle.gb_ops.specs.Registers.{set}
+use Rattle.gb_domain.specs.declared.types.Flg.{Flg}
 use Rattle.gb_domain.specs.declared.types.Core.{Core}
-use Rattle.gb_vals.specs.declared.branch.Branch.{Branch}
 use Rattle.gb_vals.specs.Tests.{side}
 use Rattle.gb_abs_effects.specs.declared.sides.Sides.{Sides}
 
@@ -24,14 +22,14 @@ condition_of (op.JumpIf condition w) = Some condition
 condition_of (op.CallIf condition w) = Some condition
 condition_of _ = None
 
--- A and the flags as the branch knows them, all else as it was
-abbrev pub with_branch : Core → Option Branch → Option Core
-with_branch s None = None
-with_branch s (Some b) = Some (record s { registers = set A b.a s.registers; flags = b.flags })
+-- other flags, all else as it was
+abbrev pub with_flags_if : Core → Option Flg → Option Core
+with_flags_if s None = None
+with_flags_if s (Some f) = Some (record s { flags = f })
 
 -- the core where a condition is met, if that is possible
 unfoldable pub side_of : Condition → Core → Option Core
-side_of condition s = with_branch s (side s.test condition s.registers.a s.flags)
+side_of condition s = with_flags_if s (side condition s.flags)
 
 abbrev pub sides_by : Option Condition → Core → Sides
 sides_by None s = record { taken = Some s; not_taken = None }

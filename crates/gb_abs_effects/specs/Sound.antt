@@ -13,6 +13,7 @@ use Rattle.gb_ops.specs.Effects as Effects
 use Rattle.gb_ops.specs.Play.{MState}
 use Rattle.gb_domain.specs.declared.types.Val.{Val}
 use Rattle.gb_domain.specs.declared.types.Core.{Core}
+use Rattle.gb_domain.specs.declared.types.Halves.{Halves}
 use Rattle.gb_domain.specs.Rules.{IsVal, IsCore}
 use Rattle.gb_abs.specs.Span.{IsIn}
 use Rattle.gb_abs.specs.Meaning.{Holds, MeansCore}
@@ -105,23 +106,25 @@ pub record Follows (t : AbsEffect) (entry x : MState) (e : Effect) : Type 0 wher
   pub core : MeansCore t.core entry (record x { processor = e.processor })
   pub write : HoldsWrite t.write entry x.processor.sp e.write
 
--- the machine as a taken instruction begins its work: its bytes are fetched, and its reads gave l and h
-pub record Begins (o : Op) (next : ℕ) (s : Core) (low high : Val) (entry x : MState) (l h : ℕ) : Type 0 where
+-- the machine as a taken instruction begins its work: its bytes are fetched, its reads gave l and h, and SP is known as a pair
+pub record Begins (o : Op) (next : ℕ) (sp_halves : Halves) (s : Core) (low high : Val) (entry x : MState) (l h : ℕ) : Type 0 where
   pub core : MeansCore s entry x
   pub low_read : Holds low entry l
   pub high_read : Holds high entry h
   pub pc : x.processor.pc ≡ next
   pub sp : x.processor.sp < 65536
+  pub sp_high : Holds sp_halves.high entry (x.processor.sp / 256)
+  pub sp_low : Holds sp_halves.low entry (x.processor.sp % 256)
   pub taken : (Effects.effect_of o x.processor l h).is_taken ≡ true
 
 -- each effect of the instruction but STOP is followed, and SP stays an address
-pub record IsSoundTransfer (o : Op) (next : ℕ) (s : Core) (low high : Val) (t : AbsEffect) : Type 0 where
+pub record IsSoundTransfer (o : Op) (next : ℕ) (sp_halves : Halves) (s : Core) (low high : Val) (t : AbsEffect) : Type 0 where
   pub gives :
       (entry x : MState) (l h : ℕ)
-      → (o ≡ op.Stop → ⊥) → Begins o next s low high entry x l h → Follows t entry x (Effects.effect_of o x.processor l h)
+      → (o ≡ op.Stop → ⊥) → Begins o next sp_halves s low high entry x l h → Follows t entry x (Effects.effect_of o x.processor l h)
   pub sp :
       (entry x : MState) (l h : ℕ)
-      → Begins o next s low high entry x l h → (Effects.effect_of o x.processor l h).processor.sp < 65536
+      → Begins o next sp_halves s low high entry x l h → (Effects.effect_of o x.processor l h).processor.sp < 65536
 
 -- each effect of an instruction that isn't taken is followed: it reads nothing but its own bytes, and leaves
 -- the processor as it is, PC behind it

@@ -1,6 +1,6 @@
 -- What instructions do to a core: the machine's effect over intervals and sets of flags
 -- (abstract interpretation: transfer functions; CPU instruction set).
-use Rattle.std.specs.Prelude.{ℕ, ◌+◌, false, true, ◌||◌, Option, None}
+use Rattle.std.specs.Prelude.{ℕ, ◌+◌, false, true, ◌||◌}
 use Rattle.gb_ops.specs.declared.op.Register.TheVariants.{A}
 use Rattle.gb_ops.specs.declared.op.AluOp.{AluOp}
 use Rattle.gb_ops.specs.declared.op.Operand.{Operand}
@@ -15,7 +15,7 @@ use Rattle.gb_domain.specs.declared.types.Flg.{Flg}
 use Rattle.gb_domain.specs.declared.types.ImeSet.{ImeSet}
 use Rattle.gb_domain.specs.declared.types.Core.{Core}
 use Rattle.gb_vals.specs.declared.outcome.Outcome.{Outcome}
-use Rattle.gb_vals.specs.Vals.{single, any_val}
+use Rattle.gb_vals.specs.Vals.{single}
 use Rattle.gb_vals.specs.Flags.{known, either}
 use Rattle.gb_vals.specs.Sums.{increment, decrement}
 use Rattle.gb_vals.specs.Logic.{complement}
@@ -24,7 +24,6 @@ use Rattle.gb_vals.specs.Shifts.{shift_of, rotation_of_a}
 use Rattle.gb_vals.specs.Bits.{test_bit, reset_bit, set_bit}
 use Rattle.gb_vals.specs.Daa.{adjustment_of}
 use Rattle.gb_vals.specs.Carry.{set_carry, complement_carry}
-use Rattle.gb_vals.specs.Tests.{test_of_immediate, test_of_itself}
 use Rattle.gb_abs.specs.Span.{one}
 use Rattle.gb_abs.specs.Operations.{core_set_register}
 use Rattle.gb_domain.specs.declared.types.Halves.{Halves}
@@ -47,9 +46,8 @@ writes s w = record { core = s; write = w }
 abbrev pub pushes : Core → Halves → AbsEffect
 pushes s w = writes s (write.Push w.high w.low)
 
--- new flags leave no test
 abbrev pub with_flags : Flg → Core → Core
-with_flags f s = record s { flags = f; test = None }
+with_flags f s = record s { flags = f }
 
 abbrev pub with_ime : ImeSet → Core → Core
 with_ime i s = record s { ime = i }
@@ -67,15 +65,14 @@ store_operand operand.AtHl v s = writes s (write.Byte (hl_span s) v)
 unfoldable pub update_operand : Operand → Outcome → Core → AbsEffect
 update_operand which o s = store_operand which o.val (with_flags o.flags s)
 
--- A and the flags become what was computed, with the test that is left
-unfoldable pub update_a : Outcome → Option ℕ → Core → AbsEffect
-update_a o test s =
-    quiet (record s { registers = record s.registers { a = o.val }; flags = o.flags; test = test })
+-- A and the flags become what was computed
+unfoldable pub update_a : Outcome → Core → AbsEffect
+update_a o s = quiet (record s { registers = record s.registers { a = o.val }; flags = o.flags })
 
 -- an operation of A; where the operand is A too, more is known
 unfoldable pub apply_alu : AluOp → Operand → Core → Val → AbsEffect
-apply_alu how (operand.Register A) s low = update_a (alu_itself how s.registers.a s.flags) (test_of_itself how) s
-apply_alu how from s low = update_a (alu how s.registers.a (operand_val from s low) s.flags) None s
+apply_alu how (operand.Register A) s low = update_a (alu_itself how s.registers.a s.flags) s
+apply_alu how from s low = update_a (alu how s.registers.a (operand_val from s low) s.flags) s
 
 -- ADD HL
 abbrev pub add_hl : Pair → Core → AbsEffect
@@ -101,49 +98,49 @@ sp_sum_flags =
 -- ---- instructions
 
 -- What a taken instruction makes of a core that is settled (pending interrupts became on), where next is the
--- address behind it and its reads gave low and high. Jumps and returns, HALT and STOP leave the core.
-unfoldable pub transfer : Op → ℕ → Core → Val → Val → AbsEffect
-transfer (op.LoadPair to w) next s low high = quiet (with_pair to (known_word w) s)
-transfer (op.StoreA to) next s low high =
+-- address behind it, sp the halves of SP, and its reads gave low and high. Jumps and returns, HALT and STOP leave the core.
+unfoldable pub transfer : Op → ℕ → Halves → Core → Val → Val → AbsEffect
+transfer (op.LoadPair to w) next sp s low high = quiet (with_pair to (known_word w) s)
+transfer (op.StoreA to) next sp s low high =
     writes (with_indirect to s) (write.Byte (indirect_span to s) s.registers.a)
-transfer (op.LoadA from) next s low high = quiet (core_set_register A low (with_indirect from s))
-transfer (op.IncrementPair which) next s low high = quiet (with_pair which (next_word (pair_halves which s)) s)
-transfer (op.DecrementPair which) next s low high = quiet (with_pair which (previous_word (pair_halves which s)) s)
-transfer (op.Increment which) next s low high = update_operand which (increment (operand_val which s low) s.flags) s
-transfer (op.Decrement which) next s low high = update_operand which (decrement (operand_val which s low) s.flags) s
-transfer (op.LoadImmediate to v) next s low high = store_operand to (single v) s
-transfer (op.RotateA how) next s low high = update_a (rotation_of_a how s.registers.a s.flags) None s
-transfer (op.StoreSp w) next s low high = writes s (write.Word w any_val any_val)
-transfer (op.AddHl which) next s low high = add_hl which s
-transfer op.DecimalAdjust next s low high = update_a (adjustment_of s.registers.a s.flags) None s
-transfer op.Complement next s low high = update_a (complement s.registers.a s.flags) None s
-transfer op.SetCarry next s low high = quiet (with_flags (set_carry s.flags) s)
-transfer op.ComplementCarry next s low high = quiet (with_flags (complement_carry s.flags) s)
-transfer (op.Load to from) next s low high = store_operand to (operand_val from s low) s
-transfer (op.Alu how from) next s low high = apply_alu how from s low
-transfer (op.AluImmediate how v) next s low high =
-    update_a (alu how s.registers.a (single v) s.flags) (test_of_immediate how v) s
-transfer op.ReturnFromInterrupt next s low high = quiet (with_ime only_on s)
-transfer (op.Pop to) next s low high = quiet (with_stack_pair to (record { high = high; low = low }) s)
-transfer (op.Push from) next s low high = pushes s (stack_pair_halves from s)
-transfer (op.CallIf condition w) next s low high = pushes s (known_word next)
-transfer (op.Call w) next s low high = pushes s (known_word next)
-transfer (op.Restart w) next s low high = pushes s (known_word next)
-transfer (op.StoreHigh b) next s low high = writes s (write.Byte (one (0xFF00 + b)) s.registers.a)
-transfer (op.LoadHigh b) next s low high = quiet (core_set_register A low s)
-transfer op.StoreHighC next s low high = writes s (write.Byte (high_span s) s.registers.a)
-transfer op.LoadHighC next s low high = quiet (core_set_register A low s)
-transfer (op.StoreAbsolute w) next s low high = writes s (write.Byte (one w) s.registers.a)
-transfer (op.LoadAbsolute w) next s low high = quiet (core_set_register A low s)
-transfer (op.AddSp e8) next s low high = quiet (with_flags sp_sum_flags s)
-transfer (op.LoadHlSp e8) next s low high = quiet (with_flags sp_sum_flags (with_pair pair.Hl any_word s))
-transfer op.DisableInterrupts next s low high = quiet (with_ime only_off s)
-transfer op.EnableInterrupts next s low high = quiet (with_ime (enabled s.ime) s)
-transfer (op.Shift how which) next s low high = update_operand which (shift_of how (operand_val which s low) s.flags) s
-transfer (op.Bit n which) next s low high = quiet (with_flags (test_bit n (operand_val which s low) s.flags) s)
-transfer (op.Reset n which) next s low high = store_operand which (reset_bit n (operand_val which s low)) s
-transfer (op.Set n which) next s low high = store_operand which (set_bit n (operand_val which s low)) s
-transfer _ next s low high = quiet s
+transfer (op.LoadA from) next sp s low high = quiet (core_set_register A low (with_indirect from s))
+transfer (op.IncrementPair which) next sp s low high = quiet (with_pair which (next_word (pair_halves which s)) s)
+transfer (op.DecrementPair which) next sp s low high = quiet (with_pair which (previous_word (pair_halves which s)) s)
+transfer (op.Increment which) next sp s low high = update_operand which (increment (operand_val which s low) s.flags) s
+transfer (op.Decrement which) next sp s low high = update_operand which (decrement (operand_val which s low) s.flags) s
+transfer (op.LoadImmediate to v) next sp s low high = store_operand to (single v) s
+transfer (op.RotateA how) next sp s low high = update_a (rotation_of_a how s.registers.a s.flags) s
+transfer (op.StoreSp w) next sp s low high = writes s (write.Word w sp.low sp.high)
+transfer (op.AddHl which) next sp s low high = add_hl which s
+transfer op.DecimalAdjust next sp s low high = update_a (adjustment_of s.registers.a s.flags) s
+transfer op.Complement next sp s low high = update_a (complement s.registers.a s.flags) s
+transfer op.SetCarry next sp s low high = quiet (with_flags (set_carry s.flags) s)
+transfer op.ComplementCarry next sp s low high = quiet (with_flags (complement_carry s.flags) s)
+transfer (op.Load to from) next sp s low high = store_operand to (operand_val from s low) s
+transfer (op.Alu how from) next sp s low high = apply_alu how from s low
+transfer (op.AluImmediate how v) next sp s low high =
+    update_a (alu how s.registers.a (single v) s.flags) s
+transfer op.ReturnFromInterrupt next sp s low high = quiet (with_ime only_on s)
+transfer (op.Pop to) next sp s low high = quiet (with_stack_pair to (record { high = high; low = low }) s)
+transfer (op.Push from) next sp s low high = pushes s (stack_pair_halves from s)
+transfer (op.CallIf condition w) next sp s low high = pushes s (known_word next)
+transfer (op.Call w) next sp s low high = pushes s (known_word next)
+transfer (op.Restart w) next sp s low high = pushes s (known_word next)
+transfer (op.StoreHigh b) next sp s low high = writes s (write.Byte (one (0xFF00 + b)) s.registers.a)
+transfer (op.LoadHigh b) next sp s low high = quiet (core_set_register A low s)
+transfer op.StoreHighC next sp s low high = writes s (write.Byte (high_span s) s.registers.a)
+transfer op.LoadHighC next sp s low high = quiet (core_set_register A low s)
+transfer (op.StoreAbsolute w) next sp s low high = writes s (write.Byte (one w) s.registers.a)
+transfer (op.LoadAbsolute w) next sp s low high = quiet (core_set_register A low s)
+transfer (op.AddSp e8) next sp s low high = quiet (with_flags sp_sum_flags s)
+transfer (op.LoadHlSp e8) next sp s low high = quiet (with_flags sp_sum_flags (with_pair pair.Hl any_word s))
+transfer op.DisableInterrupts next sp s low high = quiet (with_ime only_off s)
+transfer op.EnableInterrupts next sp s low high = quiet (with_ime (enabled s.ime) s)
+transfer (op.Shift how which) next sp s low high = update_operand which (shift_of how (operand_val which s low) s.flags) s
+transfer (op.Bit n which) next sp s low high = quiet (with_flags (test_bit n (operand_val which s low) s.flags) s)
+transfer (op.Reset n which) next sp s low high = store_operand which (reset_bit n (operand_val which s low)) s
+transfer (op.Set n which) next sp s low high = store_operand which (set_bit n (operand_val which s low)) s
+transfer _ next sp s low high = quiet s
 
 -- where the condition isn't met, nothing changes
 unfoldable pub untaken : Core → AbsEffect

@@ -232,7 +232,6 @@ pub(crate) fn with_stack_pair(pair: StackPair, halves: Halves, core: &Core) -> C
             let mut after = *core;
             after.registers.a = halves.high;
             after.flags = flags_of_val(halves.low);
-            after.test = None;
             after
         }
     }

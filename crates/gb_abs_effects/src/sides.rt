@@ -6,7 +6,7 @@ ghost use Rattle.gb_abs_effects.specs.Sides as Branching;
 ghost use Rattle.gb_abs_effects.specs.Sound.{AreSoundSides, AreSides};
 
 use gb_domain::types::Core;
-use gb_ops::op::{Condition, Op, Register};
+use gb_ops::op::{Condition, Op};
 use gb_vals::branch::side;
 
 /// The core on each side of an instruction, where that side is possible.
@@ -16,7 +16,7 @@ pub struct Sides {
     pub not_taken: Option<Core>,
 }
 
-fn opposite(condition: Condition) -> Condition
+pub fn opposite(condition: Condition) -> Condition
     ensures { result ≡ Branching.opposite condition }
 {
     match condition {
@@ -27,7 +27,7 @@ fn opposite(condition: Condition) -> Condition
     }
 }
 
-fn condition_of(op: Op) -> Option<Condition>
+pub fn condition_of(op: Op) -> Option<Condition>
     ensures { result ≡ Branching.condition_of op }
 {
     match op {
@@ -44,20 +44,16 @@ fn condition_of(op: Op) -> Option<Condition>
 fn side_of(condition: Condition, core: &Core) -> Option<Core>
     ensures { result ≡ Branching.side_of condition core.now }
 {
-    let branch = side(core.test, condition, core.registers.a, core.flags)?;
-    let mut narrowed = *core;
-    narrowed.registers.a = branch.a;
-    narrowed.flags = branch.flags;
-    Some(narrowed)
+    let flags = side(condition, core.flags)?;
+    Some(Core { flags, ..*core })
 }
 
-/// The possible sides of an instruction: A and the flags are narrowed to what its condition leaves
-/// of them, all else is as it was. An instruction without a condition has the taken side alone.
+/// The possible sides of an instruction: its condition's flag is known, all else is as it was. An instruction without a condition has the taken side alone.
 /// The side of the machine's own condition is possible, and means the machine's state.
 #[tactic(auto, using(crate::proofs::SideLaws::sides_of_sound))]
 pub fn sides_of(op: Op, core: &Core) -> Sides
     ensures exact { result ≡ Branching.sides_of op core.now }
-    ensures sound { IsCore core.now → AreSoundSides op core.now result }
+    ensures sound { AreSoundSides op core.now result }
     ensures inhabited { IsCore core.now → AreSides result }
 {
     both_sides(op, core)

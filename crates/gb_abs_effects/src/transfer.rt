@@ -1,7 +1,7 @@
 //! The transfer function: what instructions do to a core.
 
 ghost use Rattle.std.specs.Prelude.{◌≡◌};
-ghost use Rattle.gb_domain.specs.Rules.{IsVal, IsCore};
+ghost use Rattle.gb_domain.specs.Rules.{IsVal, IsCore, IsWord};
 ghost use Rattle.gb_abs_effects.specs.Transfer as Transfer;
 ghost use Rattle.gb_abs_effects.specs.Sound.{HasBytes, IsSoundTransfer, IsSoundUntaken, IsAbsEffect};
 
@@ -20,14 +20,13 @@ use gb_domain::types::{Core, Flg, Halves, ImeSet, Val};
 use gb_ops::op::{AluOp, Op, Operand, Pair, Register};
 use gb_vals::alu::{alu, alu_itself};
 use gb_vals::bits::{reset_bit, set_bit, test_bit};
-use gb_vals::branch::{test_of_immediate, test_of_itself};
 use gb_vals::carry::{complement_carry, set_carry};
 use gb_vals::daa::adjust;
 use gb_vals::flags::{either, known};
 use gb_vals::logic::complement;
 use gb_vals::shifts::{rotate_a, shift};
 use gb_vals::sums::{decrement, increment};
-use gb_vals::vals::{any, single};
+use gb_vals::vals::single;
 
 /// IME behind EI: pending where it was off (CPU instruction set: EI).
 fn enabled(ime: ImeSet) -> ImeSet
@@ -92,27 +91,25 @@ fn apply_alu(how: AluOp, operand: Operand, core: &Core, low: Val) -> AbsEffect
 {
     let a = core.registers.a;
     match operand {
-        Operand::Register(Register::A) => {
-            update_a(alu_itself(how, a, core.flags), test_of_itself(how), core)
-        }
+        Operand::Register(Register::A) => { update_a(alu_itself(how, a, core.flags), core) }
         _ => {
             let val = operand_val(operand, core, low);
-            update_a(alu(how, a, val, core.flags), None, core)
+            update_a(alu(how, a, val, core.flags), core)
         }
     }
 }
 
 /// What an instruction that is taken makes of a core whose pending interrupts have become on, and
-/// what it writes. The address behind it is given, and what its reads gave: the byte, or a word's
+/// what it writes. The address behind it is given, SP as a pair, and what its reads gave: the byte, or a word's
 /// low and high one. The machine's effect is followed, but for STOP.
 #[tactic(auto, using(crate::proofs::TransferLaws::transfer_sound))]
-pub fn transfer(op: Op, next: u16, core: &Core, low: Val, high: Val) -> AbsEffect
-    ensures exact { result ≡ Transfer.transfer op next core.now low high }
-    ensures sound { IsCore core.now → IsVal low → IsSoundTransfer op next core.now low high result }
-    ensures inhabited { IsCore core.now → IsVal low → IsVal high → IsAbsEffect result }
+pub fn transfer(op: Op, next: u16, sp: Halves, core: &Core, low: Val, high: Val) -> AbsEffect
+    ensures exact { result ≡ Transfer.transfer op next sp core.now low high }
+    ensures sound { IsCore core.now → IsVal low → IsSoundTransfer op next sp core.now low high result }
+    ensures inhabited { IsCore core.now → IsVal low → IsVal high → IsWord sp → IsAbsEffect result }
 {
     holds_bytes(op);
-    apply(op, next, core, low, high)
+    apply(op, next, sp, core, low, high)
 }
 
 /// An instruction's numbers are bytes and words.
@@ -121,8 +118,8 @@ fn holds_bytes(op: Op)
 {}
 
 #[tactic(auto, unfolding(crate::specs::Transfer::transfer))]
-fn apply(op: Op, next: u16, core: &Core, low: Val, high: Val) -> AbsEffect
-    ensures { result ≡ Transfer.transfer op next core.now low high }
+fn apply(op: Op, next: u16, sp: Halves, core: &Core, low: Val, high: Val) -> AbsEffect
+    ensures { result ≡ Transfer.transfer op next sp core.now low high }
 {
     let a = core.registers.a;
     let flags = core.flags;
@@ -150,18 +147,18 @@ fn apply(op: Op, next: u16, core: &Core, low: Val, high: Val) -> AbsEffect
             update_operand(operand, decrement(val, flags), core)
         }
         Op::LoadImmediate(to, value) => store_operand(to, single(value), core),
-        Op::RotateA(how) => update_a(rotate_a(how, a, flags), None, core),
-        Op::StoreSp(address) => writes(*core, AbsWrite::Word(address, any(), any())),
+        Op::RotateA(how) => update_a(rotate_a(how, a, flags), core),
+        Op::StoreSp(address) => writes(*core, AbsWrite::Word(address, sp.low, sp.high)),
         Op::AddHl(pair) => add_hl(pair, core),
-        Op::DecimalAdjust => update_a(adjust(a, flags), None, core),
-        Op::Complement => update_a(complement(a, flags), None, core),
+        Op::DecimalAdjust => update_a(adjust(a, flags), core),
+        Op::Complement => update_a(complement(a, flags), core),
         Op::SetCarry => quiet(with_flags(set_carry(flags), core)),
         Op::ComplementCarry => quiet(with_flags(complement_carry(flags), core)),
         Op::Load(to, from) => store_operand(to, operand_val(from, core, low), core),
         Op::Alu(how, from) => apply_alu(how, from, core, low),
         Op::AluImmediate(how, value) => {
             let outcome = alu(how, a, single(value), flags);
-            update_a(outcome, test_of_immediate(how, value), core)
+            update_a(outcome, core)
         }
         Op::ReturnFromInterrupt => quiet(with_ime(only_on(), core)),
         Op::Pop(to) => quiet(with_stack_pair(to, Halves { high, low }, core)),

@@ -51,15 +51,11 @@ pub(crate) fn pushes(core: &Core, halves: Halves) -> AbsEffect
     writes(*core, AbsWrite::Push { high, low })
 }
 
-/// The core with new flags, which leave no test.
+/// The core with new flags.
 pub(crate) fn with_flags(flags: Flg, core: &Core) -> Core
     ensures { result ≡ Transfer.with_flags flags core.now }
 {
-    Core {
-        flags,
-        test: None,
-        ..*core
-    }
+    Core { flags, ..*core }
 }
 
 /// The core with another IME.
@@ -99,14 +95,13 @@ pub(crate) fn update_operand(operand: Operand, outcome: Outcome, core: &Core) ->
     store_operand(operand, outcome.val, &with_flags(outcome.flags, core))
 }
 
-/// A and the flags become what was computed, with the test that is left.
+/// A and the flags become what was computed.
 #[tactic(auto, unfolding(crate::specs::Transfer::update_a))]
-pub(crate) fn update_a(outcome: Outcome, test: Option<u8>, core: &Core) -> AbsEffect
-    ensures { result ≡ Transfer.update_a outcome test core.now }
+pub(crate) fn update_a(outcome: Outcome, core: &Core) -> AbsEffect
+    ensures { result ≡ Transfer.update_a outcome core.now }
 {
     let mut after = *core;
     after.registers.a = outcome.val;
     after.flags = outcome.flags;
-    after.test = test;
     quiet(after)
 }

@@ -1,6 +1,7 @@
 -- A load that isn't refused has no fault, and gives a byte that its value stands for.
-use Rattle.std.proofs.Common.{◌≡◌, ℕ, ◌-◌, ◌%◌, ◌<◌, ◌≤◌, Bool, true, false, cond, not, ◌&&◌, ◌||◌, ◌==◌, nat_lt, if◌then◌else◌, ◌⊎◌, inl, inr, List, [], ◌∷◌, slice_index, Option, Some, None, Result, Ok, Err, refl, sym, ◌∙◌, ap, subst, arith}
+use Rattle.std.proofs.Common.{◌≡◌, ℕ, zero, suc, ◌+◌, ◌-◌, ◌%◌, ◌<◌, ◌≤◌, Bool, true, false, cond, not, ◌&&◌, ◌||◌, ◌==◌, nat_lt, nat_le, if◌then◌else◌, ◌⊎◌, inl, inr, List, [], ◌∷◌, slice_index, slice_get, Option, Some, None, Result, Ok, Err, refl, sym, ◌∙◌, ap, subst, arith}
 use Rattle.std.proofs.lemmas.Bool.{and_cases, eqb-true, not-false, or_parts}
+use Rattle.std.specs.List.{AllByRecursion}
 use Rattle.std.specs.Option.{IfSome}
 use Rattle.std.specs.Result.{IfOk}
 use Rattle.std.proofs.lemmas.Bool.Decides.{nat_tests}
@@ -19,6 +20,12 @@ use Rattle.gb_domain.specs.declared.types.Cell.{Cell}
 use Rattle.gb_domain.specs.declared.types.Core.{Core}
 use Rattle.gb_domain.specs.Types.{AbsState}
 use Rattle.gb_domain.specs.Rules.{IsVal}
+use Rattle.gb_domain.specs.Settings.{IsBase}
+use Rattle.gb_domain.specs.declared.rules.Rules.{Rules}
+use Rattle.gb_domain.specs.declared.rules.Rules.TheVariants.{Simple, Extended}
+use Rattle.gb_domain.specs.declared.setting.Setting.{Setting}
+use Rattle.gb_abs.specs.Located.{stack_base, item_by, item_at}
+use Rattle.gb_abs.proofs.LocatedLaws.{IsSoundItem-item_at}
 use Rattle.gb_abs.specs.Below.gb_vals.Vals.{any_val, single}
 use Rattle.gb_abs.specs.Below.gb_vals.Meaning.{may_be}
 use Rattle.gb_abs.specs.declared.span.Span.{Span}
@@ -26,14 +33,14 @@ use Rattle.gb_abs.specs.declared.reason.Reason.{Reason}
 use Rattle.gb_abs.specs.Span.{IsIn, is_one, is_inside, may_meet}
 use Rattle.gb_abs.specs.Storage.{is_ram, peek, peek_by}
 use Rattle.gb_abs.specs.Covering.{cell_at}
-use Rattle.gb_abs.specs.Meaning.{Holds, HoldsController, MeansCore, Means}
+use Rattle.gb_abs.specs.Meaning.{Holds, HoldsController, MeansCore, MeansParts}
 use Rattle.gb_abs.proofs.CoveringLaws.{Holds-cell}
 use Rattle.gb_abs.proofs.OperationLaws.{Holds-single}
 use Rattle.gb_header.specs.Header.{IsCartridge}
 use Rattle.gb_header.proofs.Laws.{rom_size-cartridge, rom_banks-cartridge}
 use Rattle.gb_abs_memory.specs.Windows.{InCtl}
 use Rattle.gb_abs_memory.specs.Shown.{known_bank}
-use Rattle.gb_abs_memory.specs.Access.{may_be_closed, meets_closed_ram, is_limited, refused_or, home_of, rom_val, val_at, loaded_val, load_reason, load}
+use Rattle.gb_abs_memory.specs.Access.{may_be_closed, meets_closed_ram, is_limited, refused_or, home_of, rom_val, val_at, item_or, val_or_item, is_table, joined, table, table_by, several_by, loaded_val, load_reason, load}
 use Rattle.gb_abs_memory.specs.Sound.{view, IsRom, AreVals, IsLoaded, IsSoundLoad}
 use Rattle.gb_abs_memory.proofs.ShownLaws.{known_bank-sound}
 
@@ -139,7 +146,7 @@ any_holds : (entry : MState) (n : ℕ) → n ≤ 255 → Holds any_val entry n
 any_holds entry n h = record { least = omega arith; most = h; origin = λ o e. cc }
 
 -- IE is a byte
-ie_byte : (s : AbsState) (entry : MState) (base : ℕ) (x : MState) → Means s entry base x → IsVal s.core.ie → x.storage.ie ≤ 255
+ie_byte : (s : AbsState) (entry : MState) (base : ℕ) (x : MState) → MeansParts s entry base x → IsVal s.core.ie → x.storage.ie ≤ 255
 ie_byte s entry base x m q =
     let ie = m.core.ie in
     let most = ie.most in
@@ -148,7 +155,7 @@ ie_byte s entry base x m q =
 
 -- whatever is read is a byte
 read_byte :
-    (rom : List ℕ) (s : AbsState) (entry : MState) (base : ℕ) (x : MState) (starting : Bool) (a : ℕ) (free : List ℕ) → IsRom rom → Means s entry base x → IsVal s.core.ie
+    (rom : List ℕ) (s : AbsState) (entry : MState) (base : ℕ) (x : MState) (starting : Bool) (a : ℕ) (free : List ℕ) → IsRom rom → MeansParts s entry base x → IsVal s.core.ie
     → slice_index free 0 ≤ 255 → (answer (mapped_at a) (view rom x starting) a free).value ≤ 255
 unfolding peek
 read_byte rom s entry base x starting a free r m q byte =
@@ -217,7 +224,7 @@ ie_at a h = grind (arith, nat_tests)
 
 -- what is known of a byte stands for what is read
 Holds-val_at :
-    (rom : List ℕ) (s : AbsState) (entry : MState) (base : ℕ) (x : MState) (starting : Bool) (a : ℕ) (free : List ℕ) → IsRom rom → Means s entry base x → IsVal s.core.ie
+    (rom : List ℕ) (s : AbsState) (entry : MState) (base : ℕ) (x : MState) (starting : Bool) (a : ℕ) (free : List ℕ) → IsRom rom → MeansParts s entry base x → IsVal s.core.ie
     → a < 65536 → slice_index free 0 ≤ 255 → Holds (val_at rom s a) entry (answer (mapped_at a) (view rom x starting) a free).value
 unfolding val_at
 Holds-val_at rom s entry base x starting a free r m q lt byte =
@@ -248,18 +255,114 @@ one_address span a h i =
     let high = i.last in
     omega arith
 
-Holds-loaded :
-    (rom : List ℕ) (s : AbsState) (span : Span) (entry : MState) (base : ℕ) (x : MState) (starting : Bool) (a : ℕ) (free : List ℕ) → IsRom rom → Means s entry base x
-    → IsVal s.core.ie → IsIn span a → a < 65536 → slice_index free 0 ≤ 255
-    → Holds (loaded_val rom s span) entry (answer (mapped_at a) (view rom x starting) a free).value
-unfolding loaded_val
-Holds-loaded rom s span entry base x starting a free r m q i lt byte = choose (is_one span) (λ e. one_address span a e i)
+-- an item of RAM, or what is known there else
+ram_here : (rom : List ℕ) (x : MState) (starting : Bool) (a : ℕ) (free : List ℕ) → is_ram a ≡ true → peek x.storage a ≡ (answer (mapped_at a) (view rom x starting) a free).value
+unfolding peek
+ram_here rom x starting a free h = ram_answer (mapped_at a) a (view rom x starting) free (ram_byte a h)
+
+Holds-val_or_item :
+    (z : Setting) (rom : List ℕ) (s : AbsState) (entry : MState) (base : ℕ) (x : MState) (starting : Bool) (a : ℕ) (free : List ℕ) → IsBase z base → IsRom rom → MeansParts s entry base x
+    → IsVal s.core.ie → a < 65536 → slice_index free 0 ≤ 255 → Holds (val_or_item z rom s a) entry (answer (mapped_at a) (view rom x starting) a free).value
+unfolding val_or_item
+Holds-val_or_item z rom s entry base x starting a free right r m q lt byte = choose (is_ram a) refl
   where
-    choose : (one : Bool) → (one ≡ true → span.first ≡ a) → Holds (if one then val_at rom s span.first else any_val) entry (answer (mapped_at a) (view rom x starting) a free).value
-    choose true e =
-        subst (λ b. Holds (val_at rom s b) entry (answer (mapped_at a) (view rom x starting) a free).value) (sym (e refl))
-        (Holds-val_at rom s entry base x starting a free r m q lt byte)
+    known : Holds (val_at rom s a) entry (answer (mapped_at a) (view rom x starting) a free).value
+    known = Holds-val_at rom s entry base x starting a free r m q lt byte
+
+    by_item : is_ram a ≡ true → (o : Option Val) → item_at z s a ≡ o → Holds (item_or o (val_at rom s a)) entry (answer (mapped_at a) (view rom x starting) a free).value
+    by_item ram None e = known
+    by_item ram (Some v) e = subst (λ n. Holds v entry n) (ram_here rom x starting a free ram) ((IsSoundItem-item_at z s a v e).gives entry base x right m)
+
+    choose : (b : Bool) → is_ram a ≡ b → Holds (item_or (if b then item_at z s a else None) (val_at rom s a)) entry (answer (mapped_at a) (view rom x starting) a free).value
+    choose true e = by_item e (item_at z s a) refl
+    choose false e = known
+
+-- the least interval that holds another one and a byte
+joined-old : (v : Val) (n k : ℕ) (entry : MState) → Holds v entry k → Holds (joined v n) entry k
+joined-old v n k entry h =
+    let least = h.least in
+    let most = h.most in
+    record { least = grind (arith, nat_tests); most = grind (arith, nat_tests); origin = λ o e. cc }
+
+joined-new : (v : Val) (n : ℕ) (entry : MState) → Holds (joined v n) entry n
+joined-new v n entry = record { least = grind (arith, nat_tests); most = grind (arith, nat_tests); origin = λ o e. cc }
+
+-- bytes of a bank
+Holds-table : (rom : List ℕ) (bank a more k : ℕ) (entry : MState) → k ≤ more → Holds (table rom bank a more) entry (rom_byte rom bank (a + k))
+Holds-table rom bank a zero k entry h =
+    let same : a ≡ a + k = omega arith in
+    subst (λ n. Holds (single (rom_byte rom bank a)) entry (rom_byte rom bank n)) same (Holds-single _ entry)
+Holds-table rom bank a (suc more) k entry h = choose (nat_le k more) refl (λ le. Holds-table rom bank a more k entry le)
+  where
+    choose : (b : Bool) → nat_le k more ≡ b → (k ≤ more → Holds (table rom bank a more) entry (rom_byte rom bank (a + k)))
+        → Holds (joined (table rom bank a more) (rom_byte rom bank (a + suc more))) entry (rom_byte rom bank (a + k))
+    choose true e before = joined-old (table rom bank a more) _ _ entry (before (grind (arith, nat_tests)))
+    choose false e before =
+        let last : k ≡ suc more = grind (arith, nat_tests) in
+        subst (λ n. Holds (joined (table rom bank a more) (rom_byte rom bank (a + suc more))) entry (rom_byte rom bank (a + n))) (sym last)
+        (joined-new (table rom bank a more) (rom_byte rom bank (a + suc more)) entry)
+
+-- an address of a table lies in the half where it begins
+record IsInTable (span : Span) (a : ℕ) : Type 0 where
+  half : nat_lt span.first 0x4000 ≡ nat_lt a 0x4000
+  first : nat_lt span.first 0x8000 ≡ true
+  here : nat_lt a 0x8000 ≡ true
+  below : a < 0x8000
+
+in_table : (span : Span) (a : ℕ) → is_table span ≡ true → IsIn span a → IsInTable span a
+unfolding is_table
+in_table span a h i =
+    let low = i.first in
+    let high = i.last in
+    record { half = grind (arith, nat_tests); first = grind (arith, nat_tests); here = grind (arith, nat_tests); below = grind (arith, nat_tests) }
+
+known_bank-half : (rom : List ℕ) (c : Ctl) (span : Span) (a : ℕ) → IsInTable span a → known_bank rom c a ≡ known_bank rom c span.first
+unfolding known_bank
+known_bank-half rom c span a t = rw (t.half, t.first, t.here) refl
+
+Holds-table_by :
+    (o : Option ℕ) (rom : List ℕ) (span : Span) (a bank : ℕ) (entry : MState) → ((i : ℕ) → slice_index rom i ≤ 255) → IsIn span a → IfSome o (λ b. bank ≡ b)
+    → Holds (table_by o rom span) entry (rom_byte rom bank a)
+Holds-table_by None rom span a bank entry bytes i h = any_holds entry _ (bytes _)
+Holds-table_by (Some b) rom span a bank entry bytes i h =
+    let low = i.first in
+    let high = i.last in
+    let there : span.first + (a - span.first) ≡ a = omega arith in
+    let held = Holds-table rom b span.first (span.last - span.first) (a - span.first) entry (omega arith) in
+    subst (λ n. Holds (table rom b span.first (span.last - span.first)) entry (rom_byte rom n a)) (sym h)
+    (subst (λ n. Holds (table rom b span.first (span.last - span.first)) entry (rom_byte rom b n)) there held)
+
+Holds-several :
+    (rules : Rules) (rom : List ℕ) (s : AbsState) (span : Span) (entry : MState) (base : ℕ) (x : MState) (starting : Bool) (a : ℕ) (free : List ℕ) → IsRom rom → MeansParts s entry base x
+    → IsVal s.core.ie → IsIn span a → slice_index free 0 ≤ 255 → Holds (several_by rules rom s.core span) entry (answer (mapped_at a) (view rom x starting) a free).value
+Holds-several Simple rom s span entry base x starting a free r m q i byte = any_holds entry _ (read_byte rom s entry base x starting a free r m q byte)
+Holds-several Extended rom s span entry base x starting a free r m q i byte = choose (is_table span) refl
+  where
+    within : IsInTable span a → Holds (table_by (known_bank rom s.core.ctl span.first) rom span) entry (answer (mapped_at a) (view rom x starting) a free).value
+    within t =
+        let shown = known_bank-sound rom s.core.ctl a x.storage.banks r.size t.below (within_ctl s.core.ctl entry x.storage.banks m.core.controller) in
+        let same = subst (λ o. IfSome o (λ b. shown_bank rom x.storage.banks a ≡ b)) (known_bank-half rom s.core.ctl span a t) shown in
+        subst (λ k. Holds (table_by (known_bank rom s.core.ctl span.first) rom span) entry (answer k (view rom x starting) a free).value) (sym (rom_at a t.below))
+        (Holds-table_by (known_bank rom s.core.ctl span.first) rom span a (shown_bank rom x.storage.banks a) entry r.bytes i same)
+
+    choose : (b : Bool) → is_table span ≡ b
+        → Holds (if b then table_by (known_bank rom s.core.ctl span.first) rom span else any_val) entry (answer (mapped_at a) (view rom x starting) a free).value
+    choose true e = within (in_table span a e i)
     choose false e = any_holds entry _ (read_byte rom s entry base x starting a free r m q byte)
+
+Holds-loaded :
+    (z : Setting) (rom : List ℕ) (s : AbsState) (span : Span) (entry : MState) (base : ℕ) (x : MState) (starting : Bool) (a : ℕ) (free : List ℕ) → IsBase z base → IsRom rom
+    → MeansParts s entry base x → IsVal s.core.ie → IsIn span a → a < 65536 → slice_index free 0 ≤ 255
+    → Holds (loaded_val z rom s span) entry (answer (mapped_at a) (view rom x starting) a free).value
+unfolding loaded_val
+Holds-loaded z rom s span entry base x starting a free right r m q i lt byte = choose (is_one span) (λ e. one_address span a e i)
+  where
+    choose : (one : Bool) → (one ≡ true → span.first ≡ a)
+        → Holds (if one then val_or_item z rom s span.first else several_by z.rules rom s.core span) entry (answer (mapped_at a) (view rom x starting) a free).value
+    choose true e =
+        subst (λ b. Holds (val_or_item z rom s b) entry (answer (mapped_at a) (view rom x starting) a free).value) (sym (e refl))
+        (Holds-val_or_item z rom s entry base x starting a free right r m q lt byte)
+    choose false e = Holds-several z.rules rom s span entry base x starting a free r m q i byte
 
 -- ---- a load, by its tests
 
@@ -269,23 +372,23 @@ unfolding within
 within-view rom x = refl
 
 pub IsLoaded-loaded_val :
-    (rom : List ℕ) (s : AbsState) (span : Span) (entry : MState) (base : ℕ) (x : MState) (starting : Bool) (a : ℕ) (free : List ℕ)
-    → meets_closed_ram rom s.core span ≡ false → is_limited s.core span ≡ false → IsIn span a → a < 65536 → Means s entry base x → IsVal s.core.ie → IsRom rom
-    → slice_index free 0 ≤ 255 → IsLoaded (view rom x starting) a free (loaded_val rom s span) entry
-IsLoaded-loaded_val rom s span entry base x starting a free ram limited i lt m q r byte =
+    (z : Setting) (rom : List ℕ) (s : AbsState) (span : Span) (entry : MState) (base : ℕ) (x : MState) (starting : Bool) (a : ℕ) (free : List ℕ)
+    → meets_closed_ram rom s.core span ≡ false → is_limited s.core span ≡ false → IsIn span a → a < 65536 → IsBase z base → MeansParts s entry base x → IsVal s.core.ie → IsRom rom
+    → slice_index free 0 ≤ 255 → IsLoaded (view rom x starting) a free (loaded_val z rom s span) entry
+IsLoaded-loaded_val z rom s span entry base x starting a free ram limited i lt right m q r byte =
     let answered = sym (read_open (view rom x starting) a free (not_limited s.core entry x span a m.core i limited)) in
     record {
-      holds = subst (λ (n : Reading). Holds (loaded_val rom s span) entry n.value) answered (Holds-loaded rom s span entry base x starting a free r m q i lt byte);
+      holds = subst (λ (n : Reading). Holds (loaded_val z rom s span) entry n.value) answered (Holds-loaded z rom s span entry base x starting a free right r m q i lt byte);
       byte = subst (λ (n : Reading). n.value ≤ 255) answered (read_byte rom s entry base x starting a free r m q byte);
       faults = access-faultless rom s.core entry x starting span a m.core i ram limited;
     }
 
 -- a load, by its tests alone
 pub IsSoundLoad-loaded_val :
-    (rom : List ℕ) (s : AbsState) (span : Span) → meets_closed_ram rom s.core span ≡ false → is_limited s.core span ≡ false
-    → IsSoundLoad rom s span (loaded_val rom s span)
-IsSoundLoad-loaded_val rom s span ram limited =
-    record { gives = λ entry base x starting a free r m q i lt byte. IsLoaded-loaded_val rom s span entry base x starting a free ram limited i lt m q r byte }
+    (z : Setting) (rom : List ℕ) (s : AbsState) (span : Span) → meets_closed_ram rom s.core span ≡ false → is_limited s.core span ≡ false
+    → IsSoundLoad z rom s span (loaded_val z rom s span)
+IsSoundLoad-loaded_val z rom s span ram limited =
+    record { gives = λ entry base x starting a free right r m q i lt byte. IsLoaded-loaded_val z rom s span entry base x starting a free ram limited i lt right m q r byte }
 
 -- ---- a load gives a value
 
@@ -318,14 +421,68 @@ IsVal-val_at rom s a ie cells bytes = choose (nat_lt a 0x8000) (is_ram (home_of 
     choose false false true = ie
     choose false false false = IsVal-any
 
-pub IsVal-loaded_val :
-    (rom : List ℕ) (s : AbsState) (span : Span) → IsVal s.core.ie → AreVals s.cells → ((i : ℕ) → slice_index rom i ≤ 255) → IsVal (loaded_val rom s span)
-unfolding loaded_val
-IsVal-loaded_val rom s span ie cells bytes = choose (is_one span)
+IsVal-held : (items : List Val) (i : ℕ) (v : Val) → slice_get items i ≡ Some v → AllByRecursion IsVal items → IsVal v
+IsVal-held [] i v e h = absurd (let bad : None ≡ Some v = e in cc)
+IsVal-held (u ∷ items) zero v e h = subst IsVal (same u v e) h.0
   where
-    choose : (one : Bool) → IsVal (if one then val_at rom s span.first else any_val)
-    choose true = IsVal-val_at rom s span.first ie cells bytes
+    same : (u v : Val) → Some u ≡ Some v → u ≡ v
+    same u v e = cc
+IsVal-held (u ∷ items) (suc i) v e h = IsVal-held items i v e h.1
+
+IsVal-item : (z : Setting) (s : AbsState) (a : ℕ) (o : Option Val) (v : Val) → item_at z s a ≡ o → AllByRecursion IsVal s.items → IsVal v → IsVal (item_or o v)
+unfolding item_at
+IsVal-item z s a None v e items q = q
+IsVal-item z s a (Some item) v e items q = by_base (stack_base z s.core) e
+  where
+    by_base : (b : Option ℕ) → item_by b s.items a ≡ Some item → IsVal item
+    by_base None e = absurd (let bad : None ≡ Some item = e in cc)
+    by_base (Some b) e = below b (nat_lt a b) e
+      where
+        below : (b : ℕ) (lt : Bool) → cond lt (slice_get s.items (b - 1 - a)) None ≡ Some item → IsVal item
+        below b true e = IsVal-held s.items _ item e items
+        below b false e = absurd (let bad : None ≡ Some item = e in cc)
+
+IsVal-val_or_item :
+    (z : Setting) (rom : List ℕ) (s : AbsState) (a : ℕ) → IsVal s.core.ie → AreVals s.cells → AllByRecursion IsVal s.items → ((i : ℕ) → slice_index rom i ≤ 255)
+    → IsVal (val_or_item z rom s a)
+unfolding val_or_item
+IsVal-val_or_item z rom s a ie cells items bytes = choose (is_ram a)
+  where
+    choose : (b : Bool) → IsVal (item_or (if b then item_at z s a else None) (val_at rom s a))
+    choose true = IsVal-item z s a (item_at z s a) (val_at rom s a) refl items (IsVal-val_at rom s a ie cells bytes)
+    choose false = IsVal-val_at rom s a ie cells bytes
+
+IsVal-joined : (v : Val) (n : ℕ) → IsVal v → n ≤ 255 → IsVal (joined v n)
+IsVal-joined v n q h =
+    let order = q.order in
+    let hi = q.hi in
+    record { order = grind (arith, nat_tests); hi = grind (arith, nat_tests) }
+
+IsVal-table : (rom : List ℕ) (bank a more : ℕ) → ((i : ℕ) → slice_index rom i ≤ 255) → IsVal (table rom bank a more)
+IsVal-table rom bank a zero bytes = IsVal-rom rom a (Some bank) bytes
+IsVal-table rom bank a (suc more) bytes = IsVal-joined (table rom bank a more) _ (IsVal-table rom bank a more bytes) (bytes _)
+
+IsVal-several : (rules : Rules) (rom : List ℕ) (core : Core) (span : Span) → ((i : ℕ) → slice_index rom i ≤ 255) → IsVal (several_by rules rom core span)
+IsVal-several Simple rom core span bytes = IsVal-any
+IsVal-several Extended rom core span bytes = choose (is_table span)
+  where
+    by_bank : (o : Option ℕ) → IsVal (table_by o rom span)
+    by_bank None = IsVal-any
+    by_bank (Some bank) = IsVal-table rom bank span.first (span.last - span.first) bytes
+
+    choose : (b : Bool) → IsVal (if b then table_by (known_bank rom core.ctl span.first) rom span else any_val)
+    choose true = by_bank (known_bank rom core.ctl span.first)
     choose false = IsVal-any
+
+pub IsVal-loaded_val :
+    (z : Setting) (rom : List ℕ) (s : AbsState) (span : Span) → IsVal s.core.ie → AreVals s.cells → AllByRecursion IsVal s.items → ((i : ℕ) → slice_index rom i ≤ 255)
+    → IsVal (loaded_val z rom s span)
+unfolding loaded_val
+IsVal-loaded_val z rom s span ie cells items bytes = choose (is_one span)
+  where
+    choose : (one : Bool) → IsVal (if one then val_or_item z rom s span.first else several_by z.rules rom s.core span)
+    choose true = IsVal-val_or_item z rom s span.first ie cells items bytes
+    choose false = IsVal-several z.rules rom s.core span bytes
 
 -- ---- a load, by its answer
 
@@ -340,31 +497,31 @@ pub not_refused : {X : Type 0} (b : Bool) (x : X) (o : Option X) → cond b (Som
 not_refused true x o h = absurd (let bad : Some x ≡ None = h in cc)
 not_refused false x o h = (refl, h)
 
-pub IsSoundLoad-load : (rom : List ℕ) (s : AbsState) (span : Span) (v : Val) → load rom s span ≡ Ok v → IsSoundLoad rom s span v
+pub IsSoundLoad-load : (z : Setting) (rom : List ℕ) (s : AbsState) (span : Span) (v : Val) → load z rom s span ≡ Ok v → IsSoundLoad z rom s span v
 unfolding load load_reason
-IsSoundLoad-load rom s span v h =
+IsSoundLoad-load z rom s span v h =
     let t = taken _ _ v h in
     let ram = not_refused _ _ _ t.0 in
     let limited = not_refused _ _ _ ram.1 in
-    subst (λ w. IsSoundLoad rom s span w) t.1 (IsSoundLoad-loaded_val rom s span ram.0 limited.0)
+    subst (λ w. IsSoundLoad z rom s span w) t.1 (IsSoundLoad-loaded_val z rom s span ram.0 limited.0)
 
 -- what holds of each answer that a call may give
 pub if_ok : {X : Type 0} (r : Result X Reason) (P : X → Type 0) → ((x : X) → r ≡ Ok x → P x) → IfOk r P
 if_ok (Ok x) P h = h x refl
 if_ok (Err e) P h = tt
 
-pub load_sound : (rom : List ℕ) (s : AbsState) (span : Span) → IfOk (load rom s span) (λ v. IsSoundLoad rom s span v)
-load_sound rom s span = if_ok (load rom s span) (λ v. IsSoundLoad rom s span v) (λ v h. IsSoundLoad-load rom s span v h)
+pub load_sound : (z : Setting) (rom : List ℕ) (s : AbsState) (span : Span) → IfOk (load z rom s span) (λ v. IsSoundLoad z rom s span v)
+load_sound z rom s span = if_ok (load z rom s span) (λ v. IsSoundLoad z rom s span v) (λ v h. IsSoundLoad-load z rom s span v h)
 
 pub ruleset load_laws = (load_sound)
 
 pub load_inhabited :
-    (rom : List ℕ) (s : AbsState) (span : Span) (r : Result Val Reason) → r ≡ load rom s span
-    → IsVal s.core.ie → AreVals s.cells → ((i : ℕ) → slice_index rom i ≤ 255) → IfOk r IsVal
+    (z : Setting) (rom : List ℕ) (s : AbsState) (span : Span) (r : Result Val Reason) → r ≡ load z rom s span
+    → IsVal s.core.ie → AreVals s.cells → AllByRecursion IsVal s.items → ((i : ℕ) → slice_index rom i ≤ 255) → IfOk r IsVal
 unfolding load
-load_inhabited rom s span r e ie cells bytes =
+load_inhabited z rom s span r e ie cells items bytes =
     subst (λ k. IfOk k IsVal) (sym e)
-    (if_ok (load rom s span) IsVal (λ v h. subst IsVal (taken (load_reason rom s.core span) _ v h).1 (IsVal-loaded_val rom s span ie cells bytes)))
+    (if_ok (load z rom s span) IsVal (λ v h. subst IsVal (taken (load_reason rom s.core span) _ v h).1 (IsVal-loaded_val z rom s span ie cells items bytes)))
 
 -- a cartridge whose bytes are bytes
 pub IsRom-cartridge : (rom : List ℕ) → IsCartridge rom → ((i : ℕ) → slice_index rom i ≤ 255) → IsRom rom

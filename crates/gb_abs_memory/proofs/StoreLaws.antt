@@ -21,17 +21,22 @@ use Rattle.gb_domain.specs.declared.types.Core.{Core}
 use Rattle.gb_domain.specs.declared.types.Cell.{Cell}
 use Rattle.gb_domain.specs.declared.types.Range.{Range}
 use Rattle.gb_domain.specs.Types.{AbsState}
+use Rattle.gb_domain.specs.declared.setting.Setting.{Setting}
+use Rattle.gb_domain.specs.declared.rules.Rules.{Rules}
+use Rattle.gb_domain.specs.declared.rules.Rules.TheVariants.{Simple, Extended}
+use Rattle.gb_domain.specs.Limits.{cell_room}
+use Rattle.gb_abs.proofs.WideningLaws.{ArePlaced-widened, MeansParts-widened_cells}
 use Rattle.gb_domain.specs.Areas.{IsRegion, is_area, meets}
 use Rattle.gb_abs.specs.declared.span.Span.{Span}
 use Rattle.gb_abs.specs.Span.{IsIn, one, is_one, is_inside, may_meet}
 use Rattle.gb_abs.specs.Storage.{is_ram, peek}
 use Rattle.gb_abs.specs.Operations.{with_core}
-use Rattle.gb_abs.specs.Cells.{IsPlaced, ArePlaced, with_cell, without_cells}
+use Rattle.gb_abs.specs.Cells.{IsPlaced, ArePlaced, with_cell, without_cells, widened_cells}
 use Rattle.gb_abs.specs.Stack.{AreInRegion}
 use Rattle.gb_abs.specs.Poked.{IsPoked}
-use Rattle.gb_abs.specs.Meaning.{Holds, HoldsController, MeansCore, AreItems, Means, IsMemory}
+use Rattle.gb_abs.specs.Meaning.{Holds, HoldsController, MeansCore, AreItems, MeansParts, IsMemory}
 use Rattle.gb_abs.proofs.CellLaws.{ArePlaced-with_cell, ArePlaced-without_cells}
-use Rattle.gb_abs.proofs.StorageLaws.{wrote-poked, wrote_ram-starting, wrote_ram-rom, Means-with_cell, Means-without_cells}
+use Rattle.gb_abs.proofs.StorageLaws.{wrote-poked, wrote_ram-starting, wrote_ram-rom, MeansParts-with_cell, MeansParts-without_cells}
 use Rattle.gb_abs_memory.specs.declared.windows.ControllerRegister.{ControllerRegister}
 use Rattle.gb_abs_memory.specs.declared.windows.ControllerRegister.TheVariants as register
 use Rattle.gb_abs_memory.specs.declared.windows.Window.{Window}
@@ -39,7 +44,7 @@ use Rattle.gb_abs_memory.specs.declared.store.Area.{Area}
 use Rattle.gb_abs_memory.specs.declared.store.Area.TheVariants as area
 use Rattle.gb_abs_memory.specs.declared.store.Stored.{Stored}
 use Rattle.gb_abs_memory.specs.Windows.{InCtl, windows, window_of, ctl_after}
-use Rattle.gb_abs_memory.specs.Access.{may_be_closed, meets_closed_ram, may_copy_closed_ram, store_meets_closed_ram, is_limited, may_start_oam_transfer, is_store_limited, area_by, area_of, is_range, is_allowed, is_storable, store_reason, ram_stored, stored_in, stored_state, starts_oam_transfer, store}
+use Rattle.gb_abs_memory.specs.Access.{may_be_closed, meets_closed_ram, may_copy_closed_ram, store_meets_closed_ram, is_limited, may_start_oam_transfer, is_store_limited, area_by, area_of, is_range, is_allowed, is_storable, store_reason, ram_stored, stored_in, stored_state, starts_oam_transfer, several_stored, store}
 use Rattle.gb_abs_memory.specs.Sound.{view, IsStored, IsSoundStore, IsInRanges}
 use Rattle.gb_abs_memory.proofs.WindowLaws.{after_window}
 use Rattle.gb_abs_memory.proofs.ControllerLaws.{IsInWindow, IsInWindow-window_of, window-sound, window-nothing}
@@ -139,10 +144,10 @@ memory_same : (t : Storage) (banks : Banks) (ie : ℕ) → IsMemory t → IsMemo
 memory_same t banks ie m = record { work = m.work; high = m.high; bytes = λ b. subst (λ n. n ≤ 255) (sym (same_bytes t banks ie b)) (m.bytes b) }
 
 -- another controller's registers, and another IE
-Means-others :
-    (s : AbsState) (core : Core) (entry : MState) (base : ℕ) (x : MState) (banks : Banks) (ie : ℕ) → Means s entry base x → core.stack_set ≡ s.core.stack_set
-    → MeansCore core entry (record x { storage = with_others x.storage banks ie }) → Means (with_core s core) entry base (record x { storage = with_others x.storage banks ie })
-Means-others s core entry base x banks ie m set c =
+MeansParts-others :
+    (s : AbsState) (core : Core) (entry : MState) (base : ℕ) (x : MState) (banks : Banks) (ie : ℕ) → MeansParts s entry base x → core.stack_set ≡ s.core.stack_set
+    → MeansCore core entry (record x { storage = with_others x.storage banks ie }) → MeansParts (with_core s core) entry base (record x { storage = with_others x.storage banks ie })
+MeansParts-others s core entry base x banks ie m set c =
     record {
       core = c;
       memory = memory_same x.storage banks ie m.memory;
@@ -164,7 +169,6 @@ controller_core core ctl entry x banks m h =
       ime = m.ime;
       controller = h;
       count = m.count;
-      test = m.test;
       locked = m.locked;
       stopped = m.stopped;
     }
@@ -204,7 +208,7 @@ window_holds k w a n v c entry old (Some r) at e h m byte =
 
 -- a byte is stored to one of the addresses, in one of the states, and nothing is against it
 pub record AtStore (rom : List ℕ) (region : Region) (ranges : List Range) (s : AbsState) (span : Span) (v : Val) (entry : MState) (base : ℕ) (x : MState) (starting : Bool) (a n : ℕ) : Type 0 where
-  pub means : Means s entry base x
+  pub means : MeansParts s entry base x
   pub placed : ArePlaced region s.cells
   pub room : AreInRegion region base (length s.items)
   pub is_region : IsRegion region
@@ -220,12 +224,12 @@ pub record AtStore (rom : List ℕ) (region : Region) (ranges : List Range) (s :
 -- what is left, given as another view
 stored_as :
     (m m' : View) (a n : ℕ) (region : Region) (ranges : List Range) (s : AbsState) (entry : MState) (base : ℕ) (x : MState) (o : Stored) → wrote m a n ≡ m' → write_faults m a n ≡ no_faults
-    → Means o.state entry base (record x { storage = m'.storage }) → m'.starting ≡ (m.starting || o.starts) → m'.rom ≡ m.rom → o.state.items ≡ s.items
+    → MeansParts o.state entry base (record x { storage = m'.storage }) → m'.starting ≡ (m.starting || o.starts) → m'.rom ≡ m.rom → o.state.items ≡ s.items
     → ArePlaced region o.state.cells → ((b : ℕ) → peek m'.storage b ≡ peek x.storage b) → (is_ram a ≡ true → IsInRanges region ranges a)
     → IsStored m a n region ranges s entry base x o
 stored_as m m' a n region ranges s entry base x o e faults means starting rom items placed bytes inside =
     record {
-      means = subst (λ (w : View). Means o.state entry base (record x { storage = w.storage })) (sym e) means;
+      means = subst (λ (w : View). MeansParts o.state entry base (record x { storage = w.storage })) (sym e) means;
       faults = faults;
       starting = ap (λ (w : View). w.starting) e ∙ starting;
       rom = ap (λ (w : View). w.rom) e ∙ rom;
@@ -269,20 +273,20 @@ window_below k w a at =
     let high = at.last in
     omega arith
 
-window_state : (k : Kind) (o : Option ControllerRegister) (span : Span) (v : Val) (s : AbsState)
-    → with_core s (record s.core { ctl = after_window k o v s.core.ctl }) ≡ stored_in (Some (area.Controller o)) k span v s
-window_state k None span v s = refl
-window_state k (Some r) span v s = refl
+window_state : (z : Setting) (k : Kind) (o : Option ControllerRegister) (span : Span) (v : Val) (s : AbsState)
+    → with_core s (record s.core { ctl = after_window k o v s.core.ctl }) ≡ stored_in z (Some (area.Controller o)) k span v s
+window_state z k None span v s = refl
+window_state z k (Some r) span v s = refl
 
 below_not : (a : ℕ) → a < 0x8000 → (a == 0xFF46) ≡ false
 below_not a h = grind (arith, nat_tests)
 
 stored_window :
-    (rom : List ℕ) (region : Region) (ranges : List Range) (s : AbsState) (span : Span) (v : Val) (entry : MState) (base : ℕ) (x : MState) (starting : Bool) (a n : ℕ) (w : Window)
+    (z : Setting) (rom : List ℕ) (region : Region) (ranges : List Range) (s : AbsState) (span : Span) (v : Val) (entry : MState) (base : ℕ) (x : MState) (starting : Bool) (a n : ℕ) (w : Window)
     → AtStore rom region ranges s span v entry base x starting a n → window_of (kind_of rom) span ≡ Some w
-    → IsStored (view rom x starting) a n region ranges s entry base x (record { state = stored_in (Some (area.Controller w.register)) (kind_of rom) span v s; starts = starts_oam_transfer span })
+    → IsStored (view rom x starting) a n region ranges s entry base x (record { state = stored_in z (Some (area.Controller w.register)) (kind_of rom) span v s; starts = starts_oam_transfer span })
 unfolding banks_after
-stored_window rom region ranges s span v entry base x starting a n w h e =
+stored_window z rom region ranges s span v entry base x starting a n w h e =
     let at = IsInWindow-window_of (kind_of rom) span w a e h.at in
     let low = window_below (kind_of rom) w a at in
     let m = h.means in
@@ -290,9 +294,9 @@ stored_window rom region ranges s span v entry base x starting a n w h e =
     let ctl = after_window (kind_of rom) w.register v s.core.ctl in
     let holds = window_holds (kind_of rom) w a n v s.core.ctl entry x.storage.banks w.register at refl m.core.controller h.holds h.byte in
     let core = controller_core s.core ctl entry x banks m.core holds in
-    subst (λ (t : AbsState). IsStored (view rom x starting) a n region ranges s entry base x (record { state = t; starts = starts_oam_transfer span })) (window_state (kind_of rom) w.register span v s)
+    subst (λ (t : AbsState). IsStored (view rom x starting) a n region ranges s entry base x (record { state = t; starts = starts_oam_transfer span })) (window_state z (kind_of rom) w.register span v s)
     (stored_as (view rom x starting) (wrote_by mapped.Rom (view rom x starting) a n) a n region ranges s entry base x _ (written_at (view rom x starting) a n mapped.Rom h.free (rom_at a low)) h.faults
-    (Means-others s (record s.core { ctl = ctl }) entry base x banks x.storage.ie m refl core) (starts_not starting span a h.at (below_not a low)) refl refl h.placed
+    (MeansParts-others s (record s.core { ctl = ctl }) entry base x banks x.storage.ie m refl core) (starts_not starting span a h.at (below_not a low)) refl refl h.placed
     (λ b. same_bytes x.storage banks x.storage.ie b) h.inside)
 
 -- ---- in hardware
@@ -377,11 +381,11 @@ apart_at region span a i h =
     grind (arith, nat_tests)
 
 stored_ram :
-    (rom : List ℕ) (region : Region) (ranges : List Range) (s : AbsState) (span : Span) (v : Val) (entry : MState) (base : ℕ) (x : MState) (starting : Bool) (a n : ℕ)
+    (z : Setting) (rom : List ℕ) (region : Region) (ranges : List Range) (s : AbsState) (span : Span) (v : Val) (entry : MState) (base : ℕ) (x : MState) (starting : Bool) (a n : ℕ)
     → AtStore rom region ranges s span v entry base x starting a n → is_ram_span span ≡ true → meets region span.first span.last ≡ false
-    → IsStored (view rom x starting) a n region ranges s entry base x (record { state = ram_stored span v s; starts = starts_oam_transfer span })
+    → IsStored (view rom x starting) a n region ranges s entry base x (record { state = ram_stored z span v s; starts = starts_oam_transfer span })
 unfolding ram_stored
-stored_ram rom region ranges s span v entry base x starting a n h inside apart = choose (is_one span) (λ e. one_address span a e h.at)
+stored_ram z rom region ranges s span v entry base x starting a n h inside apart = choose (is_one span) (λ e. one_address span a e h.at)
   where
     ram : is_ram a ≡ true
     ram = ram_in span a h.at inside
@@ -392,7 +396,7 @@ stored_ram rom region ranges s span v entry base x starting a n h inside apart =
     poked : IsPoked a n x.storage (wrote (view rom x starting) a n).storage
     poked = wrote-poked (view rom x starting) a n h.means.memory ram h.byte h.free
 
-    stored : (cells : List Cell) → Means (record s { cells = cells }) entry base (record x { storage = (wrote (view rom x starting) a n).storage }) → ArePlaced region cells
+    stored : (cells : List Cell) → MeansParts (record s { cells = cells }) entry base (record x { storage = (wrote (view rom x starting) a n).storage }) → ArePlaced region cells
         → IsStored (view rom x starting) a n region ranges s entry base x (record { state = record s { cells = cells }; starts = starts_oam_transfer span })
     stored cells m placed = record {
       means = m;
@@ -405,18 +409,27 @@ stored_ram rom region ranges s span v entry base x starting a n h inside apart =
       placed = placed;
     }
 
+    several : (rules : Rules)
+        → IsStored (view rom x starting) a n region ranges s entry base x
+        (record { state = record s { cells = several_stored rules span v s.cells }; starts = starts_oam_transfer span })
+    several Simple =
+        stored (without_cells span.first span.last s.cells)
+        (MeansParts-without_cells region s entry base x _ a n span.first span.last h.means poked h.at.first h.at.last apart h.placed h.room h.is_region)
+        (ArePlaced-without_cells region span.first span.last s.cells h.placed)
+    several Extended =
+        stored (widened_cells span.first span.last v s.cells)
+        (MeansParts-widened_cells region s entry base x _ a n span.first span.last v h.means poked h.holds h.at.first h.at.last place.apart h.placed h.room h.is_region)
+        (ArePlaced-widened region span.first span.last v s.cells h.placed)
+
     choose : (one : Bool) → (one ≡ true → span.first ≡ a)
         → IsStored (view rom x starting) a n region ranges s entry base x
-        (record { state = record s { cells = if one then with_cell (record { address = span.first; val = v }) s.cells else without_cells span.first span.last s.cells }; starts = starts_oam_transfer span })
+        (record { state = record s { cells = if one then with_cell (cell_room z.rules) (record { address = span.first; val = v }) s.cells else several_stored z.rules span v s.cells }; starts = starts_oam_transfer span })
     choose true e =
-        subst (λ b. IsStored (view rom x starting) a n region ranges s entry base x (record { state = record s { cells = with_cell (record { address = b; val = v }) s.cells }; starts = starts_oam_transfer span })) (sym (e refl))
-        (stored (with_cell (record { address = a; val = v }) s.cells)
-        (Means-with_cell region s entry base x _ a n v h.means poked h.holds place h.placed h.room h.is_region)
-        (ArePlaced-with_cell region (record { address = a; val = v }) s.cells place h.placed))
-    choose false e =
-        stored (without_cells span.first span.last s.cells)
-        (Means-without_cells region s entry base x _ a n span.first span.last h.means poked h.at.first h.at.last apart h.placed h.room h.is_region)
-        (ArePlaced-without_cells region span.first span.last s.cells h.placed)
+        subst (λ b. IsStored (view rom x starting) a n region ranges s entry base x (record { state = record s { cells = with_cell (cell_room z.rules) (record { address = b; val = v }) s.cells }; starts = starts_oam_transfer span })) (sym (e refl))
+        (stored (with_cell (cell_room z.rules) (record { address = a; val = v }) s.cells)
+        (MeansParts-with_cell region (cell_room z.rules) s entry base x _ a n v h.means poked h.holds place h.placed h.room h.is_region)
+        (ArePlaced-with_cell region (cell_room z.rules) (record { address = a; val = v }) s.cells place h.placed))
+    choose false e = several z.rules
 
 -- ---- at IE
 
@@ -442,7 +455,6 @@ ie_core core v entry x n m h =
       ime = m.ime;
       controller = m.controller;
       count = m.count;
-      test = m.test;
       locked = m.locked;
       stopped = m.stopped;
     }
@@ -456,14 +468,14 @@ stored_ie rom region ranges s span v entry base x starting a n h inside =
     let m = h.means in
     stored_as (view rom x starting) (wrote_by mapped.InterruptEnable (view rom x starting) a n) a n region ranges s entry base x _
     (written_at (view rom x starting) a n mapped.InterruptEnable h.free (ie_mapped a here)) h.faults
-    (Means-others s (record s.core { ie = v }) entry base x x.storage.banks n m refl (ie_core s.core v entry x n m.core h.holds)) (starts_not starting span a h.at (ie_not a here)) refl refl
+    (MeansParts-others s (record s.core { ie = v }) entry base x x.storage.banks n m refl (ie_core s.core v entry x n m.core h.holds)) (starts_not starting span a h.at (ie_not a here)) refl refl
     h.placed (λ b. same_bytes x.storage x.storage.banks n b) h.inside
 
 -- ---- each area
 
 -- the state and the start that a store in an area leaves
-abbrev leaves : Option Area → Kind → Span → Val → AbsState → Stored
-leaves o k span v s = record { state = stored_in o k span v s; starts = starts_oam_transfer span }
+abbrev leaves : Setting → Option Area → Kind → Span → Val → AbsState → Stored
+leaves z o k span v s = record { state = stored_in z o k span v s; starts = starts_oam_transfer span }
 
 first_true : (a b : Bool) → (a && b) ≡ true → a ≡ true
 first_true true b h = refl
@@ -474,26 +486,26 @@ second_true true b h = h
 second_true false b h = absurd (let bad : false ≡ true = h in cc)
 
 stored_above :
-    (rom : List ℕ) (region : Region) (ranges : List Range) (s : AbsState) (span : Span) (v : Val) (entry : MState) (base : ℕ) (x : MState) (starting : Bool) (a n : ℕ)
+    (z : Setting) (rom : List ℕ) (region : Region) (ranges : List Range) (s : AbsState) (span : Span) (v : Val) (entry : MState) (base : ℕ) (x : MState) (starting : Bool) (a n : ℕ)
     → AtStore rom region ranges s span v entry base x starting a n → is_allowed (area_by None span) region ranges span ≡ true
-    → IsStored (view rom x starting) a n region ranges s entry base x (leaves (area_by None span) (kind_of rom) span v s)
-stored_above rom region ranges s span v entry base x starting a n h = choose (is_hardware span) (is_ram_span span) (is_inside 0xFFFF 0xFFFF span) (λ e. e) (λ e. e) (λ e. e)
+    → IsStored (view rom x starting) a n region ranges s entry base x (leaves z (area_by None span) (kind_of rom) span v s)
+stored_above z rom region ranges s span v entry base x starting a n h = choose (is_hardware span) (is_ram_span span) (is_inside 0xFFFF 0xFFFF span) (λ e. e) (λ e. e) (λ e. e)
   where
     choose : (hardware ram ie : Bool) → (hardware ≡ true → is_hardware span ≡ true) → (ram ≡ true → is_ram_span span ≡ true) → (ie ≡ true → is_inside 0xFFFF 0xFFFF span ≡ true)
         → is_allowed (if hardware then Some area.Hardware else if ram then Some area.Ram else if ie then Some area.InterruptEnable else None) region ranges span ≡ true
         → IsStored (view rom x starting) a n region ranges s entry base x
-        (leaves (if hardware then Some area.Hardware else if ram then Some area.Ram else if ie then Some area.InterruptEnable else None) (kind_of rom) span v s)
+        (leaves z (if hardware then Some area.Hardware else if ram then Some area.Ram else if ie then Some area.InterruptEnable else None) (kind_of rom) span v s)
     choose true ram ie p q r allowed = stored_hardware rom region ranges s span v entry base x starting a n h (p refl)
-    choose false true ie p q r allowed = stored_ram rom region ranges s span v entry base x starting a n h (q refl) (not-true _ (first_true _ _ allowed))
+    choose false true ie p q r allowed = stored_ram z rom region ranges s span v entry base x starting a n h (q refl) (not-true _ (first_true _ _ allowed))
     choose false false true p q r allowed = stored_ie rom region ranges s span v entry base x starting a n h (r refl)
     choose false false false p q r allowed = absurd (let bad : false ≡ true = allowed in cc)
 
 stored_by :
-    (rom : List ℕ) (region : Region) (ranges : List Range) (s : AbsState) (span : Span) (v : Val) (entry : MState) (base : ℕ) (x : MState) (starting : Bool) (a n : ℕ) (o : Option Window)
+    (z : Setting) (rom : List ℕ) (region : Region) (ranges : List Range) (s : AbsState) (span : Span) (v : Val) (entry : MState) (base : ℕ) (x : MState) (starting : Bool) (a n : ℕ) (o : Option Window)
     → AtStore rom region ranges s span v entry base x starting a n → window_of (kind_of rom) span ≡ o → is_allowed (area_by o span) region ranges span ≡ true
-    → IsStored (view rom x starting) a n region ranges s entry base x (leaves (area_by o span) (kind_of rom) span v s)
-stored_by rom region ranges s span v entry base x starting a n None h e allowed = stored_above rom region ranges s span v entry base x starting a n h allowed
-stored_by rom region ranges s span v entry base x starting a n (Some w) h e allowed = stored_window rom region ranges s span v entry base x starting a n w h e
+    → IsStored (view rom x starting) a n region ranges s entry base x (leaves z (area_by o span) (kind_of rom) span v s)
+stored_by z rom region ranges s span v entry base x starting a n None h e allowed = stored_above z rom region ranges s span v entry base x starting a n h allowed
+stored_by z rom region ranges s span v entry base x starting a n (Some w) h e allowed = stored_window z rom region ranges s span v entry base x starting a n w h e
 
 in_range : (ranges : List Range) (span : Span) (a : ℕ) → IsIn span a → list_any (is_range span) ranges ≡ true → list_any (is_range (one a)) ranges ≡ true
 in_range [] span a i h = h
@@ -536,14 +548,14 @@ IsInRanges-storable k region ranges span a h i ram = by_window (window_of k span
 
 -- a store, by its tests
 pub IsSoundStore-stored_state :
-    (rom : List ℕ) (region : Region) (ranges : List Range) (s : AbsState) (span : Span) (v : Val) → is_storable (kind_of rom) region ranges span ≡ true
+    (z : Setting) (rom : List ℕ) (region : Region) (ranges : List Range) (s : AbsState) (span : Span) (v : Val) → is_storable (kind_of rom) region ranges span ≡ true
     → store_meets_closed_ram rom s.core span v ≡ false → is_store_limited s.core span ≡ false
-    → IsSoundStore rom region ranges s span v (record { state = stored_state (kind_of rom) span v s; starts = starts_oam_transfer span })
+    → IsSoundStore rom region ranges s span v (record { state = stored_state z (kind_of rom) span v s; starts = starts_oam_transfer span })
 unfolding is_storable area_of stored_state is_store_limited
-IsSoundStore-stored_state rom region ranges s span v storable ram limited = record {
+IsSoundStore-stored_state z rom region ranges s span v storable ram limited = record {
   gives = λ entry base x starting a n m placed room region_is i lt k byte.
       let both = or_parts _ _ limited in
-      stored_by rom region ranges s span v entry base x starting a n (window_of (kind_of rom) span)
+      stored_by z rom region ranges s span v entry base x starting a n (window_of (kind_of rom) span)
       (record {
         means = m;
         placed = placed;
@@ -573,20 +585,20 @@ stored-view rom region ranges s entry base x starting a n o h = same (wrote (vie
 
 -- a store, by its answer
 pub IsSoundStore-store :
-    (rom : List ℕ) (region : Region) (ranges : List Range) (s : AbsState) (span : Span) (v : Val) (o : Stored) → store rom region ranges s span v ≡ Ok o
+    (z : Setting) (rom : List ℕ) (region : Region) (ranges : List Range) (s : AbsState) (span : Span) (v : Val) (o : Stored) → store z rom region ranges s span v ≡ Ok o
     → IsSoundStore rom region ranges s span v o
 unfolding store store_reason
-IsSoundStore-store rom region ranges s span v o h =
+IsSoundStore-store z rom region ranges s span v o h =
     let t = taken _ _ o h in
     let storable = not_refused _ _ _ t.0 in
     let ram = not_refused _ _ _ storable.1 in
     let limited = not_refused _ _ _ ram.1 in
-    subst (IsSoundStore rom region ranges s span v) t.1 (IsSoundStore-stored_state rom region ranges s span v (not-false _ storable.0) ram.0 limited.0)
+    subst (IsSoundStore rom region ranges s span v) t.1 (IsSoundStore-stored_state z rom region ranges s span v (not-false _ storable.0) ram.0 limited.0)
 
 pub store_sound :
-    (rom : List ℕ) (region : Region) (ranges : List Range) (s : AbsState) (span : Span) (v : Val)
-    → IfOk (store rom region ranges s span v) (λ o. IsSoundStore rom region ranges s span v o)
-store_sound rom region ranges s span v =
-    if_ok (store rom region ranges s span v) (λ o. IsSoundStore rom region ranges s span v o) (λ o h. IsSoundStore-store rom region ranges s span v o h)
+    (z : Setting) (rom : List ℕ) (region : Region) (ranges : List Range) (s : AbsState) (span : Span) (v : Val)
+    → IfOk (store z rom region ranges s span v) (λ o. IsSoundStore rom region ranges s span v o)
+store_sound z rom region ranges s span v =
+    if_ok (store z rom region ranges s span v) (λ o. IsSoundStore rom region ranges s span v o) (λ o h. IsSoundStore-store z rom region ranges s span v o h)
 
 pub ruleset store_laws = (store_sound)

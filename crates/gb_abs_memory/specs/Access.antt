@@ -1,15 +1,20 @@
 -- Loads and stores of abstract states: what is refused, what a load gives, and what a store leaves
 -- (Memory map; MBCs; OAM DMA transfer; the areas are own).
-use Rattle.std.specs.Prelude.{ℕ, ◌-◌, Bool, true, false, not, ◌&&◌, ◌||◌, ◌==◌, nat_lt, nat_le, if◌then◌else◌, List, Option, Some, None, Result, Ok, Err}
+use Rattle.std.specs.Prelude.{ℕ, zero, suc, ◌+◌, ◌-◌, Bool, true, false, not, ◌&&◌, ◌||◌, ◌==◌, nat_lt, nat_le, if◌then◌else◌, List, Option, Some, None, Result, Ok, Err}
 use Rattle.std.specs.List.{list_any}
 use Rattle.gb_ops.specs.declared.machine.Kind.{Kind}
 use Rattle.gb_ops.specs.declared.machine.Region.{Region}
 use Rattle.gb_ops.specs.Cartridge.{is_within, kind_of, has_ram_or_clock}
 use Rattle.gb_ops.specs.Memory.{rom_byte}
 use Rattle.gb_domain.specs.declared.types.Val.{Val}
+use Rattle.gb_domain.specs.declared.types.Cell.{Cell}
 use Rattle.gb_domain.specs.declared.types.Core.{Core}
 use Rattle.gb_domain.specs.declared.types.Range.{Range}
 use Rattle.gb_domain.specs.Types.{AbsState}
+use Rattle.gb_domain.specs.declared.setting.Setting.{Setting}
+use Rattle.gb_domain.specs.declared.rules.Rules.{Rules}
+use Rattle.gb_domain.specs.declared.rules.Rules.TheVariants.{Simple, Extended}
+use Rattle.gb_domain.specs.Limits.{cell_room}
 use Rattle.gb_domain.specs.Areas.{meets}
 use Rattle.gb_abs.specs.Below.gb_vals.Vals.{any_val, single}
 use Rattle.gb_abs.specs.declared.reason.Reason.{Reason}
@@ -18,8 +23,9 @@ use Rattle.gb_abs.specs.declared.span.Span.{Span}
 use Rattle.gb_abs.specs.Span.{is_one, is_inside, may_meet}
 use Rattle.gb_abs.specs.Storage.{is_ram}
 use Rattle.gb_abs.specs.Covering.{cell_at}
-use Rattle.gb_abs.specs.Cells.{with_cell, without_cells}
+use Rattle.gb_abs.specs.Cells.{with_cell, without_cells, widened_cells}
 use Rattle.gb_abs.specs.Operations.{with_core}
+use Rattle.gb_abs.specs.Located.{item_at}
 use Rattle.gb_abs_memory.specs.declared.windows.Window.{Window}
 use Rattle.gb_abs_memory.specs.declared.store.Area.{Area}
 use Rattle.gb_abs_memory.specs.declared.store.Area.TheVariants as area
@@ -79,9 +85,39 @@ val_at rom s a =
     else if a == 0xFFFF then s.core.ie
     else any_val
 
--- of one of several addresses nothing is known
-unfoldable pub loaded_val : List ℕ → AbsState → Span → Val
-loaded_val rom s span = if is_one span then val_at rom s span.first else any_val
+abbrev pub item_or : Option Val → Val → Val
+item_or None v = v
+item_or (Some item) v = item
+
+-- what is known of the byte at an address of a load: an item of RAM, or what is known there else
+unfoldable pub val_or_item : Setting → List ℕ → AbsState → ℕ → Val
+val_or_item z rom s a = item_or (if is_ram a then item_at z s a else None) (val_at rom s a)
+
+-- at most 256 addresses of one half of ROM
+unfoldable pub is_table : Span → Bool
+is_table span = nat_le span.first span.last && (is_inside 0x0000 0x3FFF span || is_inside 0x4000 0x7FFF span) && nat_le (span.last - span.first) 255
+
+-- the least interval that holds another one and a byte
+abbrev pub joined : Val → ℕ → Val
+joined v n = record { lo = if nat_lt n v.lo then n else v.lo; hi = if nat_lt v.hi n then n else v.hi; origin = None }
+
+-- the least interval that holds a byte of a bank, and so many behind it
+abbrev pub table : List ℕ → ℕ → ℕ → ℕ → Val
+table rom bank a zero = single (rom_byte rom bank a)
+table rom bank a (suc more) = joined (table rom bank a more) (rom_byte rom bank (a + suc more))
+
+abbrev pub table_by : Option ℕ → List ℕ → Span → Val
+table_by None rom span = any_val
+table_by (Some bank) rom span = table rom bank span.first (span.last - span.first)
+
+-- by the rules of version 3, of one of several bytes of ROM the bounds are known
+abbrev pub several_by : Rules → List ℕ → Core → Span → Val
+several_by Simple rom core span = any_val
+several_by Extended rom core span = if is_table span then table_by (known_bank rom core.ctl span.first) rom span else any_val
+
+-- what is known of the byte that a load gives
+unfoldable pub loaded_val : Setting → List ℕ → AbsState → Span → Val
+loaded_val z rom s span = if is_one span then val_or_item z rom s span.first else several_by z.rules rom s.core span
 
 -- the lowest reason against a load
 unfoldable pub load_reason : List ℕ → Core → Span → Option Reason
@@ -90,8 +126,8 @@ load_reason rom core span =
     else if is_limited core span then Some reason.OamTransfer
     else None
 
-unfoldable pub load : List ℕ → AbsState → Span → Result Val Reason
-load rom s span = refused_or (load_reason rom s.core span) (loaded_val rom s span)
+unfoldable pub load : Setting → List ℕ → AbsState → Span → Result Val Reason
+load z rom s span = refused_or (load_reason rom s.core span) (loaded_val z rom s span)
 
 -- ---- stores
 
@@ -127,22 +163,28 @@ store_reason rom region ranges core span v =
     else if is_store_limited core span then Some reason.OamTransfer
     else None
 
--- one address gets the value, of several nothing is known any more
-unfoldable pub ram_stored : Span → Val → AbsState → AbsState
-ram_stored span v s =
+-- the cells at several addresses: by the rules of versions 1 and 2 nothing is known of them any more, by those of version 3 they
+-- may hold the value too
+abbrev pub several_stored : Rules → Span → Val → List Cell → List Cell
+several_stored Simple span v cells = without_cells span.first span.last cells
+several_stored Extended span v cells = widened_cells span.first span.last v cells
+
+-- one address gets the value
+unfoldable pub ram_stored : Setting → Span → Val → AbsState → AbsState
+ram_stored z span v s =
     record s {
-      cells = if is_one span then with_cell (record { address = span.first; val = v }) s.cells else without_cells span.first span.last s.cells;
+      cells = if is_one span then with_cell (cell_room z.rules) (record { address = span.first; val = v }) s.cells else several_stored z.rules span v s.cells;
     }
 
-abbrev pub stored_in : Option Area → Kind → Span → Val → AbsState → AbsState
-stored_in (Some (area.Controller (Some r))) k span v s = with_core s (record s.core { ctl = ctl_after k r v s.core.ctl })
-stored_in (Some area.Ram) k span v s = ram_stored span v s
-stored_in (Some area.InterruptEnable) k span v s = with_core s (record s.core { ie = v })
-stored_in _ k span v s = s
+abbrev pub stored_in : Setting → Option Area → Kind → Span → Val → AbsState → AbsState
+stored_in z (Some (area.Controller (Some r))) k span v s = with_core s (record s.core { ctl = ctl_after k r v s.core.ctl })
+stored_in z (Some area.Ram) k span v s = ram_stored z span v s
+stored_in z (Some area.InterruptEnable) k span v s = with_core s (record s.core { ie = v })
+stored_in z _ k span v s = s
 
 -- the state after a store
-unfoldable pub stored_state : Kind → Span → Val → AbsState → AbsState
-stored_state k span v s = stored_in (area_of k span) k span v s
+unfoldable pub stored_state : Setting → Kind → Span → Val → AbsState → AbsState
+stored_state z k span v s = stored_in z (area_of k span) k span v s
 
 -- what a store makes of the core
 abbrev pub stored_core_in : Option Area → Kind → Span → Val → Core → Core
@@ -157,7 +199,7 @@ stored_core k span v c = stored_core_in (area_of k span) k span v c
 abbrev pub starts_oam_transfer : Span → Bool
 starts_oam_transfer span = is_one span && (span.first == 0xFF46)
 
-unfoldable pub store : List ℕ → Region → List Range → AbsState → Span → Val → Result Stored Reason
-store rom region ranges s span v =
+unfoldable pub store : Setting → List ℕ → Region → List Range → AbsState → Span → Val → Result Stored Reason
+store z rom region ranges s span v =
     refused_or (store_reason rom region ranges s.core span v)
-    (record { state = stored_state (kind_of rom) span v s; starts = starts_oam_transfer span })
+    (record { state = stored_state z (kind_of rom) span v s; starts = starts_oam_transfer span })

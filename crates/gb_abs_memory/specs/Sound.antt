@@ -13,12 +13,14 @@ use Rattle.gb_domain.specs.declared.types.Range.{Range}
 use Rattle.gb_domain.specs.Types.{AbsState}
 use Rattle.gb_domain.specs.Areas.{IsRegion, meets}
 use Rattle.gb_domain.specs.Rules.{IsVal}
+use Rattle.gb_domain.specs.Settings.{IsBase}
+use Rattle.gb_domain.specs.declared.setting.Setting.{Setting}
 use Rattle.gb_abs.specs.declared.span.Span.{Span}
 use Rattle.gb_abs.specs.Span.{IsIn, one}
 use Rattle.gb_abs.specs.Cells.{ArePlaced}
 use Rattle.gb_abs.specs.Stack.{AreInRegion}
 use Rattle.gb_abs.specs.Storage.{is_ram, peek}
-use Rattle.gb_abs.specs.Meaning.{Holds, Means}
+use Rattle.gb_abs.specs.Meaning.{Holds, MeansParts}
 use Rattle.gb_abs_memory.specs.declared.store.Stored.{Stored}
 use Rattle.gb_abs_memory.specs.Access.{is_range}
 
@@ -47,10 +49,10 @@ pub record IsLoaded (m : View) (a : ℕ) (free : List ℕ) (v : Val) (entry : MS
   pub byte : (read_at m a free).value ≤ 255
   pub faults : access_faults m a ≡ no_faults
 
--- of each of these states, from each of these addresses, whatever free reads give
-pub record IsSoundLoad (rom : List ℕ) (s : AbsState) (span : Span) (v : Val) : Type 0 where
+-- of each of these states, of a procedure whose base is what is said, from each of these addresses, whatever free reads give
+pub record IsSoundLoad (z : Setting) (rom : List ℕ) (s : AbsState) (span : Span) (v : Val) : Type 0 where
   pub gives : (entry : MState) (base : ℕ) (x : MState) (starting : Bool) (a : ℕ) (free : List ℕ)
-      → IsRom rom → Means s entry base x → IsVal s.core.ie → IsIn span a → a < 65536 → slice_index free 0 ≤ 255
+      → IsBase z base → IsRom rom → MeansParts s entry base x → IsVal s.core.ie → IsIn span a → a < 65536 → slice_index free 0 ≤ 255
       → IsLoaded (view rom x starting) a free v entry
 
 -- an address lies in one of the ranges, outside the stack region
@@ -62,7 +64,7 @@ pub record IsInRanges (region : Region) (ranges : List Range) (a : ℕ) : Type 0
 -- cells are kept, and an OAM transfer starts exactly where it is said; a byte of RAM that is stored to lies in one of
 -- the procedure's ranges
 pub record IsStored (m : View) (a n : ℕ) (region : Region) (ranges : List Range) (s : AbsState) (entry : MState) (base : ℕ) (x : MState) (o : Stored) : Type 0 where
-  pub means : Means o.state entry base (record x { storage = (wrote m a n).storage })
+  pub means : MeansParts o.state entry base (record x { storage = (wrote m a n).storage })
   pub faults : write_faults m a n ≡ no_faults
   pub starting : (wrote m a n).starting ≡ (m.starting || o.starts)
   pub rom : (wrote m a n).rom ≡ m.rom
@@ -74,6 +76,6 @@ pub record IsStored (m : View) (a n : ℕ) (region : Region) (ranges : List Rang
 -- of each of these states, to each of these addresses, each byte that v stands for
 pub record IsSoundStore (rom : List ℕ) (region : Region) (ranges : List Range) (s : AbsState) (span : Span) (v : Val) (o : Stored) : Type 0 where
   pub gives : (entry : MState) (base : ℕ) (x : MState) (starting : Bool) (a n : ℕ)
-      → Means s entry base x → ArePlaced region s.cells → AreInRegion region base (length s.items) → IsRegion region
+      → MeansParts s entry base x → ArePlaced region s.cells → AreInRegion region base (length s.items) → IsRegion region
       → IsIn span a → a < 65536 → Holds v entry n → n ≤ 255
       → IsStored (view rom x starting) a n region ranges s entry base x o

@@ -7,10 +7,10 @@ ghost use Rattle.gb_abs_memory.specs.Sound.{IsSoundStore};
 
 use crate::refusals::{is_store_limited, store_meets_closed_ram};
 use crate::windows::{ControllerRegister, ctl_after, window_of};
-use gb_abs::cells::{with_cell, without_cells};
+use gb_abs::cells::{widened_cells, with_cell, without_cells};
 use gb_abs::reason::Reason;
 use gb_abs::span::Span;
-use gb_domain::types::{Abs, Core, Range, Val};
+use gb_domain::types::{Abs, Core, Range, Rules, Setting, Val};
 use gb_header::Rom;
 use gb_ops::machine::{Kind, Region};
 
@@ -109,15 +109,26 @@ fn store_reason(
     }
 }
 
-/// The state after a store to RAM: one address gets the value, of several nothing is known any more.
+/// The state after a store to one of several addresses of RAM: nothing is known of them any more, or, by the rules of
+/// version 3, they may hold the value too.
+fn several_stored(rules: Rules, span: Span, val: &Val, state: &Abs) -> Abs
+    ensures { result ≡ record state.now { cells = Access.several_stored rules span val.now state.now.cells } }
+{
+    match rules {
+        Rules::Simple => without_cells(state, span.first, span.last),
+        Rules::Extended => widened_cells(state, span.first, span.last, *val),
+    }
+}
+
+/// The state after a store to RAM: one address gets the value.
 #[tactic(auto, unfolding(crate::specs::Access::ram_stored))]
-fn ram_stored(span: Span, val: &Val, state: &Abs) -> Abs
-    ensures { result ≡ Access.ram_stored span val.now state.now }
+fn ram_stored(setting: Setting, span: Span, val: &Val, state: &Abs) -> Abs
+    ensures { result ≡ Access.ram_stored setting span val.now state.now }
 {
     if span.is_one() {
-        with_cell(state, span.first, *val)
+        with_cell(setting.rules, state, span.first, *val)
     } else {
-        without_cells(state, span.first, span.last)
+        several_stored(setting.rules, span, val, state)
     }
 }
 
@@ -139,8 +150,8 @@ pub fn stored_core(kind: Kind, span: Span, val: &Val, core: &Core) -> Core
 /// A store in the area that all of these addresses lie in changes the state. What is against the store
 /// is asked apart: `is_storable`, and what refuses it.
 #[tactic(auto, unfolding(crate::specs::Access::stored_state))]
-pub fn store_in(kind: Kind, span: Span, val: &Val, state: &mut Abs)
-    ensures { state.new ≡ Access.stored_state kind span val.now state.old }
+pub fn store_in(setting: Setting, kind: Kind, span: Span, val: &Val, state: &mut Abs)
+    ensures { state.new ≡ Access.stored_state setting kind span val.now state.old }
 {
     match area_of(kind, span) {
         Some(Area::Controller(Some(register))) => {
@@ -148,7 +159,7 @@ pub fn store_in(kind: Kind, span: Span, val: &Val, state: &mut Abs)
             let ctl = ctl_after(kind, register, val, &core.ctl);
             state.set_core(Core { ctl, ..core });
         }
-        Some(Area::Ram) => *state = ram_stored(span, val, state),
+        Some(Area::Ram) => *state = ram_stored(setting, span, val, state),
         Some(Area::InterruptEnable) => {
             state.set_core(Core {
                 ie: *val,
@@ -160,11 +171,11 @@ pub fn store_in(kind: Kind, span: Span, val: &Val, state: &mut Abs)
 }
 
 /// The state after such a store.
-pub fn stored_state(kind: Kind, span: Span, val: &Val, state: &Abs) -> Abs
-    ensures { result ≡ Access.stored_state kind span val.now state.now }
+pub fn stored_state(setting: Setting, kind: Kind, span: Span, val: &Val, state: &Abs) -> Abs
+    ensures { result ≡ Access.stored_state setting kind span val.now state.now }
 {
     let mut after = state.copied();
-    store_in(kind, span, val, &mut after);
+    store_in(setting, kind, span, val, &mut after);
     after
 }
 
@@ -178,6 +189,7 @@ pub fn starts_oam_transfer(span: Span) -> bool
 /// What a store leaves, or the lowest reason against it.
 #[tactic(auto, unfolding(crate::specs::Access::store))]
 fn stored_or_reason(
+    setting: Setting,
     rom: &Rom<'_>,
     region: Region,
     ranges: &[Range],
@@ -185,12 +197,12 @@ fn stored_or_reason(
     span: Span,
     val: &Val,
 ) -> Result<Stored, Reason>
-    ensures { result ≡ Access.store rom.now region ranges.now state.now span val.now }
+    ensures { result ≡ Access.store setting rom.now region ranges.now state.now span val.now }
 {
     match store_reason(rom, region, ranges, state.core(), span, val) {
         Some(reason) => Err(reason),
         None => Ok(Stored {
-            state: stored_state(rom.kind(), span, val, state),
+            state: stored_state(setting, rom.kind(), span, val, state),
             starts: starts_oam_transfer(span),
         }),
     }
@@ -204,6 +216,7 @@ fn stored_or_reason(
 /// OAM transfer.
 #[tactic(auto, using(crate::proofs::StoreLaws::store_laws))]
 pub fn store(
+    setting: Setting,
     rom: &Rom<'_>,
     region: Region,
     ranges: &[Range],
@@ -211,8 +224,8 @@ pub fn store(
     span: Span,
     val: &Val,
 ) -> Result<Stored, Reason>
-    ensures exact { result ≡ Access.store rom.now region ranges.now state.now span val.now }
+    ensures exact { result ≡ Access.store setting rom.now region ranges.now state.now span val.now }
     ensures sound { IfOk result (λ o. IsSoundStore rom.now region ranges.now state.now span val.now o) }
 {
-    stored_or_reason(rom, region, ranges, state, span, val)
+    stored_or_reason(setting, rom, region, ranges, state, span, val)
 }

@@ -82,19 +82,19 @@ insert-fallen zero c xs within = refl
 insert-fallen (suc n) c [] within = absurd (omega arith)
 insert-fallen (suc n) c (x ∷ xs) within = ap (λ ys. x ∷ ys) (insert-fallen n c xs (omega arith))
 
--- with 31 places before it, a cell is put in its own
+-- with 63 places before it, a cell is put in its own
 pub put-inside :
-    (c : Cell) (xs : List Cell) (place : ℕ) → inserted c xs ≡ insert xs place c → place < 32 → place ≤ length xs
-    → insert (take 31 xs) place c ≡ take 32 (inserted c xs)
-put-inside c xs place is few within = insert-taken 31 place c xs (omega arith) within ∙ ap (λ ys. take 32 ys) (sym is)
+    (c : Cell) (xs : List Cell) (place : ℕ) → inserted c xs ≡ insert xs place c → place < 64 → place ≤ length xs
+    → insert (take 63 xs) place c ≡ take 64 (inserted c xs)
+put-inside c xs place is few within = insert-taken 63 place c xs (omega arith) within ∙ ap (λ ys. take 64 ys) (sym is)
 
--- with 32 before it, it falls itself
+-- with 64 before it, it falls itself
 pub put-behind :
-    (c : Cell) (xs : List Cell) (place : ℕ) → inserted c xs ≡ insert xs place c → 32 ≤ place → place ≤ length xs → length xs ≤ 32
-    → xs ≡ take 32 (inserted c xs)
+    (c : Cell) (xs : List Cell) (place : ℕ) → inserted c xs ≡ insert xs place c → 64 ≤ place → place ≤ length xs → length xs ≤ 64
+    → xs ≡ take 64 (inserted c xs)
 put-behind c xs place is many within few =
-    let at : place ≡ 32 = omega arith in
-    sym (ap (λ ys. take 32 ys) (is ∙ ap (λ n. insert xs n c) at) ∙ insert-fallen 32 c xs (omega arith) ∙ take_all 32 xs few)
+    let at : place ≡ 64 = omega arith in
+    sym (ap (λ ys. take 64 ys) (is ∙ ap (λ n. insert xs n c) at) ∙ insert-fallen 64 c xs (omega arith) ∙ take_all 64 xs few)
 
 -- ---- one after the other
 
@@ -110,15 +110,26 @@ written-cons test x xs false e = ap (λ b. map cell_without_origin (cond b (x �
 -- a cell that passes is put in its place
 pub merged-put :
     (test : Cell → Bool) (from held : List Cell) (i : ℕ) (d : Cell) → i < length from → test (get_or from i d) ≡ true
-    → take 32 (merged (written test (drop (i + 1) from)) (take 32 (inserted (cell_without_origin (get_or from i d)) held)))
-    ≡ take 32 (merged (written test (drop i from)) held)
+    → take 64 (merged (written test (drop (i + 1) from)) (take 64 (inserted (cell_without_origin (get_or from i d)) held)))
+    ≡ take 64 (merged (written test (drop i from)) held)
 merged-put test from held i d lt e =
-    take-merged 32 (written test (drop (i + 1) from)) (inserted (cell_without_origin (get_or from i d)) held)
-    ∙ ap (λ cs. take 32 (merged cs held)) (sym (at_drop_more (written test) from i d lt ∙ written-cons test (get_or from i d) (drop (i + 1) from) true e))
+    take-merged 64 (written test (drop (i + 1) from)) (inserted (cell_without_origin (get_or from i d)) held)
+    ∙ ap (λ cs. take 64 (merged cs held)) (sym (at_drop_more (written test) from i d lt ∙ written-cons test (get_or from i d) (drop (i + 1) from) true e))
 
 -- another one is passed
 pub merged-passed :
     (test : Cell → Bool) (from held : List Cell) (i : ℕ) (d : Cell) → i < length from → test (get_or from i d) ≡ false
-    → take 32 (merged (written test (drop (i + 1) from)) held) ≡ take 32 (merged (written test (drop i from)) held)
+    → take 64 (merged (written test (drop (i + 1) from)) held) ≡ take 64 (merged (written test (drop i from)) held)
 merged-passed test from held i d lt e =
-    ap (λ cs. take 32 (merged cs held)) (sym (at_drop_more (written test) from i d lt ∙ written-cons test (get_or from i d) (drop (i + 1) from) false e))
+    ap (λ cs. take 64 (merged cs held)) (sym (at_drop_more (written test) from i d lt ∙ written-cons test (get_or from i d) (drop (i + 1) from) false e))
+
+-- ---- fewer of them
+
+pub take_fewer : (n : ℕ) (xs : List Cell) → n ≤ 64 → take n (take 64 xs) ≡ take n xs
+take_fewer n xs h = taken n 64 xs h
+  where
+    taken : (n m : ℕ) (xs : List Cell) → n ≤ m → take n (take m xs) ≡ take n xs
+    taken zero m xs h = refl
+    taken (suc n) zero xs h = absurd (omega arith)
+    taken (suc n) (suc m) [] h = refl
+    taken (suc n) (suc m) (x ∷ xs) h = ap (λ ys. x ∷ ys) (taken n m xs (omega arith))

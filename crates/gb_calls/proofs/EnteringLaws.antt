@@ -12,7 +12,8 @@ use Rattle.gb_domain.specs.declared.types.Val.{Val}
 use Rattle.gb_domain.specs.declared.types.Cell.{Cell}
 use Rattle.gb_domain.specs.declared.types.Core.{Core}
 use Rattle.gb_domain.specs.Types.{AbsState}
-use Rattle.gb_abs.specs.Meaning.{origin_value, Holds, MeansCore, Means}
+use Rattle.gb_abs.specs.Meaning.{origin_value, Holds, MeansCore}
+use Rattle.gb_product.specs.Meaning.{Means}
 use Rattle.gb_abs.specs.Storage.{peek}
 use Rattle.gb_abs.proofs.CoveringLaws.{AreCells}
 use Rattle.gb_calls.specs.Calls.{own, without_origin, cell_without_origin, own_registers, entered_core, entered}
@@ -74,7 +75,6 @@ MeansCore-entered s entry x m =
         kept = λ e. refl;
       };
       count = m.count;
-      test = m.test;
       locked = m.locked;
       stopped = m.stopped;
     }
@@ -86,12 +86,15 @@ pub Means-entered :
 unfolding entered
 Means-entered s entry base x m lt =
     record {
-      core = MeansCore-entered s.core entry x m.core;
-      memory = m.memory;
-      sp = lt;
-      stack = λ e. omega arith;
-      items = tt;
-      cells = AreCells-without_origins s.cells entry x x.storage m.cells;
+      parts = record {
+        core = MeansCore-entered s.core entry x m.parts.core;
+        memory = m.parts.memory;
+        sp = lt;
+        stack = λ e. omega arith;
+        items = tt;
+        cells = AreCells-without_origins s.cells entry x x.storage m.parts.cells;
+      };
+      related = m.related;
     }
 
 pub enter_sound : (s o : AbsState) → o ≡ entered s → IsSoundEntering s o

@@ -20,21 +20,30 @@ use Rattle.gb_domain.specs.declared.types.Ctl.{Ctl}
 use Rattle.gb_domain.specs.declared.types.Cell.{Cell}
 use Rattle.gb_domain.specs.declared.types.Core.{Core}
 use Rattle.gb_domain.specs.declared.types.Range.{Range}
+use Rattle.gb_domain.specs.declared.rules.Rules.{Rules}
 use Rattle.gb_domain.specs.Types.{AbsState}
+use Rattle.gb_domain.specs.Limits.{cell_room}
+use Rattle.gb_domain.specs.Places.{no_byte}
+use Rattle.gb_domain.specs.Rules.{IsCore}
+use Rattle.gb_pairs.specs.Meaning.{AreBytes}
+use Rattle.gb_places.specs.Meaning.{HoldOneByte}
+use Rattle.gb_relations.specs.Compared.{only_of_a}
+use Rattle.gb_relations.proofs.ComparedLaws.{HoldOneByte-nothing, HoldOneByte-only_of_a}
+use Rattle.gb_relations.proofs.TransferLaws.{HoldPairs-nothing}
 use Rattle.gb_domain.specs.Areas.{IsRegion, meets}
 use Rattle.gb_abs.specs.Below.gb_vals.Vals.{any_val}
-use Rattle.gb_abs.specs.Below.gb_vals.Tests.{IsTested}
 use Rattle.gb_abs.specs.Span.{one}
 use Rattle.gb_abs.specs.Covering.{covers_origin, covers_val}
 use Rattle.gb_abs.specs.Cells.{IsPlaced, ArePlaced}
-use Rattle.gb_abs.specs.Meaning.{origin_value, Holds, HoldsFlags, HoldsController, MeansCore, Means}
+use Rattle.gb_abs.specs.Meaning.{origin_value, Holds, HoldsFlags, HoldsController, MeansCore}
+use Rattle.gb_product.specs.Meaning.{Means}
 use Rattle.gb_abs.specs.Storage.{peek}
 use Rattle.gb_abs.proofs.CellLaws.{AllByRecursion-where}
 use Rattle.gb_abs.proofs.CoveringLaws.{same_origin, AreCells}
 use Rattle.gb_abs.proofs.StorageLaws.{region_in_ram, placed_in_ram, AreItems-same}
 use Rattle.gb_abs_memory.specs.Access.{is_range}
 use Rattle.gb_abs_memory.specs.Kept.{IsKept}
-use Rattle.gb_calls.specs.Calls.{own, is_own, without_origin, given_back, registers_back, core_back, is_in_ranges, is_out_of_ranges, cell_without_origin, merged, cells_back, resumed}
+use Rattle.gb_calls.specs.Calls.{own, is_own, without_origin, given_back, registers_back, core_back, is_in_ranges, is_out_of_ranges, cell_without_origin, merged, byte_back, cells_back, resumed}
 use Rattle.gb_calls.specs.Sound.{without_word, ComesBack, IsSoundResuming}
 use Rattle.gb_calls.proofs.EnteringLaws.{Holds-without_origin, AreCells-without_origins}
 use Rattle.gb_calls.proofs.CellLaws.{AllByRecursion-merged, AllByRecursion-take}
@@ -67,14 +76,6 @@ register_back s x D = refl
 register_back s x E = refl
 register_back s x H = refl
 register_back s x L = refl
-
-IsTested-back :
-    (test : Option ℕ) (n n' : ℕ) (f f' : Flags) (p q : Bool)
-    → IsTested test n f → (p ≡ true → n' ≡ n) → (q ≡ true → f' ≡ f) → IsTested (cond (p && q) test None) n' f'
-IsTested-back test n n' f f' true true h number flags =
-    subst (λ k. IsTested test k f') (sym (number refl)) (subst (λ g. IsTested test n g) (sym (flags refl)) h)
-IsTested-back test n n' f f' true false h number flags = tt
-IsTested-back test n n' f f' false q h number flags = tt
 
 HoldsFlags-back :
     (s x : Flg) (entry called : MState) (f : Flags)
@@ -116,9 +117,6 @@ MeansCore-resumed s x entry called y m h =
       ime = h.ime;
       controller = HoldsController-back s.ctl x.ctl entry called y.storage.banks m.controller h.controller;
       count = h.count;
-      test = IsTested-back s.test called.processor.registers.a y.processor.registers.a called.processor.flags y.processor.flags
-          (is_own (origin.Register A) x.registers.a) x.flags.is_own m.test
-          (λ is. own-value (origin.Register A) x.registers.a called y.processor.registers.a is (h.registers A)) h.flags.own;
       locked = h.locked;
       stopped = h.stopped;
     }
@@ -172,44 +170,70 @@ AreCells-kept region ranges base cells entry m t kept placed h =
     cells placed h
 
 AreCells-back :
-    (region : Region) (ranges : List Range) (base : ℕ) (caller exit : List Cell) (entry called : MState) (m t : Storage)
+    (room : ℕ) (region : Region) (ranges : List Range) (base : ℕ) (caller exit : List Cell) (entry called : MState) (m t : Storage)
     → ((b : ℕ) → IsKept region ranges base b → peek t b ≡ peek m b) → ArePlaced region caller → AreCells caller entry m → AreCells exit called t
-    → AreCells (cells_back ranges caller exit) entry t
+    → AreCells (cells_back room ranges caller exit) entry t
 unfolding cells_back
-AreCells-back region ranges base caller exit entry called m t kept placed h k =
+AreCells-back room region ranges base caller exit entry called m t kept placed h k =
     let inside = map cell_without_origin (filter (is_in_ranges ranges) exit) in
     let out = filter (is_out_of_ranges ranges) caller in
-    AllByRecursion-take (λ c. Holds c.val entry (peek t c.address)) 32 (merged inside out)
+    AllByRecursion-take (λ c. Holds c.val entry (peek t c.address)) room (merged inside out)
     (AllByRecursion-merged (λ c. Holds c.val entry (peek t c.address)) inside out
     (AreCells-without_origins (filter (is_in_ranges ranges) exit) called entry t (AreCells-where (is_in_ranges ranges) exit called t k))
     (AreCells-kept region ranges base caller entry m t kept placed h))
+
+-- ---- what is known together
+
+registers_are_bytes : (c : Core) (entry x : MState) → IsCore c → MeansCore c entry x → AreBytes x.processor.registers
+registers_are_bytes c entry x is m =
+    record { each = λ r. let k : Holds (get r c.registers) entry (get r x.processor.registers) = m.registers r in let v = is.registers r in let most = k.most in let hi = v.hi in omega arith }
+
+HoldOneByte-back :
+    (s exit : AbsState) (called x : MState) → HoldOneByte s.relations.byte called.processor.registers (peek called.storage) called.processor.flags
+    → MeansCore exit.core called x → HoldOneByte (byte_back s exit) x.processor.registers (peek x.storage) x.processor.flags
+HoldOneByte-back s exit called x holds h = choose (is_own (origin.Register A) exit.core.registers.a) exit.core.flags.is_own refl refl
+  where
+    choose : (p q : Bool) → is_own (origin.Register A) exit.core.registers.a ≡ p → exit.core.flags.is_own ≡ q
+        → HoldOneByte (cond (p && q) (only_of_a s.relations.byte) no_byte) x.processor.registers (peek x.storage) x.processor.flags
+    choose true true is own =
+        HoldOneByte-only_of_a s.relations.byte called.processor.registers x.processor.registers (peek called.storage) (peek x.storage) called.processor.flags x.processor.flags
+        (own-value (origin.Register A) exit.core.registers.a called x.processor.registers.a is (h.registers A)) (h.flags.own own) holds
+    choose true false is own = HoldOneByte-nothing _ _ _
+    choose false q is own = HoldOneByte-nothing _ _ _
 
 -- ---- states
 
 -- the callee has come back: what its caller goes on with holds
 pub Means-resumed :
-    (region : Region) (ranges : List Range) (s exit : AbsState) (entry : MState) (base : ℕ) (called x : MState)
-    → ComesBack region ranges s exit entry base called x → Means (resumed ranges s exit) entry base x
+    (rules : Rules) (region : Region) (ranges : List Range) (s exit : AbsState) (entry : MState) (base : ℕ) (called x : MState)
+    → ComesBack region ranges s exit entry base called x → Means (resumed rules ranges s exit) entry base x
 unfolding resumed
-Means-resumed region ranges s exit entry base called x h =
-    let stack : called.processor.sp + 2 + length s.items ≡ base = h.caller.stack h.stack_set in
+Means-resumed rules region ranges s exit entry base called x h =
+    let stack : called.processor.sp + 2 + length s.items ≡ base = h.caller.parts.stack h.stack_set in
     let none : length exit.items ≡ 0 = ap length h.exit_items in
-    let back : x.processor.sp + length exit.items ≡ called.processor.sp + 2 = h.exits.stack h.exit_set in
+    let back : x.processor.sp + length exit.items ≡ called.processor.sp + 2 = h.exits.parts.stack h.exit_set in
     let first = h.room.first in
     let last = h.room.last in
     record {
-      core = MeansCore-resumed s.core exit.core entry called x h.caller.core h.exits.core;
-      memory = h.exits.memory;
-      sp = h.exits.sp;
-      stack = λ e. omega arith;
-      items = AreItems-same s.items entry (called.processor.sp + 2) base called.storage x.storage (omega arith)
-          (λ b low high. h.kept b (IsKept-stack region ranges called.processor.sp b h.is_region h.apart (omega arith) (omega arith) (omega arith)))
-          h.caller.items;
-      cells = AreCells-back region ranges called.processor.sp s.cells exit.cells entry called called.storage x.storage h.kept h.placed h.caller.cells h.exits.cells;
+      parts = record {
+        core = MeansCore-resumed s.core exit.core entry called x h.caller.parts.core h.exits.parts.core;
+        memory = h.exits.parts.memory;
+        sp = h.exits.parts.sp;
+        stack = λ e. omega arith;
+        items = AreItems-same s.items entry (called.processor.sp + 2) base called.storage x.storage (omega arith)
+            (λ b low high. h.kept b (IsKept-stack region ranges called.processor.sp b h.is_region h.apart (omega arith) (omega arith) (omega arith)))
+            h.caller.parts.items;
+        cells = AreCells-back (cell_room rules) region ranges called.processor.sp s.cells exit.cells entry called called.storage x.storage h.kept h.placed h.caller.parts.cells h.exits.parts.cells;
+      };
+      related = record {
+        byte = HoldOneByte-back s exit called x h.caller.related.byte h.exits.parts.core;
+        zero = tt;
+        pairs = HoldPairs-nothing x.processor.registers (registers_are_bytes exit.core called x h.exit_core h.exits.parts.core);
+      };
     }
 
-pub resume_sound : (ranges : List Range) (s exit o : AbsState) → o ≡ resumed ranges s exit → IsSoundResuming ranges s exit o
-resume_sound ranges s exit o e =
+pub resume_sound : (rules : Rules) (ranges : List Range) (s exit o : AbsState) → o ≡ resumed rules ranges s exit → IsSoundResuming ranges s exit o
+resume_sound rules ranges s exit o e =
     record {
-      gives = λ region entry base called x h. subst (λ (w : AbsState). Means w entry base x) (sym e) (Means-resumed region ranges s exit entry base called x h);
+      gives = λ region entry base called x h. subst (λ (w : AbsState). Means w entry base x) (sym e) (Means-resumed rules region ranges s exit entry base called x h);
     }

@@ -9,11 +9,18 @@ use Rattle.gb_domain.specs.declared.types.Val.{Val}
 use Rattle.gb_domain.specs.declared.types.Cell.{Cell}
 use Rattle.gb_domain.specs.declared.types.Core.{Core}
 use Rattle.gb_domain.specs.declared.types.Range.{Range}
+use Rattle.gb_domain.specs.declared.places.OneByte.{OneByte}
+use Rattle.gb_domain.specs.declared.rules.Rules.{Rules}
+use Rattle.gb_domain.specs.Limits.{cell_room}
+use Rattle.gb_domain.specs.Places.{no_byte}
+use Rattle.gb_domain.specs.Relations.{no_relations}
 use Rattle.gb_domain.specs.Types.{AbsState, ProcedureParts, Node}
 use Rattle.gb_domain.specs.Certificate.{Certificate}
 use Rattle.gb_abs.specs.Span.{one}
-use Rattle.gb_abs.specs.Covering.{covers, covers_origin}
+use Rattle.gb_abs.specs.Covering.{covers_origin}
 use Rattle.gb_abs_memory.specs.Access.{is_range}
+use Rattle.gb_relations.specs.Compared.{only_of_a}
+use Rattle.gb_product.specs.Covering.{covers}
 
 -- ---- values
 
@@ -54,9 +61,9 @@ entered_core s = record s {
 }
 
 -- what a procedure begins with that is called in s: each register, the flags and IE are their own origins, the
--- controller is kept, no word is pushed, and the cells are no copies
+-- controller is kept, no word is pushed, the cells are no copies, and what is known together stays
 unfoldable pub entered : AbsState → AbsState
-entered s = record { core = entered_core s.core; items = []; cells = map cell_without_origin s.cells }
+entered s = record s { core = entered_core s.core; items = []; cells = map cell_without_origin s.cells }
 
 -- ---- the callee
 
@@ -113,9 +120,10 @@ registers_back s x = record {
   l = given_back (origin.Register register.L) s.l x.l;
 }
 
--- the caller's test holds again where A and the flags are the caller's
-abbrev pub test_back : Core → Core → Option ℕ
-test_back s x = if is_own (origin.Register register.A) x.registers.a && x.flags.is_own then s.test else None
+-- what is said of the caller's A holds again where A and the flags are the caller's
+abbrev pub byte_back : AbsState → AbsState → OneByte
+byte_back s x =
+    if is_own (origin.Register register.A) x.core.registers.a && x.core.flags.is_own then only_of_a s.relations.byte else no_byte
 
 -- interrupts and the bound are the exit's, the stack is the caller's
 abbrev pub core_back : Core → Core → Core
@@ -123,7 +131,6 @@ core_back s x = record {
   ime = x.ime;
   bound = x.bound;
   stack_set = s.stack_set;
-  test = test_back s x;
   ctl = if x.ctl.is_kept then s.ctl else x.ctl;
   flags = if x.flags.is_own then s.flags else x.flags;
   ie = given_back origin.Ie s.ie x.ie;
@@ -147,11 +154,21 @@ abbrev pub merged : List Cell → List Cell → List Cell
 merged [] others = others
 merged (c ∷ cs) others = merged cs (inserted c others)
 
--- the caller's cells outside the callee's ranges, the exit's inside, which are no copies: the first 32 by address
-unfoldable pub cells_back : List Range → List Cell → List Cell → List Cell
-cells_back ranges caller exit =
-    take 32 (merged (map cell_without_origin (filter (is_in_ranges ranges) exit)) (filter (is_out_of_ranges ranges) caller))
+-- the caller's cells outside the callee's ranges, the exit's inside, which are no copies, by address
+abbrev pub all_cells_back : List Range → List Cell → List Cell → List Cell
+all_cells_back ranges caller exit =
+    merged (map cell_without_origin (filter (is_in_ranges ranges) exit)) (filter (is_out_of_ranges ranges) caller)
+
+-- the first of them, as many as there is room for
+unfoldable pub cells_back : ℕ → List Range → List Cell → List Cell → List Cell
+cells_back room ranges caller exit = take room (all_cells_back ranges caller exit)
 
 -- what the caller goes on with that was in s, where the callee has these ranges and left by the exit x
-unfoldable pub resumed : List Range → AbsState → AbsState → AbsState
-resumed ranges s x = record { core = core_back s.core x.core; items = s.items; cells = cells_back ranges s.cells x.cells }
+unfoldable pub resumed : Rules → List Range → AbsState → AbsState → AbsState
+resumed rules ranges s x =
+    record {
+      core = core_back s.core x.core;
+      items = s.items;
+      cells = cells_back (cell_room rules) ranges s.cells x.cells;
+      relations = record no_relations { byte = byte_back s x };
+    }

@@ -7,8 +7,9 @@ use Rattle.gb_ops.specs.Play.{MState}
 use Rattle.gb_domain.specs.declared.types.Range.{Range}
 use Rattle.gb_domain.specs.Types.{AbsState}
 use Rattle.gb_domain.specs.Areas.{IsRegion, meets}
+use Rattle.gb_domain.specs.Rules.{IsCore}
 use Rattle.gb_abs.specs.Cells.{ArePlaced}
-use Rattle.gb_abs.specs.Meaning.{Means}
+use Rattle.gb_product.specs.Meaning.{Means}
 use Rattle.gb_abs.specs.Stack.{AreInRegion}
 use Rattle.gb_abs.specs.Storage.{peek}
 use Rattle.gb_abs_memory.specs.Kept.{IsKept}
@@ -36,6 +37,7 @@ pub record ComesBack (region : Region) (ranges : List Range) (s exit : AbsState)
   pub caller : Means s entry base (without_word called)
   pub exit_set : exit.core.stack_set ≡ true
   pub exit_items : exit.items ≡ []
+  pub exit_core : IsCore exit.core
   pub exits : Means exit called (called.processor.sp + 2) x
   pub kept : (b : ℕ) → IsKept region ranges called.processor.sp b → peek x.storage b ≡ peek called.storage b
 

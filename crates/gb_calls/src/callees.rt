@@ -4,9 +4,9 @@ ghost use Rattle.std.specs.Prelude.{◌≡◌};
 ghost use Rattle.gb_calls.specs.Calls as Calls;
 
 use crate::entering::enter;
-use gb_abs::covering::covers;
 use gb_cert::{Cert, ProcedureRef};
 use gb_domain::types::Abs;
+use gb_product::covering::covers;
 
 /// Whether a procedure begins at the address, in a state that stands for these. The state is decoded only where
 /// the address is right.

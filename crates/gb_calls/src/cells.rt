@@ -2,12 +2,16 @@
 
 ghost use Rattle.std.specs.Prelude.{◌≡◌, ◌≤◌, length, map, take, insert};
 ghost use Rattle.std.specs.List.{filter};
+ghost use Rattle.gb_domain.specs.Limits.{cell_room};
 ghost use Rattle.gb_calls.specs.Calls as Calls;
 
 use crate::entering::cell_without_origin;
 use arrayvec::ArrayVec;
 use gb_abs::span::Span;
-use gb_domain::types::{CELLS, Cell, Range};
+use gb_domain::types::{Cell, Range, Rules};
+
+/// The most cells that a state holds by any rules.
+const CELLS: usize = 64;
 
 fn is_in_ranges(ranges: &[Range], cell: &Cell) -> bool
     ensures { result ≡ Calls.is_in_ranges ranges.now cell.now }
@@ -19,8 +23,8 @@ fn is_in_ranges(ranges: &[Range], cell: &Cell) -> bool
 }
 
 /// The caller's cells that the callee may not write: those outside its ranges. There must be room.
-fn outside(ranges: &[Range], cells: &[Cell]) -> ArrayVec<Cell, 32>
-    requires { length cells.now ≤ 32 }
+fn outside(ranges: &[Range], cells: &[Cell]) -> ArrayVec<Cell, 64>
+    requires { length cells.now ≤ 64 }
     ensures { result.items ≡ filter (Calls.is_out_of_ranges ranges.now) cells.now }
 {
     let mut kept = ArrayVec::new();
@@ -45,9 +49,9 @@ fn place_among(cell: &Cell, cells: &[Cell]) -> usize
     cells.len()
 }
 
-/// Puts a cell in its place by address. Where 32 are held, the last of all falls.
-fn put(cells: &mut ArrayVec<Cell, 32>, cell: Cell)
-    ensures { cells.new.items ≡ take 32 (Calls.inserted cell cells.old.items) }
+/// Puts a cell in its place by address. Where 64 are held, the last of all falls.
+fn put(cells: &mut ArrayVec<Cell, 64>, cell: Cell)
+    ensures { cells.new.items ≡ take 64 (Calls.inserted cell cells.old.items) }
 {
     let place = place_among(&cell, cells.as_slice());
     if place < CELLS {
@@ -56,12 +60,11 @@ fn put(cells: &mut ArrayVec<Cell, 32>, cell: Cell)
     }
 }
 
-/// The caller's cells outside the callee's ranges, and the exit's inside, which are no copies: the first 32 by
+/// The caller's cells outside the callee's ranges, and the exit's inside, which are no copies: the first 64 by
 /// address. There must be room for the caller's.
-#[tactic(auto, unfolding(crate::specs::Calls::cells_back))]
-pub(crate) fn cells_back(ranges: &[Range], caller: &[Cell], exit: &[Cell]) -> ArrayVec<Cell, 32>
-    requires { length caller.now ≤ 32 }
-    ensures { result.items ≡ Calls.cells_back ranges.now caller.now exit.now }
+fn most_cells_back(ranges: &[Range], caller: &[Cell], exit: &[Cell]) -> ArrayVec<Cell, 64>
+    requires { length caller.now ≤ 64 }
+    ensures { result.items ≡ take 64 (Calls.all_cells_back ranges.now caller.now exit.now) }
 {
     let mut cells = outside(ranges, caller);
     for cell in exit {
@@ -69,5 +72,21 @@ pub(crate) fn cells_back(ranges: &[Range], caller: &[Cell], exit: &[Cell]) -> Ar
             put(&mut cells, cell_without_origin(*cell));
         }
     }
+    cells
+}
+
+/// The same, as many as there is room for. There must be room for the caller's by any rules.
+#[tactic(auto, using(crate::proofs::CellLaws::take_fewer), unfolding(crate::specs::Calls::cells_back))]
+pub(crate) fn cells_back(
+    rules: Rules,
+    ranges: &[Range],
+    caller: &[Cell],
+    exit: &[Cell],
+) -> ArrayVec<Cell, 64>
+    requires { length caller.now ≤ 64 }
+    ensures { result.items ≡ Calls.cells_back (cell_room rules) ranges.now caller.now exit.now }
+{
+    let mut cells = most_cells_back(ranges, caller, exit);
+    cells.truncate(rules.cell_room());
     cells
 }

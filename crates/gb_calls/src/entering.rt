@@ -74,8 +74,8 @@ fn entered_core(core: &Core) -> Core
 }
 
 /// The cells, no copies. There must be room.
-fn cells_without_origins(cells: &[Cell]) -> ArrayVec<Cell, 32>
-    requires { length cells.now ≤ 32 }
+fn cells_without_origins(cells: &[Cell]) -> ArrayVec<Cell, 64>
+    requires { length cells.now ≤ 64 }
     ensures { result.items ≡ map Calls.cell_without_origin cells.now }
 {
     let mut entered = ArrayVec::new();
@@ -94,6 +94,7 @@ fn entered(state: &Abs) -> Abs
         entered_core(state.core()),
         ArrayVec::new(),
         cells_without_origins(state.cells()),
+        *state.relations(),
     )
 }
 

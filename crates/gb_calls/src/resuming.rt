@@ -8,9 +8,12 @@ use crate::cells::cells_back;
 use crate::entering::without_origin;
 use arrayvec::ArrayVec;
 use gb_abs::covering::covers_origin;
-use gb_domain::types::{Abs, Core, Origin, Range, Val};
+use gb_domain::places::OneByte;
+use gb_domain::relations::Relations;
+use gb_domain::types::{Abs, Core, Origin, Range, Rules, Val};
 use gb_ops::op::Register;
 use gb_ops::registers::Registers;
+use gb_relations::compared::only_of_a;
 
 /// Whether a value is what this held at entry.
 fn is_own(origin: Origin, val: Val) -> bool
@@ -44,14 +47,15 @@ fn registers_back(caller: &Registers<Val>, exit: &Registers<Val>) -> Registers<V
     }
 }
 
-/// The caller's test, where A and the flags are the caller's.
-fn test_back(caller: &Core, exit: &Core) -> Option<u8>
-    ensures { result ≡ Calls.test_back caller.now exit.now }
+/// What is said of the caller's A, where A and the flags are the caller's.
+fn byte_back(caller: &Abs, exit: &Abs) -> OneByte
+    ensures { result ≡ Calls.byte_back caller.now exit.now }
 {
-    if is_own(Origin::Register(Register::A), exit.registers.a) && exit.flags.is_own {
-        caller.test
+    let core = exit.core();
+    if is_own(Origin::Register(Register::A), core.registers.a) && core.flags.is_own {
+        only_of_a(&caller.relations().byte)
     } else {
-        None
+        OneByte::default()
     }
 }
 
@@ -63,7 +67,6 @@ fn core_back(caller: &Core, exit: &Core) -> Core
         ime: exit.ime,
         bound: exit.bound,
         stack_set: caller.stack_set,
-        test: test_back(caller, exit),
         ctl: if exit.ctl.is_kept {
             caller.ctl
         } else {
@@ -81,8 +84,8 @@ fn core_back(caller: &Core, exit: &Core) -> Core
 
 /// The state with which a caller goes on.
 #[tactic(auto, unfolding(crate::specs::Calls::resumed))]
-fn resumed(ranges: &[Range], state: &Abs, exit: &Abs) -> Abs
-    ensures { result ≡ Calls.resumed ranges.now state.now exit.now }
+fn resumed(rules: Rules, ranges: &[Range], state: &Abs, exit: &Abs) -> Abs
+    ensures { result ≡ Calls.resumed rules ranges.now state.now exit.now }
 {
     let mut items = ArrayVec::new();
     if items.try_extend_from_slice(state.items()).is_err() {
@@ -91,16 +94,20 @@ fn resumed(ranges: &[Range], state: &Abs, exit: &Abs) -> Abs
     Abs::of_parts(
         core_back(state.core(), exit.core()),
         items,
-        cells_back(ranges, state.cells(), exit.cells()),
+        cells_back(rules, ranges, state.cells(), exit.cells()),
+        Relations {
+            byte: byte_back(state, exit),
+            ..Relations::default()
+        },
     )
 }
 
 /// What a caller goes on with that was in these states, where its callee has these ranges and left by this exit
 /// (abstract interpretation: calls; own).
 #[tactic(auto, using(crate::proofs::ResumingLaws::resume_sound))]
-pub fn resume(ranges: &[Range], state: &Abs, exit: &Abs) -> Abs
-    ensures exact { result ≡ Calls.resumed ranges.now state.now exit.now }
+pub fn resume(rules: Rules, ranges: &[Range], state: &Abs, exit: &Abs) -> Abs
+    ensures exact { result ≡ Calls.resumed rules ranges.now state.now exit.now }
     ensures sound { IsSoundResuming ranges.now state.now exit.now result }
 {
-    resumed(ranges, state, exit)
+    resumed(rules, ranges, state, exit)
 }

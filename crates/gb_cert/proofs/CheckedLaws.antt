@@ -1,5 +1,5 @@
 -- What is read again is what was checked.
-use Rattle.std.proofs.Common.{◌≡◌, ℕ, suc, ◌+◌, ◌*◌, ◌/◌, ◌%◌, ◌≤◌, Bool, true, ◌==◌, List, [], ◌∷◌, ◌++◌, length, drop, Option, Some, None, refl, sym, ap, ◌∙◌, append_assoc, length-append, arith}
+use Rattle.std.proofs.Common.{◌≡◌, ℕ, suc, ◌+◌, ◌*◌, ◌/◌, ◌%◌, ◌≤◌, Bool, true, ◌&&◌, ◌==◌, List, [], ◌∷◌, ◌++◌, length, drop, Option, Some, None, refl, sym, ap, ◌∙◌, append_assoc, length-append, arith}
 use Rattle.std.specs.List.{flat_map}
 use Rattle.std.proofs.lemmas.Bool.{eqb-true}
 use Rattle.gb_ops.specs.declared.machine.Region.{Region}
@@ -18,8 +18,16 @@ use Rattle.gb_fields.specs.Reading.{word_of, is_one}
 use Rattle.gb_states.specs.Reading.{origin_of, to_may, to_flg}
 use Rattle.gb_states.specs.Spelling as spelled
 use Rattle.gb_cert.specs.Borrowed.{StateStands}
-use Rattle.gb_states.specs.Checked.{flg_in, core_in, begins_with_zero, are_none}
-use Rattle.gb_states.proofs.FieldLaws.{and_both, Flags, number_of, of-flag, origin_of-number, may-number, ime-number, flags-number, own-again}
+use Rattle.gb_domain.specs.declared.rules.Rules.{Rules}
+use Rattle.gb_domain.specs.declared.rules.Rules.TheVariants.{Simple, Extended}
+use Rattle.gb_domain.specs.declared.relations.Relations.{Relations}
+use Rattle.gb_domain.specs.RelationRules.{has_place, compared, test_alone, IsRelations}
+use Rattle.gb_fields.specs.Limits.{unit}
+use Rattle.gb_states.specs.Rules.{is_whole, may_be_known}
+use Rattle.gb_states.specs.RelationSpelling as told
+use Rattle.gb_states.specs.Checked.{flg_in, core_in, test_in, begins_with_zero, begins_with_zeros, are_none}
+use Rattle.gb_states.proofs.RelationLaws.{is-alone, nothing-told}
+use Rattle.gb_states.proofs.FieldLaws.{and_both, same, Flags, number_of, of-flag, origin_of-number, may-number, ime-number, flags-number, own-again}
 use Rattle.gb_cert.proofs.Lending.{core-long, lists-behind}
 
 word-again : (w : ℕ) → w % 256 + 256 * (w / 256) ≡ w
@@ -52,59 +60,101 @@ make_vals : (a b c d e h l a2 b2 c2 d2 e2 h2 l2 : Val) → a ≡ a2 → b ≡ b2
     → (let r : Registers Val = record { a = a; b = b; c = c; d = d; e = e; h = h; l = l } in r) ≡ record { a = a2; b = b2; c = c2; d = d2; e = e2; h = h2; l = l2 }
 make_vals a b c d e h l a2 b2 c2 d2 e2 h2 l2 ea eb ec ed ee eh el = rw (ea, eb, ec, ed, ee, eh, el) refl
 
-make_core : (i i2 : ImeSet) (b : ℕ) (s s2 : Bool) (t t2 : Option ℕ) (k k2 : Ctl) (f f2 : Flg) (v v2 : Val) (r r2 : Registers Val) → i ≡ i2 → s ≡ s2 → t ≡ t2 → k ≡ k2 → f ≡ f2 → v ≡ v2 → r ≡ r2
-    → (let x : Core = record { ime = i; bound = b; stack_set = s; test = t; ctl = k; flags = f; ie = v; registers = r } in x) ≡ record { ime = i2; bound = b; stack_set = s2; test = t2; ctl = k2; flags = f2; ie = v2; registers = r2 }
-make_core i i2 b s s2 t t2 k k2 f f2 v v2 r r2 ei es et ek ef ev er = rw (ei, es, et, ek, ef, ev, er) refl
+make_core : (i i2 : ImeSet) (b : ℕ) (s s2 : Bool) (k k2 : Ctl) (f f2 : Flg) (v v2 : Val) (r r2 : Registers Val) → i ≡ i2 → s ≡ s2 → k ≡ k2 → f ≡ f2 → v ≡ v2 → r ≡ r2
+    → (let x : Core = record { ime = i; bound = b; stack_set = s; ctl = k; flags = f; ie = v; registers = r } in x) ≡ record { ime = i2; bound = b; stack_set = s2; ctl = k2; flags = f2; ie = v2; registers = r2 }
+make_core i i2 b s s2 k k2 f f2 v v2 r r2 ei es ek ef ev er = rw (ei, es, ek, ef, ev, er) refl
 
-core-again : (c : Core) (rest : List ℕ) → core_in (spelled.core c ++ rest) ≡ c
+core-again : (c : Core) (t : Option ℕ) (rest : List ℕ) → core_in (spelled.core c t ++ rest) ≡ c
 unfolding spelled.core spelled.ctl spelled.flg spelled.val spelled.vals
-core-again c rest = by c.test
+core-again c t rest = by t
   where
     vals : (let r : Registers Val = record { a = again c.registers.a; b = again c.registers.b; c = again c.registers.c; d = again c.registers.d; e = again c.registers.e; h = again c.registers.h; l = again c.registers.l } in r) ≡ c.registers
     vals = make_vals _ _ _ _ _ _ _ _ _ _ _ _ _ _ (val-again c.registers.a) (val-again c.registers.b) (val-again c.registers.c) (val-again c.registers.d) (val-again c.registers.e) (val-again c.registers.h) (val-again c.registers.l)
 
-    by : (o : Option ℕ) → core_in (spelled.core (record c { test = o }) ++ rest) ≡ record c { test = o }
-    by None = make_core _ c.ime c.bound _ c.stack_set _ None _ c.ctl _ c.flags _ c.ie _ c.registers (ime-number c.ime) (of-flag c.stack_set) refl (ctl-again c.ctl) (flg-again c.flags) (val-again c.ie) vals
-    by (Some a) = make_core _ c.ime c.bound _ c.stack_set _ (Some a) _ c.ctl _ c.flags _ c.ie _ c.registers (ime-number c.ime) (of-flag c.stack_set) refl (ctl-again c.ctl) (flg-again c.flags) (val-again c.ie) vals
+    by : (o : Option ℕ) → core_in (spelled.core c o ++ rest) ≡ c
+    by None = make_core _ c.ime c.bound _ c.stack_set _ c.ctl _ c.flags _ c.ie _ c.registers (ime-number c.ime) (of-flag c.stack_set) (ctl-again c.ctl) (flg-again c.flags) (val-again c.ie) vals
+    by (Some a) = make_core _ c.ime c.bound _ c.stack_set _ c.ctl _ c.flags _ c.ie _ c.registers (ime-number c.ime) (of-flag c.stack_set) (ctl-again c.ctl) (flg-again c.flags) (val-again c.ie) vals
+
+test-again : (c : Core) (t : Option ℕ) (rest : List ℕ) → test_in (spelled.core c t ++ rest) ≡ t
+unfolding spelled.core
+test-again c None rest = refl
+test-again c (Some a) rest = refl
+
+-- what stands behind a state's core, and its test
+lists_of : (rules : Rules) (s : AbsState) → List ℕ
+lists_of rules s = spelled.items rules s.items ++ (told.relations_by rules s.relations ++ spelled.counted spelled.cell s.cells)
+
+front-of : (rules : Rules) (role : Role) (region : Region) (bytes : List ℕ) (s : AbsState) (h : StateStands rules role region bytes s) → bytes ≡ spelled.core s.core (compared s.relations.byte.test) ++ (lists_of rules s ++ h.tail)
+unfolding spelled.state lists_of
+front-of rules role region bytes s h = h.parts ∙ append_assoc (spelled.core s.core (compared s.relations.byte.test)) (lists_of rules s) h.tail
 
 -- the core of a state that stands in bytes
-pub core-stands : (role : Role) (region : Region) (bytes : List ℕ) (s : AbsState) → StateStands role region bytes s → core_in bytes ≡ s.core
-unfolding spelled.state
-core-stands role region bytes s h =
-    let lists : List ℕ = spelled.items s.items ++ spelled.counted spelled.cell s.cells in
-    ap (λ (b : List ℕ). core_in b) (h.parts ∙ append_assoc (spelled.core s.core) lists h.tail) ∙ core-again s.core (lists ++ h.tail)
+pub core-stands : (rules : Rules) (role : Role) (region : Region) (bytes : List ℕ) (s : AbsState) → StateStands rules role region bytes s → core_in bytes ≡ s.core
+core-stands rules role region bytes s h = ap (λ (b : List ℕ). core_in b) (front-of rules role region bytes s h) ∙ core-again s.core (compared s.relations.byte.test) (lists_of rules s ++ h.tail)
+
+-- and its test
+pub test-stands : (rules : Rules) (role : Role) (region : Region) (bytes : List ℕ) (s : AbsState) → StateStands rules role region bytes s → test_in bytes ≡ compared s.relations.byte.test
+test-stands rules role region bytes s h = ap (λ (b : List ℕ). test_in b) (front-of rules role region bytes s h) ∙ test-again s.core (compared s.relations.byte.test) (lists_of rules s ++ h.tail)
 
 -- it has 40 bytes
-pub core-fits : (role : Role) (region : Region) (bytes : List ℕ) (s : AbsState) → StateStands role region bytes s → 40 ≤ length bytes
-unfolding spelled.state
-core-fits role region bytes s h =
-    let lists : List ℕ = spelled.items s.items ++ spelled.counted spelled.cell s.cells in
-    let e : length bytes ≡ length (spelled.core s.core) + length (lists ++ h.tail) = ap (λ (b : List ℕ). length b) (h.parts ∙ append_assoc (spelled.core s.core) lists h.tail) ∙ length-append (spelled.core s.core) (lists ++ h.tail) in
-    omega (arith, e, core-long s.core)
+pub core-fits : (rules : Rules) (role : Role) (region : Region) (bytes : List ℕ) (s : AbsState) → StateStands rules role region bytes s → 40 ≤ length bytes
+core-fits rules role region bytes s h =
+    let test : Option ℕ = compared s.relations.byte.test in
+    let e : length bytes ≡ length (spelled.core s.core test) + length (lists_of rules s ++ h.tail) = ap (λ (b : List ℕ). length b) (front-of rules role region bytes s h) ∙ length-append (spelled.core s.core test) (lists_of rules s ++ h.tail) in
+    omega (arith, e, core-long s.core test)
 
--- some bytes that are whole words are some words
-some-words : (n : ℕ) → suc n % 2 ≡ 0 → suc n / 2 ≡ 0 → ⊥
-some-words n whole none = omega arith
+-- some bytes that can be counted are some of what they are counted in
+some-units : (rules : Rules) (n : ℕ) → is_whole rules (suc n) ≡ true → suc n / unit rules ≡ 0 → ⊥
+unfolding unit
+some-units Simple n whole none = let w = same (suc n % 2) 0 whole in omega (arith, w)
+some-units Extended n whole none = omega arith
 
-no-cells : (xs : List Cell) → length xs ≡ 0 → xs ≡ []
+no-cells : (xs : List Cell) → (length xs == 0) ≡ true → xs ≡ []
 no-cells [] h = refl
-no-cells (x ∷ xs) h = cc
+no-cells (x ∷ xs) h = absurd (omega (arith, eqb-true (length (x ∷ xs)) 0 h))
 
-counted-none : (xs : List Val) (ys : List Cell) (spelled_items behind : List ℕ) → length xs % 2 ≡ 0 → (xs ≡ [] → spelled_items ≡ []) → are_none (length xs / 2 ∷ (spelled_items ++ (length ys ∷ behind))) ≡ true → (xs ≡ []) × (ys ≡ [])
-counted-none [] ys spelled_items behind whole h e =
-    let f : are_none (0 ∷ (length ys ∷ behind)) ≡ true = ap (λ (s : List ℕ). are_none (0 ∷ (s ++ (length ys ∷ behind)))) (sym (h refl)) ∙ e in
-    (refl, no-cells ys (eqb-true (length ys) 0 f))
-counted-none (x ∷ xs) ys spelled_items behind whole h e = absurd (some-words (length xs) whole (eqb-true (length (x ∷ xs) / 2) 0 (and_both (length (x ∷ xs) / 2 == 0) (begins_with_zero (spelled_items ++ (length ys ∷ behind))) e).0))
+-- what stands behind the items is none
+abbrev rest_none : Rules → List ℕ → Bool
+rest_none Simple b = begins_with_zero b
+rest_none Extended b = begins_with_zeros b
 
--- where two zeros stand behind the core there is no item and no cell
-pub no-lists : (role : Role) (region : Region) (bytes : List ℕ) (s : AbsState) → StateStands role region bytes s → are_none (drop 40 bytes) ≡ true → (s.items ≡ []) × (s.cells ≡ [])
-no-lists role region bytes s h zeros =
-    counted-none s.items s.cells (flat_map spelled.val s.items) (flat_map spelled.cell s.cells ++ h.tail) h.is_state.whole (λ e. ap (λ (xs : List Val). flat_map spelled.val xs) e)
-    (sym (ap (λ (b : List ℕ). are_none b) (lists-behind role region bytes s h)) ∙ zeros)
+none-parts : (rules : Rules) (n : ℕ) (rest : List ℕ) → are_none rules (n ∷ rest) ≡ true → (n ≡ 0) × (rest_none rules rest ≡ true)
+none-parts Simple n rest h = let k = and_both (n == 0) (begins_with_zero rest) h in (eqb-true n 0 k.0, k.1)
+none-parts Extended n rest h = let k = and_both (n == 0) (begins_with_zeros rest) h in (eqb-true n 0 k.0, k.1)
 
--- a state without them is its core's
-pub plain_state : (s : AbsState) → s.items ≡ [] → s.cells ≡ [] → state_of s.core ≡ s
-plain_state s e f = by s.items s.cells e f
+counted-none : (rules : Rules) (xs : List Val) (told_items behind : List ℕ) → is_whole rules (length xs) ≡ true → (xs ≡ [] → told_items ≡ []) → are_none rules (length xs / unit rules ∷ (told_items ++ behind)) ≡ true → (xs ≡ []) × (rest_none rules behind ≡ true)
+counted-none rules [] told_items behind whole h e = (refl, ap (λ (s : List ℕ). rest_none rules (s ++ behind)) (sym (h refl)) ∙ (none-parts rules (0 / unit rules) (told_items ++ behind) e).1)
+counted-none rules (x ∷ xs) told_items behind whole h e = absurd (some-units rules (length xs) whole (none-parts rules (length (x ∷ xs) / unit rules) (told_items ++ behind) e).0)
+
+-- What a state without items and cells, and of whose parts nothing but a test of A is known together, is.
+pub record IsPlain (s : AbsState) : Type 0 where
+  pub items : s.items ≡ []
+  pub cells : s.cells ≡ []
+  pub relations : s.relations ≡ test_alone (compared s.relations.byte.test)
+
+told-none : (rules : Rules) (region : Region) (r : Relations) (cells : List Cell) (behind : List ℕ) → IsRelations region r → may_be_known rules r ≡ true → rest_none rules (told.relations_by rules r ++ (length cells ∷ behind)) ≡ true
+    → (cells ≡ []) × (r ≡ test_alone (compared r.byte.test))
+unfolding told.relations
+told-none Simple region r cells behind is known h = (no-cells cells h, is-alone r known)
+told-none Extended region r cells behind is known h =
+    let p = told.present_number (told.present_in r) in
+    let parts : List ℕ = told.where_there (has_place r.byte) (told.places r.byte) ++ (told.optional told.pair r.zero ++ told.pairs r.pairs) in
+    let k = and_both (p == 0) (begins_with_zero (parts ++ (length cells ∷ behind))) h in
+    let none = nothing-told region r is (eqb-true p 0 k.0) in
+    let rest : rest_none Extended ((0 ∷ []) ++ (length cells ∷ behind)) ≡ true = ap (λ (s : List ℕ). rest_none Extended (s ++ (length cells ∷ behind))) (sym none.1) ∙ h in
+    (no-cells cells (and_both true (length cells == 0) rest).1, none.0 ∙ sym (ap (λ (s : Relations). test_alone (compared s.byte.test)) none.0))
+
+-- where zeros stand behind the core the state is plain
+pub is-plain : (rules : Rules) (role : Role) (region : Region) (bytes : List ℕ) (s : AbsState) → StateStands rules role region bytes s → are_none rules (drop 40 bytes) ≡ true → IsPlain s
+is-plain rules role region bytes s h zeros =
+    let behind : List ℕ = told.relations_by rules s.relations ++ (length s.cells ∷ (flat_map spelled.cell s.cells ++ h.tail)) in
+    let items = counted-none rules s.items (flat_map spelled.val s.items) behind h.is_state.whole (λ e. ap (λ (xs : List Val). flat_map spelled.val xs) e) (sym (ap (λ (b : List ℕ). are_none rules b) (lists-behind rules role region bytes s h)) ∙ zeros) in
+    let rest = told-none rules region s.relations s.cells (flat_map spelled.cell s.cells ++ h.tail) h.is_state.relations h.is_state.known items.1 in
+    record { items = items.0; cells = rest.0; relations = rest.1 }
+
+-- a plain state is its core's, with its test
+pub plain_state : (s : AbsState) → s.items ≡ [] → s.cells ≡ [] → s.relations ≡ test_alone (compared s.relations.byte.test) → record (state_of s.core) { relations = test_alone (compared s.relations.byte.test) } ≡ s
+plain_state s e f g = by s.items s.cells (test_alone (compared s.relations.byte.test)) e f (sym g)
   where
-    by : (xs : List Val) (ys : List Cell) → xs ≡ [] → ys ≡ [] → state_of s.core ≡ record s { items = xs; cells = ys }
-    by xs ys e f = rw (e, f) refl
+    by : (xs : List Val) (ys : List Cell) (r : Relations) → xs ≡ [] → ys ≡ [] → r ≡ s.relations → record (state_of s.core) { relations = r } ≡ record s { items = xs; cells = ys }
+    by xs ys r e f g = rw (e, f, g) refl

@@ -9,6 +9,8 @@ use Rattle.gb_fields.specs.Limits.{node_limit}
 use Rattle.gb_domain.specs.Types.{ProcedureParts, Node}
 use Rattle.gb_states.specs.Rules.{have_entries, is_of}
 use Rattle.gb_fields.specs.Reading.{node_number}
+use Rattle.gb_domain.specs.declared.rules.Rules.{Rules}
+use Rattle.gb_domain.specs.Limits.{rules_of}
 use Rattle.gb_states.specs.Spelling as spelled
 use Rattle.gb_cert.specs.Places.{AreAt, number_is, place_is_of, entry_is_of, has_entry_at, have_entries_at}
 use Rattle.gb_states.proofs.FieldLaws.{IsFormat-node_number}
@@ -34,27 +36,27 @@ has a b total e h = rw e at h
 
 -- ---- the places are those of procedures and nodes
 
-place-of : (bytes rest ns : List ℕ) (nodes : List Node) (number i : ℕ) → AreAt spelled.node bytes rest ns nodes → place_is_of number bytes (slice_get ns i) ≡ is_of number (slice_get nodes i)
+place-of : (rules : Rules) (bytes rest ns : List ℕ) (nodes : List Node) (number i : ℕ) → AreAt (spelled.node rules) bytes rest ns nodes → place_is_of number bytes (slice_get ns i) ≡ is_of number (slice_get nodes i)
 unfolding spelled.node
-place-of bytes rest [] [] number i h = refl
-place-of bytes rest (q ∷ qs) (y ∷ ys) number zero h = ap (λ (d : List ℕ). number_is number (byte d)) (h.0 ∙ ap (λ (z : List ℕ). z ++ rest) (flat_map-cons spelled.node y ys))
-place-of bytes rest (q ∷ qs) (y ∷ ys) number (suc i) h = place-of bytes rest qs ys number i h.1
-place-of bytes rest [] (y ∷ ys) number i h = absurd h
-place-of bytes rest (q ∷ qs) [] number i h = absurd h
+place-of rules bytes rest [] [] number i h = refl
+place-of rules bytes rest (q ∷ qs) (y ∷ ys) number zero h = ap (λ (d : List ℕ). number_is number (byte d)) (h.0 ∙ ap (λ (z : List ℕ). z ++ rest) (flat_map-cons (spelled.node rules) y ys))
+place-of rules bytes rest (q ∷ qs) (y ∷ ys) number (suc i) h = place-of rules bytes rest qs ys number i h.1
+place-of rules bytes rest [] (y ∷ ys) number i h = absurd h
+place-of rules bytes rest (q ∷ qs) [] number i h = absurd h
 
-entry-of : (version : ℕ) (bytes rest ns : List ℕ) (nodes : List Node) (number place : ℕ) (p : ProcedureParts) (tail : List ℕ) → p.entry ≤ node_limit version → drop place bytes ≡ spelled.procedure version p ++ tail → AreAt spelled.node bytes rest ns nodes
+entry-of : (version : ℕ) (rules : Rules) (bytes rest ns : List ℕ) (nodes : List Node) (number place : ℕ) (p : ProcedureParts) (tail : List ℕ) → p.entry ≤ node_limit version → drop place bytes ≡ spelled.procedure version p ++ tail → AreAt (spelled.node rules) bytes rest ns nodes
     → has_entry_at version number bytes place ns ≡ is_of number (slice_get nodes p.entry)
 unfolding has_entry_at spelled.procedure
-entry-of version bytes rest ns nodes number place p tail few e h =
-    let read : node_number version (drop place bytes) ≡ Ok (p.entry, spelled.body p ++ tail) = ap (node_number version) (e ∙ append_assoc (spelled.node_number version p.entry) (spelled.body p) tail) ∙ (IsFormat-node_number version).again p.entry (spelled.body p ++ tail) (number_small version p.entry few) in
-    ap (entry_is_of number bytes ns) read ∙ place-of bytes rest ns nodes number p.entry h
+entry-of version rules bytes rest ns nodes number place p tail few e h =
+    let read : node_number version (drop place bytes) ≡ Ok (p.entry, spelled.body (rules_of version) p ++ tail) = ap (node_number version) (e ∙ append_assoc (spelled.node_number version p.entry) (spelled.body (rules_of version) p) tail) ∙ (IsFormat-node_number version).again p.entry (spelled.body (rules_of version) p ++ tail) (number_small version p.entry few) in
+    ap (entry_is_of number bytes ns) read ∙ place-of rules bytes rest ns nodes number p.entry h
 
-pub entries-of : (version : ℕ) (bytes behind rest ps ns : List ℕ) (procedures : List ProcedureParts) (nodes : List Node) (number : ℕ) → AllByRecursion (λ p. p.entry ≤ node_limit version) procedures
-    → AreAt (spelled.procedure version) bytes behind ps procedures → AreAt spelled.node bytes rest ns nodes → have_entries_at version number bytes ps ns ≡ have_entries number procedures nodes
+pub entries-of : (version : ℕ) (rules : Rules) (bytes behind rest ps ns : List ℕ) (procedures : List ProcedureParts) (nodes : List Node) (number : ℕ) → AllByRecursion (λ p. p.entry ≤ node_limit version) procedures
+    → AreAt (spelled.procedure version) bytes behind ps procedures → AreAt (spelled.node rules) bytes rest ns nodes → have_entries_at version number bytes ps ns ≡ have_entries number procedures nodes
 unfolding have_entries_at have_entries
-entries-of version bytes behind rest [] ns [] nodes number few h g = refl
-entries-of version bytes behind rest (q ∷ qs) ns (y ∷ ys) nodes number few h g =
+entries-of version rules bytes behind rest [] ns [] nodes number few h g = refl
+entries-of version rules bytes behind rest (q ∷ qs) ns (y ∷ ys) nodes number few h g =
     let e : drop q bytes ≡ spelled.procedure version y ++ (flat_map (spelled.procedure version) ys ++ behind) = h.0 ∙ ap (λ (z : List ℕ). z ++ behind) (flat_map-cons (spelled.procedure version) y ys) ∙ append_assoc (spelled.procedure version y) (flat_map (spelled.procedure version) ys) behind in
-    rw (entry-of version bytes rest ns nodes number q y (flat_map (spelled.procedure version) ys ++ behind) few.0 e g, entries-of version bytes behind rest qs ns ys nodes (number + 1) few.1 h.1 g) refl
-entries-of version bytes behind rest [] ns (y ∷ ys) nodes number few h g = absurd h
-entries-of version bytes behind rest (q ∷ qs) ns [] nodes number few h g = absurd h
+    rw (entry-of version rules bytes rest ns nodes number q y (flat_map (spelled.procedure version) ys ++ behind) few.0 e g, entries-of version rules bytes behind rest qs ns ys nodes (number + 1) few.1 h.1 g) refl
+entries-of version rules bytes behind rest [] ns (y ∷ ys) nodes number few h g = absurd h
+entries-of version rules bytes behind rest (q ∷ qs) ns [] nodes number few h g = absurd h

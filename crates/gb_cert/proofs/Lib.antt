@@ -5,5 +5,6 @@ pub mod Entries
 pub mod Laying
 pub mod Lending
 pub mod Placing
+pub mod Refusing
 pub mod Skipping
 pub mod Written

@@ -1,11 +1,12 @@
 -- Where in the bytes of a certificate its parts stand.
-use Rattle.std.specs.Prelude.{◌≡◌, ℕ, ◌+◌, Bool, true, false, ◌&&◌, ◌==◌, List, [], ◌∷◌, ◌++◌, drop, slice_get, Option, Some, None, Result, Ok, Err}
+use Rattle.std.specs.Prelude.{◌≡◌, ℕ, ◌+◌, Bool, true, false, ◌&&◌, ◌==◌, if◌then◌else◌, List, [], ◌∷◌, ◌++◌, drop, slice_get, Option, Some, None, Result, Ok, Err}
 use Rattle.std.specs.List.{flat_map}
 use Rattle.gb_ops.specs.declared.machine.Region.{Region}
 use Rattle.gb_fields.specs.declared.fault.CertFault.{CertFault}
 use Rattle.gb_fields.specs.declared.fault.CertFault.TheVariants as fault
 use Rattle.gb_fields.specs.Format.{byte}
 use Rattle.gb_domain.specs.Certificate.{Certificate}
+use Rattle.gb_domain.specs.Limits.{rules_of}
 use Rattle.gb_fields.specs.Reading.{node_number}
 use Rattle.gb_states.specs.Reading.{read_certificate}
 use Rattle.gb_states.specs.Spelling as spelled
@@ -83,5 +84,9 @@ pub record IsLaid (bytes : List ℕ) (version : ℕ) (region : Region) (procedur
   pub spells : Spells bytes c
   pub version_is : version ≡ c.version
   pub region_is : region ≡ c.region
-  pub procedures_at : AreAt (spelled.procedure c.version) bytes (flat_map spelled.node c.nodes) procedures c.procedures
-  pub nodes_at : AreAt spelled.node bytes [] nodes c.nodes
+  pub procedures_at : AreAt (spelled.procedure c.version) bytes (flat_map (spelled.node (rules_of c.version)) c.nodes) procedures c.procedures
+  pub nodes_at : AreAt (spelled.node (rules_of c.version)) bytes [] nodes c.nodes
+
+-- a version whose numbers of nodes have four bytes, by the same rules: 2 in place of 1
+unfoldable pub upgraded_version : ℕ → ℕ
+upgraded_version version = if version == 1 then 2 else version

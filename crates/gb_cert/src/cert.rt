@@ -1,12 +1,16 @@
 //! Certificates, in the bytes of their files.
 
-ghost use Rattle.std.specs.Prelude.{◌≡◌, ◌<◌, length, slice_get, Some, IfOk};
+ghost use Rattle.std.specs.Prelude.{◌≡◌, ◌<◌, ◌≤◌, ◌-◌, length, take, slice_get, Some, IfSome, IfOk};
 ghost use Rattle.std.specs.List.{flat_map};
+ghost use Rattle.gb_domain.specs.Limits.{rules_of};
+ghost use Rattle.gb_cert.specs.Places.{upgraded_version};
 ghost use Rattle.gb_states.specs.Spelling as spelled;
 ghost use Rattle.gb_states.specs.Spelling.{Spells};
 
 use crate::node::NodeRef;
 use crate::procedure::ProcedureRef;
+use crate::walk::skip_body;
+use gb_domain::types::Rules;
 use gb_fields::numbers::{from_place, node_number};
 use gb_fields::parts::front_at;
 use gb_ops::machine::Region;
@@ -60,7 +64,7 @@ impl<'a> Cert<'a> {
         }
     }
 
-    /// Its version: 1 or 2.
+    /// Its version: 1, 2 or 3.
     pub fn version(&self) -> u8
         ensures { result ≡ self.now.version }
     {
@@ -98,7 +102,8 @@ impl<'a> Cert<'a> {
         let place = self.nodes[i as usize];
         match front_at(from_place(self.bytes, place)) {
             Ok((front, state)) => {
-                NodeRef::of_parts(front.0, front.1.0, front.1.1, self.region, state)
+                let rules = Rules::of(self.version);
+                NodeRef::of_parts(rules, front.0, front.1.0, front.1.1, self.region, state)
             }
             Err(_) => unreachable!(),
         }
@@ -111,9 +116,28 @@ impl<'a> Cert<'a> {
     {
         let place = self.procedures[i as usize];
         match node_number(self.version, from_place(self.bytes, place)) {
-            Ok((entry, body)) => ProcedureRef::of_parts(entry, self.region, body),
+            Ok((entry, body)) => {
+                let rules = Rules::of(self.version);
+                ProcedureRef::of_parts(rules, i == 0, entry, self.region, body)
+            }
             Err(_) => unreachable!(),
         }
+    }
+
+    /// The bytes of a procedure behind its entry: in version 3 its base, then its need, its ranges and its exit.
+    pub fn procedure_body(&self, i: u8) -> &'a [u8]
+        requires { i < length self.now.procedures }
+        ensures { IfSome (slice_get self.now.procedures i) (λ p. result.now ≡ spelled.body (rules_of self.now.version) p) }
+    {
+        let start = self.procedures[i as usize];
+        let Ok((_entry, body)) = node_number(self.version, from_place(self.bytes, start)) else {
+            unreachable!();
+        };
+        let rules = Rules::of(self.version);
+        let Ok(behind) = skip_body(rules, i == 0, self.region, body) else {
+            unreachable!();
+        };
+        taken(body, behind)
     }
 
     /// All its bytes: its one spelling.
@@ -125,29 +149,30 @@ impl<'a> Cert<'a> {
 
     /// The bytes of all its nodes.
     pub fn node_bytes(&self) -> &'a [u8]
-        ensures { result.now ≡ flat_map spelled.node self.now.nodes }
+        ensures { result.now ≡ flat_map (spelled.node (rules_of self.now.version)) self.now.nodes }
     {
         let place = self.nodes[0];
         from_place(self.bytes, place)
     }
 
-    /// The head of the same certificate in version 2. Behind it stand, in version 2, for each
-    /// procedure its entry in four bytes and its body, and then the bytes of all nodes.
-    #[tactic(auto, unfolding(gb_states::specs::Spelling::head, gb_states::specs::Spelling::node_number, gb_states::specs::Spelling::spelling))]
+    /// The head of the same certificate, in version 2 if it is of version 1. Behind it stand for each procedure its entry in
+    /// four bytes and its body, and then the bytes of all nodes.
+    #[tactic(auto, unfolding(gb_domain::specs::Limits::rules_of, gb_states::specs::Spelling::head, gb_states::specs::Spelling::node_number, gb_states::specs::Spelling::spelling, crate::specs::Places::upgraded_version))]
     pub fn upgraded_head(&self) -> [u8; 14]
-        ensures head { result ≡ spelled.head (record self.now { version = 2 }) }
-        ensures certificate { IsCertificate (record self.now { version = 2 }) }
+        ensures head { result ≡ spelled.head (record self.now { version = upgraded_version self.now.version }) }
+        ensures certificate { IsCertificate (record self.now { version = upgraded_version self.now.version }) }
     {
         let region = self.region();
         let nodes = self.nodes();
         let low = nodes % 65536;
         let high = nodes / 65536;
+        let version = self.version();
         [
             b'G',
             b'B',
             b'B',
-            b'C',
-            2,
+            if version == 3 { b'X' } else { b'C' },
+            if version == 1 { 2 } else { version },
             (region.first % 256) as u8,
             (region.first / 256) as u8,
             (region.last % 256) as u8,
@@ -159,6 +184,14 @@ impl<'a> Cert<'a> {
             (high / 256) as u8,
         ]
     }
+}
+
+/// The bytes before those that are left.
+fn taken<'a>(bytes: &'a [u8], left: &[u8]) -> &'a [u8]
+    requires { length left.now ≤ length bytes.now }
+    ensures { result.now ≡ take (length bytes.now - length left.now) bytes.now }
+{
+    &bytes[..bytes.len() - left.len()]
 }
 
 /// The one spelling of a certificate, in its own version.

@@ -14,7 +14,9 @@ mod find;
 mod node;
 mod parse;
 mod procedure;
+mod spellable;
 mod spelled;
+mod told;
 mod walk;
 mod writer;
 

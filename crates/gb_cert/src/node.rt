@@ -1,13 +1,17 @@
 //! A node of a certificate, in the bytes of its file.
 
-ghost use Rattle.std.specs.Prelude.{◌≡◌, false, []};
+ghost use Rattle.std.specs.Prelude.{◌≡◌, ◌≤◌, false, []};
 ghost use Rattle.std.specs.List.{flat_map};
+ghost use Rattle.gb_domain.specs.Types.{state_of};
+ghost use Rattle.gb_domain.specs.RelationRules.{compared, test_alone};
 ghost use Rattle.gb_states.specs.Spelling as spelled;
+ghost use Rattle.gb_cert.specs.Borrowed.{item_width};
 
-use gb_domain::types::{Abs, Core};
+use gb_domain::types::{Abs, Core, Rules};
 use gb_fields::numbers::{counted, from_place};
 use gb_ops::machine::Region;
-use gb_states::fields::{are_none, core_in};
+use gb_states::fields::{are_none, core_in, test_in};
+use gb_states::relations::{relations_by, test_alone};
 use gb_states::role::Role;
 use gb_states::states::state_at;
 use std::marker::Model;
@@ -15,16 +19,28 @@ use std::marker::Model;
 /// The bytes of a state before its items.
 const CORE: usize = 40;
 
-/// The bytes of a word of the stack: its high and its low value, three each.
-const WORD: usize = 6;
-
 /// The bytes of a cell: its address, the low byte first, and its value.
 const CELL: usize = 5;
+
+/// The bytes of one of what items are counted in: of a word in versions 1 and 2, three for each of its bytes; of a byte in
+/// version 3.
+#[inline(always)]
+#[tactic(auto, unfolding(gb_fields::specs::Limits::unit))]
+fn item_width(rules: Rules) -> usize
+    ensures exact { result ≡ item_width rules }
+    ensures few { result ≤ 6 }
+{
+    match rules {
+        Rules::Simple => 6,
+        Rules::Extended => 3,
+    }
+}
 
 /// What a certificate claims for one address of a procedure: the bank shown there, and a state.
 /// It borrows the certificate's bytes.
 #[derive(Drop)]
 pub struct NodeRef<'a> {
+    rules: Rules,
     procedure: u8,
     address: u16,
     bank: u16,
@@ -40,9 +56,9 @@ impl<'a> Model for NodeRef<'a> {
     ghost use Rattle.gb_states.specs.Rules.{role_of};
     ghost use Rattle.gb_cert.specs.Borrowed.{state_in, StateStands};
 
-    ghost view = { λ n. record { procedure = n.procedure; address = n.address; bank = n.bank; state = state_in (role_of n.procedure) n.region n.state.now } };
+    ghost view = { λ n. record { procedure = n.procedure; address = n.address; bank = n.bank; state = state_in n.rules (role_of n.procedure) n.region n.state.now } };
 
-    ghost invariant = { λ n. StateStands (role_of n.procedure) n.region n.state.now (state_in (role_of n.procedure) n.region n.state.now) };
+    ghost invariant = { λ n. StateStands n.rules (role_of n.procedure) n.region n.state.now (state_in n.rules (role_of n.procedure) n.region n.state.now) };
 }
 
 impl<'a> NodeRef<'a> {
@@ -51,16 +67,18 @@ impl<'a> NodeRef<'a> {
 
     /// The node of these parts, its state at the front of the bytes.
     pub(crate) fn of_parts(
+        rules: Rules,
         procedure: u8,
         address: u16,
         bank: u16,
         region: Region,
         state: &'a [u8],
     ) -> NodeRef<'a>
-        requires { StateStands (role_of procedure) region state.now (state_in (role_of procedure) region state.now) }
-        ensures { result ≡ record { procedure = procedure; address = address; bank = bank; state = state_in (role_of procedure) region state.now } }
+        requires { StateStands rules (role_of procedure) region state.now (state_in rules (role_of procedure) region state.now) }
+        ensures { result ≡ record { procedure = procedure; address = address; bank = bank; state = state_in rules (role_of procedure) region state.now } }
     {
         NodeRef {
+            rules,
             procedure,
             address,
             bank,
@@ -97,12 +115,22 @@ impl<'a> NodeRef<'a> {
         core_in(self.state)
     }
 
-    /// Whether its state may hold items or cells.
+    /// What its state's flags say of A where nothing else is known of several parts together: the value that the state's
+    /// test compares with.
+    #[inline(always)]
+    pub fn test(&self) -> Option<u8>
+        ensures { result ≡ compared self.now.state.relations.byte.test }
+    {
+        test_in(self.state)
+    }
+
+    /// Whether its state may hold items or cells, or what is known of several parts together but a test of A.
     #[inline(always)]
     pub fn has_lists(&self) -> bool
-        ensures { result ≡ false → (self.now.state.items ≡ []) × (self.now.state.cells ≡ []) }
+        ensures lists { result ≡ false → (self.now.state.items ≡ []) × (self.now.state.cells ≡ []) }
+        ensures relations { result ≡ false → self.now.state.relations ≡ test_alone (compared self.now.state.relations.byte.test) }
     {
-        !are_none(from_place(self.state, CORE))
+        !are_none(self.rules, from_place(self.state, CORE))
     }
 
     /// Its state, in the place of another one. It takes no memory.
@@ -114,8 +142,17 @@ impl<'a> NodeRef<'a> {
         if self.has_lists() {
             self.read_lists(state);
         } else {
-            state.set_plain(self.core());
+            self.read_plain(state);
         }
+    }
+
+    /// The same where it holds none.
+    #[inline(always)]
+    fn read_plain(&self, state: &mut Abs)
+        ensures { state.new ≡ record (state_of self.now.state.core) { relations = test_alone (compared self.now.state.relations.byte.test) } }
+    {
+        state.set_plain(self.core());
+        state.set_relations(test_alone(self.test()));
     }
 
     /// The same where it holds some: kept out of line, so that a state is cleared and copied only then.
@@ -130,7 +167,12 @@ impl<'a> NodeRef<'a> {
     pub fn state(&self) -> Abs
         ensures { result ≡ self.now.state }
     {
-        match state_at(Role::of(self.procedure), self.region, self.state) {
+        match state_at(
+            self.rules,
+            Role::of(self.procedure),
+            self.region,
+            self.state,
+        ) {
             Ok((state, _)) => state,
             Err(_) => unreachable!(),
         }
@@ -140,14 +182,18 @@ impl<'a> NodeRef<'a> {
     pub fn items(&self) -> &'a [u8]
         ensures { result.now ≡ flat_map spelled.val self.now.state.items }
     {
-        counted(from_place(self.state, CORE), WORD).0
+        counted(from_place(self.state, CORE), item_width(self.rules)).0
     }
 
     /// The bytes of its state's memory cells, five each, in order of address.
     pub fn cells(&self) -> &'a [u8]
         ensures { result.now ≡ flat_map spelled.cell self.now.state.cells }
     {
-        let (_, cells) = counted(from_place(self.state, CORE), WORD);
-        counted(cells, CELL).0
+        let test = self.test();
+        let (_, told) = counted(from_place(self.state, CORE), item_width(self.rules));
+        match relations_by(self.rules, self.region, test, told) {
+            Ok((_relations, cells)) => counted(cells, CELL).0,
+            Err(_) => unreachable!(),
+        }
     }
 }

@@ -1,7 +1,8 @@
 //! Certificates from their bytes.
 
-ghost use Rattle.std.specs.Prelude.{◌≡◌, ◌≤◌, ℕ, List, IfOk, Ok};
+ghost use Rattle.std.specs.Prelude.{◌≡◌, ◌≤◌, ◌<◌, ℕ, List, IfOk, Ok};
 ghost use Rattle.gb_domain.specs.Certificate.{Certificate};
+ghost use Rattle.gb_domain.specs.Limits.{rules_of};
 ghost use Rattle.gb_fields.specs.Format.{GivesUnlessMemory};
 ghost use Rattle.gb_fields.specs.Limits.{node_limit};
 ghost use Rattle.gb_cert.specs.Places.{IsLeft, ArePlaced, FindsUnlessMemory, has_entry_at, have_entries_at};
@@ -11,6 +12,7 @@ ghost use Rattle.gb_states.specs.Spelling.{Spells};
 
 use crate::cert::Cert;
 use crate::walk::{skip_node, skip_procedure};
+use gb_domain::types::Rules;
 use gb_fields::CertFault;
 use gb_fields::head::{Head, head_at};
 use gb_fields::numbers::{byte, from_place, node_number};
@@ -28,6 +30,7 @@ fn place_procedures<'a>(
     start: &'a [u8],
 ) -> Result<(Vec<usize>, &'a [u8]), CertFault>
     requires few { head.nodes ≤ node_limit head.version }
+    requires last { head.region.last < 65535 }
     requires left { IsLeft bytes.now start.now }
     ensures { FindsUnlessMemory (λ x. ArePlaced (spelled.procedure head.version) bytes.now (procedures_at head.version head.region head.nodes head.procedures start.now) x.0.items x.1.now) result (procedures_at head.version head.region head.nodes head.procedures start.now) }
 {
@@ -52,15 +55,16 @@ fn place_nodes<'a>(
     start: &'a [u8],
 ) -> Result<(Vec<usize>, &'a [u8]), CertFault>
     requires { IsLeft bytes.now start.now }
-    ensures { FindsUnlessMemory (λ x. ArePlaced spelled.node bytes.now (nodes_at head.region head.procedures head.nodes start.now) x.0.items x.1.now) result (nodes_at head.region head.procedures head.nodes start.now) }
+    ensures { FindsUnlessMemory (λ x. ArePlaced (spelled.node (rules_of head.version)) bytes.now (nodes_at (rules_of head.version) head.region head.procedures head.nodes start.now) x.0.items x.1.now) result (nodes_at (rules_of head.version) head.region head.procedures head.nodes start.now) }
 {
     // No more room than the bytes can have nodes.
     let room = (head.nodes as usize).min(start.len() / LEAST_NODE);
     let mut places = Vec::with_capacity(alloc, room)?;
+    let rules = Rules::of(head.version);
     let mut before = (0, 0);
     let mut rest = start;
     for _ in 0..head.nodes {
-        let (key, after) = skip_node(head.region, head.procedures, before, rest)?;
+        let (key, after) = skip_node(rules, head.region, head.procedures, before, rest)?;
         places.push(bytes.len() - rest.len())?;
         before = key;
         rest = after;

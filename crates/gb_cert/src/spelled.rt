@@ -2,9 +2,11 @@
 
 ghost use Rattle.std.specs.Prelude.{◌≡◌, ◌≤◌, ◌++◌, length, OnOk};
 ghost use Rattle.std.specs.List.{flat_map};
+ghost use Rattle.gb_cert.specs.Written.{units};
 ghost use Rattle.gb_states.specs.Spelling as spelled;
 
-use gb_domain::types::{Abs, Cell, Core, Ctl, Flg, ImeSet, May, Origin, Val};
+use crate::told::{compared, put_relations_by};
+use gb_domain::types::{Abs, Cell, Core, Ctl, Flg, ImeSet, May, Origin, Rules, Val};
 use gb_ops::op::Register;
 use gb_ops::registers::Registers;
 use std::alloc::AllocError;
@@ -40,6 +42,8 @@ fn origin_number(origin: Option<Origin>) -> u8
         Some(Origin::Register(Register::H)) => 7,
         Some(Origin::Register(Register::L)) => 8,
         Some(Origin::Ie) => 9,
+        Some(Origin::ReturnHigh) => 10,
+        Some(Origin::ReturnLow) => 11,
     }
 }
 
@@ -53,7 +57,7 @@ fn val(val: Val) -> [u8; 3]
 
 /// 1 for yes, 0 for no.
 #[inline(always)]
-fn flag(is_set: bool) -> u8
+pub(crate) fn flag(is_set: bool) -> u8
     ensures value { result ≡ spelled.flag is_set }
     ensures bit { result ≤ 1 }
 {
@@ -140,28 +144,40 @@ fn put_vals(registers: &Registers<Val>, out: &mut Vec<u8>) -> Result<(), AllocEr
     put(&val(registers.l), out)
 }
 
-/// Adds a core.
+/// Adds a core, and the test that stands in it.
 #[tactic(auto, unfolding(gb_states::specs::Spelling::core))]
-fn put_core(core: &Core, out: &mut Vec<u8>) -> Result<(), AllocError>
-    ensures { OnOk result (out.new.items ≡ out.old.items ++ spelled.core core.now) }
+fn put_core(core: &Core, tested: Option<u8>, out: &mut Vec<u8>) -> Result<(), AllocError>
+    ensures { OnOk result (out.new.items ≡ out.old.items ++ spelled.core core.now tested) }
 {
     put(
         &[ime_number(core.ime), core.bound, flag(core.stack_set)],
         out,
     )?;
-    put(&test(core.test), out)?;
+    put(&test(tested), out)?;
     put_ctl(&core.ctl, out)?;
     put(&flg(&core.flags), out)?;
     put(&val(core.ie), out)?;
     put_vals(&core.registers, out)
 }
 
-/// Adds bytes of the stack behind the number of words that they are.
-fn put_items(items: &[Val], out: &mut Vec<u8>) -> Result<(), AllocError>
-    requires { length items.now ≤ 32 }
-    ensures { OnOk result (out.new.items ≡ out.old.items ++ spelled.items items.now) }
+/// How many words, or in version 3 bytes, so many bytes are.
+#[tactic(auto, unfolding(gb_fields::specs::Limits::unit))]
+pub(crate) fn units(rules: Rules, bytes: u16) -> u16
+    ensures exact { result ≡ units rules bytes }
+    ensures few { result ≤ bytes }
 {
-    put(&[(items.len() / 2) as u8], out)?;
+    match rules {
+        Rules::Simple => bytes / 2,
+        Rules::Extended => bytes,
+    }
+}
+
+/// Adds bytes of the stack behind the number of words, or in version 3 of bytes, that they are.
+fn put_items(rules: Rules, items: &[Val], out: &mut Vec<u8>) -> Result<(), AllocError>
+    requires { length items.now ≤ 255 }
+    ensures { OnOk result (out.new.items ≡ out.old.items ++ spelled.items rules items.now) }
+{
+    put(&[units(rules, items.len() as u16) as u8], out)?;
     for item in items {
         put(&val(*item), out)?;
     }
@@ -179,7 +195,7 @@ fn put_cell(cell: &Cell, out: &mut Vec<u8>) -> Result<(), AllocError>
 
 /// Adds cells behind their count.
 fn put_cells(cells: &[Cell], out: &mut Vec<u8>) -> Result<(), AllocError>
-    requires { length cells.now ≤ 32 }
+    requires { length cells.now ≤ 64 }
     ensures { OnOk result (out.new.items ≡ out.old.items ++ spelled.counted spelled.cell cells.now) }
 {
     put(&[cells.len() as u8], out)?;
@@ -189,12 +205,14 @@ fn put_cells(cells: &[Cell], out: &mut Vec<u8>) -> Result<(), AllocError>
     Ok(())
 }
 
-/// Adds a state: its core, its items and its cells.
+/// Adds a state: its core with its test, its items, in version 3 what is known of several parts together, and its cells.
 #[tactic(auto, unfolding(gb_states::specs::Spelling::state))]
-pub(crate) fn put_state(state: &Abs, out: &mut Vec<u8>) -> Result<(), AllocError>
-    ensures { OnOk result (out.new.items ≡ out.old.items ++ spelled.state state.now) }
+pub(crate) fn put_state(rules: Rules, state: &Abs, out: &mut Vec<u8>) -> Result<(), AllocError>
+    ensures { OnOk result (out.new.items ≡ out.old.items ++ spelled.state rules state.now) }
 {
-    put_core(state.core(), out)?;
-    put_items(state.items(), out)?;
+    let relations = state.relations();
+    put_core(state.core(), compared(relations.byte.test), out)?;
+    put_items(rules, state.items(), out)?;
+    put_relations_by(rules, relations, out)?;
     put_cells(state.cells(), out)
 }

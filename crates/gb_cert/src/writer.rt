@@ -1,29 +1,28 @@
 //! Certificates written from plain values.
 
-ghost use Rattle.std.specs.Prelude.{◌≡◌, ◌≤◌, ◌<◌, ◌++◌, ◌||◌, true, false, length, map, OnOk, IfOk, IfErr};
+ghost use Rattle.std.specs.Prelude.{◌≡◌, ◌≤◌, ◌<◌, ◌++◌, true, false, length, map, OnOk, IfOk, IfErr};
 ghost use Rattle.std.specs.List.{flat_map, list_any};
 ghost use Rattle.gb_fields.specs.Limits.{node_limit};
 ghost use Rattle.gb_states.specs.Rules.{IsCertificate};
 ghost use Rattle.gb_states.specs.Spelling as spelled;
 ghost use Rattle.gb_states.specs.Spelling.{Spells};
 ghost use Rattle.gb_cert.specs.declared.writer.WriteFault.TheVariants.{Memory};
-ghost use Rattle.gb_cert.specs.Written.{number_of, exit_of, procedure_of, node_of, certificate_of, has_half_word, is_half_procedure, is_half_node, have_half_words, is_wide, is_deep, has_no_entry, head_of, IsProcedureFault, IsWriteFault, KeepsLimits};
+ghost use Rattle.gb_cert.specs.Written.{number_of, rules_in, exit_of, procedure_of, node_of, certificate_of, is_wide, is_deep, has_no_entry, head_of, IsProcedureFault, IsWriteFault, KeepsLimits};
 
-use crate::spelled::{put, put_state, word};
-use gb_domain::types::{Abs, Range};
+use crate::spellable::check;
+use crate::spelled::{put, put_state, units, word};
+use gb_domain::types::{Abs, Range, Rules};
 use gb_fields::limits;
-use gb_fields::limits::{PROCEDURE_LIMIT, RANGE_LIMIT, WORD_LIMIT};
+use gb_fields::limits::{NEED_LIMIT, PROCEDURE_LIMIT, RANGE_LIMIT};
 use gb_ops::machine::Region;
 use std::alloc::{AllocError, AllocFailed, Global};
-
-/// The most bytes of stack that a procedure needs.
-const MOST_NEED: u16 = 2 * WORD_LIMIT;
 
 /// The version of a certificate's format.
 #[derive(Clone, Copy, Debug, PartialEq, Eq)]
 pub enum Version {
     One,
     Two,
+    Three,
 }
 
 /// A procedure of a certificate that is to be written.
@@ -31,7 +30,9 @@ pub enum Version {
 pub struct ProcedurePlan<'a> {
     /// The number of its first node.
     pub entry: u32,
-    /// The bytes of stack that it needs, in whole words.
+    /// The address above its items, 0 where it isn't known. In versions 1 and 2 main's is the region's end, and others are 0.
+    pub base: u16,
+    /// The bytes of stack that it needs, in whole words but in version 3.
     pub need: u16,
     /// Where it may write.
     pub ranges: &'a [Range],
@@ -58,8 +59,18 @@ pub enum WriteFault {
     Procedures,
     /// There are more nodes than the version takes: 65,535, or 1,048,576.
     Nodes,
-    /// A procedure's need, or a state's bytes of the stack, are odd in number: they are spelled as words.
+    /// A procedure's need, or a state's bytes of the stack, are odd in number: they are spelled as words in versions 1 and 2.
     HalfWord,
+    /// A state has more than 16 words of the stack, in version 1 or 2.
+    Items,
+    /// A state has more than 32 cells, in version 1 or 2.
+    Cells,
+    /// A state knows more of several parts together than a test of A, in version 1 or 2.
+    Relations,
+    /// A value is a copy of the return word's high or low byte, in version 1 or 2.
+    Origins,
+    /// A procedure has another base than the one that versions 1 and 2 mean.
+    Base,
     /// A procedure has more than 8 ranges.
     Ranges,
     /// A procedure needs more than 8,192 bytes of stack.
@@ -69,14 +80,22 @@ pub enum WriteFault {
 }
 
 impl Version {
-    /// Its number: 1 or 2.
+    /// Its number: 1, 2 or 3.
     pub fn number(self) -> u8
         ensures { result ≡ number_of self }
     {
         match self {
             Version::One => 1,
             Version::Two => 2,
+            Version::Three => 3,
         }
+    }
+
+    /// The rules of its states.
+    pub fn rules(self) -> Rules
+        ensures { result ≡ rules_in self }
+    {
+        Rules::of(self.number())
     }
 
     /// The most nodes that it takes.
@@ -111,10 +130,20 @@ fn put_node_number(version: Version, number: u32, out: &mut Vec<u8>) -> Result<(
 {
     match version {
         Version::One => put(&word(number as u16), out),
-        Version::Two => {
+        Version::Two | Version::Three => {
             put(&word((number % 65536) as u16), out)?;
             put(&word((number / 65536) as u16), out)
         }
+    }
+}
+
+/// The last of a file's letters.
+fn letter(rules: Rules) -> u8
+    ensures { result ≡ spelled.letter rules }
+{
+    match rules {
+        Rules::Simple => b'C',
+        Rules::Extended => b'X',
     }
 }
 
@@ -130,7 +159,7 @@ fn put_head(
     requires { nodes ≤ node_limit (number_of version) }
     ensures { OnOk result (out.new.items ≡ out.old.items ++ head_of version region procedures nodes) }
 {
-    put(b"GBBC", out)?;
+    put(&[b'G', b'B', b'B', letter(version.rules())], out)?;
     put(&[version.number()], out)?;
     put(&word(region.first), out)?;
     put(&word(region.last), out)?;
@@ -161,27 +190,42 @@ fn put_ranges(ranges: &[Range], out: &mut Vec<u8>) -> Result<(), AllocError>
 
 /// Adds whether a procedure returns, and in what state.
 #[tactic(auto, unfolding(gb_states::specs::Spelling::exit))]
-fn put_exit(exit: Option<&Abs>, out: &mut Vec<u8>) -> Result<(), AllocError>
-    ensures { OnOk result (out.new.items ≡ out.old.items ++ spelled.exit (exit_of exit.entry)) }
+fn put_exit(rules: Rules, exit: Option<&Abs>, out: &mut Vec<u8>) -> Result<(), AllocError>
+    ensures { OnOk result (out.new.items ≡ out.old.items ++ spelled.exit rules (exit_of exit.entry)) }
 {
     match exit {
         None => put(&[0], out),
         Some(state) => {
             put(&[1], out)?;
-            put_state(state, out)
+            put_state(rules, state, out)
         }
+    }
+}
+
+/// Adds a base, in version 3.
+fn put_base(rules: Rules, base: u16, out: &mut Vec<u8>) -> Result<(), AllocError>
+    ensures { OnOk result (out.new.items ≡ out.old.items ++ spelled.base rules base) }
+{
+    match rules {
+        Rules::Simple => Ok(()),
+        Rules::Extended => put(&word(base), out),
     }
 }
 
 /// Adds all of a procedure but its entry.
 #[tactic(auto, unfolding(gb_states::specs::Spelling::body))]
-fn put_body(procedure: &ProcedurePlan<'_>, out: &mut Vec<u8>) -> Result<(), AllocError>
+fn put_body(
+    rules: Rules,
+    procedure: &ProcedurePlan<'_>,
+    out: &mut Vec<u8>,
+) -> Result<(), AllocError>
     requires { length procedure.now.ranges.now ≤ 8 }
-    ensures { OnOk result (out.new.items ≡ out.old.items ++ spelled.body (procedure_of procedure.now)) }
+    ensures { OnOk result (out.new.items ≡ out.old.items ++ spelled.body rules (procedure_of procedure.now)) }
 {
-    put(&word(procedure.need / 2), out)?;
+    put_base(rules, procedure.base, out)?;
+    put(&word(units(rules, procedure.need)), out)?;
     put_ranges(procedure.ranges, out)?;
-    put_exit(procedure.exit, out)
+    put_exit(rules, procedure.exit, out)
 }
 
 /// Adds a procedure.
@@ -196,78 +240,28 @@ fn put_procedure(
     ensures { OnOk result (out.new.items ≡ out.old.items ++ spelled.procedure (number_of version) (procedure_of procedure.now)) }
 {
     put_node_number(version, procedure.entry, out)?;
-    put_body(procedure, out)
+    put_body(version.rules(), procedure, out)
 }
 
 /// Adds a node.
 #[tactic(auto, unfolding(gb_states::specs::Spelling::node))]
-fn put_node(node: &NodePlan<'_>, out: &mut Vec<u8>) -> Result<(), AllocError>
-    ensures { OnOk result (out.new.items ≡ out.old.items ++ spelled.node (node_of node.now)) }
+fn put_node(rules: Rules, node: &NodePlan<'_>, out: &mut Vec<u8>) -> Result<(), AllocError>
+    ensures { OnOk result (out.new.items ≡ out.old.items ++ spelled.node rules (node_of node.now)) }
 {
     put(&[node.procedure], out)?;
     put(&word(node.address), out)?;
     put(&word(node.bank), out)?;
-    put_state(node.state, out)
+    put_state(rules, node.state, out)
 }
 
 /// Adds all nodes.
-fn put_nodes(nodes: &[NodePlan<'_>], out: &mut Vec<u8>) -> Result<(), AllocError>
-    ensures { OnOk result (out.new.items ≡ out.old.items ++ flat_map (λ n. spelled.node (node_of n)) nodes.now) }
+fn put_nodes(rules: Rules, nodes: &[NodePlan<'_>], out: &mut Vec<u8>) -> Result<(), AllocError>
+    ensures { OnOk result (out.new.items ≡ out.old.items ++ flat_map (λ n. spelled.node rules (node_of n)) nodes.now) }
 {
     for node in nodes {
-        put_node(node, out)?;
+        put_node(rules, node, out)?;
     }
     Ok(())
-}
-
-/// Whether the exit's state has an odd number of bytes of the stack.
-fn has_half_word(exit: Option<&Abs>) -> bool
-    ensures { result ≡ has_half_word (exit_of exit.entry) }
-{
-    match exit {
-        None => false,
-        Some(state) => state.items().len() % 2 == 1,
-    }
-}
-
-fn is_half_procedure(procedure: &ProcedurePlan<'_>) -> bool
-    ensures { result ≡ is_half_procedure procedure.now }
-{
-    procedure.need % 2 == 1 || has_half_word(procedure.exit)
-}
-
-fn is_half_node(node: &NodePlan<'_>) -> bool
-    ensures { result ≡ is_half_node node.now }
-{
-    node.state.items().len() % 2 == 1
-}
-
-fn is_one_half_procedure(procedures: &[ProcedurePlan<'_>]) -> bool
-    ensures { result ≡ list_any is_half_procedure procedures.now }
-{
-    for procedure in procedures {
-        if is_half_procedure(procedure) {
-            return true;
-        }
-    }
-    false
-}
-
-fn is_one_half_node(nodes: &[NodePlan<'_>]) -> bool
-    ensures { result ≡ list_any is_half_node nodes.now }
-{
-    for node in nodes {
-        if is_half_node(node) {
-            return true;
-        }
-    }
-    false
-}
-
-fn have_half_words(procedures: &[ProcedurePlan<'_>], nodes: &[NodePlan<'_>]) -> bool
-    ensures { result ≡ have_half_words procedures.now nodes.now }
-{
-    is_one_half_procedure(procedures) || is_one_half_node(nodes)
 }
 
 /// Adds all procedures, where they keep their limits.
@@ -288,7 +282,7 @@ fn put_procedures(
         if procedure.ranges.len() > RANGE_LIMIT as usize {
             return Err(WriteFault::Ranges);
         }
-        if procedure.need > MOST_NEED {
+        if procedure.need > NEED_LIMIT {
             return Err(WriteFault::Need);
         }
         if procedure.entry >= nodes {
@@ -319,7 +313,7 @@ fn put_certificate(
     let count = nodes.len() as u32;
     put_head(version, region, procedures.len() as u8, count, out)?;
     put_procedures(version, count, procedures, out)?;
-    put_nodes(nodes, out)?;
+    put_nodes(version.rules(), nodes, out)?;
     Ok(())
 }
 
@@ -341,9 +335,9 @@ pub fn write_certificate(
     // They are a certificate where the parts are one.
     ensures spells { IsCertificate (certificate_of version region procedures.now nodes.now) → IfOk result (λ bytes. Spells bytes.items (certificate_of version region procedures.now nodes.now)) }
     // Bytes only where each limit is kept.
-    ensures limits { OnOk result (KeepsLimits version procedures.now nodes.now) }
+    ensures limits { OnOk result (KeepsLimits version region procedures.now nodes.now) }
     // A limit is named only where it is not kept.
-    ensures fault { IfErr result (IsWriteFault version procedures.now nodes.now) }
+    ensures fault { IfErr result (IsWriteFault version region procedures.now nodes.now) }
     // Where the parts are a certificate only memory may be wanting.
     ensures complete { IsCertificate (certificate_of version region procedures.now nodes.now) → IfErr result (λ fault. fault ≡ Memory) }
 {
@@ -353,9 +347,7 @@ pub fn write_certificate(
     if nodes.len() > version.node_limit() as usize {
         return Err(WriteFault::Nodes);
     }
-    if have_half_words(procedures, nodes) {
-        return Err(WriteFault::HalfWord);
-    }
+    check(version, region, procedures, nodes)?;
     let mut bytes = Vec::new(alloc);
     put_certificate(version, region, procedures, nodes, &mut bytes)?;
     Ok(bytes)

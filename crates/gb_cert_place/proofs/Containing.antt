@@ -1,5 +1,5 @@
 -- The field on which a block's fault falls contains the byte.
-use Rattle.std.proofs.Common.{◌≡◌, ℕ, ◌+◌, ◌-◌, ◌==◌, ◌⊎◌, inl, inr, ◌≤◌, ◌<◌, Bool, true, false, nat_lt, List, [], ◌∷◌, ◌++◌, length, take, slice_index_or, Err, refl, sym, ◌∙◌, ap, subst, append_assoc, arith}
+use Rattle.std.proofs.Common.{◌≡◌, ℕ, ◌+◌, ◌-◌, ◌==◌, ◌⊎◌, inl, inr, ◌≤◌, ◌<◌, Bool, true, false, nat_lt, List, [], ◌∷◌, ◌++◌, length, take, slice_index_or, Option, Err, refl, sym, ◌∙◌, ap, subst, append_assoc, arith}
 use Rattle.std.proofs.lemmas.List.{take_all, length-take-le, get_or-take}
 use Rattle.std.proofs.lemmas.Bool.{cases_lt}
 use Rattle.std.proofs.lemmas.Bool.Decides.{nat_tests}
@@ -8,7 +8,9 @@ use Rattle.gb_fields.specs.declared.fault.CertFault.{CertFault}
 use Rattle.gb_fields.specs.declared.fault.CertFault.TheVariants as fault
 use Rattle.gb_states.specs.declared.role.Role.{Role}
 use Rattle.gb_fields.specs.declared.head.Head.{Head}
-use Rattle.gb_fields.specs.Limits.{range_limit, cell_limit}
+use Rattle.gb_domain.specs.declared.rules.Rules.{Rules}
+use Rattle.gb_domain.specs.Limits.{cell_room}
+use Rattle.gb_fields.specs.Limits.{range_room}
 use Rattle.gb_fields.specs.Format.{Read, mapped}
 use Rattle.gb_fields.specs.Reading.{head_at}
 use Rattle.gb_cert_place.specs.declared.block.Block.{Block}
@@ -19,12 +21,12 @@ use Rattle.gb_cert_place.specs.declared.field.Field.{Field}
 use Rattle.gb_cert_place.specs.declared.field.Field.TheVariants as field
 use Rattle.gb_cert_place.specs.Blocks.{read_block, forget}
 use Rattle.gb_cert_place.specs.Layout.{Layout, number_width, number_width_by, layout, width_of, Contains, choose, lookup, field_at}
-use Rattle.gb_cert_place.specs.Standing.{AmongItems, AtItem, InItems, AtItemCount, BehindItemCount, AmongCells, AtCell, InCells, AtCellCount, BehindCellCount, InState, AtCore, BehindCore, BehindItems, AmongRanges, AtRange, InRanges, AtRangeCount, BehindRangeCount, InExit, AtReturns, BehindReturns, InProcedure, AtEntry, AtNeed, BehindNeed, BehindRanges, InProcedures, AtProcedure, InNode, AtKey, AtBank, BehindBank, InNodes, AtNode, InCertificate, AtHead, BehindHead, BehindProcedures}
+use Rattle.gb_cert_place.specs.Standing.{AmongItems, AtItem, InItems, AtItemCount, BehindItemCount, InTold, AtTold, AmongCells, AtCell, InCells, AtCellCount, BehindCellCount, InLists, FirstTold, BehindTold, InState, AtCore, BehindCore, BehindItems, AmongRanges, AtRange, InRanges, AtRangeCount, BehindRangeCount, InExit, AtReturns, BehindReturns, InBase, AtBase, InNeeded, AtNeed, BehindNeed, BehindRanges, InBody, FirstBase, BehindBase, InProcedure, AtEntry, BehindEntry, InProcedures, AtProcedure, InNode, AtKey, AtBank, BehindBank, InNodes, AtNode, InCertificate, AtHead, BehindHead, BehindProcedures}
 use Rattle.gb_cert_place.specs.Stops.{StopsAt, StopsIn, is_missing}
 use Rattle.gb_cert_place.specs.Places.{byte_by, fault_byte, FallsIn}
 use Rattle.gb_cert_place.proofs.Locality.{failed}
 use Rattle.gb_cert_place.proofs.Stopping.{is_cut_short}
-use Rattle.gb_cert_place.proofs.Widths.{IsWithin, cut_mapped, IsWithin-mapped, IsWithin-word_between, IsWithin-count_within, IsWithin-core, IsWithin-item_count, IsWithin-val, IsWithin-cell, IsWithin-range, IsWithin-returns, IsWithin-entry, IsWithin-need, IsWithin-key, head_within}
+use Rattle.gb_cert_place.proofs.Widths.{IsWithin, cut_mapped, IsWithin-mapped, IsWithin-word_between, IsWithin-count_within, IsWithin-core, IsWithin-item_count, IsWithin-val, IsWithin-relations, IsWithin-base, IsWithin-cell, IsWithin-range, IsWithin-returns, IsWithin-entry, IsWithin-need, IsWithin-key, head_within}
 
 -- ---- looking up
 
@@ -96,15 +98,17 @@ block_decides : (b : Block) (bytes : List ℕ) → IsRight b bytes → Decides (
 unfolding read_block layout
 block_decides (block.Head version) bytes right = λ j le few h. head_decides version bytes right j le few h
 block_decides (block.Entry version nodes) bytes right = within_decides _ (number_width version + 0) (subst (λ n. IsWithin (read_block (block.Entry version nodes)) n) (omega arith) (IsWithin-mapped forget _ _ (IsWithin-entry version nodes))) bytes
-block_decides (block.Need is_main region) bytes right = within_decides _ 2 (IsWithin-mapped forget _ 2 (IsWithin-need is_main region)) bytes
-block_decides block.RangeCount bytes right = within_decides _ 1 (IsWithin-mapped forget _ 1 (IsWithin-count_within range_limit)) bytes
+block_decides (block.Base is_main region) bytes right = within_decides _ 2 (IsWithin-mapped forget _ 2 (IsWithin-base is_main region)) bytes
+block_decides (block.Need rules is_main region) bytes right = within_decides _ 2 (IsWithin-mapped forget _ 2 (IsWithin-need rules is_main region)) bytes
+block_decides (block.RangeCount rules is_main) bytes right = within_decides _ 1 (IsWithin-mapped forget _ 1 (IsWithin-count_within (range_room rules is_main))) bytes
 block_decides (block.Range index region least) bytes right = within_decides _ 4 (IsWithin-mapped forget _ 4 (IsWithin-range region least)) bytes
 block_decides (block.Returns is_main) bytes right = within_decides _ 1 (IsWithin-mapped forget _ 1 (IsWithin-returns is_main)) bytes
-block_decides (block.Core role) bytes right = within_decides _ 40 (IsWithin-mapped forget _ 40 (IsWithin-core role)) bytes
-block_decides (block.ItemCount role stack_set) bytes right = within_decides _ 1 (IsWithin-mapped forget _ 1 (IsWithin-item_count role stack_set)) bytes
-block_decides (block.Item index) bytes right = within_decides _ 3 (IsWithin-mapped forget _ 3 IsWithin-val) bytes
-block_decides block.CellCount bytes right = within_decides _ 1 (IsWithin-mapped forget _ 1 (IsWithin-count_within cell_limit)) bytes
-block_decides (block.Cell index region least) bytes right = within_decides _ 5 (IsWithin-mapped forget _ 5 (IsWithin-cell region least)) bytes
+block_decides (block.Core rules role) bytes right = within_decides _ 40 (IsWithin-mapped forget _ 40 (IsWithin-core rules role)) bytes
+block_decides (block.ItemCount rules role stack_set) bytes right = within_decides _ 1 (IsWithin-mapped forget _ 1 (IsWithin-item_count rules role stack_set)) bytes
+block_decides (block.Item rules index) bytes right = within_decides _ 3 (IsWithin-mapped forget _ 3 (IsWithin-val rules)) bytes
+block_decides (block.Told region test) bytes right = within_decides _ 30 (IsWithin-mapped forget _ 30 (IsWithin-relations region test)) bytes
+block_decides (block.CellCount rules) bytes right = within_decides _ 1 (IsWithin-mapped forget _ 1 (IsWithin-count_within (cell_room rules))) bytes
+block_decides (block.Cell rules index region least) bytes right = within_decides _ 5 (IsWithin-mapped forget _ 5 (IsWithin-cell rules region least)) bytes
 block_decides (block.Key procedures before) bytes right = within_decides _ 3 (IsWithin-mapped forget _ 3 (IsWithin-key procedures before)) bytes
 block_decides block.Bank bytes right = within_decides _ 2 (IsWithin-mapped forget _ 2 (IsWithin-word_between 0 511)) bytes
 
@@ -116,65 +120,84 @@ some_width (block.Entry version nodes) = by (version == 1)
     by : (b : Bool) → 0 < number_width_by b + 0
     by true = omega arith
     by false = omega arith
-some_width (block.Need is_main region) = omega arith
-some_width block.RangeCount = omega arith
+some_width (block.Base is_main region) = omega arith
+some_width (block.Need rules is_main region) = omega arith
+some_width (block.RangeCount rules is_main) = omega arith
 some_width (block.Range index region least) = omega arith
 some_width (block.Returns is_main) = omega arith
-some_width (block.Core role) = omega arith
-some_width (block.ItemCount role stack_set) = omega arith
-some_width (block.Item index) = omega arith
-some_width block.CellCount = omega arith
-some_width (block.Cell index region least) = omega arith
+some_width (block.Core rules role) = omega arith
+some_width (block.ItemCount rules role stack_set) = omega arith
+some_width (block.Item rules index) = omega arith
+some_width (block.Told region test) = omega arith
+some_width (block.CellCount rules) = omega arith
+some_width (block.Cell rules index region least) = omega arith
 some_width (block.Key procedures before) = omega arith
 some_width block.Bank = omega arith
 
 -- ---- a head stands at the front alone
 
-among_items_right : {count : ℕ} {bytes rest : List ℕ} {b : Block} → AmongItems count bytes b rest → IsRight b rest
+among_items_right : {rules : Rules} {count : ℕ} {bytes rest : List ℕ} {b : Block} → AmongItems rules count bytes b rest → IsRight b rest
 among_items_right (AtItem lt p) = tt
 
-in_items_right : {role : Role} {stack_set : Bool} {bytes rest : List ℕ} {b : Block} → InItems role stack_set bytes b rest → IsRight b rest
+in_items_right : {rules : Rules} {role : Role} {stack_set : Bool} {bytes rest : List ℕ} {b : Block} → InItems rules role stack_set bytes b rest → IsRight b rest
 in_items_right AtItemCount = tt
 in_items_right (BehindItemCount e a) = among_items_right a
 
-among_cells_right : {region : Region} {count : ℕ} {bytes rest : List ℕ} {b : Block} → AmongCells region count bytes b rest → IsRight b rest
+in_told_right : {rules : Rules} {region : Region} {test : Option ℕ} {bytes rest : List ℕ} {b : Block} → InTold rules region test bytes b rest → IsRight b rest
+in_told_right (AtTold e) = tt
+
+among_cells_right : {rules : Rules} {region : Region} {count : ℕ} {bytes rest : List ℕ} {b : Block} → AmongCells rules region count bytes b rest → IsRight b rest
 among_cells_right (AtCell lt p) = tt
 
-in_cells_right : {region : Region} {bytes rest : List ℕ} {b : Block} → InCells region bytes b rest → IsRight b rest
+in_cells_right : {rules : Rules} {region : Region} {bytes rest : List ℕ} {b : Block} → InCells rules region bytes b rest → IsRight b rest
 in_cells_right AtCellCount = tt
 in_cells_right (BehindCellCount e a) = among_cells_right a
 
-in_state_right : {role : Role} {region : Region} {bytes rest : List ℕ} {b : Block} → InState role region bytes b rest → IsRight b rest
+in_lists_right : {rules : Rules} {region : Region} {test : Option ℕ} {bytes rest : List ℕ} {b : Block} → InLists rules region test bytes b rest → IsRight b rest
+in_lists_right (FirstTold a) = in_told_right a
+in_lists_right (BehindTold e a) = in_cells_right a
+
+in_state_right : {rules : Rules} {role : Role} {region : Region} {bytes rest : List ℕ} {b : Block} → InState rules role region bytes b rest → IsRight b rest
 in_state_right AtCore = tt
 in_state_right (BehindCore e a) = in_items_right a
-in_state_right (BehindItems e f a) = in_cells_right a
+in_state_right (BehindItems e f a) = in_lists_right a
 
 among_ranges_right : {region : Region} {count : ℕ} {bytes rest : List ℕ} {b : Block} → AmongRanges region count bytes b rest → IsRight b rest
 among_ranges_right (AtRange lt p) = tt
 
-in_ranges_right : {region : Region} {bytes rest : List ℕ} {b : Block} → InRanges region bytes b rest → IsRight b rest
+in_ranges_right : {rules : Rules} {is_main : Bool} {region : Region} {bytes rest : List ℕ} {b : Block} → InRanges rules is_main region bytes b rest → IsRight b rest
 in_ranges_right AtRangeCount = tt
 in_ranges_right (BehindRangeCount e a) = among_ranges_right a
 
-in_exit_right : {number : ℕ} {region : Region} {is_main : Bool} {bytes rest : List ℕ} {p : Part} {b : Block} → InExit number region is_main bytes p b rest → IsRight b rest
+in_exit_right : {number : ℕ} {rules : Rules} {is_main : Bool} {region : Region} {bytes rest : List ℕ} {p : Part} {b : Block} → InExit number rules is_main region bytes p b rest → IsRight b rest
 in_exit_right AtReturns = tt
 in_exit_right (BehindReturns e a) = in_state_right a
 
+in_base_right : {rules : Rules} {is_main : Bool} {region : Region} {bytes rest : List ℕ} {b : Block} → InBase rules is_main region bytes b rest → IsRight b rest
+in_base_right (AtBase e) = tt
+
+in_needed_right : {number : ℕ} {rules : Rules} {is_main : Bool} {region : Region} {bytes rest : List ℕ} {p : Part} {b : Block} → InNeeded number rules is_main region bytes p b rest → IsRight b rest
+in_needed_right AtNeed = tt
+in_needed_right (BehindNeed e a) = in_ranges_right a
+in_needed_right (BehindRanges e f a) = in_exit_right a
+
+in_body_right : {number : ℕ} {rules : Rules} {is_main : Bool} {region : Region} {bytes rest : List ℕ} {p : Part} {b : Block} → InBody number rules is_main region bytes p b rest → IsRight b rest
+in_body_right (FirstBase a) = in_base_right a
+in_body_right (BehindBase e a) = in_needed_right a
+
 in_procedure_right : {number version nodes : ℕ} {region : Region} {is_main : Bool} {bytes rest : List ℕ} {p : Part} {b : Block} → InProcedure number version region nodes is_main bytes p b rest → IsRight b rest
 in_procedure_right AtEntry = tt
-in_procedure_right (AtNeed e) = tt
-in_procedure_right (BehindNeed e f a) = in_ranges_right a
-in_procedure_right (BehindRanges e f g a) = in_exit_right a
+in_procedure_right (BehindEntry e a) = in_body_right a
 
 in_procedures_right : {h : Head} {bytes rest : List ℕ} {p : Part} {b : Block} → InProcedures h bytes p b rest → IsRight b rest
 in_procedures_right (AtProcedure lt p a) = in_procedure_right a
 
-in_node_right : {region : Region} {procedures : ℕ} {before : ℕ × ℕ} {bytes rest : List ℕ} {b : Block} → InNode region procedures before bytes b rest → IsRight b rest
+in_node_right : {rules : Rules} {region : Region} {procedures : ℕ} {before : ℕ × ℕ} {bytes rest : List ℕ} {b : Block} → InNode rules region procedures before bytes b rest → IsRight b rest
 in_node_right AtKey = tt
 in_node_right (AtBank e) = tt
 in_node_right (BehindBank e f a) = in_state_right a
 
-in_nodes_right : {h : Head} {bytes rest : List ℕ} {p : Part} {b : Block} → InNodes h bytes p b rest → IsRight b rest
+in_nodes_right : {rules : Rules} {h : Head} {bytes rest : List ℕ} {p : Part} {b : Block} → InNodes rules h bytes p b rest → IsRight b rest
 in_nodes_right (AtNode lt p a) = in_node_right a
 
 in_certificate_right : {bytes rest : List ℕ} {p : Part} {b : Block} → InCertificate bytes p b rest → IsRight b rest

@@ -1,13 +1,25 @@
 -- Each reader of a certificate's parts goes from left to right.
-use Rattle.std.proofs.Common.{ℕ, ◌*◌, Bool, true, false, ◌==◌}
+use Rattle.std.proofs.Common.{◌≡◌, ℕ, Bool, true, false, ◌==◌, List, [], Option, Some, None, Ok, Err, ap}
 use Rattle.gb_ops.specs.declared.machine.Region.{Region}
+use Rattle.gb_domain.specs.declared.rules.Rules.{Rules}
+use Rattle.gb_domain.specs.declared.rules.Rules.TheVariants.{Simple, Extended}
+use Rattle.gb_domain.specs.declared.pairs.Other.{Other}
+use Rattle.gb_domain.specs.Limits.{rules_of, cell_room}
+use Rattle.gb_domain.specs.Pairs.{nothing_known}
+use Rattle.gb_domain.specs.Places.{no_byte}
+use Rattle.gb_domain.specs.RelationRules.{test_alone}
+use Rattle.gb_fields.specs.declared.fault.CertFault.{CertFault}
 use Rattle.gb_states.specs.declared.role.Role.{Role}
 use Rattle.gb_states.specs.declared.role.Role.TheVariants as role
-use Rattle.gb_fields.specs.Limits.{procedure_limit, range_limit, cell_limit, item_limit}
-use Rattle.gb_fields.specs.Format.{byte}
+use Rattle.gb_states.specs.declared.relations.Present.{Present}
+use Rattle.gb_fields.specs.Limits.{procedure_limit, range_room, unit, item_limit, need_limit, origin_limit}
+use Rattle.gb_fields.specs.Rules.{usual_base}
+use Rattle.gb_fields.specs.Format.{Read, byte}
 use Rattle.gb_states.specs.Rules.{role_of}
-use Rattle.gb_fields.specs.Reading.{word, quad, node_number_by, node_number, byte_between, word_between, count_within, yes_no, returns_at, entry_at, need_at, key_at, magic_at, version_at, region_at, node_count_at, head_at}
-use Rattle.gb_states.specs.Reading.{origin_at, val_at, may_at, ime_at, test_at, flg_at, ctl_at, vals_at, core_at, items_at, cell_at, cells_at, state_at, range_at, ranges_at, exit_at, procedure_at, node_at, procedures_at, nodes_at, certificate_at}
+use Rattle.gb_fields.specs.Reading.{word, quad, node_number_by, node_number, byte_between, word_between, count_within, yes_no, returns_at, entry_at, nothing, base_at, times, need_at, key_at, magic_at, version_at, region_at, node_count_at, head_at}
+use Rattle.gb_states.specs.RelationReading.{defaulted, present_at, registers_at, address_at, byte_at, pair_at, bounds_at, other_at, factor_at, link_of, link_at, facts_at, pairs_at, relations_at, relations_by}
+use Rattle.gb_states.specs.Reading.{origin_at, val_at, may_at, ime_at, test_at, flg_at, ctl_at, vals_at, core_at, item_count_at, items_at, cell_at, cells_at, state_at, range_at, ranges_at, exit_at, needed_at, body_at, procedure_at, node_at, procedures_at, nodes_at, certificate_at}
+use Rattle.gb_states.proofs.Formats.{same_pair}
 use Rattle.gb_cert_place.proofs.Locality.{IsLocal, IsLocal-byte, IsLocal-both, IsLocal-followed, IsLocal-mapped, IsLocal-checked, IsLocal-optional, IsLocal-several, IsLocal-counted}
 
 -- ---- numbers
@@ -43,13 +55,13 @@ IsLocal-yes_no = IsLocal-mapped _ _ (IsLocal-byte_between 0 1)
 
 -- ---- values
 
-IsLocal-origin : IsLocal origin_at
+IsLocal-origin : (rules : Rules) → IsLocal (origin_at rules)
 unfolding origin_at
-IsLocal-origin = IsLocal-mapped _ _ (IsLocal-byte_between 0 9)
+IsLocal-origin rules = IsLocal-mapped _ _ (IsLocal-byte_between 0 (origin_limit rules))
 
-pub IsLocal-val : IsLocal val_at
+pub IsLocal-val : (rules : Rules) → IsLocal (val_at rules)
 unfolding val_at
-IsLocal-val = IsLocal-mapped _ _ (IsLocal-both _ _ (IsLocal-checked _ _ _ (IsLocal-both _ _ IsLocal-byte IsLocal-byte)) IsLocal-origin)
+IsLocal-val rules = IsLocal-mapped _ _ (IsLocal-both _ _ (IsLocal-checked _ _ _ (IsLocal-both _ _ IsLocal-byte IsLocal-byte)) (IsLocal-origin rules))
 
 IsLocal-may : IsLocal may_at
 unfolding may_at
@@ -74,36 +86,114 @@ IsLocal-ctl =
     (IsLocal-both _ _ (IsLocal-checked _ _ _ (IsLocal-both _ _ IsLocal-byte IsLocal-byte))
     (IsLocal-both _ _ IsLocal-may (IsLocal-both _ _ IsLocal-may IsLocal-yes_no))))
 
-IsLocal-vals : IsLocal vals_at
+IsLocal-vals : (rules : Rules) → IsLocal (vals_at rules)
 unfolding vals_at
-IsLocal-vals =
-    IsLocal-mapped _ _ (IsLocal-both _ _ IsLocal-val (IsLocal-both _ _ IsLocal-val (IsLocal-both _ _ IsLocal-val
-    (IsLocal-both _ _ IsLocal-val (IsLocal-both _ _ IsLocal-val (IsLocal-both _ _ IsLocal-val IsLocal-val))))))
+IsLocal-vals rules =
+    let v = IsLocal-val rules in
+    IsLocal-mapped _ _ (IsLocal-both _ _ v (IsLocal-both _ _ v (IsLocal-both _ _ v (IsLocal-both _ _ v (IsLocal-both _ _ v (IsLocal-both _ _ v v))))))
+
+-- ---- what is known of several parts together
+
+IsLocal-nothing : {X : Type 0} (x : X) → IsLocal (nothing x)
+IsLocal-nothing {X} x = record {
+  taken = λ bytes y rest e. let s = same_pair x y bytes rest e in record { front = []; parts = s.1; again = λ more. ap (λ (z : X). Ok (z, more)) s.0 };
+  refused = λ bytes more e h n. absurd (none bytes e h);
+}
+  where
+    none : (bytes : List ℕ) (e : CertFault) → nothing x bytes ≡ Err e → ⊥
+    none bytes e h = cc
+
+IsLocal-defaulted : {X : Type 0} (x : X) (there : Bool) (r : Read X) → IsLocal r → IsLocal (defaulted x there r)
+IsLocal-defaulted x true r a = a
+IsLocal-defaulted x false r a = IsLocal-nothing x
+
+IsLocal-present : (test : Option ℕ) → IsLocal (present_at test)
+unfolding present_at
+IsLocal-present test = IsLocal-checked _ _ _ (IsLocal-mapped _ _ (IsLocal-byte_between 0 127))
+
+IsLocal-registers : (address : Bool) → IsLocal (registers_at address)
+unfolding registers_at
+IsLocal-registers address = IsLocal-checked _ _ _ (IsLocal-mapped _ _ (IsLocal-byte_between 0 127))
+
+IsLocal-address : (region : Region) → IsLocal (address_at region)
+unfolding address_at
+IsLocal-address region = IsLocal-checked _ _ _ IsLocal-word
+
+IsLocal-one_byte : (region : Region) (test : Option ℕ) (address bits : Bool) → IsLocal (byte_at region test address bits)
+unfolding byte_at
+IsLocal-one_byte region test address bits = IsLocal-mapped _ _ (IsLocal-both _ _ (IsLocal-registers address) (IsLocal-both _ _ (IsLocal-optional address _ (IsLocal-address region)) (IsLocal-optional bits _ IsLocal-byte)))
+
+IsLocal-pair : IsLocal pair_at
+unfolding pair_at
+IsLocal-pair = IsLocal-mapped _ _ (IsLocal-byte_between 0 2)
+
+IsLocal-bounds : IsLocal bounds_at
+unfolding bounds_at
+IsLocal-bounds = IsLocal-mapped _ _ (IsLocal-checked _ _ _ (IsLocal-both _ _ IsLocal-word IsLocal-word))
+
+IsLocal-other : IsLocal other_at
+unfolding other_at
+IsLocal-other = IsLocal-mapped _ _ (IsLocal-byte_between 0 10)
+
+IsLocal-link_of : (o : Option Other) → IsLocal (link_of o)
+unfolding factor_at
+IsLocal-link_of None = IsLocal-nothing None
+IsLocal-link_of (Some o) = IsLocal-mapped _ _ (IsLocal-both _ _ (IsLocal-mapped _ _ (IsLocal-byte_between 1 255)) IsLocal-word)
+
+IsLocal-link : IsLocal link_at
+unfolding link_at
+IsLocal-link = IsLocal-mapped _ _ (IsLocal-followed _ _ IsLocal-other IsLocal-link_of)
+
+IsLocal-facts : IsLocal facts_at
+unfolding facts_at
+IsLocal-facts = IsLocal-checked _ _ _ (IsLocal-mapped _ _ (IsLocal-both _ _ IsLocal-bounds IsLocal-link))
+
+IsLocal-known : (there : Bool) → IsLocal (defaulted nothing_known there facts_at)
+IsLocal-known there = IsLocal-defaulted nothing_known there facts_at IsLocal-facts
+
+IsLocal-pairs : (p : Present) → IsLocal (pairs_at p)
+unfolding pairs_at
+IsLocal-pairs p = IsLocal-mapped _ _ (IsLocal-both _ _ (IsLocal-known p.bc) (IsLocal-both _ _ (IsLocal-known p.de) (IsLocal-known p.hl)))
+
+pub IsLocal-relations : (region : Region) (test : Option ℕ) → IsLocal (relations_at region test)
+unfolding relations_at
+IsLocal-relations region test =
+    IsLocal-mapped _ _ (IsLocal-followed _ _ (IsLocal-present test)
+    (λ p. IsLocal-both _ _ (IsLocal-defaulted no_byte p.byte _ (IsLocal-one_byte region test p.address p.bits)) (IsLocal-both _ _ (IsLocal-optional p.zero _ IsLocal-pair) (IsLocal-pairs p))))
+
+pub IsLocal-relations_by : (rules : Rules) (region : Region) (test : Option ℕ) → IsLocal (relations_by rules region test)
+IsLocal-relations_by Simple region test = IsLocal-nothing (test_alone test)
+IsLocal-relations_by Extended region test = IsLocal-relations region test
 
 -- ---- states
 
-pub IsLocal-core : (role : Role) → IsLocal (core_at role)
+pub IsLocal-core : (rules : Rules) (role : Role) → IsLocal (core_at rules role)
 unfolding core_at
-IsLocal-core role =
+IsLocal-core rules role =
     IsLocal-mapped _ _ (IsLocal-both _ _ IsLocal-ime (IsLocal-both _ _ (IsLocal-byte_between 0 161)
     (IsLocal-both _ _ (IsLocal-checked _ _ _ IsLocal-yes_no)
-    (IsLocal-both _ _ IsLocal-test (IsLocal-both _ _ IsLocal-ctl (IsLocal-both _ _ IsLocal-flg (IsLocal-both _ _ IsLocal-val IsLocal-vals)))))))
+    (IsLocal-both _ _ IsLocal-test (IsLocal-both _ _ IsLocal-ctl (IsLocal-both _ _ IsLocal-flg (IsLocal-both _ _ (IsLocal-val rules) (IsLocal-vals rules))))))))
 
-pub IsLocal-items : (role : Role) (stack_set : Bool) → IsLocal (items_at role stack_set)
+pub IsLocal-item_count : (rules : Rules) (role : Role) (stack_set : Bool) → IsLocal (item_count_at rules role stack_set)
+unfolding item_count_at
+IsLocal-item_count rules role stack_set = IsLocal-checked _ _ _ (IsLocal-count_within (item_limit rules))
+
+pub IsLocal-items : (rules : Rules) (role : Role) (stack_set : Bool) → IsLocal (items_at rules role stack_set)
 unfolding items_at
-IsLocal-items role stack_set = IsLocal-mapped _ _ (IsLocal-followed _ _ (IsLocal-checked _ _ _ (IsLocal-count_within item_limit)) (λ words. IsLocal-several (λ (s : Unit {0}). val_at) (λ v. tt) (λ s. IsLocal-val) (2 * words) tt))
+IsLocal-items rules role stack_set = IsLocal-mapped _ _ (IsLocal-followed _ _ (IsLocal-item_count rules role stack_set) (λ count. IsLocal-several (λ (s : Unit {0}). val_at rules) (λ v. tt) (λ s. IsLocal-val rules) (times (unit rules) count) tt))
 
-pub IsLocal-cell : (region : Region) (least : ℕ) → IsLocal (cell_at region least)
+pub IsLocal-cell : (rules : Rules) (region : Region) (least : ℕ) → IsLocal (cell_at rules region least)
 unfolding cell_at
-IsLocal-cell region least = IsLocal-mapped _ _ (IsLocal-both _ _ (IsLocal-checked _ _ _ (IsLocal-checked _ _ _ IsLocal-word)) IsLocal-val)
+IsLocal-cell rules region least = IsLocal-mapped _ _ (IsLocal-both _ _ (IsLocal-checked _ _ _ (IsLocal-checked _ _ _ IsLocal-word)) (IsLocal-val rules))
 
-pub IsLocal-cells : (region : Region) → IsLocal (cells_at region)
+pub IsLocal-cells : (rules : Rules) (region : Region) → IsLocal (cells_at rules region)
 unfolding cells_at
-IsLocal-cells region = IsLocal-counted _ _ _ _ (IsLocal-count_within cell_limit) (IsLocal-cell region)
+IsLocal-cells rules region = IsLocal-counted _ _ _ _ (IsLocal-count_within (cell_room rules)) (IsLocal-cell rules region)
 
-pub IsLocal-state : (role : Role) (region : Region) → IsLocal (state_at role region)
+pub IsLocal-state : (rules : Rules) (role : Role) (region : Region) → IsLocal (state_at rules role region)
 unfolding state_at
-IsLocal-state role region = IsLocal-mapped _ _ (IsLocal-followed _ _ (IsLocal-core role) (λ core. IsLocal-both _ _ (IsLocal-items role core.stack_set) (IsLocal-cells region)))
+IsLocal-state rules role region =
+    IsLocal-mapped _ _ (IsLocal-followed _ _ (IsLocal-core rules role) (λ k. IsLocal-both _ _ (IsLocal-items rules role k.0.stack_set) (IsLocal-both _ _ (IsLocal-relations_by rules region k.1) (IsLocal-cells rules region))))
 
 -- ---- procedures
 
@@ -111,30 +201,40 @@ pub IsLocal-range : (region : Region) (least : ℕ) → IsLocal (range_at region
 unfolding range_at
 IsLocal-range region least = IsLocal-mapped _ _ (IsLocal-checked _ _ _ (IsLocal-both _ _ (IsLocal-checked _ _ _ IsLocal-word) IsLocal-word))
 
-pub IsLocal-ranges : (region : Region) → IsLocal (ranges_at region)
+pub IsLocal-ranges : (rules : Rules) (is_main : Bool) (region : Region) → IsLocal (ranges_at rules is_main region)
 unfolding ranges_at
-IsLocal-ranges region = IsLocal-counted _ _ _ _ (IsLocal-count_within range_limit) (IsLocal-range region)
+IsLocal-ranges rules is_main region = IsLocal-counted _ _ _ _ (IsLocal-count_within (range_room rules is_main)) (IsLocal-range region)
 
 pub IsLocal-returns : (is_main : Bool) → IsLocal (returns_at is_main)
 unfolding returns_at
 IsLocal-returns is_main = IsLocal-checked _ _ _ IsLocal-yes_no
 
-pub IsLocal-exit : (region : Region) (is_main : Bool) → IsLocal (exit_at region is_main)
+pub IsLocal-exit : (rules : Rules) (is_main : Bool) (region : Region) → IsLocal (exit_at rules is_main region)
 unfolding exit_at
-IsLocal-exit region is_main = IsLocal-mapped _ _ (IsLocal-followed _ _ (IsLocal-returns is_main) (λ returns. IsLocal-optional returns _ (IsLocal-state role.Exit region)))
+IsLocal-exit rules is_main region = IsLocal-mapped _ _ (IsLocal-followed _ _ (IsLocal-returns is_main) (λ returns. IsLocal-optional returns _ (IsLocal-state rules role.Exit region)))
 
 pub IsLocal-entry : (version nodes : ℕ) → IsLocal (entry_at version nodes)
 unfolding entry_at
 IsLocal-entry version nodes = IsLocal-checked _ _ _ (IsLocal-node_number version)
 
-pub IsLocal-need : (is_main : Bool) (region : Region) → IsLocal (need_at is_main region)
+pub IsLocal-base : (rules : Rules) (is_main : Bool) (region : Region) → IsLocal (base_at rules is_main region)
+unfolding base_at
+IsLocal-base Simple is_main region = IsLocal-nothing (usual_base is_main region)
+IsLocal-base Extended is_main region = IsLocal-checked _ _ _ IsLocal-word
+
+pub IsLocal-need : (rules : Rules) (is_main : Bool) (region : Region) → IsLocal (need_at rules is_main region)
 unfolding need_at
-IsLocal-need is_main region = IsLocal-checked _ _ _ (IsLocal-mapped _ _ (IsLocal-word_between 0 4096))
+IsLocal-need rules is_main region = IsLocal-checked _ _ _ (IsLocal-mapped _ _ (IsLocal-word_between 0 (need_limit rules)))
+
+pub IsLocal-needed : (rules : Rules) (is_main : Bool) (region : Region) → IsLocal (needed_at rules is_main region)
+IsLocal-needed rules is_main region = IsLocal-both _ _ (IsLocal-need rules is_main region) (IsLocal-both _ _ (IsLocal-ranges rules is_main region) (IsLocal-exit rules is_main region))
+
+pub IsLocal-body : (rules : Rules) (is_main : Bool) (region : Region) → IsLocal (body_at rules is_main region)
+IsLocal-body rules is_main region = IsLocal-both _ _ (IsLocal-base rules is_main region) (IsLocal-needed rules is_main region)
 
 pub IsLocal-procedure : (version : ℕ) (region : Region) (nodes : ℕ) (is_main : Bool) → IsLocal (procedure_at version region nodes is_main)
 unfolding procedure_at
-IsLocal-procedure version region nodes is_main =
-    IsLocal-mapped _ _ (IsLocal-both _ _ (IsLocal-entry version nodes) (IsLocal-both _ _ (IsLocal-need is_main region) (IsLocal-both _ _ (IsLocal-ranges region) (IsLocal-exit region is_main))))
+IsLocal-procedure version region nodes is_main = IsLocal-mapped _ _ (IsLocal-both _ _ (IsLocal-entry version nodes) (IsLocal-body (rules_of version) is_main region))
 
 -- ---- nodes
 
@@ -142,21 +242,23 @@ pub IsLocal-key : (procedures : ℕ) (before : ℕ × ℕ) → IsLocal (key_at p
 unfolding key_at
 IsLocal-key procedures before = IsLocal-checked _ _ _ (IsLocal-both _ _ (IsLocal-checked _ _ _ (IsLocal-checked _ _ _ IsLocal-byte)) IsLocal-word)
 
-pub IsLocal-node : (region : Region) (procedures : ℕ) (before : ℕ × ℕ) → IsLocal (node_at region procedures before)
+pub IsLocal-node : (rules : Rules) (region : Region) (procedures : ℕ) (before : ℕ × ℕ) → IsLocal (node_at rules region procedures before)
 unfolding node_at
-IsLocal-node region procedures before = IsLocal-mapped _ _ (IsLocal-followed _ _ (IsLocal-key procedures before) (λ k. IsLocal-both _ _ (IsLocal-word_between 0 511) (IsLocal-state (role_of k.0) region)))
+IsLocal-node rules region procedures before = IsLocal-mapped _ _ (IsLocal-followed _ _ (IsLocal-key procedures before) (λ k. IsLocal-both _ _ (IsLocal-word_between 0 511) (IsLocal-state rules (role_of k.0) region)))
 
 -- ---- certificates
 
 IsLocal-magic : IsLocal magic_at
-IsLocal-magic = IsLocal-checked _ _ _ (IsLocal-both _ _ IsLocal-byte (IsLocal-both _ _ IsLocal-byte (IsLocal-both _ _ IsLocal-byte IsLocal-byte)))
+unfolding magic_at
+IsLocal-magic = IsLocal-mapped _ _ (IsLocal-checked _ _ _ (IsLocal-both _ _ IsLocal-byte (IsLocal-both _ _ IsLocal-byte (IsLocal-both _ _ IsLocal-byte IsLocal-byte))))
 
 IsLocal-version : IsLocal version_at
-IsLocal-version = IsLocal-checked _ _ byte IsLocal-byte
+unfolding version_at
+IsLocal-version = IsLocal-mapped _ _ (IsLocal-followed _ _ IsLocal-magic (λ rules. IsLocal-checked _ _ byte IsLocal-byte))
 
-IsLocal-region : IsLocal region_at
+IsLocal-region : (rules : Rules) → IsLocal (region_at rules)
 unfolding region_at
-IsLocal-region = IsLocal-mapped _ _ (IsLocal-checked _ _ _ (IsLocal-both _ _ IsLocal-word IsLocal-word))
+IsLocal-region rules = IsLocal-mapped _ _ (IsLocal-checked _ _ _ (IsLocal-both _ _ IsLocal-word IsLocal-word))
 
 IsLocal-node_count : (version : ℕ) → IsLocal (node_count_at version)
 unfolding node_count_at
@@ -165,17 +267,17 @@ IsLocal-node_count version = IsLocal-checked _ _ _ (IsLocal-checked _ _ _ (IsLoc
 pub IsLocal-head : IsLocal head_at
 unfolding head_at
 IsLocal-head =
-    IsLocal-mapped _ _ (IsLocal-both _ _ IsLocal-magic (IsLocal-followed _ _ IsLocal-version
-    (λ v. IsLocal-both _ _ IsLocal-region (IsLocal-both _ _ (IsLocal-checked _ _ _ (IsLocal-count_within procedure_limit)) (IsLocal-node_count v)))))
+    IsLocal-mapped _ _ (IsLocal-followed _ _ IsLocal-version
+    (λ v. IsLocal-both _ _ (IsLocal-region (rules_of v)) (IsLocal-both _ _ (IsLocal-checked _ _ _ (IsLocal-count_within procedure_limit)) (IsLocal-node_count v))))
 
 pub IsLocal-procedures : (version : ℕ) (region : Region) (nodes count : ℕ) → IsLocal (procedures_at version region nodes count)
 unfolding procedures_at
 IsLocal-procedures version region nodes count = IsLocal-several _ _ (IsLocal-procedure version region nodes) count true
 
-pub IsLocal-nodes : (region : Region) (procedures count : ℕ) → IsLocal (nodes_at region procedures count)
+pub IsLocal-nodes : (rules : Rules) (region : Region) (procedures count : ℕ) → IsLocal (nodes_at rules region procedures count)
 unfolding nodes_at
-IsLocal-nodes region procedures count = IsLocal-several _ _ (IsLocal-node region procedures) count (0, 0)
+IsLocal-nodes rules region procedures count = IsLocal-several _ _ (IsLocal-node rules region procedures) count (0, 0)
 
 pub IsLocal-certificate : IsLocal certificate_at
 unfolding certificate_at
-IsLocal-certificate = IsLocal-mapped _ _ (IsLocal-checked _ _ _ (IsLocal-followed _ _ IsLocal-head (λ h. IsLocal-both _ _ (IsLocal-procedures h.version h.region h.nodes h.procedures) (IsLocal-nodes h.region h.procedures h.nodes))))
+IsLocal-certificate = IsLocal-mapped _ _ (IsLocal-checked _ _ _ (IsLocal-followed _ _ IsLocal-head (λ h. IsLocal-both _ _ (IsLocal-procedures h.version h.region h.nodes h.procedures) (IsLocal-nodes (rules_of h.version) h.region h.procedures h.nodes))))

@@ -7,6 +7,8 @@ use Rattle.gb_fields.specs.declared.fault.CertFault.TheVariants as fault
 use Rattle.gb_fields.specs.declared.head.Head.{Head}
 use Rattle.gb_domain.specs.Types.{ProcedureParts, Node}
 use Rattle.gb_domain.specs.Certificate.{Certificate}
+use Rattle.gb_domain.specs.declared.rules.Rules.{Rules}
+use Rattle.gb_domain.specs.Limits.{rules_of}
 use Rattle.gb_fields.specs.Format.{Read, go_on, both, if_passes, ended}
 use Rattle.gb_cert.specs.Skipping.{skipped, past}
 use Rattle.gb_fields.specs.Reading.{head_at}
@@ -23,11 +25,11 @@ use Rattle.gb_cert_place.proofs.Stopping.{StopsAt-mapped, StopsAt-checked, tight
 use Rattle.gb_cert_place.proofs.WalkLaws.{Stopped-first, Stopped-block, Stopped-then, Stopped-after, was_read}
 
 abbrev rest_of : Head → Read (List ProcedureParts × List Node)
-rest_of h = both (procedures_at h.version h.region h.nodes h.procedures) (nodes_at h.region h.procedures h.nodes)
+rest_of h = both (procedures_at h.version h.region h.nodes h.procedures) (nodes_at (rules_of h.version) h.region h.procedures h.nodes)
 
 pub IsLocal-parts : IsLocal parts_at
 unfolding parts_at
-IsLocal-parts = IsLocal-followed head_at rest_of IsLocal-head (λ h. IsLocal-both _ _ (IsLocal-procedures h.version h.region h.nodes h.procedures) (IsLocal-nodes h.region h.procedures h.nodes))
+IsLocal-parts = IsLocal-followed head_at rest_of IsLocal-head (λ h. IsLocal-both _ _ (IsLocal-procedures h.version h.region h.nodes h.procedures) (IsLocal-nodes (rules_of h.version) h.region h.procedures h.nodes))
 
 -- ---- the walk
 
@@ -37,19 +39,21 @@ stop_in_head version bytes s p = Stopped-first head_at rest_of bytes s (Stopped-
 
 pub stop_in_procedures : (bytes : List ℕ) (h : Head) (rest : List ℕ) (s : Stop) → head_at bytes ≡ Ok (h, rest) → Stopped (procedures_at h.version h.region h.nodes h.procedures) rest s → Stopped parts_at bytes s
 unfolding parts_at
-stop_in_procedures bytes h rest s e p = Stopped-then head_at rest_of IsLocal-head bytes h rest s e (Stopped-first (procedures_at h.version h.region h.nodes h.procedures) (λ x. nodes_at h.region h.procedures h.nodes) rest s p)
+stop_in_procedures bytes h rest s e p = Stopped-then head_at rest_of IsLocal-head bytes h rest s e (Stopped-first (procedures_at h.version h.region h.nodes h.procedures) (λ x. nodes_at (rules_of h.version) h.region h.procedures h.nodes) rest s p)
 
-pub stop_in_nodes : (bytes : List ℕ) (h : Head) (rest mid : List ℕ) (s : Stop) → head_at bytes ≡ Ok (h, rest) → skipped (procedures_at h.version h.region h.nodes h.procedures) rest ≡ Ok mid → Stopped (nodes_at h.region h.procedures h.nodes) mid s → Stopped parts_at bytes s
+pub stop_in_nodes : (bytes : List ℕ) (h : Head) (rest mid : List ℕ) (rules : Rules) (s : Stop) → head_at bytes ≡ Ok (h, rest) → skipped (procedures_at h.version h.region h.nodes h.procedures) rest ≡ Ok mid → rules ≡ rules_of h.version
+    → Stopped (nodes_at rules h.region h.procedures h.nodes) mid s → Stopped parts_at bytes s
 unfolding parts_at
-stop_in_nodes bytes h rest mid s e g p =
+stop_in_nodes bytes h rest mid rules s e g same p =
     Stopped-then head_at rest_of IsLocal-head bytes h rest s e
-    (Stopped-after (procedures_at h.version h.region h.nodes h.procedures) (nodes_at h.region h.procedures h.nodes) (IsLocal-procedures h.version h.region h.nodes h.procedures) rest mid s g p)
+    (Stopped-after (procedures_at h.version h.region h.nodes h.procedures) (nodes_at (rules_of h.version) h.region h.procedures h.nodes) (IsLocal-procedures h.version h.region h.nodes h.procedures) rest mid s g (subst (λ r. Stopped (nodes_at r h.region h.procedures h.nodes) mid s) same p))
 
-pub parts_passed : (bytes : List ℕ) (h : Head) (rest mid end : List ℕ) → head_at bytes ≡ Ok (h, rest) → skipped (procedures_at h.version h.region h.nodes h.procedures) rest ≡ Ok mid → skipped (nodes_at h.region h.procedures h.nodes) mid ≡ Ok end → skipped parts_at bytes ≡ Ok end
+pub parts_passed : (bytes : List ℕ) (h : Head) (rest mid : List ℕ) (rules : Rules) (end : List ℕ) → head_at bytes ≡ Ok (h, rest) → skipped (procedures_at h.version h.region h.nodes h.procedures) rest ≡ Ok mid → rules ≡ rules_of h.version
+    → skipped (nodes_at rules h.region h.procedures h.nodes) mid ≡ Ok end → skipped parts_at bytes ≡ Ok end
 unfolding parts_at
-parts_passed bytes h rest mid end e g k =
+parts_passed bytes h rest mid rules end e g same k =
     rw e (skipped-mapped (λ (y : List ProcedureParts × List Node). (h, y)) (rest_of h) rest)
-    ∙ skipped-both (procedures_at h.version h.region h.nodes h.procedures) (nodes_at h.region h.procedures h.nodes) rest ∙ ap (λ r. past r (skipped (nodes_at h.region h.procedures h.nodes))) g ∙ k
+    ∙ skipped-both (procedures_at h.version h.region h.nodes h.procedures) (nodes_at (rules_of h.version) h.region h.procedures h.nodes) rest ∙ ap (λ r. past r (skipped (nodes_at (rules_of h.version) h.region h.procedures h.nodes))) g ∙ subst (λ r. skipped (nodes_at r h.region h.procedures h.nodes) mid ≡ Ok end) same k
 
 pub ruleset walk_parts = (stop_in_procedures, stop_in_nodes, parts_passed)
 

@@ -1,16 +1,22 @@
 -- How many bytes a reader takes and needs at most.
-use Rattle.std.proofs.Common.{◌≡◌, ℕ, ◌+◌, ◌≤◌, ◌==◌, Bool, true, false, List, [], ◌∷◌, length, slice_index_or, Result, Ok, Err, refl, ◌∙◌, ap, arith}
+use Rattle.std.proofs.Common.{◌≡◌, ℕ, ◌+◌, ◌≤◌, ◌==◌, Bool, true, false, List, [], ◌∷◌, length, slice_index_or, Option, Some, None, Result, Ok, Err, refl, ◌∙◌, ap, arith}
 use Rattle.gb_ops.specs.declared.machine.Region.{Region}
 use Rattle.gb_fields.specs.declared.fault.CertFault.{CertFault}
 use Rattle.gb_fields.specs.declared.fault.CertFault.TheVariants as fault
 use Rattle.gb_states.specs.declared.role.Role.{Role}
-use Rattle.gb_fields.specs.Limits.{item_limit, procedure_limit}
-use Rattle.gb_fields.specs.Format.{Read, go_on, followed, both, mapped, if_passes, checked, byte}
-use Rattle.gb_fields.specs.Reading.{word, quad, node_number_by, node_number, byte_between, word_between, count_within, yes_no, returns_at, entry_at, need_at, key_at, region_at, is_any, node_count_at, is_magic, magic_at, version_at, to_head, head_at}
-use Rattle.gb_states.specs.Reading.{origin_at, val_at, may_at, ime_at, test_at, flg_at, ctl_at, vals_at, core_at, cell_at, range_at}
-use Rattle.gb_states.specs.Rules.{is_version}
+use Rattle.gb_domain.specs.declared.rules.Rules.{Rules}
+use Rattle.gb_domain.specs.declared.rules.Rules.TheVariants.{Simple, Extended}
+use Rattle.gb_domain.specs.declared.pairs.Other.{Other}
+use Rattle.gb_domain.specs.Limits.{rules_of}
+use Rattle.gb_domain.specs.Pairs.{nothing_known}
+use Rattle.gb_domain.specs.Places.{no_byte}
+use Rattle.gb_fields.specs.Limits.{item_limit, need_limit, origin_limit, procedure_limit}
+use Rattle.gb_fields.specs.Rules.{is_version_of}
+use Rattle.gb_fields.specs.Format.{Read, go_on, followed, both, mapped, if_passes, checked, optional, byte}
+use Rattle.gb_fields.specs.Reading.{word, quad, node_number_by, node_number, byte_between, word_between, count_within, yes_no, returns_at, entry_at, nothing, base_at, need_at, key_at, region_at, is_any, node_count_at, Letters, is_magic, kind_of, magic_at, version_at, to_head, head_at}
+use Rattle.gb_states.specs.Reading.{origin_at, val_at, may_at, ime_at, test_at, flg_at, ctl_at, vals_at, core_at, item_count_at, cell_at, range_at}
+use Rattle.gb_states.specs.RelationReading.{defaulted, present_at, registers_at, address_at, byte_at, pair_at, bounds_at, other_at, factor_at, link_of, link_at, facts_at, pairs_at, relations_at}
 use Rattle.gb_states.proofs.Formats.{went_on, same_pair}
-use Rattle.gb_cert_place.specs.Blocks.{item_count_at}
 use Rattle.gb_cert_place.specs.Layout.{number_width, number_width_by}
 use Rattle.gb_cert_place.proofs.Locality.{failed, same_fault}
 
@@ -140,13 +146,13 @@ IsWithin-yes_no = IsWithin-mapped _ _ 1 (IsWithin-byte_between 0 1)
 
 -- ---- values
 
-IsWithin-origin : IsWithin origin_at 1
+IsWithin-origin : (rules : Rules) → IsWithin (origin_at rules) 1
 unfolding origin_at
-IsWithin-origin = IsWithin-mapped _ _ 1 (IsWithin-byte_between 0 9)
+IsWithin-origin rules = IsWithin-mapped _ _ 1 (IsWithin-byte_between 0 (origin_limit rules))
 
-pub IsWithin-val : IsWithin val_at 3
+pub IsWithin-val : (rules : Rules) → IsWithin (val_at rules) 3
 unfolding val_at
-IsWithin-val = IsWithin-mapped _ _ 3 (IsWithin-both _ _ 2 1 (IsWithin-checked _ _ _ 2 (λ h. cc) (IsWithin-both _ _ 1 1 IsWithin-byte IsWithin-byte)) IsWithin-origin)
+IsWithin-val rules = IsWithin-mapped _ _ 3 (IsWithin-both _ _ 2 1 (IsWithin-checked _ _ _ 2 (λ h. cc) (IsWithin-both _ _ 1 1 IsWithin-byte IsWithin-byte)) (IsWithin-origin rules))
 
 IsWithin-may : IsWithin may_at 1
 unfolding may_at
@@ -172,28 +178,79 @@ IsWithin-ctl =
     (IsWithin-both _ _ 2 3 (IsWithin-checked _ _ _ 2 (λ h. cc) (IsWithin-both _ _ 1 1 IsWithin-byte IsWithin-byte))
     (IsWithin-both _ _ 1 2 IsWithin-may (IsWithin-both _ _ 1 1 IsWithin-may IsWithin-yes_no))))
 
-IsWithin-vals : IsWithin vals_at 21
+IsWithin-vals : (rules : Rules) → IsWithin (vals_at rules) 21
 unfolding vals_at
-IsWithin-vals =
-    IsWithin-mapped _ _ 21 (IsWithin-both _ _ 3 18 IsWithin-val (IsWithin-both _ _ 3 15 IsWithin-val (IsWithin-both _ _ 3 12 IsWithin-val
-    (IsWithin-both _ _ 3 9 IsWithin-val (IsWithin-both _ _ 3 6 IsWithin-val (IsWithin-both _ _ 3 3 IsWithin-val IsWithin-val))))))
+IsWithin-vals rules =
+    let v = IsWithin-val rules in
+    IsWithin-mapped _ _ 21 (IsWithin-both _ _ 3 18 v (IsWithin-both _ _ 3 15 v (IsWithin-both _ _ 3 12 v (IsWithin-both _ _ 3 9 v (IsWithin-both _ _ 3 6 v (IsWithin-both _ _ 3 3 v v))))))
+
+-- ---- what is known of several parts together
+
+IsWithin-nothing : {X : Type 0} (x : X) (n : ℕ) → IsWithin (nothing x) n
+IsWithin-nothing {X} x n = record {
+  takes = λ bytes y rest e. let l : length bytes ≡ length rest = ap length (same_pair x y bytes rest e).1 in omega arith;
+  decides = λ bytes le h. none bytes h;
+}
+  where
+    none : (bytes : List ℕ) → nothing x bytes ≡ Err fault.CutShort → ⊥
+    none bytes h = cc
+
+IsWithin-defaulted : {X : Type 0} (x : X) (there : Bool) (r : Read X) (n : ℕ) → IsWithin r n → IsWithin (defaulted x there r) n
+IsWithin-defaulted x true r n a = a
+IsWithin-defaulted x false r n a = IsWithin-nothing x n
+
+IsWithin-optional : {X : Type 0} (there : Bool) (r : Read X) (n : ℕ) → IsWithin r n → IsWithin (optional there r) n
+IsWithin-optional true r n a = IsWithin-mapped Some r n a
+IsWithin-optional false r n a = IsWithin-nothing None n
+
+IsWithin-present : (test : Option ℕ) → IsWithin (present_at test) 1
+unfolding present_at
+IsWithin-present test = IsWithin-checked _ _ _ 1 (λ h. cc) (IsWithin-mapped _ _ 1 (IsWithin-byte_between 0 127))
+
+IsWithin-one_byte : (region : Region) (test : Option ℕ) (address bits : Bool) → IsWithin (byte_at region test address bits) 4
+unfolding byte_at registers_at address_at
+IsWithin-one_byte region test address bits =
+    IsWithin-mapped _ _ 4 (IsWithin-both _ _ 1 3 (IsWithin-checked _ _ _ 1 (λ h. cc) (IsWithin-mapped _ _ 1 (IsWithin-byte_between 0 127)))
+    (IsWithin-both _ _ 2 1 (IsWithin-optional address _ 2 (IsWithin-checked _ _ _ 2 (λ h. cc) IsWithin-word)) (IsWithin-optional bits _ 1 IsWithin-byte)))
+
+IsWithin-link_of : (o : Option Other) → IsWithin (link_of o) 3
+unfolding factor_at
+IsWithin-link_of None = IsWithin-nothing None 3
+IsWithin-link_of (Some o) = IsWithin-mapped _ _ 3 (IsWithin-both _ _ 1 2 (IsWithin-mapped _ _ 1 (IsWithin-byte_between 1 255)) IsWithin-word)
+
+IsWithin-facts : IsWithin facts_at 8
+unfolding facts_at bounds_at link_at other_at
+IsWithin-facts =
+    IsWithin-checked _ _ _ 8 (λ h. cc) (IsWithin-mapped _ _ 8 (IsWithin-both _ _ 4 4 (IsWithin-mapped _ _ 4 (IsWithin-checked _ _ _ 4 (λ h. cc) (IsWithin-both _ _ 2 2 IsWithin-word IsWithin-word)))
+    (IsWithin-mapped _ _ 4 (IsWithin-followed _ _ 1 3 (IsWithin-mapped _ _ 1 (IsWithin-byte_between 0 10)) IsWithin-link_of))))
+
+IsWithin-known : (there : Bool) → IsWithin (defaulted nothing_known there facts_at) 8
+IsWithin-known there = IsWithin-defaulted nothing_known there facts_at 8 IsWithin-facts
+
+pub IsWithin-relations : (region : Region) (test : Option ℕ) → IsWithin (relations_at region test) 30
+unfolding relations_at pairs_at pair_at
+IsWithin-relations region test =
+    IsWithin-mapped _ _ 30 (IsWithin-followed _ _ 1 29 (IsWithin-present test)
+    (λ p. IsWithin-both _ _ 4 25 (IsWithin-defaulted no_byte p.byte _ 4 (IsWithin-one_byte region test p.address p.bits))
+    (IsWithin-both _ _ 1 24 (IsWithin-optional p.zero _ 1 (IsWithin-mapped _ _ 1 (IsWithin-byte_between 0 2)))
+    (IsWithin-mapped _ _ 24 (IsWithin-both _ _ 8 16 (IsWithin-known p.bc) (IsWithin-both _ _ 8 8 (IsWithin-known p.de) (IsWithin-known p.hl)))))))
 
 -- ---- blocks
 
-pub IsWithin-core : (role : Role) → IsWithin (core_at role) 40
+pub IsWithin-core : (rules : Rules) (role : Role) → IsWithin (core_at rules role) 40
 unfolding core_at
-IsWithin-core role =
+IsWithin-core rules role =
     IsWithin-mapped _ _ 40 (IsWithin-both _ _ 1 39 IsWithin-ime (IsWithin-both _ _ 1 38 (IsWithin-byte_between 0 161)
     (IsWithin-both _ _ 1 37 (IsWithin-checked _ _ _ 1 (λ h. cc) IsWithin-yes_no)
-    (IsWithin-both _ _ 2 35 IsWithin-test (IsWithin-both _ _ 9 26 IsWithin-ctl (IsWithin-both _ _ 2 24 IsWithin-flg (IsWithin-both _ _ 3 21 IsWithin-val IsWithin-vals)))))))
+    (IsWithin-both _ _ 2 35 IsWithin-test (IsWithin-both _ _ 9 26 IsWithin-ctl (IsWithin-both _ _ 2 24 IsWithin-flg (IsWithin-both _ _ 3 21 (IsWithin-val rules) (IsWithin-vals rules))))))))
 
-pub IsWithin-item_count : (role : Role) (stack_set : Bool) → IsWithin (item_count_at role stack_set) 1
+pub IsWithin-item_count : (rules : Rules) (role : Role) (stack_set : Bool) → IsWithin (item_count_at rules role stack_set) 1
 unfolding item_count_at
-IsWithin-item_count role stack_set = IsWithin-checked _ _ _ 1 (λ h. cc) (IsWithin-count_within item_limit)
+IsWithin-item_count rules role stack_set = IsWithin-checked _ _ _ 1 (λ h. cc) (IsWithin-count_within (item_limit rules))
 
-pub IsWithin-cell : (region : Region) (least : ℕ) → IsWithin (cell_at region least) 5
+pub IsWithin-cell : (rules : Rules) (region : Region) (least : ℕ) → IsWithin (cell_at rules region least) 5
 unfolding cell_at
-IsWithin-cell region least = IsWithin-mapped _ _ 5 (IsWithin-both _ _ 2 3 (IsWithin-checked _ _ _ 2 (λ h. cc) (IsWithin-checked _ _ _ 2 (λ h. cc) IsWithin-word)) IsWithin-val)
+IsWithin-cell rules region least = IsWithin-mapped _ _ 5 (IsWithin-both _ _ 2 3 (IsWithin-checked _ _ _ 2 (λ h. cc) (IsWithin-checked _ _ _ 2 (λ h. cc) IsWithin-word)) (IsWithin-val rules))
 
 pub IsWithin-range : (region : Region) (least : ℕ) → IsWithin (range_at region least) 4
 unfolding range_at
@@ -207,9 +264,13 @@ pub IsWithin-entry : (version nodes : ℕ) → IsWithin (entry_at version nodes)
 unfolding entry_at
 IsWithin-entry version nodes = IsWithin-checked _ _ _ (number_width version) (λ h. cc) (IsWithin-node_number version)
 
-pub IsWithin-need : (is_main : Bool) (region : Region) → IsWithin (need_at is_main region) 2
+pub IsWithin-base : (is_main : Bool) (region : Region) → IsWithin (base_at Extended is_main region) 2
+unfolding base_at
+IsWithin-base is_main region = IsWithin-checked _ _ _ 2 (λ h. cc) IsWithin-word
+
+pub IsWithin-need : (rules : Rules) (is_main : Bool) (region : Region) → IsWithin (need_at rules is_main region) 2
 unfolding need_at
-IsWithin-need is_main region = IsWithin-checked _ _ _ 2 (λ h. cc) (IsWithin-mapped _ _ 2 (IsWithin-word_between 0 4096))
+IsWithin-need rules is_main region = IsWithin-checked _ _ _ 2 (λ h. cc) (IsWithin-mapped _ _ 2 (IsWithin-word_between 0 (need_limit rules)))
 
 pub IsWithin-key : (procedures : ℕ) (before : ℕ × ℕ) → IsWithin (key_at procedures before) 3
 unfolding key_at
@@ -219,7 +280,7 @@ IsWithin-key procedures before = IsWithin-checked _ _ _ 3 (λ h. cc) (IsWithin-b
 
 -- what stands behind the version
 abbrev counts_at : ℕ → Read (Region × (ℕ × ℕ))
-counts_at version = both region_at (both (checked fault.Field is_any (count_within procedure_limit)) (node_count_at version))
+counts_at version = both (region_at (rules_of version)) (both (checked fault.Field is_any (count_within procedure_limit)) (node_count_at version))
 
 IsWithin-counts : (version : ℕ) → IsWithin (counts_at version) (4 + (1 + number_width version))
 unfolding region_at node_count_at
@@ -228,27 +289,48 @@ IsWithin-counts version =
     (IsWithin-both _ _ 1 (number_width version) (IsWithin-checked _ _ _ 1 (λ h. cc) (IsWithin-count_within procedure_limit))
     (IsWithin-checked _ _ _ (number_width version) (λ h. cc) (IsWithin-checked _ _ _ (number_width version) (λ h. cc) (IsWithin-node_number version))))
 
-IsWithin-magic : IsWithin magic_at 4
-IsWithin-magic = IsWithin-checked _ _ _ 4 (λ h. cc) (IsWithin-both _ _ 1 3 IsWithin-byte (IsWithin-both _ _ 1 2 IsWithin-byte (IsWithin-both _ _ 1 1 IsWithin-byte IsWithin-byte)))
+abbrev letters_at : Read Letters
+letters_at = both byte (both byte (both byte byte))
 
-IsWithin-version : IsWithin version_at 1
-IsWithin-version = IsWithin-checked _ _ byte 1 (λ h. cc) IsWithin-byte
+IsWithin-magic : IsWithin magic_at 4
+unfolding magic_at
+IsWithin-magic = IsWithin-mapped _ _ 4 (IsWithin-checked _ _ _ 4 (λ h. cc) (IsWithin-both _ _ 1 3 IsWithin-byte (IsWithin-both _ _ 1 2 IsWithin-byte (IsWithin-both _ _ 1 1 IsWithin-byte IsWithin-byte))))
+
+IsWithin-version : IsWithin version_at 5
+unfolding version_at
+IsWithin-version = IsWithin-mapped _ _ 5 (IsWithin-followed _ _ 4 1 IsWithin-magic (λ rules. IsWithin-checked _ _ byte 1 (λ h. cc) IsWithin-byte))
+
+abbrev checked_version : Rules → Read ℕ
+checked_version rules = checked fault.Version (is_version_of rules) byte
+
+-- The version that is read is the byte behind the letters.
+version-read : (m a g i v : ℕ) (bs : List ℕ) (w : ℕ) (rest : List ℕ) → version_at (m ∷ a ∷ g ∷ i ∷ v ∷ bs) ≡ Ok (w, rest) → (v ≡ w) × (bs ≡ rest)
+unfolding version_at magic_at
+version-read m a g i v bs w rest e =
+    let all : List ℕ = m ∷ a ∷ g ∷ i ∷ v ∷ bs in
+    let letters : Letters = (m, (a, (g, i))) in
+    let c = went_on (followed magic_at checked_version (m ∷ a ∷ g ∷ i ∷ v ∷ bs)) (λ p rest. Ok (p.1, rest)) (w, rest) e in
+    let d = went_on (magic_at (m ∷ a ∷ g ∷ i ∷ v ∷ bs)) (λ rules rest. go_on (checked_version rules rest) (λ n end. Ok ((rules, n), end))) (c.0, c.1) c.2 in
+    let k = went_on (go_on (letters_at (m ∷ a ∷ g ∷ i ∷ v ∷ bs)) (λ x rest. if_passes fault.Magic (is_magic x) x rest)) (λ x rest. Ok (kind_of x, rest)) (d.0, d.1) d.2 in
+    let f = passes fault.Magic (is_magic (m, (a, (g, i)))) (m, (a, (g, i))) k.0 (v ∷ bs) k.1 k.2 in
+    let left : v ∷ bs ≡ d.1 = f.1 ∙ (same_pair (kind_of k.0) d.0 k.1 d.1 k.3).1 in
+    let n = went_on (checked_version d.0 d.1) (λ n end. Ok ((d.0, n), end)) (c.0, c.1) d.3 in
+    let read : checked_version d.0 (v ∷ bs) ≡ Ok (n.0, n.1) = ap (checked_version d.0) left ∙ n.2 in
+    let q = passes fault.Version (is_version_of d.0 v) v n.0 bs n.1 read in
+    let r = same_pair (d.0, n.0) c.0 n.1 c.1 n.3 in
+    let t = same_pair c.0.1 w c.1 rest c.3 in
+    (q.0 ∙ ap (λ (p : Rules × ℕ). p.1) r.0 ∙ t.0, q.1 ∙ r.1 ∙ t.1)
 
 head_decides : (m a g i v : ℕ) (bs : List ℕ) → 4 + (1 + number_width v) ≤ length bs → head_at (m ∷ a ∷ g ∷ i ∷ v ∷ bs) ≡ Err fault.CutShort → ⊥
 unfolding head_at
 head_decides m a g i v bs le h =
-    cut_then magic_at (λ x. followed version_at counts_at) 4 (1 + (4 + (1 + number_width v))) IsWithin-magic (m ∷ a ∷ g ∷ i ∷ v ∷ bs) (λ x rest e few k. behind_magic x rest e k) (omega arith)
-    (cut_mapped to_head (followed magic_at (λ x. followed version_at counts_at)) (m ∷ a ∷ g ∷ i ∷ v ∷ bs) h)
+    cut_then version_at counts_at 5 (4 + (1 + number_width v)) IsWithin-version (m ∷ a ∷ g ∷ i ∷ v ∷ bs) (λ w rest e few k. behind w rest e k) (omega arith)
+    (cut_mapped to_head (followed version_at counts_at) (m ∷ a ∷ g ∷ i ∷ v ∷ bs) h)
   where
-    behind_version : (w : ℕ) (rest : List ℕ) → version_at (v ∷ bs) ≡ Ok (w, rest) → counts_at w rest ≡ Err fault.CutShort → ⊥
-    behind_version w rest e k =
-        let p = passes fault.Version (is_version v) v w bs rest e in
+    behind : (w : ℕ) (rest : List ℕ) → version_at (m ∷ a ∷ g ∷ i ∷ v ∷ bs) ≡ Ok (w, rest) → counts_at w rest ≡ Err fault.CutShort → ⊥
+    behind w rest e k =
+        let p = version-read m a g i v bs w rest e in
         (IsWithin-counts v).decides bs le (ap (λ n. counts_at n bs) p.0 ∙ ap (counts_at w) p.1 ∙ k)
-
-    behind_magic : (x : ℕ × (ℕ × (ℕ × ℕ))) (rest : List ℕ) → magic_at (m ∷ a ∷ g ∷ i ∷ v ∷ bs) ≡ Ok (x, rest) → followed version_at counts_at rest ≡ Err fault.CutShort → ⊥
-    behind_magic x rest e k =
-        let p = passes fault.Magic (is_magic (m, (a, (g, i)))) (m, (a, (g, i))) x (v ∷ bs) rest e in
-        cut_then version_at counts_at 1 (4 + (1 + number_width v)) IsWithin-version (v ∷ bs) (λ w rest e few k. behind_version w rest e k) (omega arith) (ap (followed version_at counts_at) p.1 ∙ k)
 
 -- the head's bytes, by the version that stands in it
 pub head_within : (bytes : List ℕ) → 4 + (1 + (4 + (1 + number_width (slice_index_or bytes 4 1)))) ≤ length bytes → head_at bytes ≡ Err fault.CutShort → ⊥

@@ -1,6 +1,8 @@
 -- The fields of a block, each with its bytes, in their order (own format).
 use Rattle.std.specs.Prelude.{◌≡◌, ℕ, ◌+◌, ◌/◌, ◌%◌, ◌==◌, ◌≤◌, ◌<◌, nat_lt, Bool, true, false, List, [], ◌∷◌, ◌++◌}
 use Rattle.gb_ops.specs.declared.op.Register.TheVariants.{A, B, C, D, E, H, L}
+use Rattle.gb_domain.specs.declared.rules.Rules.{Rules}
+use Rattle.gb_domain.specs.declared.rules.Rules.TheVariants.{Simple, Extended}
 use Rattle.gb_cert_place.specs.declared.block.Block.{Block}
 use Rattle.gb_cert_place.specs.declared.block.Block.TheVariants as block
 use Rattle.gb_cert_place.specs.declared.field.Field.{Field}
@@ -49,12 +51,17 @@ abbrev pub byte_of_word : Bool → ℕ → Owner
 byte_of_word true word = owner.ItemHigh word
 byte_of_word false word = owner.ItemLow word
 
--- which byte of which word the item with this number is: a word's high byte comes first
-abbrev pub item_owner : ℕ → Owner
-item_owner index = byte_of_word (index % 2 == 0) (index / 2)
+-- in versions 1 and 2 which byte of which word the item with this number is: a word's high byte comes first
+abbrev pub item_owner : Rules → ℕ → Owner
+item_owner Simple index = byte_of_word (index % 2 == 0) (index / 2)
+item_owner Extended index = owner.Item index
 
-abbrev pub item_layout : ℕ → Layout
-item_layout index = value_then (item_owner index) []
+abbrev pub item_layout : Rules → ℕ → Layout
+item_layout rules index = value_then (item_owner rules index) []
+
+-- what is known of several parts together, which has 30 bytes at most
+abbrev pub told_layout : Layout
+told_layout = (field.Told, 30) ∷ []
 
 abbrev pub cell_layout : ℕ → Layout
 cell_layout index = (field.CellAddress index, 2) ∷ value_then (owner.Cell index) []
@@ -62,15 +69,17 @@ cell_layout index = (field.CellAddress index, 2) ∷ value_then (owner.Cell inde
 unfoldable pub layout : Block → Layout
 layout (block.Head version) = head_layout version
 layout (block.Entry version nodes) = entry_layout version
-layout (block.Need is_main region) = (field.Need, 2) ∷ []
-layout block.RangeCount = (field.RangeCount, 1) ∷ []
+layout (block.Base is_main region) = (field.Base, 2) ∷ []
+layout (block.Need rules is_main region) = (field.Need, 2) ∷ []
+layout (block.RangeCount rules is_main) = (field.RangeCount, 1) ∷ []
 layout (block.Range index region least) = range_layout index
 layout (block.Returns is_main) = (field.Returns, 1) ∷ []
-layout (block.Core role) = core_layout
-layout (block.ItemCount role stack_set) = (field.ItemCount, 1) ∷ []
-layout (block.Item index) = item_layout index
-layout block.CellCount = (field.CellCount, 1) ∷ []
-layout (block.Cell index region least) = cell_layout index
+layout (block.Core rules role) = core_layout
+layout (block.ItemCount rules role stack_set) = (field.ItemCount, 1) ∷ []
+layout (block.Item rules index) = item_layout rules index
+layout (block.Told region test) = told_layout
+layout (block.CellCount rules) = (field.CellCount, 1) ∷ []
+layout (block.Cell rules index region least) = cell_layout index
 layout (block.Key procedures before) = (field.Procedure, 1) ∷ (field.Address, 2) ∷ []
 layout block.Bank = (field.Bank, 2) ∷ []
 

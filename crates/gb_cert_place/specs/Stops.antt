@@ -5,6 +5,7 @@ use Rattle.gb_fields.specs.declared.fault.CertFault.TheVariants as fault
 use Rattle.gb_fields.specs.declared.head.Head.{Head}
 use Rattle.gb_domain.specs.Types.{ProcedureParts, Node}
 use Rattle.gb_domain.specs.Certificate.{Certificate}
+use Rattle.gb_domain.specs.Limits.{rules_of}
 use Rattle.gb_fields.specs.Format.{Read, followed, both}
 use Rattle.gb_fields.specs.Reading.{head_at}
 use Rattle.gb_states.specs.Reading.{procedures_at, nodes_at, read_certificate}
@@ -62,7 +63,7 @@ Finds view (Err s) read bytes = Stopped read bytes s
 
 -- the head, the procedures and the nodes
 unfoldable pub parts_at : Read (Head × (List ProcedureParts × List Node))
-parts_at = followed head_at (λ h. both (procedures_at h.version h.region h.nodes h.procedures) (nodes_at h.region h.procedures h.nodes))
+parts_at = followed head_at (λ h. both (procedures_at h.version h.region h.nodes h.procedures) (nodes_at (rules_of h.version) h.region h.procedures h.nodes))
 
 -- The bytes have this fault, and so many of them decide. Left-over bytes are those behind a certificate.
 pub data IsFaultAt (bytes : List ℕ) : CertFault → ℕ → Type 0 where

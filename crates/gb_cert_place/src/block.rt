@@ -2,18 +2,20 @@
 
 ghost use Rattle.std.specs.Prelude.{◌≡◌, length, Err};
 ghost use Rattle.gb_fields.specs.Format.{Gives};
-ghost use Rattle.gb_cert_place.specs.Blocks.{item_count_at, read_block};
+ghost use Rattle.gb_cert_place.specs.Blocks.{read_block};
 ghost use Rattle.gb_cert_place.specs.Stops.{is_missing, StopsAt, Stopped};
 
 use gb_cert::CertFault;
+use gb_domain::types::Rules;
 use gb_fields::head::head_at;
-use gb_fields::limits::{CELL_LIMIT, ITEM_LIMIT, RANGE_LIMIT};
+use gb_fields::limits::{cell_limit, range_room};
 use gb_fields::numbers::{count_within, word_between};
-use gb_fields::parts::{entry_at, key_at, need_at, returns_at};
+use gb_fields::parts::{base_at, entry_at, key_at, need_at, returns_at};
 use gb_ops::machine::Region;
 use gb_states::fields::{core_at, val_at};
+use gb_states::relations::relations_at;
 use gb_states::role::Role;
-use gb_states::states::{cell_at, range_at};
+use gb_states::states::{cell_at, item_count_at, range_at};
 
 /// A run of fields that is read by one rule, with what the rule asks of the fields before it.
 #[derive(Clone, Copy)]
@@ -27,13 +29,22 @@ pub enum Block {
         version: u8,
         nodes: u32,
     },
+    /// A procedure's base, in version 3.
+    Base {
+        is_main: bool,
+        region: Region,
+    },
     /// A procedure's need.
     Need {
+        rules: Rules,
         is_main: bool,
         region: Region,
     },
     /// How many ranges a procedure has.
-    RangeCount,
+    RangeCount {
+        rules: Rules,
+        is_main: bool,
+    },
     /// A range, by its number.
     Range {
         index: u8,
@@ -44,23 +55,34 @@ pub enum Block {
     Returns {
         is_main: bool,
     },
-    /// All of a state but its items and cells.
+    /// All of a state but its items and cells, and what it knows of several of its parts together.
     Core {
+        rules: Rules,
         role: Role,
     },
-    /// How many words a state's items are.
+    /// How many words, or in version 3 bytes, a state's items are.
     ItemCount {
+        rules: Rules,
         role: Role,
         stack_set: bool,
     },
     /// An item, a byte of the stack, by its number.
     Item {
+        rules: Rules,
         index: u8,
     },
+    /// What is known of several parts of a state together, in version 3; the test is the state's.
+    Told {
+        region: Region,
+        test: Option<u8>,
+    },
     /// How many cells a state has.
-    CellCount,
+    CellCount {
+        rules: Rules,
+    },
     /// A cell, by its number.
     Cell {
+        rules: Rules,
         index: u8,
         region: Region,
         least: u32,
@@ -99,18 +121,6 @@ pub struct Stop {
     pub left: usize,
 }
 
-/// How many words a state's items are.
-#[tactic(auto, unfolding(crate::specs::Blocks::item_count_at))]
-pub fn item_count_at(role: Role, stack_set: bool, bytes: &[u8]) -> Result<(u8, &[u8]), CertFault>
-    ensures { Gives (λ x. (x.0, x.1.now)) result (item_count_at role stack_set bytes.now) }
-{
-    let (words, rest) = count_within(ITEM_LIMIT, bytes)?;
-    if words > 0 && !(role.may_have_items() && stack_set) {
-        return Err(CertFault::Field);
-    }
-    Ok((words, rest))
-}
-
 /// Reads a block, and keeps no value.
 #[tactic(auto, unfolding(crate::specs::Blocks::read_block))]
 fn read_block(block: Block, bytes: &[u8]) -> Result<&[u8], CertFault>
@@ -125,12 +135,20 @@ fn read_block(block: Block, bytes: &[u8]) -> Result<&[u8], CertFault>
             let (_, rest) = entry_at(version, nodes, bytes)?;
             Ok(rest)
         }
-        Block::Need { is_main, region } => {
-            let (_, rest) = need_at(is_main, region, bytes)?;
+        Block::Base { is_main, region } => {
+            let (_, rest) = base_at(is_main, region, bytes)?;
             Ok(rest)
         }
-        Block::RangeCount => {
-            let (_, rest) = count_within(RANGE_LIMIT, bytes)?;
+        Block::Need {
+            rules,
+            is_main,
+            region,
+        } => {
+            let (_, rest) = need_at(rules, is_main, region, bytes)?;
+            Ok(rest)
+        }
+        Block::RangeCount { rules, is_main } => {
+            let (_, rest) = count_within(range_room(rules, is_main), bytes)?;
             Ok(rest)
         }
         Block::Range { region, least, .. } => {
@@ -141,24 +159,37 @@ fn read_block(block: Block, bytes: &[u8]) -> Result<&[u8], CertFault>
             let (_, rest) = returns_at(is_main, bytes)?;
             Ok(rest)
         }
-        Block::Core { role } => {
-            let (_, rest) = core_at(role, bytes)?;
+        Block::Core { rules, role } => {
+            let (_, rest) = core_at(rules, role, bytes)?;
             Ok(rest)
         }
-        Block::ItemCount { role, stack_set } => {
-            let (_, rest) = item_count_at(role, stack_set, bytes)?;
+        Block::ItemCount {
+            rules,
+            role,
+            stack_set,
+        } => {
+            let (_, rest) = item_count_at(rules, role, stack_set, bytes)?;
             Ok(rest)
         }
-        Block::Item { .. } => {
-            let (_, rest) = val_at(bytes)?;
+        Block::Item { rules, .. } => {
+            let (_, rest) = val_at(rules, bytes)?;
             Ok(rest)
         }
-        Block::CellCount => {
-            let (_, rest) = count_within(CELL_LIMIT, bytes)?;
+        Block::Told { region, test } => {
+            let (_, rest) = relations_at(region, test, bytes)?;
             Ok(rest)
         }
-        Block::Cell { region, least, .. } => {
-            let (_, rest) = cell_at(region, least, bytes)?;
+        Block::CellCount { rules } => {
+            let (_, rest) = count_within(cell_limit(rules), bytes)?;
+            Ok(rest)
+        }
+        Block::Cell {
+            rules,
+            region,
+            least,
+            ..
+        } => {
+            let (_, rest) = cell_at(rules, region, least, bytes)?;
             Ok(rest)
         }
         Block::Key { procedures, before } => {

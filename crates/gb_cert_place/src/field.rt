@@ -2,9 +2,10 @@
 
 ghost use Rattle.std.specs.Prelude.{◌≡◌, ◌≤◌};
 ghost use Rattle.gb_cert_place.specs.declared.field.Field.TheVariants as field;
-ghost use Rattle.gb_cert_place.specs.Layout.{lookup, layout, head_layout, entry_layout, range_layout, core_layout, item_owner, item_layout, cell_layout, number_width, field_at};
+ghost use Rattle.gb_cert_place.specs.Layout.{lookup, layout, head_layout, entry_layout, range_layout, core_layout, item_owner, item_layout, told_layout, cell_layout, number_width, field_at};
 
 use crate::block::Block;
+use gb_domain::types::Rules;
 use gb_ops::op::Register;
 
 /// What a value is of.
@@ -18,6 +19,8 @@ pub enum Owner {
     ItemHigh(u8),
     /// The low byte of the word with this number on the stack.
     ItemLow(u8),
+    /// The byte of the stack with this number, in version 3.
+    Item(u8),
     /// The cell with this number.
     Cell(u8),
 }
@@ -32,6 +35,7 @@ pub enum Field {
     ProcedureCount,
     NodeCount,
     Entry,
+    Base,
     Need,
     RangeCount,
     RangeFirst(u8),
@@ -58,6 +62,8 @@ pub enum Field {
     ValueGreatest(Owner),
     ValueOrigin(Owner),
     ItemCount,
+    /// What is known of several parts of a state together.
+    Told,
     CellCount,
     CellAddress(u8),
     /// What is tested behind the last node: whether each entry is a node of its procedure.
@@ -92,22 +98,27 @@ fn range_layout(index: u8) -> [(Field, u8); 2]
     [(Field::RangeFirst(index), 2), (Field::RangeLast(index), 2)]
 }
 
-/// Which byte of which word the item with this number is: a word's high byte comes first.
-fn item_owner(index: u8) -> Owner
-    ensures { result ≡ item_owner index }
+/// In versions 1 and 2 which byte of which word the item with this number is: a word's high byte comes first.
+fn item_owner(rules: Rules, index: u8) -> Owner
+    ensures { result ≡ item_owner rules index }
 {
-    let word = index / 2;
-    if index % 2 == 0 {
-        Owner::ItemHigh(word)
-    } else {
-        Owner::ItemLow(word)
+    match rules {
+        Rules::Simple => {
+            let word = index / 2;
+            if index % 2 == 0 {
+                Owner::ItemHigh(word)
+            } else {
+                Owner::ItemLow(word)
+            }
+        }
+        Rules::Extended => Owner::Item(index),
     }
 }
 
-fn item_layout(index: u8) -> [(Field, u8); 3]
-    ensures { result ≡ item_layout index }
+fn item_layout(rules: Rules, index: u8) -> [(Field, u8); 3]
+    ensures { result ≡ item_layout rules index }
 {
-    let item = item_owner(index);
+    let item = item_owner(rules, index);
     [
         (Field::ValueLeast(item), 1),
         (Field::ValueGreatest(item), 1),
@@ -206,14 +217,16 @@ pub fn field_at(block: Block, byte: usize) -> (Field, usize)
     match block {
         Block::Head { version } => lookup(&head_layout(version), byte),
         Block::Entry { version, .. } => lookup(&[(Field::Entry, number_width(version))], byte),
+        Block::Base { .. } => lookup(&[(Field::Base, 2)], byte),
         Block::Need { .. } => lookup(&[(Field::Need, 2)], byte),
-        Block::RangeCount => lookup(&[(Field::RangeCount, 1)], byte),
+        Block::RangeCount { .. } => lookup(&[(Field::RangeCount, 1)], byte),
         Block::Range { index, .. } => lookup(&range_layout(index), byte),
         Block::Returns { .. } => lookup(&[(Field::Returns, 1)], byte),
         Block::Core { .. } => lookup(&core_layout(), byte),
         Block::ItemCount { .. } => lookup(&[(Field::ItemCount, 1)], byte),
-        Block::Item { index } => lookup(&item_layout(index), byte),
-        Block::CellCount => lookup(&[(Field::CellCount, 1)], byte),
+        Block::Item { rules, index } => lookup(&item_layout(rules, index), byte),
+        Block::Told { .. } => lookup(&[(Field::Told, 30)], byte),
+        Block::CellCount { .. } => lookup(&[(Field::CellCount, 1)], byte),
         Block::Cell { index, .. } => lookup(&cell_layout(index), byte),
         Block::Key { .. } => lookup(&[(Field::Procedure, 1), (Field::Address, 2)], byte),
         Block::Bank => lookup(&[(Field::Bank, 2)], byte),

@@ -24,6 +24,7 @@ impl fmt::Display for Owner {
             Owner::Register(register) => f.write_str(register.name()),
             Owner::ItemHigh(word) => write!(f, "the high byte of item {word}"),
             Owner::ItemLow(word) => write!(f, "the low byte of item {word}"),
+            Owner::Item(index) => write!(f, "item {index}"),
             Owner::Cell(index) => write!(f, "cell {index}"),
         }
     }
@@ -32,13 +33,14 @@ impl fmt::Display for Owner {
 /// The text of a field that is named by no number.
 fn field_name(field: Field) -> &'static str {
     match field {
-        Field::Magic => "letters GBBC",
+        Field::Magic => "letters GBBC or GBBX",
         Field::Version => "version",
         Field::RegionFirst => "first address of the stack region",
         Field::RegionLast => "last address of the stack region",
         Field::ProcedureCount => "number of procedures",
         Field::NodeCount => "number of nodes",
         Field::Entry => "entry node",
+        Field::Base => "base",
         Field::Need => "need",
         Field::RangeCount => "number of ranges",
         Field::Returns => "whether it returns",
@@ -60,6 +62,7 @@ fn field_name(field: Field) -> &'static str {
         Field::Flags => "flags",
         Field::FlagsOrigin => "origin of the flags",
         Field::ItemCount => "number of items",
+        Field::Told => "what is known of several parts together",
         Field::CellCount => "number of cells",
         Field::Entries => "entry nodes of all procedures",
         Field::LeftOver => "left-over bytes",

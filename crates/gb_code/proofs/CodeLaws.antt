@@ -17,7 +17,7 @@ use Rattle.gb_abs_memory.specs.Below.gb_domain.declared.types.Ctl.{Ctl}
 use Rattle.gb_abs_memory.specs.Below.gb_domain.Types.{AbsState, Node}
 use Rattle.gb_abs_memory.specs.Below.gb_domain.Rules.{IsVal}
 use Rattle.gb_abs_memory.specs.Below.gb_abs.Span.{one, is_inside}
-use Rattle.gb_abs_memory.specs.Below.gb_abs.Meaning.{Means}
+use Rattle.gb_abs_memory.specs.Below.gb_abs.Meaning.{MeansParts}
 use Rattle.gb_abs_memory.specs.Access.{is_limited}
 use Rattle.gb_abs_memory.specs.Shown.{known_bank}
 use Rattle.gb_abs_memory.specs.Sound.{IsRom}
@@ -191,7 +191,7 @@ shown_known : (o : Option ℕ) (shown bank : ℕ) → o ≡ Some bank → IfSome
 shown_known None shown bank h i = cc
 shown_known (Some b) shown bank h i = i ∙ same_Some b bank h
 
-place_bank : (rom : List ℕ) (n : Node) (entry : MState) (base : ℕ) (x : MState) (a : ℕ) → IsRom rom → Means n.state entry base x → Halves n.address a
+place_bank : (rom : List ℕ) (n : Node) (entry : MState) (base : ℕ) (x : MState) (a : ℕ) → IsRom rom → MeansParts n.state entry base x → Halves n.address a
     → known_bank rom n.state.core.ctl n.address ≡ Some n.bank → cond (nat_lt a 0x8000) (shown_bank rom x.storage.banks a) 0 ≡ n.bank
 place_bank rom n entry base x a r m (InRom a_rom x_rom same) k =
     rw x_rom
@@ -212,7 +212,7 @@ memory_storage rom x = refl
 -- where the machine stands at a node whose instruction is known
 pub record IsAt (rom : List ℕ) (n : Node) (entry : MState) (base : ℕ) (x : MState) : Type 0 where
   pub cartridge : IsRom rom
-  pub means : Means n.state entry base x
+  pub means : MeansParts n.state entry base x
   pub ie : IsVal n.state.core.ie
   pub at : x.processor.pc ≡ n.address
 

@@ -1,5 +1,5 @@
 -- Areas of RAM (own; memory map).
-use Rattle.std.specs.Prelude.{◌≡◌, ℕ, ◌-◌, ◌%◌, Bool, true, ◌&&◌, ◌||◌, nat_le}
+use Rattle.std.specs.Prelude.{◌≡◌, ℕ, Bool, true, not, ◌&&◌, ◌||◌, nat_le}
 use Rattle.gb_ops.specs.declared.machine.Region.{Region}
 
 -- Both lie in work RAM, C000 to DFFF, or both in high RAM, FF80 to FFFE.
@@ -14,7 +14,10 @@ is_area first last = nat_le first last && are_in_ram first last
 abbrev pub meets : Region → ℕ → ℕ → Bool
 meets region first last = nat_le first region.last && nat_le region.first last
 
--- A stack region is an area of RAM with an even number of bytes.
+-- The address lies in RAM and outside the region.
+abbrev pub is_free_byte : Region → ℕ → Bool
+is_free_byte region address = is_area address address && not (meets region address address)
+
+-- A stack region is an area of RAM.
 pub record IsRegion (r : Region) : Type 0 where
   pub area : is_area r.first r.last ≡ true
-  pub even : (r.last - r.first) % 2 ≡ 1

@@ -1,7 +1,10 @@
 pub mod Areas
 pub mod Certificate
+pub mod Limits
 pub mod Pairs
 pub mod Places
+pub mod RelationRules
 pub mod Relations
 pub mod Rules
+pub mod Settings
 pub mod Types

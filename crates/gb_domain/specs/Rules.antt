@@ -1,5 +1,5 @@
 -- Which values, cores, words and cells there are (own format).
-use Rattle.std.specs.Prelude.{◌≡◌, ℕ, ◌+◌, ◌≤◌, ◌<◌, Bool, true, false, ◌||◌, List, [], ◌∷◌, IfSome}
+use Rattle.std.specs.Prelude.{◌≡◌, ℕ, ◌+◌, ◌≤◌, ◌<◌, Bool, true, false, ◌||◌, List, [], ◌∷◌}
 use Rattle.gb_ops.specs.declared.machine.Region.{Region}
 use Rattle.gb_ops.specs.declared.op.Register.{Register}
 use Rattle.gb_ops.specs.Registers.{get}
@@ -52,7 +52,6 @@ may_be_any i = i.off || i.pending || i.on
 pub record IsCore (c : Core) : Type 0 where
   pub ime : may_be_any c.ime ≡ true
   pub bound : c.bound ≤ 161
-  pub test : IfSome c.test (λ a. a < 256)
   pub ctl : IsCtl c.ctl
   pub flags : IsFlg c.flags
   pub ie : IsVal c.ie

@@ -4,20 +4,24 @@ use Rattle.gb_domain.specs.declared.types.Val.{Val}
 use Rattle.gb_domain.specs.declared.types.Core.{Core}
 use Rattle.gb_domain.specs.declared.types.Cell.{Cell}
 use Rattle.gb_domain.specs.declared.types.Range.{Range}
+use Rattle.gb_domain.specs.declared.relations.Relations.{Relations}
+use Rattle.gb_domain.specs.Relations.{no_relations}
 
 -- an abstract state; its items are the bytes that were pushed, the oldest first
 pub record AbsState : Type 0 where
   pub core : Core
   pub items : List Val
   pub cells : List Cell
+  pub relations : Relations
 
--- the state without items and cells
+-- the state without items and cells, of whose parts nothing is known together
 abbrev pub state_of : Core → AbsState
-state_of core = record { core = core; items = []; cells = [] }
+state_of core = record { core = core; items = []; cells = []; relations = no_relations }
 
--- a procedure; its need is in bytes
+-- a procedure; its base is the address above its items, 0 where it isn't known, and its need is in bytes
 pub record ProcedureParts : Type 0 where
   pub entry : ℕ
+  pub base : ℕ
   pub need : ℕ
   pub ranges : List Range
   pub exit : Option AbsState

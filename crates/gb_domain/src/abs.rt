@@ -3,17 +3,19 @@
 ghost use Rattle.std.specs.Prelude.{◌≡◌, ◌≤◌, length};
 ghost use Rattle.gb_domain.specs.Types.{state_of};
 
+use crate::relations::Relations;
 use crate::types::{Cell, Core, Val};
 use arrayvec::ArrayVec;
 use std::marker::Model;
 
 /// An abstract state: a set of machine states. Contracts see its core, its items (the bytes that were pushed, the
-/// oldest first) and its cells (in order of address).
+/// oldest first), its cells (in order of address), and what is known of several of its parts together.
 #[derive(Drop)]
 pub struct Abs {
     core: Core,
-    items: ArrayVec<Val, 32>,
-    cells: ArrayVec<Cell, 32>,
+    relations: Relations,
+    items: ArrayVec<Val, 255>,
+    cells: ArrayVec<Cell, 64>,
 }
 
 impl Model for Abs {
@@ -21,26 +23,37 @@ impl Model for Abs {
 
     ghost Value = { AbsState };
 
-    ghost view = { λ s. record { core = s.core; items = s.items.items; cells = s.cells.items } };
+    ghost view = { λ s. record { core = s.core; items = s.items.items; cells = s.cells.items; relations = s.relations } };
 }
 
 impl Abs {
-    /// A state without items and cells.
+    /// A state without items and cells, of whose parts nothing is known together.
     pub fn new(core: Core) -> Abs
         ensures { result ≡ state_of core }
     {
         Abs {
             core,
+            relations: Relations::default(),
             items: ArrayVec::new(),
             cells: ArrayVec::new(),
         }
     }
 
     /// A state of these parts.
-    pub fn of_parts(core: Core, items: ArrayVec<Val, 32>, cells: ArrayVec<Cell, 32>) -> Abs
-        ensures { result ≡ record { core = core; items = items.items; cells = cells.items } }
+    pub fn of_parts(
+        core: Core,
+        items: ArrayVec<Val, 255>,
+        cells: ArrayVec<Cell, 64>,
+        relations: Relations,
+    ) -> Abs
+        ensures { result ≡ record { core = core; items = items.items; cells = cells.items; relations = relations } }
     {
-        Abs { core, items, cells }
+        Abs {
+            core,
+            relations,
+            items,
+            cells,
+        }
     }
 
     pub fn core(&self) -> &Core
@@ -52,7 +65,7 @@ impl Abs {
     /// The bytes that were pushed, the oldest first.
     pub fn items(&self) -> &[Val]
         ensures items { result.now ≡ self.now.items }
-        ensures few { length self.now.items ≤ 32 }
+        ensures few { length self.now.items ≤ 255 }
     {
         self.items.as_slice()
     }
@@ -60,9 +73,16 @@ impl Abs {
     /// What is known of memory, in order of address.
     pub fn cells(&self) -> &[Cell]
         ensures cells { result.now ≡ self.now.cells }
-        ensures few { length self.now.cells ≤ 32 }
+        ensures few { length self.now.cells ≤ 64 }
     {
         self.cells.as_slice()
+    }
+
+    /// What is known of several parts together.
+    pub fn relations(&self) -> &Relations
+        ensures { result.now ≡ self.now.relations }
+    {
+        &self.relations
     }
 
     /// The same state, once more.
@@ -72,38 +92,46 @@ impl Abs {
         self.with_core(self.core)
     }
 
-    /// It gets another core. Its items and cells stay.
+    /// It gets another core. All else stays.
     pub fn set_core(&mut self, core: Core)
         ensures { self.new ≡ record self.old { core = core } }
     {
         self.core = core;
     }
 
-    /// It becomes the state with this core, without items and cells.
+    /// It becomes the state with this core, without items and cells, of whose parts nothing is known together.
     #[inline(always)]
     pub fn set_plain(&mut self, core: Core)
         ensures { self.new ≡ state_of core }
     {
         self.core = core;
+        self.relations = Relations::default();
         self.items.clear();
         self.cells.clear();
     }
 
-    /// It gets other items. Its core and cells stay.
-    pub fn set_items(&mut self, items: ArrayVec<Val, 32>)
+    /// It gets other items. All else stays.
+    pub fn set_items(&mut self, items: ArrayVec<Val, 255>)
         ensures { self.new ≡ record self.old { items = items.items } }
     {
         self.items = items;
     }
 
-    /// It gets other cells. Its core and items stay.
-    pub fn set_cells(&mut self, cells: ArrayVec<Cell, 32>)
+    /// It gets other cells. All else stays.
+    pub fn set_cells(&mut self, cells: ArrayVec<Cell, 64>)
         ensures { self.new ≡ record self.old { cells = cells.items } }
     {
         self.cells = cells;
     }
 
-    /// The same items and cells with another core.
+    /// Something else is known of several parts together. All else stays.
+    pub fn set_relations(&mut self, relations: Relations)
+        ensures { self.new ≡ record self.old { relations = relations } }
+    {
+        self.relations = relations;
+    }
+
+    /// The same state with another core.
     pub fn with_core(&self, core: Core) -> Abs
         ensures { result ≡ record self.now { core = core } }
     {
@@ -115,6 +143,11 @@ impl Abs {
         if cells.try_extend_from_slice(self.cells.as_slice()).is_err() {
             unreachable!();
         }
-        Abs { core, items, cells }
+        Abs {
+            core,
+            relations: self.relations,
+            items,
+            cells,
+        }
     }
 }

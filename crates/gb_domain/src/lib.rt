@@ -8,4 +8,6 @@ mod abs;
 pub mod pairs;
 pub mod places;
 pub mod relations;
+mod rules;
+mod setting;
 pub mod types;

@@ -4,24 +4,22 @@ ghost use Rattle.std.specs.Prelude.{◌≡◌};
 ghost use Rattle.gb_domain.specs.Types.{any_val, any_cell, least_range};
 
 pub use crate::abs::Abs;
+pub use crate::rules::Rules;
+pub use crate::setting::Setting;
 use gb_ops::op::Register;
 use gb_ops::registers::Registers;
-
-/// The most memory cells that a state holds.
-pub const CELLS: usize = 32;
-
-/// The most bytes of the stack that a state holds.
-pub const ITEMS: usize = 32;
 
 /// The most ranges that a procedure declares.
 pub const RANGES: usize = 8;
 
-/// What a value may be a copy of: what one of these held as the procedure was entered.
+/// What a value may be a copy of: what one of these held as the procedure was entered, its return word's bytes among them.
 #[derive(Clone, Copy, PartialEq, Eq)]
 pub enum Origin {
     Register(Register),
     F,
     Ie,
+    ReturnHigh,
+    ReturnLow,
 }
 
 /// An interval of bytes, both ends included, and what its value is a copy of.
@@ -113,7 +111,7 @@ impl Default for Cell {
     }
 }
 
-/// The parts of an abstract state but for its stack items and memory cells.
+/// The single parts of an abstract state but for its stack items and memory cells.
 #[derive(Clone, Copy, PartialEq, Eq)]
 pub struct Core {
     pub ime: ImeSet,
@@ -121,8 +119,6 @@ pub struct Core {
     pub bound: u8,
     /// SP is where the items say.
     pub stack_set: bool,
-    /// Z is set exactly where A is this, and C exactly where A is below it.
-    pub test: Option<u8>,
     pub ctl: Ctl,
     pub flags: Flg,
     pub ie: Val,

@@ -17,4 +17,5 @@ mod memory;
 #[cfg(test)]
 mod verdicts;
 #[cfg(test)]
+mod version_3;
 mod written;

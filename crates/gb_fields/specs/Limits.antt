@@ -1,5 +1,7 @@
 -- How many of each a certificate may have (own format).
 use Rattle.std.specs.Prelude.{ℕ, Bool, true, false, ◌==◌}
+use Rattle.gb_domain.specs.declared.rules.Rules.{Rules}
+use Rattle.gb_domain.specs.declared.rules.Rules.TheVariants.{Simple, Extended}
 
 abbrev pub procedure_limit : ℕ
 procedure_limit = 255
@@ -17,10 +19,27 @@ node_limit version = node_limit_by (version == 1)
 abbrev pub range_limit : ℕ
 range_limit = 8
 
--- memory cells of a state
-abbrev pub cell_limit : ℕ
-cell_limit = 32
+-- ranges of main, or of another procedure: in version 3 main writes all RAM outside the region
+unfoldable pub range_room : Rules → Bool → ℕ
+range_room Extended true = 0
+range_room _ _ = range_limit
 
--- words on the stack of a state: two items each
-abbrev pub item_limit : ℕ
-item_limit = 16
+-- The bytes of what the stack is counted in: words in versions 1 and 2, bytes in version 3.
+unfoldable pub unit : Rules → ℕ
+unit Simple = 2
+unit Extended = 1
+
+-- how many of them a state's items are
+unfoldable pub item_limit : Rules → ℕ
+item_limit Simple = 16
+item_limit Extended = 255
+
+-- how many of them a procedure needs
+unfoldable pub need_limit : Rules → ℕ
+need_limit Simple = 4096
+need_limit Extended = 8192
+
+-- the greatest number of an origin
+unfoldable pub origin_limit : Rules → ℕ
+origin_limit Simple = 9
+origin_limit Extended = 11

@@ -1,12 +1,15 @@
 -- Reading the numbers of a certificate, its head, and the fields of procedures and nodes outside their states (own format). A test of two fields is made behind the later one.
-use Rattle.std.specs.Prelude.{ℕ, ◌+◌, ◌*◌, ◌-◌, ◌%◌, Bool, true, false, ◌&&◌, not, ◌==◌, nat_le, nat_lt}
+use Rattle.std.specs.Prelude.{ℕ, ◌+◌, ◌*◌, Bool, true, false, ◌&&◌, ◌||◌, not, ◌==◌, nat_le, nat_lt, Ok}
 use Rattle.gb_ops.specs.declared.machine.Region.{Region}
 use Rattle.gb_fields.specs.declared.fault.CertFault.TheVariants as fault
 use Rattle.gb_fields.specs.declared.head.Head.{Head}
-use Rattle.gb_fields.specs.Limits.{procedure_limit, node_limit}
+use Rattle.gb_domain.specs.declared.rules.Rules.{Rules}
+use Rattle.gb_domain.specs.declared.rules.Rules.TheVariants.{Simple, Extended}
+use Rattle.gb_fields.specs.Limits.{procedure_limit, node_limit, unit, need_limit}
 use Rattle.gb_fields.specs.Format.{Read, followed, both, mapped, checked, byte}
 use Rattle.gb_domain.specs.Areas.{is_area}
-use Rattle.gb_fields.specs.Rules.{fits, is_from, is_version}
+use Rattle.gb_domain.specs.Limits.{rules_of}
+use Rattle.gb_fields.specs.Rules.{size, fits, usual_base, is_base, is_whole, is_from, is_version_of}
 
 -- ---- numbers
 
@@ -72,12 +75,21 @@ is_below limit n = nat_lt n limit
 unfoldable pub entry_at : ℕ → ℕ → Read ℕ
 entry_at version nodes = checked fault.Field (is_below nodes) (node_number version)
 
-abbrev pub double : ℕ → ℕ
-double n = 2 * n
+-- nothing is read, and it stands for this
+abbrev pub nothing : {X : Type 0} → X → Read X
+nothing x bytes = Ok (x, bytes)
 
--- the bytes of stack that it needs below its return word, which are spelled as words
-unfoldable pub need_at : Bool → Region → Read ℕ
-need_at is_main region = checked fault.Region (fits is_main region) (mapped double (word_between 0 4096))
+-- the address above its items; versions 1 and 2 don't say it
+unfoldable pub base_at : Rules → Bool → Region → Read ℕ
+base_at Simple is_main region = nothing (usual_base is_main region)
+base_at Extended is_main region = checked fault.Field (is_base is_main region) word
+
+abbrev pub times : ℕ → ℕ → ℕ
+times k n = k * n
+
+-- the bytes of stack that it needs below its base
+unfoldable pub need_at : Rules → Bool → Region → Read ℕ
+need_at rules is_main region = checked fault.Region (fits is_main region) (mapped (times (unit rules)) (word_between 0 (need_limit rules)))
 
 -- a procedure's number that exists and isn't smaller than the one before; then an address that isn't smaller in the same procedure
 unfoldable pub key_at : ℕ → ℕ × ℕ → Read (ℕ × ℕ)
@@ -85,34 +97,46 @@ key_at procedures before = checked fault.Order (is_from before) (both (checked f
 
 -- ---- the head
 
--- the letters GBBC
-abbrev pub is_magic : ℕ × (ℕ × (ℕ × ℕ)) → Bool
-is_magic p = p.0 == 0x47 && (p.1.0 == 0x42 && (p.1.1.0 == 0x42 && p.1.1.1 == 0x43))
+abbrev pub Letters : Type 0
+Letters = ℕ × (ℕ × (ℕ × ℕ))
 
-abbrev pub magic_at : Read (ℕ × (ℕ × (ℕ × ℕ)))
-magic_at = checked fault.Magic is_magic (both byte (both byte (both byte byte)))
+-- GBB, and C in versions 1 and 2 or X in version 3
+abbrev pub is_magic : Letters → Bool
+is_magic p = p.0 == 0x47 && (p.1.0 == 0x42 && (p.1.1.0 == 0x42 && (p.1.1.1 == 0x43 || p.1.1.1 == 0x58)))
 
-abbrev pub version_at : Read ℕ
-version_at = checked fault.Version is_version byte
+abbrev pub kind_by : Bool → Rules
+kind_by true = Extended
+kind_by false = Simple
 
-abbrev pub is_region : ℕ × ℕ → Bool
-is_region p = is_area p.0 p.1 && (p.1 - p.0) % 2 == 1
+-- which of both
+abbrev pub kind_of : Letters → Rules
+kind_of p = kind_by (p.1.1.1 == 0x58)
+
+unfoldable pub magic_at : Read Rules
+magic_at = mapped kind_of (checked fault.Magic is_magic (both byte (both byte (both byte byte))))
+
+-- the letters, and a version that they begin
+unfoldable pub version_at : Read ℕ
+version_at = mapped (λ p. p.1) (followed magic_at (λ rules. checked fault.Version (is_version_of rules) byte))
 
 abbrev pub to_region : ℕ × ℕ → Region
 to_region p = record { first = p.0; last = p.1 }
 
-unfoldable pub region_at : Read Region
-region_at = mapped to_region (checked fault.Region is_region (both word word))
+abbrev pub is_region : Rules → ℕ × ℕ → Bool
+is_region rules p = is_area p.0 p.1 && is_whole rules (size (to_region p))
+
+unfoldable pub region_at : Rules → Read Region
+region_at rules = mapped to_region (checked fault.Region (is_region rules) (both word word))
 
 abbrev pub is_any : ℕ → Bool
 is_any n = nat_lt 0 n
 
-abbrev pub to_head : (ℕ × (ℕ × (ℕ × ℕ))) × (ℕ × (Region × (ℕ × ℕ))) → Head
-to_head p = record { version = p.1.0; region = p.1.1.0; procedures = p.1.1.1.0; nodes = p.1.1.1.1 }
+abbrev pub to_head : ℕ × (Region × (ℕ × ℕ)) → Head
+to_head p = record { version = p.0; region = p.1.0; procedures = p.1.1.0; nodes = p.1.1.1 }
 
 -- how many nodes there are
 unfoldable pub node_count_at : ℕ → Read ℕ
 node_count_at version = checked fault.Field is_any (checked fault.Count (is_between 0 (node_limit version)) (node_number version))
 
 unfoldable pub head_at : Read Head
-head_at = mapped to_head (both magic_at (followed version_at (λ v. both region_at (both (checked fault.Field is_any (count_within procedure_limit)) (node_count_at v)))))
+head_at = mapped to_head (followed version_at (λ v. both (region_at (rules_of v)) (both (checked fault.Field is_any (count_within procedure_limit)) (node_count_at v))))

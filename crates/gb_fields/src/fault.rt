@@ -15,10 +15,10 @@ pub enum CertFault {
     #[error("the bytes end within a field")]
     CutShort,
     /// C2.
-    #[error("the first four bytes are not GBBC")]
+    #[error("the first four bytes are neither GBBC nor GBBX")]
     Magic,
     /// C3.
-    #[error("the version is neither 1 nor 2")]
+    #[error("the letters are not those of this version")]
     Version,
     /// C4.
     #[error("a count is over its limit")]

@@ -1,13 +1,15 @@
 //! The head of a certificate.
 
-ghost use Rattle.std.specs.Prelude.{◌≡◌, ◌&&◌, ◌-◌, ◌%◌, nat_le};
+ghost use Rattle.std.specs.Prelude.{◌≡◌, ◌&&◌, nat_le};
 ghost use Rattle.gb_fields.specs.Format.{Gives};
 ghost use Rattle.gb_domain.specs.Areas.{is_area};
-ghost use Rattle.gb_fields.specs.Reading.{is_region, region_at, node_count_at, head_at};
+ghost use Rattle.gb_fields.specs.Rules.{is_version_of, is_whole};
+ghost use Rattle.gb_fields.specs.Reading.{magic_at, version_at, is_region, region_at, node_count_at, head_at};
 
 use crate::fault::CertFault;
 use crate::limits::{PROCEDURE_LIMIT, node_limit};
 use crate::numbers::{byte, count_within, node_number, word};
+use gb_domain::types::Rules;
 use gb_ops::machine::Region;
 
 /// What stands before the procedures and the nodes: the version, the stack region, and how many
@@ -20,22 +22,79 @@ pub struct Head {
     pub nodes: u32,
 }
 
+/// The letters, by which files of version 3 differ from those of versions 1 and 2.
+#[tactic(auto, unfolding(crate::specs::Reading::magic_at))]
+fn magic_at(bytes: &[u8]) -> Result<(Rules, &[u8]), CertFault>
+    ensures { Gives (λ x. (x.0, x.1.now)) result (magic_at bytes.now) }
+{
+    let (first, rest) = byte(bytes)?;
+    let (second, rest) = byte(rest)?;
+    let (third, rest) = byte(rest)?;
+    let (fourth, rest) = byte(rest)?;
+    let is_known = fourth == b'C' || fourth == b'X';
+    if !(first == b'G' && second == b'B' && third == b'B' && is_known) {
+        return Err(CertFault::Magic);
+    }
+    let rules = if fourth == b'X' {
+        Rules::Extended
+    } else {
+        Rules::Simple
+    };
+    Ok((rules, rest))
+}
+
+/// Whether files with these letters have this version.
+fn is_version_of(rules: Rules, version: u8) -> bool
+    ensures { result ≡ is_version_of rules version }
+{
+    match rules {
+        Rules::Simple => version == 1 || version == 2,
+        Rules::Extended => version == 3,
+    }
+}
+
+/// The letters, and a version that they begin.
+#[tactic(auto, unfolding(crate::specs::Reading::version_at))]
+fn version_at(bytes: &[u8]) -> Result<(u8, &[u8]), CertFault>
+    ensures { Gives (λ x. (x.0, x.1.now)) result (version_at bytes.now) }
+{
+    let (rules, rest) = magic_at(bytes)?;
+    let (version, rest) = byte(rest)?;
+    if !is_version_of(rules, version) {
+        return Err(CertFault::Version);
+    }
+    Ok((version, rest))
+}
+
+/// Whether so many bytes of the stack can be counted.
+#[tactic(auto, unfolding(crate::specs::Limits::unit))]
+fn is_whole(rules: Rules, bytes: u32) -> bool
+    ensures { result ≡ is_whole rules bytes }
+{
+    match rules {
+        Rules::Simple => bytes % 2 == 0,
+        Rules::Extended => true,
+    }
+}
+
 /// Whether the addresses from first to last are a stack region.
-fn is_region(first: u16, last: u16) -> bool
-    ensures { result ≡ is_region (first, last) }
+fn is_region(rules: Rules, first: u16, last: u16) -> bool
+    ensures { result ≡ is_region rules (first, last) }
 {
     let is_in_work_ram = 0xC000 <= first && last <= 0xDFFF;
     let is_in_high_ram = 0xFF80 <= first && last <= 0xFFFE;
-    first <= last && (is_in_work_ram || is_in_high_ram) && (last - first) % 2 == 1
+    first <= last
+        && (is_in_work_ram || is_in_high_ram)
+        && is_whole(rules, (last - first) as u32 + 1)
 }
 
 #[tactic(auto, unfolding(crate::specs::Reading::region_at))]
-fn region_at(bytes: &[u8]) -> Result<(Region, &[u8]), CertFault>
-    ensures { Gives (λ x. (x.0, x.1.now)) result (region_at bytes.now) }
+fn region_at(rules: Rules, bytes: &[u8]) -> Result<(Region, &[u8]), CertFault>
+    ensures { Gives (λ x. (x.0, x.1.now)) result (region_at rules bytes.now) }
 {
     let (first, rest) = word(bytes)?;
     let (last, rest) = word(rest)?;
-    if !is_region(first, last) {
+    if !is_region(rules, first, last) {
         return Err(CertFault::Region);
     }
     Ok((Region { first, last }, rest))
@@ -60,18 +119,8 @@ fn node_count_at(version: u8, bytes: &[u8]) -> Result<(u32, &[u8]), CertFault>
 pub fn head_at(bytes: &[u8]) -> Result<(Head, &[u8]), CertFault>
     ensures { Gives (λ x. (x.0, x.1.now)) result (head_at bytes.now) }
 {
-    let (first, rest) = byte(bytes)?;
-    let (second, rest) = byte(rest)?;
-    let (third, rest) = byte(rest)?;
-    let (fourth, rest) = byte(rest)?;
-    if !(first == b'G' && second == b'B' && third == b'B' && fourth == b'C') {
-        return Err(CertFault::Magic);
-    }
-    let (version, rest) = byte(rest)?;
-    if version != 1 && version != 2 {
-        return Err(CertFault::Version);
-    }
-    let (region, rest) = region_at(rest)?;
+    let (version, rest) = version_at(bytes)?;
+    let (region, rest) = region_at(Rules::of(version), rest)?;
     let (procedures, rest) = count_within(PROCEDURE_LIMIT, rest)?;
     if procedures == 0 {
         return Err(CertFault::Field);

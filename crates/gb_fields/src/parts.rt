@@ -1,13 +1,16 @@
 //! Reading the fields of procedures and nodes that stand outside their states.
 
-ghost use Rattle.std.specs.Prelude.{◌≡◌, nat_le};
-ghost use Rattle.gb_fields.specs.Format.{Gives, both, byte};
-ghost use Rattle.gb_fields.specs.Rules.{size, fits};
-ghost use Rattle.gb_fields.specs.Reading.{word, returns_at, entry_at, need_at, key_at};
+ghost use Rattle.std.specs.Prelude.{◌≡◌, ◌==◌, ◌||◌, nat_le};
+ghost use Rattle.gb_domain.specs.declared.rules.Rules.TheVariants.{Extended};
+ghost use Rattle.gb_fields.specs.Format.{Gives, mapped, both, byte};
+ghost use Rattle.gb_fields.specs.Limits.{unit, need_limit};
+ghost use Rattle.gb_fields.specs.Rules.{size, fits, is_base};
+ghost use Rattle.gb_fields.specs.Reading.{word, word_between, returns_at, entry_at, base_at, times, need_at, key_at};
 
 use crate::fault::CertFault;
-use crate::limits::WORD_LIMIT;
+use crate::limits::{NEED_LIMIT, WORD_LIMIT};
 use crate::numbers::{byte, node_number, word, word_between, yes_no};
+use gb_domain::types::Rules;
 use gb_ops::machine::Region;
 
 /// Whether a need fits the region, where it is main's.
@@ -29,13 +32,59 @@ pub fn entry_at(version: u8, nodes: u32, bytes: &[u8]) -> Result<(u32, &[u8]), C
     Ok((entry, rest))
 }
 
+/// Whether a base may be said: main's alone, or any in the region, or none.
+fn is_base(is_main: bool, region: Region, base: u16) -> bool
+    ensures { result ≡ is_base is_main region base }
+{
+    let above = region.last as u32 + 1;
+    let base = base as u32;
+    if is_main {
+        base == above
+    } else {
+        base == 0 || region.first as u32 <= base && base <= above
+    }
+}
+
+/// The base that a certificate of version 3 says.
+#[tactic(auto, unfolding(crate::specs::Reading::base_at))]
+pub fn base_at(is_main: bool, region: Region, bytes: &[u8]) -> Result<(u16, &[u8]), CertFault>
+    ensures { Gives (λ x. (x.0, x.1.now)) result (base_at Extended is_main region bytes.now) }
+{
+    let (base, rest) = word(bytes)?;
+    if !is_base(is_main, region, base) {
+        return Err(CertFault::Field);
+    }
+    Ok((base, rest))
+}
+
+/// A need, in bytes.
+#[tactic(auto, unfolding(crate::specs::Limits::unit, crate::specs::Limits::need_limit))]
+fn need_bytes_at(rules: Rules, bytes: &[u8]) -> Result<(u16, &[u8]), CertFault>
+    ensures { Gives (λ x. (x.0, x.1.now)) result (mapped (times (unit rules)) (word_between 0 (need_limit rules)) bytes.now) }
+{
+    match rules {
+        Rules::Simple => {
+            let (words, rest) = word_between(0, WORD_LIMIT, bytes)?;
+            Ok((2 * words, rest))
+        }
+        Rules::Extended => {
+            let (need, rest) = word_between(0, NEED_LIMIT, bytes)?;
+            Ok((need, rest))
+        }
+    }
+}
+
 /// The bytes of stack that a procedure needs.
 #[tactic(auto, unfolding(crate::specs::Reading::need_at))]
-pub fn need_at(is_main: bool, region: Region, bytes: &[u8]) -> Result<(u16, &[u8]), CertFault>
-    ensures { Gives (λ x. (x.0, x.1.now)) result (need_at is_main region bytes.now) }
+pub fn need_at(
+    rules: Rules,
+    is_main: bool,
+    region: Region,
+    bytes: &[u8],
+) -> Result<(u16, &[u8]), CertFault>
+    ensures { Gives (λ x. (x.0, x.1.now)) result (need_at rules is_main region bytes.now) }
 {
-    let (words, rest) = word_between(0, WORD_LIMIT, bytes)?;
-    let need = 2 * words;
+    let (need, rest) = need_bytes_at(rules, bytes)?;
     if !fits(is_main, region, need) {
         return Err(CertFault::Region);
     }

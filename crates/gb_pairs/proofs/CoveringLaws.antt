@@ -95,4 +95,4 @@ covered v s x h m = record { each = each }
     each pair.Hl = covered_pair pair.Hl v s.hl x (and_parts _ _ h).1 m
 
 pub covers_pairs_sound : (v : Values) (s : Pairs) (o : Bool) → o ≡ covers_pairs v s → o ≡ true → ArePartOf v s
-covers_pairs_sound v s o e h = record { gives = λ x bytes. covered v s x (sym e ∙ h) }
+covers_pairs_sound v s o e h = record { gives = λ x. covered v s x (sym e ∙ h) }

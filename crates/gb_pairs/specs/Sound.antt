@@ -90,4 +90,4 @@ pub record IsSoundSum (y : Bounds) (v : Values) (a : HlSum) : Type 0 where
 
 -- what is known of pairs holds of all that the values stand for
 pub record ArePartOf (s : Values) (t : Pairs) : Type 0 where
-  pub gives : (x : Registers ℕ) → AreBytes x → Holds s x → HoldPairs t x
+  pub gives : (x : Registers ℕ) → Holds s x → HoldPairs t x

@@ -1,5 +1,5 @@
 -- What a branch leaves holds the byte, and is part of what was there.
-use Rattle.std.proofs.Common.{◌≡◌, ℕ, ◌+◌, ◌-◌, ◌<◌, ◌≤◌, Bool, true, false, not, ◌==◌, cond, nat_lt, Option, Some, None, is_none, IfSome, refl, sym, ◌∙◌, ap, subst, arith}
+use Rattle.std.proofs.Common.{◌≡◌, ℕ, ◌+◌, ◌-◌, ◌<◌, ◌≤◌, Bool, true, false, not, ◌==◌, cond, nat_lt, Option, Some, None, is_some, IfSome, refl, sym, ◌∙◌, ap, subst, arith}
 use Rattle.std.proofs.lemmas.Bool.{true≢false}
 use Rattle.std.proofs.lemmas.Bool.Decides.{nat_tests}
 use Rattle.gb_ops.specs.declared.op.Register.{Register}
@@ -86,7 +86,7 @@ shared-byte b c =
 In-memory :
     (address : Option ℕ) (v : Val) (memory : ℕ → ℕ) (y : ℕ)
     → ((a : ℕ) → address ≡ Some a → In v (memory a)) → ((a : ℕ) → address ≡ Some a → memory a ≡ y)
-    → not (is_none address) ≡ true → In v y
+    → is_some address ≡ true → In v y
 In-memory None v memory y m e is = cc
 In-memory (Some a) v memory y m e is = subst (λ z. In v z) (e a refl) (m a refl)
 
@@ -346,7 +346,7 @@ IsCut-with_byte b v c h =
       memory =
           IsCutVal-given (has_address b) v c.memory (λ is. Within-piece c.memory (shared b c) v (Within-shared_memory b c is) h) h.order;
       other_registers = λ r is. sym (with_byte-register r b v c) ∙ given-other (get r b.registers) v (get r c.registers) is;
-      other_memory = λ is. given-other (has_address b) v c.memory (ap (λ o. not (is_none o)) is);
+      other_memory = λ is. given-other (has_address b) v c.memory (ap is_some is);
     }
 
 IsCut-with_byte_if : (b : OneByte) (o : Option Val) (c : Contents) → IsPieceIn (shared b c) o → IfSome (with_byte_if b o c) (IsCut b c)

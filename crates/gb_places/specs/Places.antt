@@ -1,5 +1,5 @@
 -- Places that come and go, and tests (own).
-use Rattle.std.specs.Prelude.{ℕ, ◌+◌, Bool, true, false, not, ◌&&◌, ◌||◌, ◌==◌, if◌then◌else◌, nat_le, Option, Some, None, is_none}
+use Rattle.std.specs.Prelude.{ℕ, ◌+◌, Bool, true, false, ◌&&◌, ◌||◌, ◌==◌, if◌then◌else◌, nat_le, Option, Some, None}
 use Rattle.gb_ops.specs.declared.op.Register.{Register}
 use Rattle.gb_ops.specs.declared.op.Register.TheVariants.{A}
 use Rattle.gb_ops.specs.declared.registers.Registers.{Registers}
@@ -10,19 +10,9 @@ use Rattle.gb_domain.specs.declared.places.Test.{Test}
 use Rattle.gb_domain.specs.declared.places.Test.TheVariants as test
 use Rattle.gb_domain.specs.declared.places.OneByte.{OneByte}
 use Rattle.gb_domain.specs.Places.{no_byte}
+pub use Rattle.gb_domain.specs.RelationRules.{is_some_register, has_address, has_place}
 
 -- ---- which places there are
-
-abbrev pub is_some_register : Registers Bool → Bool
-is_some_register s = s.a || s.b || s.c || s.d || s.e || s.h || s.l
-
--- there is an address among the places
-abbrev pub has_address : OneByte → Bool
-has_address b = not (is_none b.address)
-
--- there is a place
-abbrev pub has_place : OneByte → Bool
-has_place b = is_some_register b.registers || has_address b
 
 abbrev pub is_address : ℕ → Option ℕ → Bool
 is_address a None = false

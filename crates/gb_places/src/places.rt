@@ -24,7 +24,7 @@ fn is_some_register(registers: &Registers<bool>) -> bool
 pub fn has_place(byte: &OneByte) -> bool
     ensures { result ≡ Places.has_place byte.now }
 {
-    is_some_register(&byte.registers) || byte.address.is_some()
+    byte.address.is_some() || is_some_register(&byte.registers)
 }
 
 fn is_address(address: u16, among: Option<u16>) -> bool

@@ -5,6 +5,7 @@ use Rattle.std.proofs.lemmas.List.{drop_more, drop_all}
 use Rattle.std.proofs.lemmas.Option.{slice_get_within, get_or_from_slice_get}
 use Rattle.gb_console.specs.Below.gb_fields.declared.fault.CertFault.{CertFault}
 use Rattle.gb_console.specs.Below.gb_fields.declared.fault.CertFault.TheVariants as fault
+use Rattle.gb_console.specs.Below.gb_domain.declared.rules.Rules.{Rules}
 use Rattle.gb_console.specs.Below.gb_domain.Types.{ProcedureParts, Node}
 use Rattle.gb_console.specs.Below.gb_domain.Certificate.{Certificate}
 use Rattle.gb_console.specs.Below.gb_states.Reading.{read_certificate}
@@ -45,9 +46,9 @@ pub lines_taken : {X : Type 0} (text : ℕ → X → List ℕ) (old new : Option
     → Remains old all new (numbered text i (drop i xs)) → Gains old all new
 lines_taken text old new all xs i h r = remains_none old new all (subst (λ t. Remains old all new t) (none_left text xs i h) r)
 
-pub procedure_taken : (old mid new : Option (List ℕ)) (all : List ℕ) (ps : List ProcedureParts) (i : ℕ) (p : ProcedureParts) → slice_get ps i ≡ Some p
-    → Remains old all mid (numbered procedure_text i (drop i ps)) → Gains mid (procedure_text i p) new → Remains old all new (numbered procedure_text (i + 1) (drop (i + 1) ps))
-procedure_taken old mid new all ps i p h r g = line_taken procedure_text old mid new all ps i p h r g
+pub procedure_taken : (rules : Rules) (old mid new : Option (List ℕ)) (all : List ℕ) (ps : List ProcedureParts) (i : ℕ) (p : ProcedureParts) → slice_get ps i ≡ Some p
+    → Remains old all mid (numbered (procedure_text rules) i (drop i ps)) → Gains mid (procedure_text rules i p) new → Remains old all new (numbered (procedure_text rules) (i + 1) (drop (i + 1) ps))
+procedure_taken rules old mid new all ps i p h r g = line_taken (procedure_text rules) old mid new all ps i p h r g
 
 pub node_taken : (old mid new : Option (List ℕ)) (all : List ℕ) (ns : List Node) (i : ℕ) (n : Node) → slice_get ns i ≡ Some n
     → Remains old all mid (numbered node_text i (drop i ns)) → Gains mid (node_text i n) new → Remains old all new (numbered node_text (i + 1) (drop (i + 1) ns))

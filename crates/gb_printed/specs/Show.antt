@@ -1,5 +1,8 @@
 -- The lines of a certificate (own texts).
 use Rattle.std.specs.Prelude.{ℕ, ◌+◌, ◌/◌, List, [], ◌∷◌, ◌++◌, length, drop, codes, decimal, is_some}
+use Rattle.gb_console.specs.Below.gb_domain.declared.rules.Rules.{Rules}
+use Rattle.gb_console.specs.Below.gb_domain.declared.rules.Rules.TheVariants.{Simple, Extended}
+use Rattle.gb_console.specs.Below.gb_domain.Limits.{rules_of}
 use Rattle.gb_console.specs.Below.gb_domain.Types.{ProcedureParts, Node}
 use Rattle.gb_console.specs.Below.gb_domain.Certificate.{Certificate}
 use Rattle.gb_text.specs.Text.{line_feed, hex_word}
@@ -15,10 +18,21 @@ stack_text c =
     codes "stack " ++ hex_word c.region.first ++ codes ".." ++ hex_word c.region.last
     ++ codes " procedures " ++ decimal (length c.procedures) ++ codes " nodes " ++ decimal (length c.nodes) ++ line_feed
 
--- a procedure with its number: its first node, the words of stack that it needs, how many ranges it declares, whether it returns
-unfoldable pub procedure_text : ℕ → ProcedureParts → List ℕ
-procedure_text i p =
-    codes "procedure " ++ decimal i ++ codes " entry " ++ decimal p.entry ++ codes " need " ++ decimal (p.need / 2)
+-- the address above a procedure's items, which certificates of versions 1 and 2 don't say
+abbrev pub base_text : Rules → ℕ → List ℕ
+base_text Simple base = []
+base_text Extended base = codes " base " ++ hex_word base
+
+-- a need, in words for versions 1 and 2, and in bytes for version 3
+abbrev pub told_need : Rules → ℕ → ℕ
+told_need Simple need = need / 2
+told_need Extended need = need
+
+-- a procedure with its number: its first node, in version 3 its base, the stack that it needs, how many ranges it declares, whether it
+-- returns
+unfoldable pub procedure_text : Rules → ℕ → ProcedureParts → List ℕ
+procedure_text rules i p =
+    codes "procedure " ++ decimal i ++ codes " entry " ++ decimal p.entry ++ base_text rules p.base ++ codes " need " ++ decimal (told_need rules p.need)
     ++ codes " ranges " ++ decimal (length p.ranges) ++ codes " returns " ++ yes_or_no (is_some p.exit) ++ line_feed
 
 -- a node with its number: its procedure, its address and its bank
@@ -34,4 +48,4 @@ numbered text i (x ∷ xs) = text i x ++ numbered text (i + 1) xs
 
 -- the stack's line, then a line for each procedure, then one for each node
 unfoldable pub show_text : Certificate → List ℕ
-show_text c = stack_text c ++ (numbered procedure_text 0 c.procedures ++ numbered node_text 0 c.nodes)
+show_text c = stack_text c ++ (numbered (procedure_text (rules_of c.version)) 0 c.procedures ++ numbered node_text 0 c.nodes)

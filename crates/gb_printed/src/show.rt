@@ -3,10 +3,10 @@
 ghost use Rattle.std.specs.Prelude.{◌≡◌, ◌+◌, ◌≤◌, ◌++◌, false, is_err, OnOk, OnErr, length, decimal};
 ghost use Rattle.gb_text.specs.Sink.{Gains};
 ghost use Rattle.gb_text.specs.Text.{GainsBeginning};
-ghost use Rattle.gb_printed.specs.Show.{hex_bank, stack_text, procedure_text, node_text, numbered, show_text};
+ghost use Rattle.gb_printed.specs.Show.{hex_bank, base_text, told_need, stack_text, procedure_text, node_text, numbered, show_text};
 
 use crate::header::yes_or_no;
-use gb_console::{Cert, NodeRef, ProcedureRef};
+use gb_console::{Cert, NodeRef, ProcedureRef, Rules};
 use gb_text::line::Line;
 use gb_text::put::put_all;
 use gb_text::sink::{OutFault, Sink};
@@ -50,18 +50,44 @@ fn stack_line(cert: &Cert<'_>) -> Line
     line
 }
 
+/// Puts a base at a line's end, in version 3.
+fn push_base(line: &mut Line, rules: Rules, base: u16)
+    requires { length line.old + 10 ≤ 96 }
+    ensures text { line.new ≡ line.old ++ base_text rules base }
+    ensures short { length line.new ≤ length line.old + 10 }
+{
+    match rules {
+        Rules::Simple => {}
+        Rules::Extended => {
+            line.push_text(b" base ");
+            line.push_word(base);
+        }
+    }
+}
+
+/// A need, in words for versions 1 and 2, and in bytes for version 3.
+fn told_need(rules: Rules, need: u16) -> u16
+    ensures { result ≡ told_need rules need }
+{
+    match rules {
+        Rules::Simple => need / 2,
+        Rules::Extended => need,
+    }
+}
+
 /// The line of a procedure.
 #[tactic(auto, unfolding(crate::specs::Show::procedure_text))]
-fn procedure_line(number: u8, procedure: &ProcedureRef<'_>) -> Line
-    ensures { result ≡ procedure_text number procedure.now }
+fn procedure_line(rules: Rules, number: u8, procedure: &ProcedureRef<'_>) -> Line
+    ensures { result ≡ procedure_text rules number procedure.now }
 {
     let mut line = Line::new();
     line.push_text(b"procedure ");
     push_small(&mut line, u16::from(number));
     line.push_text(b" entry ");
     line.push_number(u64::from(procedure.entry()));
+    push_base(&mut line, rules, procedure.base());
     line.push_text(b" need ");
-    push_small(&mut line, procedure.need() / 2);
+    push_small(&mut line, told_need(rules, procedure.need()));
     line.push_text(b" ranges ");
     push_small(&mut line, procedure.ranges().len() as u16);
     line.push_text(b" returns ");
@@ -90,14 +116,14 @@ fn node_line(number: u32, node: &NodeRef<'_>) -> Line
 
 /// Writes the lines of all procedures.
 #[tactic(auto, using(crate::proofs::ShowLaws::procedure_taken))]
-fn put_procedures<W: Sink>(cert: &Cert<'_>, out: &mut W) -> Result<(), OutFault>
+fn put_procedures<W: Sink>(rules: Rules, cert: &Cert<'_>, out: &mut W) -> Result<(), OutFault>
     requires { W.has_failed out.old ≡ false }
-    ensures whole { OnOk result (Gains (W.contents out.old) (numbered procedure_text 0 cert.now.procedures) (W.contents out.new)) }
-    ensures beginning { OnErr result (GainsBeginning (W.contents out.old) (numbered procedure_text 0 cert.now.procedures) (W.contents out.new)) }
+    ensures whole { OnOk result (Gains (W.contents out.old) (numbered (procedure_text rules) 0 cert.now.procedures) (W.contents out.new)) }
+    ensures beginning { OnErr result (GainsBeginning (W.contents out.old) (numbered (procedure_text rules) 0 cert.now.procedures) (W.contents out.new)) }
     ensures failed { W.has_failed out.new ≡ is_err result }
 {
     for i in 0..cert.procedures() {
-        put_all(out, procedure_line(i, &cert.procedure(i)).as_slice())?;
+        put_all(out, procedure_line(rules, i, &cert.procedure(i)).as_slice())?;
     }
     Ok(())
 }
@@ -116,8 +142,9 @@ fn put_nodes<W: Sink>(cert: &Cert<'_>, out: &mut W) -> Result<(), OutFault>
     Ok(())
 }
 
-/// Writes the lines of a certificate, of either version: `stack BBBB..TTTT procedures P nodes N`, then for each procedure
-/// `procedure I entry E need W ranges R returns yes` (or `returns no`), then for each node
+/// Writes the lines of a certificate, of any version: `stack BBBB..TTTT procedures P nodes N`, then for each procedure
+/// `procedure I entry E need W ranges R returns yes` (or `returns no`; in version 3 `base BBBB` stands before the need, which is
+/// in bytes), then for each node
 /// `node I procedure P address AAAA bank BBB`. Addresses and banks are hexadecimal; numbers begin with 0.
 ///
 /// # Errors
@@ -131,6 +158,6 @@ pub fn show_cert<W: Sink>(cert: &Cert<'_>, out: &mut W) -> Result<(), OutFault>
     ensures failed { W.has_failed out.new ≡ is_err result }
 {
     put_all(out, stack_line(cert).as_slice())?;
-    put_procedures(cert, out)?;
+    put_procedures(Rules::of(cert.version()), cert, out)?;
     put_nodes(cert, out)
 }

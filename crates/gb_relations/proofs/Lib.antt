@@ -4,6 +4,7 @@ pub mod AddressLaws
 pub mod ByteLaws
 pub mod AluLaws
 pub mod ByteAfterLaws
+pub mod ComparedLaws
 pub mod FreeLaws
 pub mod ZeroLaws
 pub mod PairLaws

@@ -1,5 +1,6 @@
 -- What an instruction leaves holds behind each of its effects.
-use Rattle.std.proofs.Common.{◌≡◌, ℕ, ◌<◌, sym, subst}
+use Rattle.std.proofs.Common.{◌≡◌, ℕ, ◌<◌, sym, subst, arith}
+use Rattle.gb_ops.specs.declared.op.Register.TheVariants.{B, C, D, E, H, L}
 use Rattle.gb_ops.specs.declared.op.Op.{Op}
 use Rattle.gb_ops.specs.declared.machine.Region.{Region}
 use Rattle.gb_ops.specs.declared.registers.Registers.{Registers}
@@ -11,12 +12,17 @@ use Rattle.gb_domain.specs.declared.pairs.WordPair.TheVariants as words
 use Rattle.gb_domain.specs.declared.pairs.Bounds.{Bounds}
 use Rattle.gb_domain.specs.declared.pairs.Pairs.{Pairs}
 use Rattle.gb_domain.specs.declared.relations.Relations.{Relations}
-use Rattle.gb_domain.specs.Pairs.{facts_of, ArePairs}
+use Rattle.gb_domain.specs.declared.rules.Rules.{Rules}
+use Rattle.gb_domain.specs.declared.rules.Rules.TheVariants.{Simple, Extended}
+use Rattle.gb_domain.specs.Pairs.{no_pairs, facts_of, IsPairFacts, ArePairs}
+use Rattle.gb_pairs.specs.Meaning.{AreBytes, HoldsPair, HoldPairs}
 use Rattle.gb_relations.specs.Meaning.{HoldRelations}
 use Rattle.gb_relations.specs.Transfer.{values_of, relations_after}
-use Rattle.gb_relations.specs.Sound.{HasBytes, Writes, Begins, IsSoundTransfer}
+use Rattle.gb_relations.specs.Sound.{HasBytes, Writes, IsByteFree, Begins, IsSoundTransfer}
 use Rattle.gb_relations.proofs.ByteAfterLaws.{Holds-begun, HoldOneByte-byte_after}
 use Rattle.gb_relations.proofs.FreeLaws.{byte_after-free}
+use Rattle.gb_relations.proofs.MachineLaws.{effect_of-bytes}
+use Rattle.gb_relations.proofs.ComparedLaws.{HoldOneByte-compared_after, compared_after-free}
 use Rattle.gb_relations.proofs.ZeroLaws.{IsZero-zero_after}
 use Rattle.gb_relations.proofs.PairLaws.{AreWords, HoldPairs-pairs_after, pairs_after-kept}
 
@@ -28,13 +34,42 @@ are_words s b d h = record { each = each }
     each words.De = d
     each words.Hl = h
 
+-- of pairs of which nothing is known
+pub HoldPairs-nothing : (x : Registers ℕ) → AreBytes x → HoldPairs no_pairs x
+HoldPairs-nothing x bytes = record { each = each }
+  where
+    each : (p : WordPair) → HoldsPair (facts_of p no_pairs) p x
+    each words.Bc = let h = bytes.each B in let l = bytes.each C in record { first = omega arith; last = omega arith; link = tt }
+    each words.De = let h = bytes.each D in let l = bytes.each E in record { first = omega arith; last = omega arith; link = tt }
+    each words.Hl = let h = bytes.each H in let l = bytes.each L in record { first = omega arith; last = omega arith; link = tt }
+
+ArePairs-nothing : ArePairs no_pairs
+ArePairs-nothing = record { each = each }
+  where
+    each : (p : WordPair) → IsPairFacts (facts_of p no_pairs)
+    each words.Bc = record { last = omega arith; link = tt }
+    each words.De = record { last = omega arith; link = tt }
+    each words.Hl = record { last = omega arith; link = tt }
+
+relations_after-free : (rules : Rules) (region : Region) (o : Op) (sp : Bounds) (vals : Registers Val) (low : Val) (r : Relations)
+    → IsByteFree region r.byte.address → IsByteFree region (relations_after rules region o sp vals low r).byte.address
+unfolding relations_after
+relations_after-free Simple region o sp vals low r h = compared_after-free region o r.byte
+relations_after-free Extended region o sp vals low r h = byte_after-free region o (values_of vals r.pairs) low r.byte h
+
 HoldRelations-relations_after :
-    (region : Region) (o : Op) (sp : Bounds) (vals : Registers Val) (low : Val) (r : Relations) (p : Processor) (memory after : ℕ → ℕ) (l h : ℕ)
+    (rules : Rules) (region : Region) (o : Op) (sp : Bounds) (vals : Registers Val) (low : Val) (r : Relations) (p : Processor) (memory after : ℕ → ℕ) (l h : ℕ)
     → HasBytes o → sp.last < 65536 → AreWords r.pairs
     → Begins region o sp vals low r p memory l h → Writes region (effect_of o p l h).write memory after
-    → HoldRelations (relations_after region o sp vals low r) (effect_of o p l h).processor.registers after (effect_of o p l h).processor.flags
+    → HoldRelations (relations_after rules region o sp vals low r) (effect_of o p l h).processor.registers after (effect_of o p l h).processor.flags
 unfolding relations_after
-HoldRelations-relations_after region o sp vals low r p memory after l h has small are b w =
+HoldRelations-relations_after Simple region o sp vals low r p memory after l h has small are b w =
+    record {
+      byte = HoldOneByte-compared_after o r.byte p memory after l h has b.bytes b.relations.byte;
+      zero = tt;
+      pairs = HoldPairs-nothing _ (effect_of-bytes o p l h has b.low_small b.high_small b.bytes);
+    }
+HoldRelations-relations_after Extended region o sp vals low r p memory after l h has small are b w =
     record {
       byte = HoldOneByte-byte_after region o sp vals low r p memory after l h has b w;
       zero = IsZero-zero_after o r.byte r.zero p memory l h b.relations.byte b.relations.zero;
@@ -42,22 +77,26 @@ HoldRelations-relations_after region o sp vals low r p memory after l h has smal
     }
 
 pub relations_after_sound :
-    (region : Region) (o : Op) (sp : Bounds) (vals : Registers Val) (low : Val) (r after : Relations)
-    → after ≡ relations_after region o sp vals low r → HasBytes o → sp.last < 65536
+    (rules : Rules) (region : Region) (o : Op) (sp : Bounds) (vals : Registers Val) (low : Val) (r after : Relations)
+    → after ≡ relations_after rules region o sp vals low r → HasBytes o → sp.last < 65536
     → r.pairs.bc.bounds.last < 65536 → r.pairs.de.bounds.last < 65536 → r.pairs.hl.bounds.last < 65536
     → IsSoundTransfer region o sp vals low r after
 unfolding relations_after
-relations_after_sound region o sp vals low r after e has small bc de hl =
+relations_after_sound rules region o sp vals low r after e has small bc de hl =
     let are = are_words r.pairs bc de hl in
     subst (λ k. IsSoundTransfer region o sp vals low r k) (sym e)
     (record {
-      gives = λ p memory written l h b w. HoldRelations-relations_after region o sp vals low r p memory written l h has small are b w;
-      free = λ h. byte_after-free region o (values_of vals r.pairs) low r.byte h;
+      gives = λ p memory written l h b w. HoldRelations-relations_after rules region o sp vals low r p memory written l h has small are b w;
+      free = λ h. relations_after-free rules region o sp vals low r h;
     })
 
 pub relations_after_kept :
-    (region : Region) (o : Op) (sp : Bounds) (vals : Registers Val) (low : Val) (r after : Relations)
-    → after ≡ relations_after region o sp vals low r → ArePairs r.pairs → ArePairs after.pairs
+    (rules : Rules) (region : Region) (o : Op) (sp : Bounds) (vals : Registers Val) (low : Val) (r after : Relations)
+    → after ≡ relations_after rules region o sp vals low r → ArePairs r.pairs → ArePairs after.pairs
 unfolding relations_after
-relations_after_kept region o sp vals low r after e are =
-    subst (λ (k : Relations). ArePairs k.pairs) (sym e) (pairs_after-kept o sp (values_of vals r.pairs) are)
+relations_after_kept rules region o sp vals low r after e are =
+    subst (λ (k : Relations). ArePairs k.pairs) (sym e) (kept rules)
+  where
+    kept : (z : Rules) → ArePairs (relations_after z region o sp vals low r).pairs
+    kept Simple = ArePairs-nothing
+    kept Extended = pairs_after-kept o sp (values_of vals r.pairs) are

@@ -16,11 +16,15 @@ use Rattle.gb_domain.specs.declared.pairs.Bounds.{Bounds}
 use Rattle.gb_domain.specs.declared.pairs.Pairs.{Pairs}
 use Rattle.gb_domain.specs.declared.places.OneByte.{OneByte}
 use Rattle.gb_domain.specs.declared.relations.Relations.{Relations}
+use Rattle.gb_domain.specs.declared.rules.Rules.{Rules}
+use Rattle.gb_domain.specs.declared.rules.Rules.TheVariants.{Simple, Extended}
+use Rattle.gb_domain.specs.Relations.{no_relations}
 use Rattle.gb_pairs.specs.declared.values.Values.{Values}
 use Rattle.gb_pairs.specs.Written.{is_half}
 use Rattle.gb_relations.specs.Written.{written, writes_flags}
 use Rattle.gb_relations.specs.Pairs.{pairs_after}
 use Rattle.gb_relations.specs.Bytes.{byte_after}
+use Rattle.gb_relations.specs.Compared.{compared_after}
 
 -- ---- a pair that is 0
 
@@ -57,9 +61,10 @@ abbrev pub values_of : Registers Val → Pairs → Values
 values_of registers pairs = record { registers = registers; pairs = pairs }
 
 -- what is known together behind a taken instruction; registers and relations are those before it, sp has SP's bounds, and low is
--- what was read at an address
-unfoldable pub relations_after : Region → Op → Bounds → Registers Val → Val → Relations → Relations
-relations_after region o sp registers low r =
+-- what was read at an address; by the rules of versions 1 and 2 a comparison of A alone
+unfoldable pub relations_after : Rules → Region → Op → Bounds → Registers Val → Val → Relations → Relations
+relations_after Simple region o sp registers low r = record no_relations { byte = compared_after o r.byte }
+relations_after Extended region o sp registers low r =
     let v = values_of registers r.pairs in
     record {
       byte = byte_after region o v low r.byte;

@@ -3,11 +3,12 @@
 //! transfer functions of relational domains).
 //!
 //! Read `transfer`, whose `relations_after` is what its definition says and holds behind every effect of the instruction. It
-//! stands on `written`, the registers that are overwritten, on `places`, where a byte is stored or read, and on `bytes` and
+//! stands on `compared` (by the rules of versions 1 and 2), and on `written`, the registers that are overwritten, on `places`, where a byte is stored or read, and on `bytes` and
 //! `pairs`, what is left of each part.
 #![tactic(auto)]
 
 mod bytes;
+pub mod compared;
 mod pairs;
 mod places;
 pub mod transfer;

@@ -8,12 +8,13 @@ ghost use Rattle.gb_relations.specs.Transfer as Transfer;
 ghost use Rattle.gb_relations.specs.Sound.{HasBytes, IsSoundTransfer};
 
 use crate::bytes::byte_after;
+use crate::compared::compared_after;
 use crate::pairs::pairs_after;
 use crate::written::{Written, writes_flags, written_by};
 use gb_domain::pairs::{Bounds, Pairs, WordPair};
 use gb_domain::places::OneByte;
 use gb_domain::relations::Relations;
-use gb_domain::types::Val;
+use gb_domain::types::{Rules, Val};
 use gb_ops::machine::Region;
 use gb_ops::op::{AluOp, Op, Operand, Register};
 use gb_ops::registers::Registers;
@@ -105,6 +106,7 @@ fn holds_words(pairs: Pairs)
 
 #[tactic(auto, unfolding(crate::specs::Transfer::relations_after))]
 fn apply(
+    rules: Rules,
     region: Region,
     op: Op,
     sp: Bounds,
@@ -112,8 +114,14 @@ fn apply(
     low: Val,
     relations: &Relations,
 ) -> Relations
-    ensures { result ≡ Transfer.relations_after region op sp registers.now low relations.now }
+    ensures { result ≡ Transfer.relations_after rules region op sp registers.now low relations.now }
 {
+    if rules == Rules::Simple {
+        return Relations {
+            byte: compared_after(op, &relations.byte),
+            ..Relations::default()
+        };
+    }
     let values = Values {
         registers: *registers,
         pairs: relations.pairs,
@@ -126,9 +134,10 @@ fn apply(
 }
 
 /// What is known together behind a taken instruction. Registers and relations are those before it, SP has these bounds, and
-/// `low` is what it read at an address.
+/// `low` is what it read at an address. By the rules of versions 1 and 2 that is a comparison of A alone.
 #[tactic(auto, using(crate::proofs::TransferLaws::relations_after_sound, crate::proofs::TransferLaws::relations_after_kept))]
 pub fn relations_after(
+    rules: Rules,
     region: Region,
     op: Op,
     sp: Bounds,
@@ -136,11 +145,11 @@ pub fn relations_after(
     low: Val,
     relations: &Relations,
 ) -> Relations
-    ensures exact { result ≡ Transfer.relations_after region op sp registers.now low relations.now }
+    ensures exact { result ≡ Transfer.relations_after rules region op sp registers.now low relations.now }
     ensures sound { IsSoundTransfer region op sp registers.now low relations.now result }
     ensures kept { ArePairs relations.now.pairs → ArePairs result.pairs }
 {
     holds_bytes(op);
     holds_words(relations.pairs);
-    apply(region, op, sp, registers, low, relations)
+    apply(rules, region, op, sp, registers, low, relations)
 }

@@ -10,7 +10,8 @@ use Rattle.gb_domain.specs.declared.types.Val.{Val}
 use Rattle.gb_domain.specs.declared.types.Halves.{Halves}
 use Rattle.gb_domain.specs.Types.{AbsState}
 use Rattle.gb_domain.specs.Areas.{IsRegion}
-use Rattle.gb_abs.specs.Meaning.{Holds, MeansCore, AreItems, Means}
+use Rattle.gb_product.specs.Meaning.{Means}
+use Rattle.gb_abs.specs.Meaning.{Holds, MeansCore, AreItems, MeansParts}
 use Rattle.gb_abs.specs.Stack.{pushed}
 use Rattle.gb_abs.specs.Storage.{peek}
 use Rattle.gb_calls.specs.Sound.{without_word}
@@ -26,7 +27,6 @@ MeansCore-without_word core entry x m = record {
   ime = m.ime;
   controller = m.controller;
   count = m.count;
-  test = m.test;
   locked = m.locked;
   stopped = m.stopped;
 }
@@ -48,7 +48,7 @@ last_word_is [] w entry sp top t e h =
 last_word_is (v ∷ items) w entry sp top t e h = last_word_is items w entry sp (top - 1) t (omega arith) h.1
 
 -- where SP stands behind a word more
-pub sp_pushed : (w : Halves) (s : AbsState) (entry : MState) (base : ℕ) (x : MState) → Means (pushed w s) entry base x → s.core.stack_set ≡ true
+pub sp_pushed : (w : Halves) (s : AbsState) (entry : MState) (base : ℕ) (x : MState) → MeansParts (pushed w s) entry base x → s.core.stack_set ≡ true
     → x.processor.sp + (length s.items + 2) ≡ base
 unfolding pushed
 sp_pushed w s entry base x m set =
@@ -61,21 +61,24 @@ pub Means-without_word : (w : Halves) (s : AbsState) (entry : MState) (base : �
     → Means s entry base (without_word x)
 unfolding pushed
 Means-without_word w s entry base x m set small =
-    let sp = sp_pushed w s entry base x m set in
+    let sp = sp_pushed w s entry base x m.parts set in
     record {
-      core = MeansCore-without_word s.core entry x m.core;
-      memory = m.memory;
-      sp = small;
-      stack = λ e. less (length s.items) sp;
-      items = AreItems-fewer s.items w entry base x.storage m.items;
-      cells = m.cells;
+      parts = record {
+        core = MeansCore-without_word s.core entry x m.parts.core;
+        memory = m.parts.memory;
+        sp = small;
+        stack = λ e. less (length s.items) sp;
+        items = AreItems-fewer s.items w entry base x.storage m.parts.items;
+        cells = m.parts.cells;
+      };
+      related = m.related;
     }
   where
     less : (n : ℕ) → x.processor.sp + (n + 2) ≡ base → x.processor.sp + 2 + n ≡ base
     less n e = omega arith
 
 -- the word that was pushed last is found again
-pub pushed_word : (w : ℕ) (s : AbsState) (entry : MState) (base : ℕ) (x : MState) → Means (pushed (known_word w) s) entry base x → s.core.stack_set ≡ true
+pub pushed_word : (w : ℕ) (s : AbsState) (entry : MState) (base : ℕ) (x : MState) → MeansParts (pushed (known_word w) s) entry base x → s.core.stack_set ≡ true
     → word (peek x.storage (x.processor.sp + 1)) (peek x.storage x.processor.sp) ≡ w
 unfolding pushed
 pushed_word w s entry base x m set =

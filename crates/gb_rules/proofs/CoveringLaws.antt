@@ -9,10 +9,12 @@ use Rattle.gb_ops.specs.Play.{MState}
 use Rattle.gb_domain.specs.declared.types.Val.{Val}
 use Rattle.gb_domain.specs.Types.{AbsState, Node}
 use Rattle.gb_domain.specs.Certificate.{Certificate}
-use Rattle.gb_abs.specs.Covering.{covers, covers_items}
-use Rattle.gb_abs.specs.Meaning.{Holds, Means}
-use Rattle.gb_abs.proofs.CoveringLaws.{Means-covered}
-use Rattle.gb_abs.proofs.OperationLaws.{Means-with_value}
+use Rattle.gb_abs.specs.Covering.{covers_items, covers_parts}
+use Rattle.gb_product.specs.Covering.{covers}
+use Rattle.gb_product.specs.Meaning.{Means}
+use Rattle.gb_abs.specs.Meaning.{Holds}
+use Rattle.gb_product.proofs.CoveringLaws.{Means-covered}
+use Rattle.gb_abs.proofs.OperationLaws.{MeansParts-with_value}
 use Rattle.gb_rules.specs.Covered.{is_cover, is_covered_by_one, is_covered_by_values, with_value, all_from, count_of, registers, covered_at}
 
 items_counted : (s t : List Val) → covers_items s t ≡ true → length t ≡ length s
@@ -22,8 +24,8 @@ items_counted (s ∷ ss) [] h = cc
 items_counted (s ∷ ss) (t ∷ ts) h = ap suc (items_counted ss ts (and_parts _ _ h).1)
 
 pub covered_items : (s t : AbsState) → covers s t ≡ true → length t.items ≡ length s.items
-unfolding covers
-covered_items s t h = items_counted s.items t.items (middle _ _ _ h)
+unfolding covers covers_parts
+covered_items s t h = items_counted s.items t.items (middle _ _ _ (and_parts _ _ h).0)
   where
     middle : (a b c : Bool) → (a && b && c) ≡ true → b ≡ true
     middle true true c h = refl
@@ -70,11 +72,11 @@ unfolding is_covered_by_values with_value
 found_by_values cert procedure a s r entry base y h m =
     let val = get r s.core.registers in
     let v = get r y.processor.registers in
-    let holds : Holds val entry v = m.core.registers r in
+    let holds : Holds val entry v = m.parts.core.registers r in
     let least = holds.least in
     let most = holds.most in
     let one = one_of_them (λ v. is_covered_by_one cert.nodes procedure a (with_value r s v)) val.lo (count_of val) v h least (omega arith) in
-    found_by_one cert procedure a (with_value r s v) entry base y one (Means-with_value r s entry base y m)
+    found_by_one cert procedure a (with_value r s v) entry base y one (record { parts = MeansParts-with_value r s entry base y m.parts; related = m.related })
 
 -- states that are covered at an address: a node there means each of their machine states
 pub found_at : (cert : Certificate) (procedure a : ℕ) (s : AbsState) (entry : MState) (base : ℕ) (y : MState) → covered_at cert.nodes procedure a s ≡ true → Means s entry base y

@@ -1,5 +1,8 @@
 -- An interrupt's dispatch: the procedure is left as by a call, and its handler is entered.
-use Rattle.std.proofs.Common.{◌≡◌, ℕ, ◌+◌, ◌-◌, ◌/◌, ◌%◌, ◌≤◌, ◌<◌, Bool, true, false, ◌&&◌, nat_lt, ◌⊎◌, inl, inr, List, length, Some, refl, sym, ◌∙◌, ap, subst, arith}
+use Rattle.std.proofs.Common.{◌≡◌, ℕ, ◌+◌, ◌-◌, ◌/◌, ◌%◌, ◌≤◌, ◌<◌, Bool, true, false, ◌&&◌, nat_lt, ◌⊎◌, inl, inr, List, length, Option, Some, None, refl, sym, ◌∙◌, ap, subst, arith}
+use Rattle.std.proofs.lemmas.Bool.{and_parts, not-true}
+use Rattle.std.proofs.lemmas.Option.{same_Some}
+use Rattle.std.specs.Option.{IfSome}
 use Rattle.std.proofs.lemmas.Bool.Decides.{nat_tests}
 use Rattle.std.proofs.lemmas.List.Elements.{All-nil}
 use Rattle.std.specs.List.{All, Contains}
@@ -15,7 +18,17 @@ use Rattle.gb_ops.specs.Machine as Machine
 use Rattle.gb_ops.specs.Machine.{is_possible, happened, is_ime, vector}
 use Rattle.gb_ops.specs.Faults.{no_faults, store_faults, event_faults, event_places}
 use Rattle.gb_ops.specs.Play.{MState, within, outside}
+use Rattle.gb_ops.specs.declared.registers.Registers.{Registers}
+use Rattle.gb_ops.specs.declared.registers.Flags.{Flags}
+use Rattle.gb_domain.specs.declared.relations.Relations.{Relations}
+use Rattle.gb_domain.specs.declared.rules.Rules.TheVariants.{Simple}
 use Rattle.gb_domain.specs.declared.types.Core.{Core}
+use Rattle.gb_domain.specs.Areas.{is_free_byte}
+use Rattle.gb_domain.specs.Limits.{rules_of}
+use Rattle.gb_domain.specs.Types.{any_val}
+use Rattle.gb_abs.specs.Cells.{IsPlaced}
+use Rattle.gb_abs.proofs.StorageLaws.{placed_in_ram}
+use Rattle.gb_relations.specs.Meaning.{HoldRelations}
 use Rattle.gb_domain.specs.Types.{AbsState, Node}
 use Rattle.gb_domain.specs.Certificate.{Certificate}
 use Rattle.gb_states.specs.Rules.{IsCertificate}
@@ -24,12 +37,13 @@ use Rattle.gb_abs.specs.Below.gb_vals.Bits.{has_bit, may_have_bit}
 use Rattle.gb_abs.proofs.Below.gb_vals_laws.BitLaws.{may_have_bit_sound}
 use Rattle.gb_abs.specs.Cells.{ArePlaced}
 use Rattle.gb_abs.specs.Mark.{IsMarkHarmless}
-use Rattle.gb_abs.specs.Meaning.{Holds, MeansCore, Means, ime_may_be}
+use Rattle.gb_product.specs.Meaning.{AreRelated, Means}
+use Rattle.gb_abs.specs.Meaning.{Holds, MeansCore, MeansParts, ime_may_be}
 use Rattle.gb_abs.specs.Operations.{core_end, with_core}
 use Rattle.gb_abs.specs.Stack.{pushed}
 use Rattle.gb_abs.specs.Storage.{peek}
 use Rattle.gb_abs.proofs.OperationLaws.{Holds-single}
-use Rattle.gb_abs.proofs.StackLaws.{IsRegionOpen-bound, Means-pushed, Means-with_core}
+use Rattle.gb_abs.proofs.StackLaws.{IsRegionOpen-bound, MeansParts-pushed, MeansParts-with_core}
 use Rattle.gb_code.specs.Below.gb_abs_memory.Kept.{IsKept}
 use Rattle.gb_code.specs.Below.gb_abs_memory.Sound.{view}
 use Rattle.gb_calls.specs.Calls.{entered, callee_of, are_ranges_inside, resumed}
@@ -39,7 +53,7 @@ use Rattle.gb_code.specs.Places.{IsCertified}
 use Rattle.gb_successors.specs.Behind.{ended}
 use Rattle.gb_successors.specs.Below.gb_abs_effects.Pairs.{known_word}
 use Rattle.gb_successors.proofs.StackWayLaws.{not_pushed}
-use Rattle.gb_successors.proofs.SuccessorLaws.{Means-ended, passed_peek}
+use Rattle.gb_successors.proofs.SuccessorLaws.{MeansParts-ended, passed_peek}
 use Rattle.gb_rules.specs.Covered.{covered_at}
 use Rattle.gb_rules.specs.Procedures.{ranges_of, need_of, exit_of}
 use Rattle.gb_rules.specs.Safety.{IsAt, Calls, IsSafeEvent}
@@ -83,8 +97,8 @@ pub may_come-possible : (rom : List ℕ) (cert : Certificate) (n : Node) (entry 
 may_come-possible rom cert n entry base x i at possible =
     let c = is_called rom x i possible in
     let small = c.small in
-    let on : n.state.core.ime.on ≡ true = subst (λ j. ime_may_be n.state.core.ime j ≡ true) c.on at.means.core.ime in
-    let ie = at.means.core.ie in
+    let on : n.state.core.ime.on ≡ true = subst (λ j. ime_may_be n.state.core.ime j ≡ true) c.on at.means.parts.core.ime in
+    let ie = at.means.parts.core.ie in
     let bit : may_have_bit n.state.core.ie i ≡ true =
     (may_have_bit_sound i n.state.core.ie (may_have_bit n.state.core.ie i) refl (omega arith)).gives x.storage.ie (record { least = ie.least; most = ie.most }) c.bit in
     (both _ _ on bit, small)
@@ -139,10 +153,31 @@ MeansCore-masked s entry x i m = record {
   ime = refl;
   controller = m.controller;
   count = m.count;
-  test = m.test;
   locked = m.locked;
   stopped = m.stopped;
 }
+
+dispatched_means : (s : AbsState) (a : ℕ) (entry : MState) (base : ℕ) (y : MState) → MeansParts (pushed (known_word a) (dispatched s)) entry base y → AreRelated s.relations y
+    → Means (pushed (known_word a) (dispatched s)) entry base y
+unfolding pushed dispatched
+dispatched_means s a entry base y parts related = record { parts = parts; related = related }
+
+-- memory that stays where a byte of the places is
+HoldRelations-apart : (r : Relations) (x : Registers ℕ) (memory after : ℕ → ℕ) (f : Flags) → ((a : ℕ) → r.byte.address ≡ Some a → after a ≡ memory a) → HoldRelations r x memory f → HoldRelations r x after f
+HoldRelations-apart r x memory after f same h = record {
+  byte = record { byte = h.byte.byte; small = h.byte.small; registers = h.byte.registers; address = λ a e. same a e ∙ h.byte.address a e; test = h.byte.test };
+  zero = h.zero;
+  pairs = h.pairs;
+}
+
+not_so : {X : Type 0} → true ≡ false → X
+not_so h = cc
+
+byte_placed : (region : Region) (o : Option ℕ) (a : ℕ) → IfSome o (λ b. is_free_byte region b ≡ true) → o ≡ Some a → IsPlaced region (record { address = a; val = any_val })
+byte_placed region None a h e = cc
+byte_placed region (Some b) a h e =
+    subst (λ c. IsPlaced region (record { address = c; val = any_val })) (same_Some b a e)
+    (let p = and_parts _ _ h in record { area = p.0; apart = not-true _ p.1 })
 
 record IsDispatched (rom : List ℕ) (cert : Certificate) (n : Node) (entry : MState) (base : ℕ) (x : MState) (i : ℕ) : Type 0 where
   means : Means (pushed (known_word n.address) (dispatched n.state)) entry base (left_by rom x i n.address)
@@ -158,16 +193,22 @@ is_dispatched : (rom : List ℕ) (cert : Certificate) (n : Node) (entry : MState
 is_dispatched rom cert n entry base x i at is_node certificate set unlimited held =
     let s = IsNodeState-node cert n certificate is_node in
     let room = fewer_bytes cert.region base (need_of cert n.procedure) (length n.state.items + 2) at.room held in
-    let top = at.means.stack set in
+    let top = at.means.parts.stack set in
     let y : MState = record { processor = in_handler x.processor i; storage = x.storage } in
-    let core = MeansCore-masked n.state.core entry x i at.means.core in
-    let means : Means (with_core n.state (masked n.state.core)) entry base y = Means-with_core n.state (masked n.state.core) entry base x y at.means core refl refl refl (λ on. on) in
+    let core = MeansCore-masked n.state.core entry x i at.means.parts.core in
+    let means : MeansParts (with_core n.state (masked n.state.core)) entry base y = MeansParts-with_core n.state (masked n.state.core) entry base x y at.means.parts core refl refl refl (λ on. on) in
     let done =
-    Means-pushed cert.region (with_core n.state (masked n.state.core)) entry base y (view rom x false) (known_word n.address) n.address means refl set room s.is_region s.placed
-    (IsRegionOpen-bound n.state.core entry x cert.region at.means.core unlimited) (Holds-single (n.address / 256) entry) (Holds-single (n.address % 256) entry) s.address in
+    MeansParts-pushed cert.region (with_core n.state (masked n.state.core)) entry base y (view rom x false) (known_word n.address) n.address means refl set room s.is_region s.placed
+    (IsRegionOpen-bound n.state.core entry x cert.region at.means.parts.core unlimited) (Holds-single (n.address / 256) entry) (Holds-single (n.address % 256) entry) s.address in
     record {
-      means = subst (λ z. Means z entry base (left_by rom x i n.address)) (pushed_ended n.state n.address)
-          (Means-ended rom (pushed (known_word n.address) (with_core n.state (masked n.state.core))) entry base (left_by rom x i n.address).processor (stored (view rom x false) (write.Push x.processor.sp n.address)) false 5 done.starting done.means);
+      means = dispatched_means n.state n.address entry base (left_by rom x i n.address) (subst (λ z. MeansParts z entry base (left_by rom x i n.address)) (pushed_ended n.state n.address)
+          (MeansParts-ended rom (pushed (known_word n.address) (with_core n.state (masked n.state.core))) entry base (left_by rom x i n.address).processor (stored (view rom x false) (write.Push x.processor.sp n.address)) false 5 done.starting done.means))
+          (HoldRelations-apart n.state.relations x.processor.registers (peek x.storage) (peek (left_by rom x i n.address).storage) x.processor.flags
+          (λ b e. let p = byte_placed cert.region n.state.relations.byte.address b s.byte e in
+          passed_peek (stored (view rom x false) (write.Push x.processor.sp n.address)) 5 b
+          ∙ done.others b (placed_in_ram cert.region _ p) (not_pushed cert.region base x.processor.sp (length n.state.items) (x.processor.sp - 1) b room top (inl refl) (λ m. not_so (sym m ∙ p.apart)))
+          (not_pushed cert.region base x.processor.sp (length n.state.items) (x.processor.sp - 2) b room top (inr refl) (λ m. not_so (sym m ∙ p.apart))))
+          at.means.related);
       faults = done.faults;
       kept = λ b kept. passed_peek (stored (view rom x false) (write.Push x.processor.sp n.address)) 5 b
           ∙ done.others b kept.ram (not_pushed cert.region base x.processor.sp (length n.state.items) (x.processor.sp - 1) b room top (inl refl) kept.above)
@@ -193,11 +234,11 @@ unfolding handler_of
 handler_is cert i s = refl
 
 handled : (rom : List ℕ) (cert : Certificate) (n : Node) (entry : MState) (base : ℕ) (x : MState) (i q : ℕ) → IsAt rom cert n entry base x → Contains cert.nodes n → IsCertificate cert
-    → IsDispatched rom cert n entry base x i → x.processor.halt_mark ≡ false → n.state.core.stack_set ≡ true → handler_of cert i n.state ≡ Some q
+    → rules_of cert.version ≡ Simple → IsDispatched rom cert n entry base x i → x.processor.halt_mark ≡ false → n.state.core.stack_set ≡ true → handler_of cert i n.state ≡ Some q
     → are_ranges_inside (ranges_of cert q) (ranges_of cert n.procedure) ≡ true → length n.state.items + 2 + need_of cert q ≤ need_of cert n.procedure
-    → ((exit : AbsState) → exit_of cert q ≡ Some exit → covered_at cert.nodes n.procedure n.address (resumed (ranges_of cert q) (dispatched n.state) exit) ≡ true)
+    → ((exit : AbsState) → exit_of cert q ≡ Some exit → covered_at cert.nodes n.procedure n.address (resumed (rules_of cert.version) (ranges_of cert q) (dispatched n.state) exit) ≡ true)
     → Calls cert n.procedure entry base (left_by rom x i n.address)
-handled rom cert n entry base x i q at is_node certificate d mark set handler inside depth resumes =
+handled rom cert n entry base x i q at is_node certificate simple d mark set handler inside depth resumes =
     let s = IsNodeState-node cert n certificate is_node in
     let callee = IsCallee-found cert (vector i) (dispatched n.state) q (sym (handler_is cert i n.state) ∙ handler) in
     let begin = IsEntryNode-entry cert (vector i) (entered (dispatched n.state)) callee.procedure callee.begins in
@@ -208,6 +249,7 @@ handled rom cert n entry base x i q at is_node certificate d mark set handler in
       back = n.address;
       back_small = s.address;
       means = d.means;
+      rules = simple;
       stack_set = dispatched_set n.state ∙ set;
       placed = subst (λ cells. ArePlaced cert.region cells) (sym (dispatched_cells n.state)) s.placed;
       node = begin.node;
@@ -219,7 +261,7 @@ handled rom cert n entry base x i q at is_node certificate d mark set handler in
       depth = subst (λ items. length items + 2 + need_of cert begin.node.procedure ≤ need_of cert n.procedure) (sym (dispatched_items n.state))
           (subst (λ m. length n.state.items + 2 + need_of cert m ≤ need_of cert n.procedure) (sym number) depth);
       inside = subst (λ m. are_ranges_inside (ranges_of cert m) (ranges_of cert n.procedure) ≡ true) (sym number) inside;
-      resumes = λ exit is. subst (λ m. covered_at cert.nodes n.procedure n.address (resumed (ranges_of cert m) (dispatched n.state) exit) ≡ true) (sym number)
+      resumes = λ exit is. subst (λ m. covered_at cert.nodes n.procedure n.address (resumed (rules_of cert.version) (ranges_of cert m) (dispatched n.state) exit) ≡ true) (sym number)
           (resumes exit (subst (λ m. exit_of cert m ≡ Some exit) number is));
     }
 
@@ -227,19 +269,19 @@ handled rom cert n entry base x i q at is_node certificate d mark set handler in
 
 -- A dispatch is safe where the stack is set and no OAM transfer closes it, and where the interrupt has a handler whose
 -- ranges and bytes lie inside the procedure's, and behind which the procedure goes on at a node.
-pub IsSafeEvent-dispatch : (rom : List ℕ) (cert : Certificate) (n : Node) (entry : MState) (base : ℕ) (x : MState) (i q : ℕ) → IsAt rom cert n entry base x → Contains cert.nodes n → IsCertificate cert
+pub IsSafeEvent-dispatch : (rom : List ℕ) (cert : Certificate) (n : Node) (entry : MState) (base : ℕ) (x : MState) (i q : ℕ) → IsAt rom cert n entry base x → Contains cert.nodes n → IsCertificate cert → rules_of cert.version ≡ Simple
     → is_possible (within rom x) (event.Irq i) ≡ true → n.state.core.stack_set ≡ true → (n.state.core.bound ≡ 0) ⊎ (0xFF80 ≤ cert.region.first) → handler_of cert i n.state ≡ Some q
     → are_ranges_inside (ranges_of cert q) (ranges_of cert n.procedure) ≡ true → length n.state.items + 2 + need_of cert q ≤ need_of cert n.procedure
-    → ((exit : AbsState) → exit_of cert q ≡ Some exit → covered_at cert.nodes n.procedure n.address (resumed (ranges_of cert q) (dispatched n.state) exit) ≡ true)
+    → ((exit : AbsState) → exit_of cert q ≡ Some exit → covered_at cert.nodes n.procedure n.address (resumed (rules_of cert.version) (ranges_of cert q) (dispatched n.state) exit) ≡ true)
     → IsSafeEvent rom cert n.procedure entry base x (event.Irq i)
-IsSafeEvent-dispatch rom cert n entry base x i q at is_node certificate possible set unlimited handler inside depth resumes =
+IsSafeEvent-dispatch rom cert n entry base x i q at is_node certificate simple possible set unlimited handler inside depth resumes =
     let mark = mark_clear rom x at.mark (is_called rom x i possible).on in
     let d = is_dispatched rom cert n entry base x i at is_node certificate set unlimited (omega arith) in
     let after = happened_is rom x i n.address at.address in
     let safe : IsSafeHappening rom cert n.procedure entry base x (event.Irq i) = record {
       faults = faults_are rom cert.region x i n.address at.address ∙ d.faults;
       places = no_places rom cert x i;
-      leads = inr (inl (subst (λ y. Calls cert n.procedure entry base y) (sym after) (handled rom cert n entry base x i q at is_node certificate d mark set handler inside depth resumes)));
+      leads = inr (inl (subst (λ y. Calls cert n.procedure entry base y) (sym after) (handled rom cert n entry base x i q at is_node certificate simple d mark set handler inside depth resumes)));
       kept = λ b kept. ap (λ (y : MState). peek y.storage b) after ∙ d.kept b kept;
     } in
     IsSafeEvent-where rom cert n.procedure entry base x (event.Irq i) true possible (record { node = n; is_node = is_node; procedure_is = refl; at = at }) (λ yes. safe)

@@ -33,11 +33,13 @@ use Rattle.gb_ops.specs.declared.machine.Mapped.{Mapped}
 use Rattle.gb_ops.specs.declared.machine.Mapped.TheVariants as mapped
 use Rattle.gb_ops.specs.declared.registers.Registers.{Registers}
 use Rattle.gb_ops.specs.Registers.{get}
-use Rattle.gb_abs.specs.Below.gb_vals.Tests.{IsTested}
-use Rattle.gb_abs.specs.Meaning.{Holds, HoldsFlags, HoldsController, Means, ime_may_be}
+use Rattle.gb_product.specs.Meaning.{Means}
+use Rattle.gb_abs.specs.Meaning.{Holds, HoldsFlags, HoldsController, ime_may_be, MeansParts}
+use Rattle.gb_relations.specs.Meaning.{HoldRelations}
+use Rattle.gb_successors.proofs.RelatedLaws.{HoldRelations-same}
 use Rattle.gb_abs.specs.Storage.{peek}
 use Rattle.gb_abs.proofs.OperationLaws.{counted}
-use Rattle.gb_abs.proofs.StackLaws.{Means-with_core}
+use Rattle.gb_abs.proofs.StackLaws.{MeansParts-with_core}
 use Rattle.gb_code.specs.Below.gb_abs_memory.Sound.{IsRom}
 use Rattle.gb_code.specs.Places.{IsCertified, IsCertifiedBy}
 use Rattle.gb_code.specs.Code.{area_end, known_byte}
@@ -47,16 +49,16 @@ use Rattle.gb_abs.specs.Operations.{core_settle}
 use Rattle.gb_domain.specs.declared.types.Core.{Core}
 use Rattle.gb_successors.specs.Below.gb_abs_effects.declared.targets.Target.TheVariants as target
 use Rattle.gb_successors.specs.Below.gb_abs_effects.Targets.{target_of}
-use Rattle.gb_successors.specs.Below.gb_abs_effects.Sides.{sides_of}
+use Rattle.gb_product.specs.Sides.{sides_of}
 use Rattle.gb_code.specs.Below.gb_abs_memory.Kept.{IsKept}
 use Rattle.gb_successors.specs.Way.{Successor}
-use Rattle.gb_successors.specs.Successors.{successors_of, taken_successor}
+use Rattle.gb_successors.specs.Successors.{successors_of, taken_parts, taken_successor}
 use Rattle.gb_successors.specs.Sound.{IsHalt}
 use Rattle.gb_rules.specs.Rules.{is_halt, is_nop, is_nop_behind, may_read_twice, reason_of, reason_at}
-use Rattle.gb_rules.specs.Procedures.{ranges_of}
+use Rattle.gb_rules.specs.Procedures.{ranges_of, setting_of}
 use Rattle.gb_rules.specs.Safety.{IsMeant, Leads, IsSafeEvent, IsNoDispatch, IsSafeNode}
 use Rattle.gb_rules.proofs.SearchLaws.{Contains-slice_get}
-use Rattle.gb_rules.proofs.NodeLaws.{IsNodeState-node, Passes-from, ruled, allowed, known_by}
+use Rattle.gb_rules.proofs.NodeLaws.{IsNodeState-node, Passes-from, ways_of, ruled, allowed, known_by}
 use Rattle.gb_rules.proofs.StandLaws.{OnNode, stands, sound_ways, is_known, on_code}
 use Rattle.gb_rules.proofs.WayLaws.{IsElsewhere, bytes_within, Leads-way}
 
@@ -118,7 +120,7 @@ run_unmarked : (rom : List ℕ) (cert : Certificate) (n : Node) (entry : MState)
     → x.processor.halt_mark ≡ false → slice_index reads 0 ≤ 255 → IsSafeHappening rom cert n.procedure entry base x (event.Run fetch reads)
 run_unmarked rom cert n entry base x k fetch reads mark byte =
     let p = k.passes in
-    let done = (sound_ways rom cert n entry base x k).executes cert.region (ranges_of cert n.procedure) entry base x reads (stands rom cert n entry base x k)
+    let done = (sound_ways rom cert n entry base x k).executes (ranges_of cert n.procedure) entry base x reads (stands rom cert n entry base x k)
     (ruled rom cert n base p k.cartridge k.state k.main k.room) mark byte in
     let t = done.successor in
     let may = allowed rom cert n p base t done.is_one k.state k.return_word k.room in
@@ -181,11 +183,11 @@ itself rom cert n entry base x y k address means mark = record {
 }
 
 -- a smaller count, and the same processor but for PC and the mark
-same_core : (s : AbsState) (entry : MState) (base : ℕ) (x y : MState) → Means s entry base x → y.storage ≡ (counted (y.storage.count) x).storage → y.storage.count ≤ x.storage.count
+same_core : (s : AbsState) (entry : MState) (base : ℕ) (x y : MState) → MeansParts s entry base x → y.storage ≡ (counted (y.storage.count) x).storage → y.storage.count ≤ x.storage.count
     → y.processor.registers ≡ x.processor.registers → y.processor.flags ≡ x.processor.flags → y.processor.ime ≡ x.processor.ime → y.processor.sp ≡ x.processor.sp
-    → y.processor.locked ≡ x.processor.locked → y.processor.stopped ≡ x.processor.stopped → Means s entry base y
+    → y.processor.locked ≡ x.processor.locked → y.processor.stopped ≡ x.processor.stopped → MeansParts s entry base y
 same_core s entry base x y m storage less registers flags i sp locked stopped =
-    Means-with_core s s.core entry base x y m
+    MeansParts-with_core s s.core entry base x y m
     (record {
       registers = λ r. subst (λ q. Holds (get r s.core.registers) entry (get r q)) (sym registers) (m.core.registers r);
       flags = subst (λ f. HoldsFlags s.core.flags entry f) (sym flags) m.core.flags;
@@ -193,7 +195,6 @@ same_core s entry base x y m storage less registers flags i sp locked stopped =
       ime = subst (λ j. ime_may_be s.core.ime j ≡ true) (sym i) m.core.ime;
       controller = subst (λ (t : Storage). HoldsController s.core.ctl entry t.banks) (sym storage) m.core.controller;
       count = let most = m.core.count in omega arith;
-      test = subst (λ q. IsTested s.core.test q y.processor.flags) (sym (ap (λ (q : Registers ℕ). q.a) registers)) (subst (λ f. IsTested s.core.test x.processor.registers.a f) (sym flags) m.core.test);
       locked = locked ∙ m.core.locked;
       stopped = stopped ∙ m.core.stopped;
     })
@@ -202,6 +203,17 @@ same_core s entry base x y m storage less registers flags i sp locked stopped =
 count_peek : (t : Storage) (count b : ℕ) → peek (record t { count = count }) b ≡ peek t b
 unfolding peek
 count_peek t count b = refl
+
+same_means : (s : AbsState) (entry : MState) (base : ℕ) (x y : MState) → Means s entry base x → y.storage ≡ (counted (y.storage.count) x).storage → y.storage.count ≤ x.storage.count
+    → y.processor.registers ≡ x.processor.registers → y.processor.flags ≡ x.processor.flags → y.processor.ime ≡ x.processor.ime → y.processor.sp ≡ x.processor.sp
+    → y.processor.locked ≡ x.processor.locked → y.processor.stopped ≡ x.processor.stopped → Means s entry base y
+same_means s entry base x y m storage less registers flags i sp locked stopped = record {
+  parts = same_core s entry base x y m.parts storage less registers flags i sp locked stopped;
+  related = subst (λ q. HoldRelations s.relations q (peek y.storage) y.processor.flags) (sym registers)
+      (subst (λ f. HoldRelations s.relations x.processor.registers (peek y.storage) f) (sym flags)
+      (HoldRelations-same s.relations x.processor.registers (peek x.storage) (peek y.storage) x.processor.flags
+      (λ b. ap (λ (t : Storage). peek t b) storage ∙ count_peek x.storage y.storage.count b) m.related));
+}
 
 -- ---- NOP under the HALT mark
 
@@ -237,7 +249,7 @@ run_marked rom cert n entry base x k fetch reads mark off nop =
           (certified_by rom cert n _ k.is_node all.places);
       leads = subst (Leads rom cert n.procedure entry base x) (sym after)
           (inl (itself rom cert n entry base x (repeated_nop x) k (mod_small x.processor.pc small ∙ k.address)
-          (same_core n.state entry base x (repeated_nop x) k.means refl (omega arith) refl refl (ap Machine.ime_after off ∙ (ime_off ∙ sym off)) refl refl refl) (inl refl)));
+          (same_means n.state entry base x (repeated_nop x) k.means refl (omega arith) refl refl (ap Machine.ime_after off ∙ (ime_off ∙ sym off)) refl refl refl) (inl refl)));
       kept = λ b kept. ap (λ (y : MState). peek y.storage b) after ∙ count_peek x.storage (x.storage.count - 1) b;
     }
 
@@ -325,7 +337,7 @@ stay_safe rom cert n entry base x k mark possible =
     let first = FetchesFirst-known rom n entry base x k.passes.bytes known (on_code rom cert n entry base x k) in
     let pending : x.processor.ime ≡ ime.Pending = is_pending x.processor.ime (ap (λ (q : Processor). is_ime q.ime ime.Pending) (sym (processor_is rom x)) ∙ parts.1) in
     let clear = unmarked_at_halt rom cert n entry base x k mark parts.0 in
-    let way = (sound_ways rom cert n entry base x k).stays cert.region (ranges_of cert n.procedure) entry base x (stands rom cert n entry base x k) (at_halt rom cert n entry base x k parts.0) pending parts.2 in
+    let way = (sound_ways rom cert n entry base x k).stays (ranges_of cert n.procedure) entry base x (stands rom cert n entry base x k) (at_halt rom cert n entry base x k parts.0) pending parts.2 in
     record {
       faults = (halt_faults cert.region rom x first.faults).0;
       places = (halt_places rom cert x (n, k.is_node, first.place)).0;
@@ -374,14 +386,14 @@ unfolding halt_bug within outside
 bug_pc rom x = refl
 
 -- behind HALT the machine is in the same procedure
-halt_stays_here : (rom : List ℕ) (n : Node) (row : Row) (t : Successor) → IsHalt row → (successors_of rom row n.address n.state).taken ≡ Some t → IsElsewhere t.target → ⊥
-unfolding successors_of taken_successor target_of
-halt_stays_here rom n row t halt is e = by (sides_of row.op (core_settle n.state.core)).taken is
+halt_stays_here : (rom : List ℕ) (cert : Certificate) (n : Node) (row : Row) (t : Successor) → IsHalt row → (ways_of rom cert n row).taken ≡ Some t → IsElsewhere t.target → ⊥
+unfolding successors_of taken_successor taken_parts target_of
+halt_stays_here rom cert n row t halt is e = by (sides_of row.op n.state (core_settle n.state.core)).taken is
   where
-    by : (o : Option Core) → option_map (taken_successor rom row ((n.address + row.length) % 65536) n.state) o ≡ Some t → ⊥
+    by : (o : Option Core) → option_map (taken_successor (setting_of cert n.procedure) rom cert.region row ((n.address + row.length) % 65536) n.state) o ≡ Some t → ⊥
     by None h = cc
     by (Some c) h =
-        let same : taken_successor rom row ((n.address + row.length) % 65536) n.state c ≡ t = same_Some _ _ h in
+        let same : taken_successor (setting_of cert n.procedure) rom cert.region row ((n.address + row.length) % 65536) n.state c ≡ t = same_Some _ _ h in
         let here : t.target ≡ target.At ((n.address + row.length) % 65536) = sym (ap (λ (u : Successor). u.target) same) ∙ ap (λ o. target_of o ((n.address + row.length) % 65536) c) halt.op_is in
         subst IsElsewhere here e
 
@@ -396,14 +408,14 @@ bug_safe rom cert n entry base x k mark possible =
     let off : x.processor.ime ≡ ime.Off = is_off x.processor.ime (ap (λ (q : Processor). is_ime q.ime ime.Off) (sym (processor_is rom x)) ∙ parts.1) in
     let clear = unmarked_at_halt rom cert n entry base x k mark parts.0 in
     let halt = at_halt rom cert n entry base x k parts.0 in
-    let way = (sound_ways rom cert n entry base x k).repeats cert.region (ranges_of cert n.procedure) entry base x (stands rom cert n entry base x k) halt off clear in
+    let way = (sound_ways rom cert n entry base x k).repeats (ranges_of cert n.procedure) entry base x (stands rom cert n entry base x k) halt off clear in
     let nop = nop_behind rom n.state n.address p.end (area_end n.address) p.is_end
-    (halt_guarded (is_halt p.row.op) n.state.core.ime.off _ (ap is_halt halt.op_is) (off_known n.state x.processor.ime off k.means.core.ime) p.halt) in
+    (halt_guarded (is_halt p.row.op) n.state.core.ime.off _ (ap is_halt halt.op_is) (off_known n.state x.processor.ime off k.means.parts.core.ime) p.halt) in
     let small = area_small n.address p.end p.is_end in
     let inside : IsInside n.address p.end (n.address + 1) = record { least = omega arith; most = nop.0 } in
     let waited = counted (x.storage.count - 1) x in
-    let means : Means n.state entry base waited = same_core n.state entry base x waited k.means refl (omega arith) refl refl refl refl refl refl in
-    let reads = Reads-known rom n.state entry base waited (n.address + 1) 0 k.cartridge means k.state.core.ie
+    let means : Means n.state entry base waited = same_means n.state entry base x waited k.means refl (omega arith) refl refl refl refl refl refl in
+    let reads = Reads-known rom n.state entry base waited (n.address + 1) 0 k.cartridge means.parts k.state.core.ie
     (clear_byte n.state.core n.address (length_of known.known.opcode) p.end (n.address + 1) known.clear small.1 inside) nop.1 in
     let none : mark_of x.processor ≡ 0 = ap (λ b. cond b 1 0) clear in
     let pc : (outside (halt_bug (within rom x))).processor.pc ≡ n.address + 1 =
@@ -416,7 +428,7 @@ bug_safe rom cert n entry base x k mark possible =
       faults = (halt_faults cert.region rom x first.faults).1;
       places = (halt_places rom cert x (n, k.is_node, first.place)).1;
       leads = Leads-way rom cert n entry base x k way.successor (inl way.is_way) _ way.leads (at_most _ _ _ way.held k.depth)
-          (record { harmless = inr (bug_ime rom x ∙ off, fixed, byte); clear = λ e. absurd (halt_stays_here rom n k.passes.row way.successor halt way.is_way e) });
+          (record { harmless = inr (bug_ime rom x ∙ off, fixed, byte); clear = λ e. absurd (halt_stays_here rom cert n k.passes.row way.successor halt way.is_way e) });
       kept = λ b kept. way.leads.kept b kept;
     }
 
@@ -462,8 +474,8 @@ mark_waited rom cert n entry base x k count m (inr nop) =
 wait_safe : (rom : List ℕ) (cert : Certificate) (n : Node) (entry : MState) (base : ℕ) (x : MState) (k : OnNode rom cert n entry base x) (cycles : ℕ) → IsMarkHarmless rom x
     → IsSafeHappening rom cert n.procedure entry base x (event.Wait cycles)
 wait_safe rom cert n entry base x k cycles mark =
-    let after = waited_is rom x cycles k.means.core.locked k.means.core.stopped in
-    let means : Means n.state entry base (counted (x.storage.count - cycles) x) = same_core n.state entry base x (counted (x.storage.count - cycles) x) k.means refl (omega arith) refl refl refl refl refl refl in
+    let after = waited_is rom x cycles k.means.parts.core.locked k.means.parts.core.stopped in
+    let means : Means n.state entry base (counted (x.storage.count - cycles) x) = same_means n.state entry base x (counted (x.storage.count - cycles) x) k.means refl (omega arith) refl refl refl refl refl refl in
     record {
       faults = no_faults_waited cert.region rom x cycles;
       places = no_places_waited rom cert x cycles;

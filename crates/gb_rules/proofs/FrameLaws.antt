@@ -5,12 +5,14 @@ use Rattle.gb_ops.specs.Pairs.{word}
 use Rattle.gb_ops.specs.Play.{MState, next}
 use Rattle.gb_domain.specs.Types.{AbsState, Node}
 use Rattle.gb_domain.specs.Certificate.{Certificate}
-use Rattle.gb_states.specs.Rules.{IsCertificate}
-use Rattle.gb_abs.specs.Covering.{covers}
-use Rattle.gb_abs.specs.Meaning.{Means}
+use Rattle.gb_states.specs.declared.role.Role.TheVariants as role
+use Rattle.gb_domain.specs.Limits.{rules_of}
+use Rattle.gb_states.specs.Rules.{IsState, IsCertificate}
+use Rattle.gb_product.specs.Covering.{covers}
+use Rattle.gb_product.specs.Meaning.{Means}
 use Rattle.gb_abs.specs.Stack.{AreInRegion}
 use Rattle.gb_abs.specs.Storage.{peek}
-use Rattle.gb_abs.proofs.CoveringLaws.{Means-covered}
+use Rattle.gb_product.proofs.CoveringLaws.{Means-covered}
 use Rattle.gb_abs.proofs.StorageLaws.{region_in_ram}
 use Rattle.gb_code.specs.Below.gb_abs_memory.Kept.{IsKept}
 use Rattle.gb_calls.specs.Calls.{entered, are_ranges_inside, resumed}
@@ -57,7 +59,7 @@ placed_call : (cert : Certificate) (procedure : ℕ) (entry : MState) (base : �
     → (c : Calls cert procedure entry base t) → IsPlacedCall cert procedure entry base t c
 placed_call cert procedure entry base t certificate room c =
     let end : cert.region.last < 0xFFFF = region_end cert.region certificate.region in
-    let sp : t.processor.sp + (length c.state.items + 2) ≡ base = sp_pushed (known_word c.back) c.state entry base t c.means c.stack_set in
+    let sp : t.processor.sp + (length c.state.items + 2) ≡ base = sp_pushed (known_word c.back) c.state entry base t c.means.parts c.stack_set in
     let first : cert.region.first + need_of cert procedure ≤ base = room.first in
     let last : base ≤ cert.region.last + 1 = room.last in
     let depth : length c.state.items + 2 + need_of cert c.node.procedure ≤ need_of cert procedure = c.depth in
@@ -157,7 +159,7 @@ back_is cert f procedure entry base s certificate w keeps =
     let last : base + 2 ≤ cert.region.last + 1 = (let h = p.return_word in omega arith) in
     let low = keeps.byte base (word_kept cert procedure base base certificate first last (omega arith) (omega arith)) in
     let high = keeps.byte (base + 1) (word_kept cert procedure base (base + 1) certificate first last (omega arith) (omega arith)) in
-    let found = pushed_word c.back c.state f.entry f.base entry c.means c.stack_set in
+    let found = pushed_word c.back c.state f.entry f.base entry c.means.parts c.stack_set in
     ap (λ n. word n (peek s.storage base)) high ∙ (ap (λ n. word (peek entry.storage (base + 1)) n) low ∙ (ap (λ n. word (peek entry.storage (n + 1)) (peek entry.storage n)) e ∙ found))
 
 -- the callee has come back
@@ -176,17 +178,18 @@ comes_back cert f procedure entry base s t certificate w before r keeps =
       room = p.room;
       stack_set = c.stack_set;
       caller = caller_means cert f.procedure f.entry f.base entry c p;
-      exit_set = exit_set cert.region r.exit exit;
-      exit_items = exit_items cert.region r.exit exit;
+      exit_set = exit_set (rules_of cert.version) cert.region r.exit exit;
+      exit_items = exit_items cert.region r.exit (subst (λ q. IsState q role.Exit cert.region r.exit) c.rules exit);
+      exit_core = exit.core;
       exits = subst (λ n. Means r.exit entry (n + 2) t) w.base_is r.means;
       kept = λ b k. all.byte b (subst (λ n. IsKept cert.region (ranges_of cert procedure) n b) (sym w.base_is) k);
     }
 
 -- the state that the caller goes on with is covered at the address behind the call
 is_resumed : (cert : Certificate) (f : Frame) (procedure : ℕ) (entry : MState) (base : ℕ) (exit : AbsState) → (w : IsWaiting cert f procedure entry base) → exit_of cert procedure ≡ Some exit
-    → covered_at cert.nodes f.procedure w.calls.back (resumed (ranges_of cert procedure) w.calls.state exit) ≡ true
+    → covered_at cert.nodes f.procedure w.calls.back (resumed (rules_of cert.version) (ranges_of cert procedure) w.calls.state exit) ≡ true
 is_resumed cert f procedure entry base exit w is =
-    subst (λ n. covered_at cert.nodes f.procedure w.calls.back (resumed (ranges_of cert n) w.calls.state exit) ≡ true) w.callee
+    subst (λ n. covered_at cert.nodes f.procedure w.calls.back (resumed (rules_of cert.version) (ranges_of cert n) w.calls.state exit) ≡ true) w.callee
     (w.calls.resumes exit (ap (exit_of cert) w.callee ∙ is))
 
 -- the caller's state behind the call is meant by a node
@@ -196,9 +199,9 @@ goes_on : (cert : Certificate) (f : Frame) (procedure : ℕ) (entry : MState) (b
 unfolding resumed
 goes_on cert f procedure entry base s t certificate w before r keeps =
     let ranges = ranges_of cert procedure in
-    let after = resumed ranges w.calls.state r.exit in
+    let after = resumed (rules_of cert.version) ranges w.calls.state r.exit in
     let back = comes_back cert f procedure entry base s t certificate w before r keeps in
-    let means = Means-resumed cert.region ranges w.calls.state r.exit f.entry f.base entry t back in
+    let means = Means-resumed (rules_of cert.version) cert.region ranges w.calls.state r.exit f.entry f.base entry t back in
     found_at cert f.procedure w.calls.back after f.entry f.base t (is_resumed cert f procedure entry base r.exit w r.is_exit) means
 
 IsMeant-returned : (rom : List ℕ) (cert : Certificate) (f : Frame) (procedure : ℕ) (entry : MState) (base : ℕ) (s t : MState) → IsCertificate cert

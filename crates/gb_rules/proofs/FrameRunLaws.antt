@@ -24,7 +24,7 @@ IsStanding-start rom cert base s meant = record {
 
 -- a machine that stands is neither locked nor stopped
 pub IsStanding-running : (rom : List ℕ) (cert : Certificate) (s : MState) → IsStanding rom cert s → (s.processor.locked ≡ false) × (s.processor.stopped ≡ false)
-IsStanding-running rom cert s k = let core = k.stands.meant.at.means.core in (core.locked, core.stopped)
+IsStanding-running rom cert s k = let core = k.stands.meant.at.means.parts.core in (core.locked, core.stopped)
 
 -- each event, from each state that a node of a procedure means
 pub record AreEventsSafe (rom : List ℕ) (cert : Certificate) : Type 0 where

@@ -27,7 +27,7 @@ interrupt_safe : (rom : List ℕ) (cert : Certificate) (n : Node) (entry : MStat
 interrupt_safe rom cert n entry base s i certificate is_node right handled at true possible =
     let may = may_come-possible rom cert n entry base s i at possible in
     let k = IsProvided-passed rom cert n (Passes-from rom cert n right) i handled may.1 may.0 in
-    IsSafeEvent-dispatch rom cert n entry base s i k.handler at is_node certificate possible k.stack_set (clear_stack cert.region n.state.core k.clear) k.is_handler k.inside k.depth k.resumes
+    IsSafeEvent-dispatch rom cert n entry base s i k.handler at is_node certificate (Passes-from rom cert n right).rules possible k.stack_set (clear_stack cert.region n.state.core k.clear) k.is_handler k.inside k.depth k.resumes
 interrupt_safe rom cert n entry base s i certificate is_node right handled at false impossible =
     IsSafeEvent-where rom cert n.procedure entry base s (event.Irq i) false impossible (record { node = n; is_node = is_node; procedure_is = refl; at = at }) (λ h. absurd (different h))
   where

@@ -15,6 +15,11 @@ use Rattle.gb_ops.specs.Table.{decoded}
 use Rattle.gb_ops.specs.Machine.{length_of}
 use Rattle.gb_domain.specs.declared.types.Cell.{Cell}
 use Rattle.gb_domain.specs.declared.types.Val.{Val}
+use Rattle.gb_domain.specs.declared.rules.Rules.{Rules}
+use Rattle.gb_domain.specs.declared.rules.Rules.TheVariants.{Simple, Extended}
+use Rattle.gb_domain.specs.declared.setting.Setting.{Setting}
+use Rattle.gb_domain.specs.Areas.{is_free_byte}
+use Rattle.gb_domain.specs.Limits.{rules_of, item_room}
 use Rattle.gb_domain.specs.Types.{AbsState, Node}
 use Rattle.gb_domain.specs.Certificate.{Certificate}
 use Rattle.gb_domain.specs.Areas.{IsRegion}
@@ -40,8 +45,9 @@ use Rattle.gb_successors.specs.Sound.{IsOneOf, IsAllowed, IsStackKnown, IsStackF
 use Rattle.gb_calls.specs.Calls.{callee_of, are_ranges_inside, resumed}
 use Rattle.gb_calls.specs.Interrupts.{dispatched, may_come, handler_of}
 use Rattle.gb_rules.specs.Covered.{covered_at}
-use Rattle.gb_rules.specs.Procedures.{ranges_of, need_of, exit_of}
-use Rattle.gb_rules.specs.Rules.{is_stop, may_read_twice, breaks_stack, pushes_too_deep, is_code_limited, callee_by, callee_at, is_over, calls_too_deep, is_resumed_uncovered, is_uncovered, is_outside_of, is_uncallable_at, is_uncallable, is_exit_missed, is_unreturnable_at, is_unreturnable, interrupts, any_interrupt, handles_too_deep, is_dispatch_limited, is_unhandled, lacks_handler, test_row, test_instruction, is_undefined, node_bytes, any_of, grows_too_deep, stores_outside, meets_ram, meets_transfer, leads_anywhere, leads_uncovered, calls_wrongly, returns_wrongly, applies_to_row, applies, reasons, reason_of}
+use Rattle.std.specs.Option.{IfSome}
+use Rattle.gb_rules.specs.Procedures.{ranges_of, need_of, setting_of, exit_of}
+use Rattle.gb_rules.specs.Rules.{is_extended, is_unjudged, is_stop, may_read_twice, breaks_stack, pushes_too_deep, is_code_limited, callee_by, callee_at, is_over, calls_too_deep, is_resumed_uncovered, is_uncovered, is_outside_of, is_uncallable_at, is_uncallable, is_exit_missed, is_unreturnable_at, is_unreturnable, interrupts, any_interrupt, handles_too_deep, is_dispatch_limited, is_unhandled, lacks_handler, test_row, test_instruction, is_undefined, node_bytes, any_of, grows_too_deep, stores_outside, meets_ram, meets_transfer, leads_anywhere, leads_uncovered, calls_wrongly, returns_wrongly, applies_to_row, applies, reasons, reason_of}
 
 -- ---- a node of a certificate is one of its grammar
 
@@ -69,6 +75,7 @@ pub record IsNodeState (cert : Certificate) (n : Node) : Type 0 where
   pub placed : ArePlaced cert.region n.state.cells
   pub vals : AreVals n.state.cells
   pub items : AllByRecursion IsVal n.state.items
+  pub byte : IfSome n.state.relations.byte.address (λ a. is_free_byte cert.region a ≡ true)
   pub stack : 0 < n.procedure → n.state.core.stack_set ≡ true
 
 needs_other : (procedure : ℕ) (set : Bool) → 0 < procedure → (set || not (needs_stack (role_of procedure))) ≡ true → set ≡ true
@@ -81,9 +88,9 @@ needs_other procedure set lt h = by (procedure == 0) refl set h
 
 pub IsNodeState-node : (cert : Certificate) (n : Node) → IsCertificate cert → Contains cert.nodes n → IsNodeState cert n
 IsNodeState-node cert n c is =
-    let p = contained (IsNode cert.region (length cert.procedures)) key (0, 0) cert.nodes n c.nodes is in
+    let p = contained (IsNode (rules_of cert.version) cert.region (length cert.procedures)) key (0, 0) cert.nodes n c.nodes is in
     let node = p.1 in
-    let state : IsState (role_of n.procedure) cert.region n.state = node.state in
+    let state : IsState (rules_of cert.version) (role_of n.procedure) cert.region n.state = node.state in
     record {
       is_region = c.region;
       address = node.address;
@@ -91,6 +98,7 @@ IsNodeState-node cert n c is =
       placed = placed_from cert.region 0 n.state.cells state.cells;
       vals = vals_from cert.region 0 n.state.cells state.cells;
       items = state.items;
+      byte = state.relations.byte.address;
       stack = λ other. needs_other n.procedure n.state.core.stack_set other state.stack;
     }
 
@@ -116,12 +124,13 @@ pub record Passes (rom : List ℕ) (cert : Certificate) (n : Node) : Type 0 wher
   pub bank : known_bank rom n.state.core.ctl n.address ≡ Some n.bank
   pub stop : is_stop row.op ≡ false
   pub halt : may_read_twice rom n row.op ≡ false
+  pub rules : rules_of cert.version ≡ Simple
   pub stack : breaks_stack cert.region n row.op ≡ false
   pub depth : grows_too_deep rom cert n row ≡ false
   pub stores : stores_outside rom cert n row ≡ false
-  pub ram : meets_ram rom n row ≡ false
-  pub oam_transfer : meets_transfer rom cert.region n row ≡ false
-  pub jump : leads_anywhere rom n row ≡ false
+  pub ram : meets_ram rom cert n row ≡ false
+  pub oam_transfer : meets_transfer rom cert n row ≡ false
+  pub jump : leads_anywhere rom cert n row ≡ false
   pub covered : leads_uncovered rom cert n row ≡ false
   pub calls : calls_wrongly rom cert n row ≡ false
   pub returns : returns_wrongly rom cert n row ≡ false
@@ -136,8 +145,12 @@ undefined_use o bytes e h = sym (ap is_undefined e) ∙ h
 row_use : (test : Row → Bool) (o : Option (List ℕ)) (bytes : List ℕ) (row : Row) → o ≡ Some bytes → decoded bytes ≡ Some row → test_instruction test o ≡ false → test row ≡ false
 row_use test o bytes row e f h = sym (ap (test_row test) f) ∙ (sym (ap (test_instruction test) e) ∙ h)
 
+is_simple : (r : Rules) → is_extended r ≡ false → r ≡ Simple
+is_simple Simple h = refl
+is_simple Extended h = cc
+
 pub Passes-from : (rom : List ℕ) (cert : Certificate) (n : Node) → reason_of rom cert n ≡ None → Passes rom cert n
-unfolding reason_of applies applies_to_row node_bytes
+unfolding reason_of applies applies_to_row node_bytes is_unjudged
 Passes-from rom cert n h =
     let none = none_found (applies rom cert n) reasons h in
     let bytes = some_from _ none.1.1.0 in
@@ -155,7 +168,8 @@ Passes-from rom cert n h =
       bank = bank_of _ _ none.1.0;
       stop = row_use _ _ bytes.0 row.0 bytes.1 row.1 none.1.1.1.1.0;
       halt = row_use _ _ bytes.0 row.0 bytes.1 row.1 none.1.1.1.1.1.0;
-      stack = row_use _ _ bytes.0 row.0 bytes.1 row.1 none.1.1.1.1.1.1.0;
+      rules = is_simple (rules_of cert.version) (or_parts _ _ (row_use _ _ bytes.0 row.0 bytes.1 row.1 none.1.1.1.1.1.1.0)).0;
+      stack = (or_parts _ _ (row_use _ _ bytes.0 row.0 bytes.1 row.1 none.1.1.1.1.1.1.0)).1;
       depth = row_use _ _ bytes.0 row.0 bytes.1 row.1 none.1.1.1.1.1.1.1.0;
       stores = row_use _ _ bytes.0 row.0 bytes.1 row.1 none.1.1.1.1.1.1.1.1.0;
       ram = row_use _ _ bytes.0 row.0 bytes.1 row.1 none.1.1.1.1.1.1.1.1.1.0;
@@ -205,12 +219,12 @@ loaded_stack region n base w main h = ap (λ v. op.LoadPair pair.Sp v) (by n.pro
         let top : base ≡ region.last + 1 = main first in
         word ∙ sym top
 
-loaded_pair : (region : Region) (n : Node) (base w : ℕ) (which : Pair) → (n.procedure ≡ 0 → base ≡ region.last + 1) → breaks_stack region n (op.LoadPair which w) ≡ false → IsStackKnown region (op.LoadPair which w) n.state base
+loaded_pair : (z : Setting) (region : Region) (n : Node) (base w : ℕ) (which : Pair) → (n.procedure ≡ 0 → base ≡ region.last + 1) → breaks_stack region n (op.LoadPair which w) ≡ false → IsStackKnown z region (op.LoadPair which w) n.state base
 unfolding breaks_stack
-loaded_pair region n base w pair.Bc main h = inl refl
-loaded_pair region n base w pair.De main h = inl refl
-loaded_pair region n base w pair.Hl main h = inl refl
-loaded_pair region n base w pair.Sp main h = inr (inl (loaded_stack region n base w main h))
+loaded_pair z region n base w pair.Bc main h = inl refl
+loaded_pair z region n base w pair.De main h = inl refl
+loaded_pair z region n base w pair.Hl main h = inl refl
+loaded_pair z region n base w pair.Sp main h = inr (inl (loaded_stack region n base w main h))
 
 -- fewer bytes than the need have room
 pub fewer_bytes : (region : Region) (base need bytes : ℕ) → AreInRegion region base need → bytes ≤ need → AreInRegion region base bytes
@@ -218,15 +232,22 @@ fewer_bytes region base need bytes room le =
     let first = room.first in
     record { first = omega arith; last = room.last }
 
-pushable : (region : Region) (need base : ℕ) (s : AbsState) → AreInRegion region base need → not s.core.stack_set ≡ false → (nat_lt need (length s.items + 2) || nat_lt 32 (length s.items + 2)) ≡ false → IsPushable region s base
-pushable region need base s room set h = record {
+simple_room : (n : ℕ) → nat_lt 32 n ≡ false → nat_lt (item_room Simple) n ≡ false
+unfolding item_room
+simple_room n h = h
+
+pushable : (z : Setting) (region : Region) (need base : ℕ) (s : AbsState) → AreInRegion region base need → not s.core.stack_set ≡ false → (nat_lt need (length s.items + 2) || nat_lt 32 (length s.items + 2)) ≡ false → z.rules ≡ Simple → IsPushable z region s base
+pushable z region need base s room set h simple = record {
   stack_set = not-false _ set;
-  held = (or_parts _ _ h).1;
+  held = subst (λ q. nat_lt (item_room q) (length s.items + 2) ≡ false) (sym simple) (few (or_parts _ _ h).1);
   room = fewer_bytes region base need (length s.items + 2) room (fits (length s.items) h);
 }
   where
     fits : (n : ℕ) → (nat_lt need (n + 2) || nat_lt 32 (n + 2)) ≡ false → n + 2 ≤ need
     fits n h = grind (arith, nat_tests)
+
+    few : nat_lt 32 (length s.items + 2) ≡ false → nat_lt (item_room Simple) (length s.items + 2) ≡ false
+    few h = simple_room (length s.items + 2) h
 
 poppable : (s : AbsState) → (not s.core.stack_set || nat_lt (length s.items) 2) ≡ false → IsPoppable s
 poppable s h =
@@ -236,21 +257,26 @@ poppable s h =
     enough : (n : ℕ) → nat_lt n 2 ≡ false → 2 ≤ n
     enough n h = grind (arith, nat_tests)
 
-stack_known : (region : Region) (need base : ℕ) (n : Node) (o : Op) → (n.procedure ≡ 0 → base ≡ region.last + 1) → AreInRegion region base need → breaks_stack region n o ≡ false → pushes_too_deep need n o ≡ false → IsStackKnown region o n.state base
+stack_known : (z : Setting) (region : Region) (need base : ℕ) (n : Node) (o : Op) → (n.procedure ≡ 0 → base ≡ region.last + 1) → AreInRegion region base need → breaks_stack region n o ≡ false → pushes_too_deep need n o ≡ false → z.rules ≡ Simple → IsStackKnown z region o n.state base
 unfolding breaks_stack pushes_too_deep
-stack_known region need base n (op.LoadPair which w) main room h deep = loaded_pair region n base w which main h
-stack_known region need base n (op.Push from) main room h deep = inr (inr (inl (refl, pushable region need base n.state room h deep)))
-stack_known region need base n (op.Pop to) main room h deep = inr (inr (inr (inl (refl, poppable n.state h))))
-stack_known region need base n (op.CallIf k w) main room h deep = inr (inr (inr (inr (inl (refl, not-false _ h)))))
-stack_known region need base n (op.Call w) main room h deep = inr (inr (inr (inr (inl (refl, not-false _ h)))))
-stack_known region need base n (op.Restart w) main room h deep = inr (inr (inr (inr (inl (refl, not-false _ h)))))
-stack_known region need base n (op.ReturnIf k) main room h deep = inr (inr (inr (inr (inr refl))))
-stack_known region need base n op.Return main room h deep = inr (inr (inr (inr (inr refl))))
-stack_known region need base n op.ReturnFromInterrupt main room h deep = inr (inr (inr (inr (inr refl))))
-stack_known region need base n o main room h deep = inl h
+stack_known z region need base n (op.LoadPair which w) main room h deep simple = loaded_pair z region n base w which main h
+stack_known z region need base n (op.Push from) main room h deep simple = inr (inr (inl (refl, pushable z region need base n.state room h deep simple)))
+stack_known z region need base n (op.Pop to) main room h deep simple = inr (inr (inr (inl (refl, poppable n.state h))))
+stack_known z region need base n (op.CallIf k w) main room h deep simple = inr (inr (inr (inr (inl (refl, not-false _ h)))))
+stack_known z region need base n (op.Call w) main room h deep simple = inr (inr (inr (inr (inl (refl, not-false _ h)))))
+stack_known z region need base n (op.Restart w) main room h deep simple = inr (inr (inr (inr (inl (refl, not-false _ h)))))
+stack_known z region need base n (op.ReturnIf k) main room h deep simple = inr (inr (inr (inr (inr refl))))
+stack_known z region need base n op.Return main room h deep simple = inr (inr (inr (inr (inr refl))))
+stack_known z region need base n op.ReturnFromInterrupt main room h deep simple = inr (inr (inr (inr (inr refl))))
+stack_known z region need base n o main room h deep simple = inl h
+
+-- by the rules of versions 1 and 2 its states stand so
+pub simple_setting : (cert : Certificate) (procedure : ℕ) → rules_of cert.version ≡ Simple → (setting_of cert procedure).rules ≡ Simple
+unfolding setting_of
+simple_setting cert procedure h = h
 
 pub ruled : (rom : List ℕ) (cert : Certificate) (n : Node) (base : ℕ) (p : Passes rom cert n) → IsRom rom → IsNodeState cert n → (n.procedure ≡ 0 → base ≡ cert.region.last + 1)
-    → AreInRegion cert.region base (need_of cert n.procedure) → IsRuled cert.region p.row n.state base
+    → AreInRegion cert.region base (need_of cert n.procedure) → IsRuled (setting_of cert n.procedure) cert.region p.row n.state base
 unfolding grows_too_deep
 ruled rom cert n base p r s main room =
     let second : p.known.second < 256 = where_small _ rom n.state _ _ r s.core s.vals p.known.is_second in
@@ -260,7 +286,7 @@ ruled rom cert n base p r s main room =
     record {
       operands = HasBytes-decoded p.bytes p.row (subst (λ k. k < 256) (sym at_second) second) (subst (λ k. k < 256) (sym at_third) third) p.is_row;
       runs = not_stop p.row.op p.stop;
-      stack = stack_known cert.region (need_of cert n.procedure) base n p.row.op main room p.stack (or_parts _ _ (or_parts _ _ p.depth).0).0;
+      stack = stack_known (setting_of cert n.procedure) cert.region (need_of cert n.procedure) base n p.row.op main room p.stack (or_parts _ _ (or_parts _ _ p.depth).0).0 (simple_setting cert n.procedure p.rules);
     }
 
 -- ---- nothing is against a successor
@@ -280,8 +306,8 @@ none_of test ss t h is = by is (parts _ _ _ h)
     by (inr (inr e)) k = sym (ap (has test) e) ∙ k.2
 
 -- the successors of a node's instruction
-abbrev pub ways_of : List ℕ → Node → Row → Successors
-ways_of rom n row = successors_of rom row n.address n.state
+abbrev pub ways_of : List ℕ → Certificate → Node → Row → Successors
+ways_of rom cert n row = successors_of (setting_of cert n.procedure) rom cert.region row n.address n.state
 
 -- what a call asks for: a callee, with room for the return address
 callable : (cert : Certificate) (n : Node) (t : Successor) (base a : ℕ) (o : Option ℕ) → is_outside_of cert n.procedure o ≡ false → is_over cert (need_of cert n.procedure) (length t.state.items) o ≡ false
@@ -313,18 +339,18 @@ returnable cert n t base o state h word room =
     no_items None s h = cc
     no_items (Some exit) s h = empty s.items (eqb-true _ _ (not-false _ (or_parts _ _ h).0))
 
-pub allowed : (rom : List ℕ) (cert : Certificate) (n : Node) (p : Passes rom cert n) (base : ℕ) (t : Successor) → IsOneOf (ways_of rom n p.row) t → IsNodeState cert n
+pub allowed : (rom : List ℕ) (cert : Certificate) (n : Node) (p : Passes rom cert n) (base : ℕ) (t : Successor) → IsOneOf (ways_of rom cert n p.row) t → IsNodeState cert n
     → (0 < n.procedure → base + 2 ≤ cert.region.last + 1) → AreInRegion cert.region base (need_of cert n.procedure) → IsAllowed rom cert.region (ranges_of cert n.procedure) n.state base t
 unfolding stores_outside meets_ram meets_transfer grows_too_deep calls_wrongly returns_wrongly any_of is_uncallable is_unreturnable calls_too_deep callee_at
 allowed rom cert n p base t is state word room =
     record {
-      stores = none_of _ (ways_of rom n p.row) t p.stores is;
-      ram = none_of _ (ways_of rom n p.row) t p.ram is;
-      oam_transfer = (or_parts _ _ (none_of _ (ways_of rom n p.row) t (or_parts _ _ p.oam_transfer).0 is)).1;
+      stores = none_of _ (ways_of rom cert n p.row) t p.stores is;
+      ram = none_of _ (ways_of rom cert n p.row) t p.ram is;
+      oam_transfer = (or_parts _ _ (none_of _ (ways_of rom cert n p.row) t (or_parts _ _ p.oam_transfer).0 is)).1;
       stack = by t.target
-          (none_of (is_uncallable cert n.procedure) (ways_of rom n p.row) t p.calls is)
-          (none_of (calls_too_deep cert (need_of cert n.procedure)) (ways_of rom n p.row) t (or_parts _ _ (or_parts _ _ p.depth).0).1 is)
-          (none_of (is_unreturnable cert n.procedure) (ways_of rom n p.row) t p.returns is);
+          (none_of (is_uncallable cert n.procedure) (ways_of rom cert n p.row) t p.calls is)
+          (none_of (calls_too_deep cert (need_of cert n.procedure)) (ways_of rom cert n p.row) t (or_parts _ _ (or_parts _ _ p.depth).0).1 is)
+          (none_of (is_unreturnable cert n.procedure) (ways_of rom cert n p.row) t p.returns is);
     }
   where
     by : (w : Target) → is_uncallable_at cert n.procedure w t.state ≡ false → is_over cert (need_of cert n.procedure) (length t.state.items) (callee_by cert w t.state) ≡ false
@@ -334,35 +360,35 @@ allowed rom cert n p base t is state word room =
     by target.Return calls deep returns = returnable cert n t base (exit_of cert n.procedure) state returns word room
     by target.Unknown calls deep returns = tt
 
-pub not_uncallable : (rom : List ℕ) (cert : Certificate) (n : Node) (p : Passes rom cert n) (t : Successor) → IsOneOf (ways_of rom n p.row) t → is_uncallable cert n.procedure t ≡ false
+pub not_uncallable : (rom : List ℕ) (cert : Certificate) (n : Node) (p : Passes rom cert n) (t : Successor) → IsOneOf (ways_of rom cert n p.row) t → is_uncallable cert n.procedure t ≡ false
 unfolding calls_wrongly any_of
-not_uncallable rom cert n p t is = none_of _ (ways_of rom n p.row) t p.calls is
+not_uncallable rom cert n p t is = none_of _ (ways_of rom cert n p.row) t p.calls is
 
-pub not_too_deep : (rom : List ℕ) (cert : Certificate) (n : Node) (p : Passes rom cert n) (t : Successor) → IsOneOf (ways_of rom n p.row) t → calls_too_deep cert (need_of cert n.procedure) t ≡ false
+pub not_too_deep : (rom : List ℕ) (cert : Certificate) (n : Node) (p : Passes rom cert n) (t : Successor) → IsOneOf (ways_of rom cert n p.row) t → calls_too_deep cert (need_of cert n.procedure) t ≡ false
 unfolding grows_too_deep any_of
-not_too_deep rom cert n p t is = none_of _ (ways_of rom n p.row) t (or_parts _ _ (or_parts _ _ p.depth).0).1 is
+not_too_deep rom cert n p t is = none_of _ (ways_of rom cert n p.row) t (or_parts _ _ (or_parts _ _ p.depth).0).1 is
 
-pub not_unreturnable : (rom : List ℕ) (cert : Certificate) (n : Node) (p : Passes rom cert n) (t : Successor) → IsOneOf (ways_of rom n p.row) t → is_unreturnable cert n.procedure t ≡ false
+pub not_unreturnable : (rom : List ℕ) (cert : Certificate) (n : Node) (p : Passes rom cert n) (t : Successor) → IsOneOf (ways_of rom cert n p.row) t → is_unreturnable cert n.procedure t ≡ false
 unfolding returns_wrongly any_of
-not_unreturnable rom cert n p t is = none_of _ (ways_of rom n p.row) t p.returns is
+not_unreturnable rom cert n p t is = none_of _ (ways_of rom cert n p.row) t p.returns is
 
-pub not_unknown : (rom : List ℕ) (cert : Certificate) (n : Node) (p : Passes rom cert n) (t : Successor) → IsOneOf (ways_of rom n p.row) t → is_unknown t.target ≡ false
+pub not_unknown : (rom : List ℕ) (cert : Certificate) (n : Node) (p : Passes rom cert n) (t : Successor) → IsOneOf (ways_of rom cert n p.row) t → is_unknown t.target ≡ false
 unfolding leads_anywhere any_of
-not_unknown rom cert n p t is = none_of _ (ways_of rom n p.row) t p.jump is
+not_unknown rom cert n p t is = none_of _ (ways_of rom cert n p.row) t p.jump is
 
-pub not_uncovered : (rom : List ℕ) (cert : Certificate) (n : Node) (p : Passes rom cert n) (t : Successor) → IsOneOf (ways_of rom n p.row) t → is_uncovered cert n.procedure t ≡ false
+pub not_uncovered : (rom : List ℕ) (cert : Certificate) (n : Node) (p : Passes rom cert n) (t : Successor) → IsOneOf (ways_of rom cert n p.row) t → is_uncovered cert n.procedure t ≡ false
 unfolding leads_uncovered any_of
-not_uncovered rom cert n p t is = none_of _ (ways_of rom n p.row) t p.covered is
+not_uncovered rom cert n p t is = none_of _ (ways_of rom cert n p.row) t p.covered is
 
 first_is : (bytes : List ℕ) (a b c : ℕ) → bytes ≡ a ∷ b ∷ c ∷ [] → slice_index bytes 0 ≡ a
 first_is bytes a b c h = rw h refl
 
 -- where there is a successor, no OAM transfer closes the instruction's bytes
-pub known_by : (rom : List ℕ) (cert : Certificate) (n : Node) (p : Passes rom cert n) (t : Successor) → IsOneOf (ways_of rom n p.row) t → IsKnown rom n p.bytes
+pub known_by : (rom : List ℕ) (cert : Certificate) (n : Node) (p : Passes rom cert n) (t : Successor) → IsOneOf (ways_of rom cert n p.row) t → IsKnown rom n p.bytes
 unfolding meets_transfer any_of is_code_limited
 known_by rom cert n p t is =
     let length : p.row.length ≡ length_of p.known.opcode = length-decoded p.bytes p.row p.is_row ∙ ap length_of (first_is p.bytes _ _ _ p.known.bytes_are) in
-    let open_ = clear_of n.state.core.bound n.address p.row.length (or_parts _ _ (none_of _ (ways_of rom n p.row) t (or_parts _ _ p.oam_transfer).0 is)).0 in
+    let open_ = clear_of n.state.core.bound n.address p.row.length (or_parts _ _ (none_of _ (ways_of rom cert n p.row) t (or_parts _ _ p.oam_transfer).0 is)).0 in
     record {
       known = p.known;
       end = p.end;
@@ -405,7 +431,7 @@ pub record IsProvided (cert : Certificate) (n : Node) (i : ℕ) : Type 0 where
   pub depth : length n.state.items + 2 + need_of cert handler ≤ need_of cert n.procedure
   pub resumes :
       (exit : AbsState) → exit_of cert handler ≡ Some exit
-      → covered_at cert.nodes n.procedure n.address (resumed (ranges_of cert handler) (dispatched n.state) exit) ≡ true
+      → covered_at cert.nodes n.procedure n.address (resumed (rules_of cert.version) (ranges_of cert handler) (dispatched n.state) exit) ≡ true
 
 provided : (cert : Certificate) (n : Node) (i : ℕ) (o : Option ℕ) → handler_of cert i n.state ≡ o → is_stack_limited cert.region n.state.core ≡ false
     → is_unhandled cert n o ≡ false → is_over cert (need_of cert n.procedure) (length n.state.items) o ≡ false → IsProvided cert n i

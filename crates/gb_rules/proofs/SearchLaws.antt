@@ -8,7 +8,7 @@ use Rattle.std.specs.List.{Contains, list_any}
 use Rattle.gb_calls.specs.Below.gb_rows.Rows.{IsFound}
 use Rattle.gb_domain.specs.Types.{AbsState, Node}
 use Rattle.gb_states.specs.Rules.{key}
-use Rattle.gb_abs.specs.Covering.{covers}
+use Rattle.gb_product.specs.Covering.{covers}
 use Rattle.gb_rules.specs.Covered.{is_cover, is_covered_by_one}
 
 -- one that passes

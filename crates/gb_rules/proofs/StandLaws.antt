@@ -14,12 +14,13 @@ use Rattle.gb_ops.specs.Play.{MState}
 use Rattle.gb_domain.specs.declared.types.Core.{Core}
 use Rattle.gb_domain.specs.Types.{AbsState, Node}
 use Rattle.gb_domain.specs.Certificate.{Certificate}
-use Rattle.gb_abs.specs.Covering.{covers, covers_items}
+use Rattle.gb_abs.specs.Covering.{covers_items}
+use Rattle.gb_product.specs.Covering.{covers}
 use Rattle.gb_abs.specs.Mark.{IsMarkHarmless}
-use Rattle.gb_abs.specs.Meaning.{Holds, Means}
+use Rattle.gb_product.specs.Meaning.{Means}
+use Rattle.gb_abs.specs.Meaning.{Holds}
 use Rattle.gb_abs.specs.Stack.{AreInRegion}
-use Rattle.gb_abs.proofs.CoveringLaws.{Means-covered}
-use Rattle.gb_abs.proofs.OperationLaws.{Means-with_value}
+use Rattle.gb_product.proofs.CoveringLaws.{Means-covered}
 use Rattle.gb_successors.specs.Below.gb_abs_effects.declared.targets.Target.{Target}
 use Rattle.gb_successors.specs.Below.gb_abs_effects.declared.targets.Target.TheVariants as target
 use Rattle.gb_successors.specs.Below.gb_abs_effects.Targets.{moves_sp, target_of}
@@ -28,13 +29,13 @@ use Rattle.gb_successors.specs.Below.gb_abs_effects.Sound.{HoldsTarget}
 use Rattle.gb_code.specs.Below.gb_abs_memory.Sound.{IsRom}
 use Rattle.gb_code.proofs.CodeLaws.{IsKnown, IsAt as IsAtCode}
 use Rattle.gb_successors.specs.Way.{Successor}
-use Rattle.gb_successors.specs.Successors.{successors_of, taken_successor, untaken_successor, staying_successor, stays}
 use Rattle.gb_successors.specs.Refused.{is_unknown}
 use Rattle.gb_successors.specs.Sound.{IsOneOf, Stands, AreSoundSuccessors}
 use Rattle.gb_successors.proofs.WayLaws.{successors_of_sound}
 use Rattle.gb_states.specs.Rules.{IsCertificate}
-use Rattle.gb_rules.specs.Procedures.{ranges_of, need_of}
-use Rattle.gb_rules.proofs.NodeLaws.{IsNodeState, Passes, ways_of, ruled, known_by, fewer_bytes}
+use Rattle.gb_rules.specs.Procedures.{ranges_of, need_of, setting_of}
+use Rattle.gb_rules.proofs.ProcedureLaws.{based_setting}
+use Rattle.gb_rules.proofs.NodeLaws.{IsNodeState, Passes, ways_of, simple_setting, ruled, known_by, fewer_bytes}
 
 -- the machine stands at a node that passes
 pub record OnNode (rom : List ℕ) (cert : Certificate) (n : Node) (entry : MState) (base : ℕ) (x : MState) : Type 0 where
@@ -50,7 +51,7 @@ pub record OnNode (rom : List ℕ) (cert : Certificate) (n : Node) (entry : MSta
   pub room : AreInRegion cert.region base (need_of cert n.procedure)
   pub depth : length n.state.items ≤ need_of cert n.procedure
 
-pub stands : (rom : List ℕ) (cert : Certificate) (n : Node) (entry : MState) (base : ℕ) (x : MState) (k : OnNode rom cert n entry base x) → Stands rom cert.region k.passes.row n.address n.state entry base x
+pub stands : (rom : List ℕ) (cert : Certificate) (n : Node) (entry : MState) (base : ℕ) (x : MState) (k : OnNode rom cert n entry base x) → Stands (setting_of cert n.procedure) rom cert.region k.passes.row n.address n.state entry base x
 stands rom cert n entry base x k = record {
   cartridge = k.cartridge;
   is_region = k.state.is_region;
@@ -60,12 +61,14 @@ stands rom cert n entry base x k = record {
   items = k.state.items;
   room = fewer_bytes cert.region base (need_of cert n.procedure) (length n.state.items) k.room k.depth;
   means = k.means;
+  based = based_setting cert n.procedure base k.certificate k.passes.rules k.main;
+  rules = simple_setting cert n.procedure k.passes.rules;
   at = k.address;
 }
 
 pub sound_ways : (rom : List ℕ) (cert : Certificate) (n : Node) (entry : MState) (base : ℕ) (x : MState) (k : OnNode rom cert n entry base x)
-    → AreSoundSuccessors rom k.passes.row n.address n.state (ways_of rom n k.passes.row)
-sound_ways rom cert n entry base x k = successors_of_sound rom k.passes.row n.address n.state (ways_of rom n k.passes.row) refl
+    → AreSoundSuccessors (setting_of cert n.procedure) rom cert.region k.passes.row n.address n.state (ways_of rom cert n k.passes.row)
+sound_ways rom cert n entry base x k = successors_of_sound (setting_of cert n.procedure) rom cert.region k.passes.row n.address n.state (ways_of rom cert n k.passes.row) refl
 
 -- the same machine without the HALT mark
 abbrev pub unmarked : MState → MState
@@ -79,24 +82,23 @@ on_unmarked rom cert n entry base x k = record {
   state = k.state;
   passes = k.passes;
   address = k.address;
-  means = record {
+  means = record { related = k.means.related; parts = record {
     core = record {
-      registers = k.means.core.registers;
-      flags = k.means.core.flags;
-      ie = k.means.core.ie;
-      ime = k.means.core.ime;
-      controller = k.means.core.controller;
-      count = k.means.core.count;
-      test = k.means.core.test;
-      locked = k.means.core.locked;
-      stopped = k.means.core.stopped;
+      registers = k.means.parts.core.registers;
+      flags = k.means.parts.core.flags;
+      ie = k.means.parts.core.ie;
+      ime = k.means.parts.core.ime;
+      controller = k.means.parts.core.controller;
+      count = k.means.parts.core.count;
+      locked = k.means.parts.core.locked;
+      stopped = k.means.parts.core.stopped;
     };
-    memory = k.means.memory;
-    sp = k.means.sp;
-    stack = k.means.stack;
-    items = k.means.items;
-    cells = k.means.cells;
-  };
+    memory = k.means.parts.memory;
+    sp = k.means.parts.sp;
+    stack = k.means.parts.stack;
+    items = k.means.parts.items;
+    cells = k.means.parts.cells;
+  } };
   main = k.main;
   return_word = k.return_word;
   room = k.room;
@@ -104,11 +106,11 @@ on_unmarked rom cert n entry base x k = record {
 }
 
 -- there is a successor
-pub some_way : (rom : List ℕ) (cert : Certificate) (n : Node) (entry : MState) (base : ℕ) (x : MState) (k : OnNode rom cert n entry base x) → (t : Successor) × IsOneOf (ways_of rom n k.passes.row) t
+pub some_way : (rom : List ℕ) (cert : Certificate) (n : Node) (entry : MState) (base : ℕ) (x : MState) (k : OnNode rom cert n entry base x) → (t : Successor) × IsOneOf (ways_of rom cert n k.passes.row) t
 unfolding on_unmarked
 some_way rom cert n entry base x k =
     let u = on_unmarked rom cert n entry base x k in
-    let done = (sound_ways rom cert n entry base (unmarked x) u).executes cert.region (ranges_of cert n.procedure) entry base (unmarked x) [] (stands rom cert n entry base (unmarked x) u)
+    let done = (sound_ways rom cert n entry base (unmarked x) u).executes (ranges_of cert n.procedure) entry base (unmarked x) [] (stands rom cert n entry base (unmarked x) u)
     (ruled rom cert n base k.passes k.cartridge k.state k.main k.room) refl (omega arith) in
     (done.successor, done.is_one)
 
@@ -116,4 +118,4 @@ pub is_known : (rom : List ℕ) (cert : Certificate) (n : Node) (entry : MState)
 is_known rom cert n entry base x k = let w = some_way rom cert n entry base x k in known_by rom cert n k.passes w.0 w.1
 
 pub on_code : (rom : List ℕ) (cert : Certificate) (n : Node) (entry : MState) (base : ℕ) (x : MState) → OnNode rom cert n entry base x → IsAtCode rom n entry base x
-on_code rom cert n entry base x k = record { cartridge = k.cartridge; means = k.means; ie = k.state.core.ie; at = k.address }
+on_code rom cert n entry base x k = record { cartridge = k.cartridge; means = k.means.parts; ie = k.state.core.ie; at = k.address }

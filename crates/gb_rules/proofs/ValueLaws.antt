@@ -1,8 +1,9 @@
 -- Covering with one value in a register: the values with which a node covers are those of an interval, or none.
-use Rattle.std.proofs.Common.{◌≡◌, ℕ, ◌+◌, ◌≤◌, ◌<◌, Bool, true, false, ◌&&◌, ◌||◌, List, map, slice_get, Some, refl, sym, ◌∙◌, ap, subst, nat_le, arith}
+use Rattle.std.proofs.Common.{◌≡◌, ℕ, ◌+◌, ◌≤◌, ◌<◌, Bool, true, false, ◌&&◌, ◌||◌, ◌==◌, nat_lt, List, map, slice_get, Some, refl, sym, ◌∙◌, ap, subst, nat_le, arith}
 use Rattle.gb_calls.specs.Below.gb_rows.Rows.{IsFound}
 use Rattle.gb_states.specs.Rules.{key}
 use Rattle.gb_rules.proofs.SearchLaws.{NoneBefore, none_before, none_yet, none_covers, one_covers}
+use Rattle.std.proofs.lemmas.Bool.{eqb-true}
 use Rattle.std.proofs.lemmas.Bool.Decides.{nat_tests}
 use Rattle.gb_ops.specs.declared.op.Register.{Register}
 use Rattle.gb_ops.specs.declared.op.Register.TheVariants.{A, B, C, D, E, H, L}
@@ -10,8 +11,9 @@ use Rattle.gb_ops.specs.declared.registers.Registers.{Registers}
 use Rattle.gb_ops.specs.Registers.{get, set}
 use Rattle.gb_domain.specs.declared.types.Val.{Val}
 use Rattle.gb_domain.specs.Types.{AbsState, Node}
-use Rattle.gb_abs.specs.Covering.{implied, covers_origin, covers_val, covers_flags, covers_ime, covers_controller, covers_registers, covers_test, covers_core, covers_items, covers_cells, covers}
+use Rattle.gb_abs.specs.Covering.{implied, covers_origin, covers_val, covers_flags, covers_ime, covers_controller, covers_registers, covers_core, covers_items, covers_cells, covers_parts}
 use Rattle.gb_abs.specs.Operations.{core_with_value}
+use Rattle.gb_product.specs.Covering.{covers, covers_relations}
 use Rattle.gb_rules.specs.Covered.{is_cover, is_covered_by_one, with_value}
 
 -- ---- the first of several facts goes to the end
@@ -95,7 +97,7 @@ apart L v s t = refl
 abbrev rest : Bool → AbsState → AbsState → Bool
 rest others s t =
     (others && covers_flags s.core.flags t.core.flags && covers_val s.core.ie t.core.ie && covers_ime s.core.ime t.core.ime && covers_controller s.core.ctl t.core.ctl
-    && nat_le s.core.bound t.core.bound && implied t.core.stack_set s.core.stack_set && covers_test s.core.test t.core.test)
+    && nat_le s.core.bound t.core.bound && implied t.core.stack_set s.core.stack_set)
     && covers_items s.items t.items && covers_cells s.cells t.cells
 
 rest-apart : (o v : Bool) (s t : AbsState) → rest (o && v) s t ≡ (rest o s t && v)
@@ -104,8 +106,8 @@ rest-apart true false s t = and_false (rest true s t)
 rest-apart false v s t = refl
 
 covers-with_value : (r : Register) (s t : AbsState) (n : ℕ)
-    → covers (with_value r s n) t ≡ (rest (others r s.core.registers t.core.registers) s t && covers_val (record (get r s.core.registers) { lo = n; hi = n }) (get r t.core.registers))
-unfolding with_value core_with_value covers covers_core
+    → covers_parts (with_value r s n) t ≡ (rest (others r s.core.registers t.core.registers) s t && covers_val (record (get r s.core.registers) { lo = n; hi = n }) (get r t.core.registers))
+unfolding with_value core_with_value covers_parts covers_core
 covers-with_value r s t n =
     ap (λ b. rest b s t) (apart r (record (get r s.core.registers) { lo = n; hi = n }) s.core.registers t.core.registers)
     ∙ rest-apart (others r s.core.registers t.core.registers) (covers_val (record (get r s.core.registers) { lo = n; hi = n }) (get r t.core.registers)) s t
@@ -122,8 +124,8 @@ none_of true true lo hi n h = grind (arith, nat_tests)
 none_of true false lo hi n h = sym (and_false (nat_le lo n && nat_le n hi))
 none_of false o lo hi n h = refl
 
-pub interval-covered : (r : Register) (s t : AbsState) → covers (with_value r s (get r t.core.registers).lo) t ≡ true
-    → (n : ℕ) → covers (with_value r s n) t ≡ (nat_le (get r t.core.registers).lo n && nat_le n (get r t.core.registers).hi)
+pub interval-covered : (r : Register) (s t : AbsState) → covers_parts (with_value r s (get r t.core.registers).lo) t ≡ true
+    → (n : ℕ) → covers_parts (with_value r s n) t ≡ (nat_le (get r t.core.registers).lo n && nat_le n (get r t.core.registers).hi)
 unfolding covers_val
 interval-covered r s t h n =
     let c = get r t.core.registers in
@@ -131,14 +133,67 @@ interval-covered r s t h n =
     let o = covers_origin (get r s.core.registers).origin c.origin in
     covers-with_value r s t n ∙ all_of b o c.lo c.hi n (sym (covers-with_value r s t c.lo) ∙ h)
 
-pub none-covered : (r : Register) (s t : AbsState) → covers (with_value r s (get r t.core.registers).lo) t ≡ false
-    → (n : ℕ) → covers (with_value r s n) t ≡ false
+pub none-covered : (r : Register) (s t : AbsState) → covers_parts (with_value r s (get r t.core.registers).lo) t ≡ false
+    → (n : ℕ) → covers_parts (with_value r s n) t ≡ false
 unfolding covers_val
 none-covered r s t h n =
     let c = get r t.core.registers in
     let b = rest (others r s.core.registers t.core.registers) s t in
     let o = covers_origin (get r s.core.registers).origin c.origin in
     covers-with_value r s t n ∙ none_of b o c.lo c.hi n (sym (covers-with_value r s t c.lo) ∙ h)
+
+-- whole states: part by part, and what is known together
+pub both-covered : (r : Register) (s t : AbsState) (n : ℕ) (c : Bool) → covers_parts (with_value r s n) t ≡ c
+    → covers (with_value r s n) t ≡ (c && covers_relations (core_with_value r n s.core).registers s.relations t.relations)
+unfolding covers with_value
+both-covered r s t n c e = ap (λ b. b && covers_relations (core_with_value r n s.core).registers s.relations t.relations) e
+
+pub parts-missed : (r : Register) (s t : AbsState) (n : ℕ) → covers_parts (with_value r s n) t ≡ false → covers (with_value r s n) t ≡ false
+parts-missed r s t n e = both-covered r s t n false e
+
+-- ---- values that are marked, one after the other
+
+or_true : (b : Bool) → true ≡ (b || true)
+or_true true = refl
+or_true false = refl
+
+-- so far the values below one are marked, of an interval, with which all is known
+abbrev pub AreMarked : (ℕ → Bool) → (ℕ → Bool) → (ℕ → Bool) → ℕ → ℕ → ℕ → Type 0
+AreMarked marks initial known lo hi value = (v : ℕ) → marks v ≡ (initial v || ((nat_le lo v && (nat_lt v value && nat_le v hi)) && known v))
+
+-- for another value nothing changes
+other_value : (lo hi value v : ℕ) → (v == value) ≡ false → (nat_le lo v && (nat_lt v value && nat_le v hi)) ≡ (nat_le lo v && (nat_lt v (value + 1) && nat_le v hi))
+other_value lo hi value v e =
+    let same : nat_lt v value ≡ nat_lt v (value + 1) = grind (arith, nat_tests) in
+    ap (λ b. nat_le lo v && (b && nat_le v hi)) same
+
+-- one more is marked
+pub value-marked : (marks after initial known : ℕ → Bool) (lo hi value : ℕ) → lo ≤ value → value ≤ hi → AreMarked marks initial known lo hi value
+    → after value ≡ true → ((v : ℕ) → (v == value) ≡ false → after v ≡ marks v) → known value ≡ true → AreMarked after initial known lo hi (value + 1)
+value-marked marks after initial known lo hi value low high h set same is v = by (v == value) refl
+  where
+    at : after value ≡ (initial value || ((nat_le lo value && (nat_lt value (value + 1) && nat_le value hi)) && known value))
+    at =
+        let least : nat_le lo value ≡ true = grind (arith, nat_tests) in
+        let below : nat_lt value (value + 1) ≡ true = grind (arith, nat_tests) in
+        let most : nat_le value hi ≡ true = grind (arith, nat_tests) in
+        rw (least, below, most, is) (set ∙ or_true (initial value))
+
+    by : (b : Bool) → (v == value) ≡ b → after v ≡ (initial v || ((nat_le lo v && (nat_lt v (value + 1) && nat_le v hi)) && known v))
+    by true e = subst (λ n. after n ≡ (initial n || ((nat_le lo n && (nat_lt n (value + 1) && nat_le n hi)) && known n))) (sym (eqb-true v value e)) at
+    by false e = same v e ∙ (h v ∙ ap (λ b. initial v || (b && known v)) (other_value lo hi value v e))
+
+-- one isn't
+pub value-missed : (marks initial known : ℕ → Bool) (lo hi value : ℕ) → AreMarked marks initial known lo hi value → known value ≡ false → AreMarked marks initial known lo hi (value + 1)
+value-missed marks initial known lo hi value h is v = by (v == value) refl
+  where
+    by : (b : Bool) → (v == value) ≡ b → marks v ≡ (initial v || ((nat_le lo v && (nat_lt v (value + 1) && nat_le v hi)) && known v))
+    by true e =
+        let unknown : known v ≡ false = ap known (eqb-true v value e) ∙ is in
+        let before = nat_le lo v && (nat_lt v value && nat_le v hi) in
+        let behind = nat_le lo v && (nat_lt v (value + 1) && nat_le v hi) in
+        h v ∙ ap (λ b. initial v || b) (ap (λ k. before && k) unknown ∙ (sym (and_false before) ∙ (and_false behind ∙ sym (ap (λ k. behind && k) unknown))))
+    by false e = h v ∙ ap (λ b. initial v || (b && known v)) (other_value lo hi value v e)
 
 -- ---- marks
 

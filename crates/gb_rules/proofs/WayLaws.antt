@@ -8,11 +8,16 @@ use Rattle.gb_ops.specs.Play.{MState}
 use Rattle.gb_domain.specs.Types.{AbsState, ProcedureParts, Node}
 use Rattle.gb_domain.specs.Certificate.{Certificate}
 use Rattle.gb_states.specs.Rules.{IsCertificate, is_of, have_entries}
-use Rattle.gb_abs.specs.Covering.{covers}
+use Rattle.gb_product.specs.Covering.{covers}
 use Rattle.gb_abs.specs.Mark.{IsMarkHarmless}
-use Rattle.gb_abs.specs.Meaning.{Means}
-use Rattle.gb_abs.specs.Stack.{AreInRegion}
-use Rattle.gb_abs.proofs.CoveringLaws.{Means-covered}
+use Rattle.gb_product.specs.Meaning.{AreRelated, Means}
+use Rattle.gb_abs.specs.Stack.{AreInRegion, pushed}
+use Rattle.gb_abs.specs.Meaning.{MeansParts}
+use Rattle.gb_domain.specs.declared.types.Halves.{Halves}
+use Rattle.gb_domain.specs.declared.rules.Rules.TheVariants.{Simple}
+use Rattle.gb_domain.specs.Limits.{rules_of}
+use Rattle.gb_successors.specs.Below.gb_abs_effects.Pairs.{known_word}
+use Rattle.gb_product.proofs.CoveringLaws.{Means-covered}
 use Rattle.gb_successors.specs.Below.gb_abs_effects.declared.targets.Target.{Target}
 use Rattle.gb_successors.specs.Below.gb_abs_effects.declared.targets.Target.TheVariants as target
 use Rattle.gb_successors.specs.Below.gb_abs_effects.Targets.{is_push}
@@ -81,13 +86,17 @@ not_over cert need held q h = by (held + 2 + need_of cert q) h
     by m h = grind (arith, nat_tests)
 
 resumed_covered : (cert : Certificate) (procedure back : ℕ) (s : AbsState) (q : ℕ) → is_back_uncovered cert procedure back s (Some q) ≡ false → (exit : AbsState) → exit_of cert q ≡ Some exit
-    → covered_at cert.nodes procedure back (resumed (ranges_of cert q) s exit) ≡ true
+    → covered_at cert.nodes procedure back (resumed (rules_of cert.version) (ranges_of cert q) s exit) ≡ true
 resumed_covered cert procedure back s q h exit is = not-false _ (subst (λ o. is_resumed_uncovered cert procedure back s (ranges_of cert q) o ≡ false) is h)
 
-calls_at : (rom : List ℕ) (cert : Certificate) (n : Node) (t : Successor) (a : ℕ) (entry : MState) (base : ℕ) (y : MState) → IsCertificate cert → CallsAt cert.region a t entry base y
+means_pushed : (w : Halves) (s : AbsState) (entry : MState) (base : ℕ) (x : MState) → MeansParts (pushed w s) entry base x → AreRelated s.relations x → Means (pushed w s) entry base x
+unfolding pushed
+means_pushed w s entry base x parts related = record { parts = parts; related = related }
+
+calls_at : (rom : List ℕ) (cert : Certificate) (n : Node) (t : Successor) (a : ℕ) (entry : MState) (base : ℕ) (y : MState) → IsCertificate cert → rules_of cert.version ≡ Simple → CallsAt cert.region a t entry base y → AreRelated t.state.relations y
     → y.processor.halt_mark ≡ false → is_outside_of cert n.procedure (callee_of cert a t.state) ≡ false → is_over cert (need_of cert n.procedure) (length t.state.items) (callee_of cert a t.state) ≡ false
     → is_back_uncovered cert n.procedure t.next t.state (callee_of cert a t.state) ≡ false → Calls cert n.procedure entry base y
-calls_at rom cert n t a entry base y certificate c mark outside over uncovered = by (callee_of cert a t.state) refl outside over uncovered
+calls_at rom cert n t a entry base y certificate simple c related mark outside over uncovered = by (callee_of cert a t.state) refl outside over uncovered
   where
     by : (o : Option ℕ) → callee_of cert a t.state ≡ o → is_outside_of cert n.procedure o ≡ false → is_over cert (need_of cert n.procedure) (length t.state.items) o ≡ false
         → is_back_uncovered cert n.procedure t.next t.state o ≡ false → Calls cert n.procedure entry base y
@@ -100,7 +109,8 @@ calls_at rom cert n t a entry base y certificate c mark outside over uncovered =
           state = t.state;
           back = t.next;
           back_small = c.next;
-          means = c.means;
+          means = means_pushed (known_word t.next) t.state entry base y c.means related;
+          rules = simple;
           stack_set = c.stack_set;
           placed = c.placed;
           node = begin.node;
@@ -111,15 +121,15 @@ calls_at rom cert n t a entry base y certificate c mark outside over uncovered =
           mark = mark;
           depth = subst (λ m. length t.state.items + 2 + need_of cert m ≤ need_of cert n.procedure) (sym number) (not_over cert (need_of cert n.procedure) (length t.state.items) q deep);
           inside = subst (λ m. are_ranges_inside (ranges_of cert m) (ranges_of cert n.procedure) ≡ true) (sym number) (not-false _ out);
-          resumes = λ exit is. subst (λ m. covered_at cert.nodes n.procedure t.next (resumed (ranges_of cert m) t.state exit) ≡ true) (sym number)
+          resumes = λ exit is. subst (λ m. covered_at cert.nodes n.procedure t.next (resumed (rules_of cert.version) (ranges_of cert m) t.state exit) ≡ true) (sym number)
               (resumed_covered cert n.procedure t.next t.state q back exit (subst (λ m. exit_of cert m ≡ Some exit) number is));
         }
 
 -- ---- returns
 
-returns_to : (cert : Certificate) (n : Node) (t : Successor) (entry : MState) (base : ℕ) (x y : MState) → ReturnsTo t entry base x y → y.processor.halt_mark ≡ false
+returns_to : (cert : Certificate) (n : Node) (t : Successor) (entry : MState) (base : ℕ) (x y : MState) → ReturnsTo t entry base x y → AreRelated t.state.relations y → y.processor.halt_mark ≡ false
     → (n.procedure == 0 || is_exit_missed t.state (exit_of cert n.procedure)) ≡ false → Returns cert n.procedure entry base x y
-returns_to cert n t entry base x y r mark h = by (exit_of cert n.procedure) refl (or_parts _ _ h).1
+returns_to cert n t entry base x y r related mark h = by (exit_of cert n.procedure) refl (or_parts _ _ h).1
   where
     not_zero : (m : ℕ) → (m == 0) ≡ false → 0 < m
     not_zero m h = grind (arith, nat_tests)
@@ -130,7 +140,7 @@ returns_to cert n t entry base x y r mark h = by (exit_of cert n.procedure) refl
       not_main = not_zero n.procedure (or_parts _ _ h).0;
       exit = exit;
       is_exit = e;
-      means = Means-covered t.state exit entry (base + 2) y (not-false _ (or_parts _ _ missed).1) r.means;
+      means = Means-covered t.state exit entry (base + 2) y (not-false _ (or_parts _ _ missed).1) (record { parts = r.means; related = related });
       address = r.goes;
       mark = mark;
     }
@@ -150,9 +160,9 @@ pub record IsMarked (rom : List ℕ) (w : Target) (y : MState) : Type 0 where
 
 -- a successor leads on in the same procedure
 stays_at : (rom : List ℕ) (cert : Certificate) (n : Node) (entry : MState) (base : ℕ) (x : MState) (k : OnNode rom cert n entry base x) (t : Successor) (a : ℕ) (y : MState)
-    → StaysAt cert.region a t entry base y → length t.state.items ≤ need_of cert n.procedure → covered_at cert.nodes n.procedure a t.state ≡ true → IsMarkHarmless rom y → IsMeant rom cert n.procedure entry base y
-stays_at rom cert n entry base x k t a y to held covered mark =
-    let f = found_at cert n.procedure a t.state entry base y covered to.means in
+    → StaysAt cert.region a t entry base y → AreRelated t.state.relations y → length t.state.items ≤ need_of cert n.procedure → covered_at cert.nodes n.procedure a t.state ≡ true → IsMarkHarmless rom y → IsMeant rom cert n.procedure entry base y
+stays_at rom cert n entry base x k t a y to related held covered mark =
+    let f = found_at cert n.procedure a t.state entry base y covered (record { parts = to.means; related = related }) in
     record {
       node = f.node;
       is_node = f.is_node;
@@ -168,17 +178,20 @@ stays_at rom cert n entry base x k t a y to held covered mark =
       };
     }
 
-pub Leads-way : (rom : List ℕ) (cert : Certificate) (n : Node) (entry : MState) (base : ℕ) (x : MState) (k : OnNode rom cert n entry base x) (t : Successor) → IsOneOf (ways_of rom n k.passes.row) t → (y : MState)
+pub Leads-way : (rom : List ℕ) (cert : Certificate) (n : Node) (entry : MState) (base : ℕ) (x : MState) (k : OnNode rom cert n entry base x) (t : Successor) → IsOneOf (ways_of rom cert n k.passes.row) t → (y : MState)
     → successors.Leads cert.region (ranges_of cert n.procedure) t entry base x y → length t.state.items ≤ need_of cert n.procedure → IsMarked rom t.target y → Leads rom cert n.procedure entry base x y
 unfolding is_uncovered is_uncallable is_unreturnable calls_too_deep callee_at
 Leads-way rom cert n entry base x k t is y leads held mark =
     by t.target leads.to (not_unknown rom cert n k.passes t is) (not_uncovered rom cert n k.passes t is) (not_uncallable rom cert n k.passes t is) (not_too_deep rom cert n k.passes t is)
     (not_unreturnable rom cert n k.passes t is) mark
   where
+    related : AreRelated t.state.relations y
+    related = leads.related (not_unknown rom cert n k.passes t is)
+
     by : (w : Target) → LeadsTo cert.region w t entry base x y → is_unknown w ≡ false → is_uncovered_at cert n.procedure w t.next t.state ≡ false → is_uncallable_at cert n.procedure w t.state ≡ false
         → is_over cert (need_of cert n.procedure) (length t.state.items) (callee_by cert w t.state) ≡ false → is_unreturnable_at cert n.procedure w t.state ≡ false → IsMarked rom w y
         → Leads rom cert n.procedure entry base x y
-    by (target.At a) to known covered callable shallow returnable marked = inl (stays_at rom cert n entry base x k t a y to held (not-false _ covered) marked.harmless)
-    by (target.Call a) to known covered callable shallow returnable marked = inr (inl (calls_at rom cert n t a entry base y k.certificate to (marked.clear tt) callable shallow covered))
-    by target.Return to known covered callable shallow returnable marked = inr (inr (returns_to cert n t entry base x y to (marked.clear tt) returnable))
+    by (target.At a) to known covered callable shallow returnable marked = inl (stays_at rom cert n entry base x k t a y to related held (not-false _ covered) marked.harmless)
+    by (target.Call a) to known covered callable shallow returnable marked = inr (inl (calls_at rom cert n t a entry base y k.certificate k.passes.rules to related (marked.clear tt) callable shallow covered))
+    by target.Return to known covered callable shallow returnable marked = inr (inr (returns_to cert n t entry base x y to related (marked.clear tt) returnable))
     by target.Unknown to known covered callable shallow returnable marked = not_so known

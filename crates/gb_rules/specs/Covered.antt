@@ -5,10 +5,13 @@ use Rattle.std.specs.List.{list_any}
 use Rattle.gb_ops.specs.declared.op.Register.{Register}
 use Rattle.gb_ops.specs.declared.op.Register.TheVariants.{A, B, C, D, E, H, L}
 use Rattle.gb_ops.specs.Registers.{get}
+use Rattle.gb_domain.specs.declared.relations.Relations.{Relations}
+use Rattle.gb_domain.specs.declared.types.Core.{Core}
 use Rattle.gb_domain.specs.declared.types.Val.{Val}
 use Rattle.gb_domain.specs.Types.{AbsState, Node}
-use Rattle.gb_abs.specs.Covering.{covers}
+use Rattle.gb_product.specs.Covering.{covers}
 use Rattle.gb_abs.specs.Operations.{core_with_value, with_core}
+use Rattle.gb_successors.specs.Behind.{with_relations}
 
 -- a node stands for these states, in a procedure at an address
 abbrev pub is_cover : ℕ → ℕ → AbsState → Node → Bool
@@ -21,6 +24,10 @@ is_covered_by_one nodes procedure a s = list_any (is_cover procedure a s) nodes
 -- of these states, those with one value in a register
 unfoldable pub with_value : Register → AbsState → ℕ → AbsState
 with_value r s v = with_core s (core_with_value r v s.core)
+
+-- states with this core, of which this is known together, and the items and cells of others
+abbrev pub with_parts : Core → Relations → AbsState → AbsState
+with_parts core r s = with_relations r (with_core s core)
 
 -- n numbers from one on pass a test
 abbrev pub all_from : (ℕ → Bool) → ℕ → ℕ → Bool

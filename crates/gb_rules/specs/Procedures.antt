@@ -1,6 +1,8 @@
 -- What a certificate claims of its procedures (own format).
-use Rattle.std.specs.Prelude.{ℕ, List, [], slice_get, Option, Some, None}
+use Rattle.std.specs.Prelude.{ℕ, ◌==◌, List, [], slice_get, Option, Some, None}
+use Rattle.gb_domain.specs.declared.setting.Setting.{Setting}
 use Rattle.gb_domain.specs.declared.types.Range.{Range}
+use Rattle.gb_domain.specs.Limits.{rules_of}
 use Rattle.gb_domain.specs.Types.{AbsState, ProcedureParts}
 use Rattle.gb_domain.specs.Certificate.{Certificate}
 
@@ -23,6 +25,15 @@ ranges_of cert procedure = ranges_in (slice_get cert.procedures procedure)
 -- how many bytes it may have on the stack, those of its callees among them
 unfoldable pub need_of : Certificate → ℕ → ℕ
 need_of cert procedure = need_in (slice_get cert.procedures procedure)
+
+abbrev pub base_in : Option ProcedureParts → ℕ
+base_in None = 0
+base_in (Some p) = p.base
+
+-- where its states stand
+unfoldable pub setting_of : Certificate → ℕ → Setting
+setting_of cert procedure =
+    record { rules = rules_of cert.version; is_main = procedure == 0; base = base_in (slice_get cert.procedures procedure) }
 
 -- what it returns with, if it returns
 unfoldable pub exit_of : Certificate → ℕ → Option AbsState

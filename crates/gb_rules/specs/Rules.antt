@@ -8,12 +8,15 @@ use Rattle.gb_ops.specs.declared.op.Row.{Row}
 use Rattle.gb_ops.specs.Cartridge.{kind_of}
 use Rattle.gb_ops.specs.Table.{decoded}
 use Rattle.gb_domain.specs.declared.types.Core.{Core}
+use Rattle.gb_domain.specs.declared.rules.Rules.{Rules}
+use Rattle.gb_domain.specs.declared.rules.Rules.TheVariants.{Simple, Extended}
 use Rattle.gb_domain.specs.declared.types.Range.{Range}
+use Rattle.gb_domain.specs.Limits.{rules_of}
 use Rattle.gb_domain.specs.Types.{AbsState, Node}
 use Rattle.gb_domain.specs.Certificate.{Certificate}
 use Rattle.gb_abs.specs.declared.reason.Reason.{Reason}
 use Rattle.gb_abs.specs.declared.reason.Reason.TheVariants as reason
-use Rattle.gb_abs.specs.Covering.{covers}
+use Rattle.gb_product.specs.Covering.{covers}
 use Rattle.gb_successors.specs.Below.gb_abs_effects.declared.targets.Target.{Target}
 use Rattle.gb_successors.specs.Below.gb_abs_effects.declared.targets.Target.TheVariants as target
 use Rattle.gb_successors.specs.Below.gb_abs_effects.Targets.{moves_sp, is_push}
@@ -28,9 +31,13 @@ use Rattle.gb_calls.specs.Calls.{callee_of, are_ranges_inside, resumed}
 use Rattle.gb_calls.specs.Interrupts.{dispatched, may_come, handler_of}
 use Rattle.gb_rules.specs.declared.procedures.Callees.{Callees}
 use Rattle.gb_rules.specs.Covered.{covered_at}
-use Rattle.gb_rules.specs.Procedures.{ranges_of, need_of, exit_of}
+use Rattle.gb_rules.specs.Procedures.{ranges_of, need_of, setting_of, exit_of}
 
 -- ---- the instruction alone
+
+abbrev pub is_extended : Rules → Bool
+is_extended Simple = false
+is_extended Extended = true
 
 abbrev pub is_stop : Op → Bool
 is_stop op.Stop = true
@@ -53,6 +60,10 @@ is_nop_behind rom s a (Some end) = nat_lt (a + 1) end && is_nop (known_byte rom 
 -- HALT where interrupts may be off: the byte behind it may be read twice (halt: halt bug), which a NOP alone survives
 unfoldable pub may_read_twice : List ℕ → Node → Op → Bool
 may_read_twice rom n o = is_halt o && n.state.core.ime.off && not (is_nop_behind rom n.state n.address (area_end n.address))
+
+-- A certificate of version 3 is not judged yet: each of its nodes is refused.
+unfoldable pub is_unjudged : Certificate → Bool
+is_unjudged cert = is_extended (rules_of cert.version)
 
 -- LD SP,n16 is main's, to the address behind the region; what pushes a word finds the stack set, POP a word on it; and
 -- nothing else but returns moves SP. This is asked of the instruction, whether a side is possible or not.
@@ -106,7 +117,7 @@ calls_too_deep cert need t = is_over cert need (length t.state.items) (callee_at
 
 abbrev pub is_resumed_uncovered : Certificate → ℕ → ℕ → AbsState → List Range → Option AbsState → Bool
 is_resumed_uncovered cert procedure back s ranges None = false
-is_resumed_uncovered cert procedure back s ranges (Some exit) = not (covered_at cert.nodes procedure back (resumed ranges s exit))
+is_resumed_uncovered cert procedure back s ranges (Some exit) = not (covered_at cert.nodes procedure back (resumed (rules_of cert.version) ranges s exit))
 
 abbrev pub is_back_uncovered : Certificate → ℕ → ℕ → AbsState → Option ℕ → Bool
 is_back_uncovered cert procedure back s None = false
@@ -195,55 +206,55 @@ unfoldable pub node_bytes : List ℕ → Node → Option (List ℕ)
 node_bytes rom n = known_bytes rom n.state n.address
 
 -- a test of the successors of a node's instruction
-unfoldable pub any_of : (Successor → Bool) → List ℕ → Node → Row → Bool
-any_of test rom n row = any_successor test (successors_of rom row n.address n.state)
+unfoldable pub any_of : (Successor → Bool) → List ℕ → Certificate → Node → Row → Bool
+any_of test rom cert n row = any_successor test (successors_of (setting_of cert n.procedure) rom cert.region row n.address n.state)
 
 -- the stack would grow over the procedure's need
 unfoldable pub grows_too_deep : List ℕ → Certificate → Node → Row → Bool
 grows_too_deep rom cert n row =
-    pushes_too_deep (need_of cert n.procedure) n row.op || any_of (calls_too_deep cert (need_of cert n.procedure)) rom n row
+    pushes_too_deep (need_of cert n.procedure) n row.op || any_of (calls_too_deep cert (need_of cert n.procedure)) rom cert n row
     || handles_too_deep cert n
 
 -- a successor may store where no store is allowed
 unfoldable pub stores_outside : List ℕ → Certificate → Node → Row → Bool
-stores_outside rom cert n row = any_of (λ t. is_unstorable (kind_of rom) cert.region (ranges_of cert n.procedure) t.write) rom n row
+stores_outside rom cert n row = any_of (λ t. is_unstorable (kind_of rom) cert.region (ranges_of cert n.procedure) t.write) rom cert n row
 
 -- one may meet closed cartridge RAM; asked for at the gate of the node's own state
-unfoldable pub meets_ram : List ℕ → Node → Row → Bool
-meets_ram rom n row = any_of (meets_closed rom n.state.core) rom n row
+unfoldable pub meets_ram : List ℕ → Certificate → Node → Row → Bool
+meets_ram rom cert n row = any_of (meets_closed rom n.state.core) rom cert n row
 
 -- an OAM transfer may close a byte of the instruction or an access of one, or start unseen; asked for at the node's bound
-unfoldable pub meets_transfer : List ℕ → Region → Node → Row → Bool
-meets_transfer rom region n row =
-    any_of (λ t. is_code_limited n.state.core n.address row.length || meets_oam_transfer region n.state.core t) rom n row
-    || is_dispatch_limited region n
+unfoldable pub meets_transfer : List ℕ → Certificate → Node → Row → Bool
+meets_transfer rom cert n row =
+    any_of (λ t. is_code_limited n.state.core n.address row.length || meets_oam_transfer cert.region n.state.core t) rom cert n row
+    || is_dispatch_limited cert.region n
 
 -- one may lead anywhere
-unfoldable pub leads_anywhere : List ℕ → Node → Row → Bool
-leads_anywhere rom n row = any_of (λ t. is_unknown t.target) rom n row
+unfoldable pub leads_anywhere : List ℕ → Certificate → Node → Row → Bool
+leads_anywhere rom cert n row = any_of (λ t. is_unknown t.target) rom cert n row
 
 -- the states behind one aren't covered
 unfoldable pub leads_uncovered : List ℕ → Certificate → Node → Row → Bool
-leads_uncovered rom cert n row = any_of (is_uncovered cert n.procedure) rom n row
+leads_uncovered rom cert n row = any_of (is_uncovered cert n.procedure) rom cert n row
 
 -- one calls what it may not
 unfoldable pub calls_wrongly : List ℕ → Certificate → Node → Row → Bool
-calls_wrongly rom cert n row = any_of (is_uncallable cert n.procedure) rom n row
+calls_wrongly rom cert n row = any_of (is_uncallable cert n.procedure) rom cert n row
 
 -- one returns as it may not
 unfoldable pub returns_wrongly : List ℕ → Certificate → Node → Row → Bool
-returns_wrongly rom cert n row = any_of (is_unreturnable cert n.procedure) rom n row
+returns_wrongly rom cert n row = any_of (is_unreturnable cert n.procedure) rom cert n row
 
 -- whether a reason applies to a node whose instruction is known
 unfoldable pub applies_to_row : List ℕ → Certificate → Node → Row → Reason → Bool
 applies_to_row rom cert n row reason.Stop = is_stop row.op
 applies_to_row rom cert n row reason.Halt = may_read_twice rom n row.op
-applies_to_row rom cert n row reason.Stack = breaks_stack cert.region n row.op
+applies_to_row rom cert n row reason.Stack = is_unjudged cert || breaks_stack cert.region n row.op
 applies_to_row rom cert n row reason.Depth = grows_too_deep rom cert n row
 applies_to_row rom cert n row reason.Store = stores_outside rom cert n row
-applies_to_row rom cert n row reason.CartridgeRam = meets_ram rom n row
-applies_to_row rom cert n row reason.OamTransfer = meets_transfer rom cert.region n row
-applies_to_row rom cert n row reason.JumpHl = leads_anywhere rom n row
+applies_to_row rom cert n row reason.CartridgeRam = meets_ram rom cert n row
+applies_to_row rom cert n row reason.OamTransfer = meets_transfer rom cert n row
+applies_to_row rom cert n row reason.JumpHl = leads_anywhere rom cert n row
 applies_to_row rom cert n row reason.Uncovered = leads_uncovered rom cert n row
 applies_to_row rom cert n row reason.Callee = calls_wrongly rom cert n row
 applies_to_row rom cert n row reason.Return = returns_wrongly rom cert n row

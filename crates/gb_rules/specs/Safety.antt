@@ -7,11 +7,13 @@ use Rattle.gb_ops.specs.Pairs.{word}
 use Rattle.gb_ops.specs.Faults.{no_faults}
 use Rattle.gb_ops.specs.Play.{MState, next, faults, places}
 use Rattle.gb_domain.specs.Types.{AbsState, Node}
+use Rattle.gb_domain.specs.declared.rules.Rules.TheVariants.{Simple}
 use Rattle.gb_domain.specs.Certificate.{Certificate}
+use Rattle.gb_domain.specs.Limits.{rules_of}
 use Rattle.gb_abs.specs.Cells.{ArePlaced}
-use Rattle.gb_abs.specs.Covering.{covers}
+use Rattle.gb_product.specs.Covering.{covers}
 use Rattle.gb_abs.specs.Mark.{IsMarkHarmless}
-use Rattle.gb_abs.specs.Meaning.{Means}
+use Rattle.gb_product.specs.Meaning.{Means}
 use Rattle.gb_abs.specs.Stack.{AreInRegion, pushed}
 use Rattle.gb_abs.specs.Storage.{peek}
 use Rattle.gb_code.specs.Below.gb_abs_memory.Kept.{IsKept}
@@ -51,6 +53,7 @@ pub record Calls (cert : Certificate) (procedure : ℕ) (entry : MState) (base :
   pub back : ℕ
   pub back_small : back < 65536
   pub means : Means (pushed (known_word back) state) entry base s
+  pub rules : rules_of cert.version ≡ Simple
   pub stack_set : state.core.stack_set ≡ true
   pub placed : ArePlaced cert.region state.cells
   pub node : Node
@@ -63,7 +66,7 @@ pub record Calls (cert : Certificate) (procedure : ℕ) (entry : MState) (base :
   pub inside : are_ranges_inside (ranges_of cert node.procedure) (ranges_of cert procedure) ≡ true
   pub resumes :
       (exit : AbsState) → exit_of cert node.procedure ≡ Some exit
-      → covered_at cert.nodes procedure back (resumed (ranges_of cert node.procedure) state exit) ≡ true
+      → covered_at cert.nodes procedure back (resumed (rules_of cert.version) (ranges_of cert node.procedure) state exit) ≡ true
 
 -- from s to t the machine has returned: to the word at the base, in a state that the procedure's exit means
 pub record Returns (cert : Certificate) (procedure : ℕ) (entry : MState) (base : ℕ) (s t : MState) : Type 0 where

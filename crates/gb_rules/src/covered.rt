@@ -3,15 +3,20 @@
 ghost use Rattle.std.specs.Prelude.{◌≡◌, ◌<◌, ◌&&◌, ◌||◌, ℕ, false, nat_le, slice_index_or, IfSome, IfNone, map};
 ghost use Rattle.gb_calls.specs.Below.gb_rows.Rows.{IsFound};
 ghost use Rattle.gb_states.specs.Rules.{key};
-ghost use Rattle.gb_abs.specs.Covering.{covers_items, covers_cells, covers};
-ghost use Rattle.gb_abs.specs.Operations.{with_core};
+ghost use Rattle.gb_abs.specs.Covering.{covers_items, covers_cells, covers_parts};
+ghost use Rattle.gb_abs.specs.Operations.{core_with_value};
+ghost use Rattle.gb_product.specs.Covering.{covers, covers_relations};
 ghost use Rattle.gb_rules.specs.Covered as Covered;
 
 use gb_abs::covering::{covers_core, covers_lists};
 use gb_abs::operations::with_value;
 use gb_calls::{Cert, Found, NodeRef};
+use gb_domain::relations::Relations;
 use gb_domain::types::{Abs, Core, Val};
 use gb_ops::op::Register;
+use gb_ops::registers::Registers;
+use gb_product::covering::covers_relations;
+use gb_states::relations::test_alone;
 
 /// Whether the items and the cells of a node's state stand for those of others, where it may hold some: kept out of line,
 /// so that a state is decoded only then.
@@ -33,13 +38,45 @@ fn covers_held(s: &Abs, node: &NodeRef<'_>) -> bool
     }
 }
 
-/// Whether the state of a node stands for each machine state that one with this core, and the items and cells of
-/// another, stands for. Only its core is read where that doesn't, and where it holds no items and no cells.
-#[tactic(auto, unfolding(gb_abs::specs::Covering::covers))]
-fn covers_parts(core: &Core, lists: &Abs, node: &NodeRef<'_>) -> bool
-    ensures { result ≡ covers (with_core lists.now core.now) node.now.state }
+/// States with this core, of which this is known together, and the items and cells of others.
+#[derive(Clone, Copy)]
+pub struct States<'a> {
+    pub core: &'a Core,
+    pub relations: &'a Relations,
+    pub lists: &'a Abs,
+}
+
+/// What is known together of a node's states.
+fn relations_of(node: &NodeRef<'_>) -> Relations
+    ensures { result ≡ node.now.state.relations }
 {
-    covers_core(core, &node.core()) && covers_held(lists, node)
+    if node.has_lists() {
+        *node.state().relations()
+    } else {
+        test_alone(node.test())
+    }
+}
+
+/// Whether all that is known together of a node's states is known of others, whose registers these are.
+fn is_known_together(
+    registers: &Registers<Val>,
+    relations: &Relations,
+    node: &NodeRef<'_>,
+) -> bool
+    ensures { result ≡ covers_relations registers.now relations.now node.now.state.relations }
+{
+    covers_relations(registers, relations, &relations_of(node))
+}
+
+/// Whether the state of a node stands for each machine state that these stand for. Only its core is read where that doesn't,
+/// and where nothing but a core is in it.
+#[tactic(auto, unfolding(gb_product::specs::Covering::covers, gb_abs::specs::Covering::covers_parts))]
+fn covers_states(states: &States<'_>, node: &NodeRef<'_>) -> bool
+    ensures { result ≡ covers (Covered.with_parts states.now.core.now states.now.relations.now states.now.lists.now) node.now.state }
+{
+    covers_core(states.core, &node.core())
+        && covers_held(states.lists, node)
+        && is_known_together(&states.core.registers, states.relations, node)
 }
 
 /// Whether one of the nodes that were found stands for these states.
@@ -48,60 +85,68 @@ fn is_covered_by_one(
     found: &Found,
     procedure: u8,
     address: u16,
-    core: &Core,
-    lists: &Abs,
+    states: &States<'_>,
 ) -> bool
     requires { IsFound (map key cert.now.nodes) (procedure, address) found.now.first found.now.after }
-    ensures { result ≡ Covered.is_covered_by_one cert.now.nodes procedure address (with_core lists.now core.now) }
+    ensures { result ≡ Covered.is_covered_by_one cert.now.nodes procedure address (Covered.with_parts states.now.core.now states.now.relations.now states.now.lists.now) }
 {
     for i in found.first..found.after {
         let node = cert.node(i);
-        if covers_parts(core, lists, &node) {
+        if covers_states(states, &node) {
             return true;
         }
     }
     false
 }
 
-/// Whether the state of a node, the core of which is given, stands for those of these states that have
-/// a value in a register.
-#[tactic(auto, unfolding(crate::specs::Covered::with_value, gb_abs::specs::Covering::covers))]
+/// Whether each part of a node's states, the core of which is given, stands by itself for that of those of these states that
+/// have a value in a register.
+#[tactic(auto, unfolding(crate::specs::Covered::with_value, gb_abs::specs::Covering::covers_parts))]
 fn covers_value(
     register: Register,
     value: u8,
-    core: &Core,
-    lists: &Abs,
+    states: &States<'_>,
     node: &NodeRef<'_>,
     claimed: &Core,
 ) -> bool
     requires { claimed.now ≡ node.now.state.core }
-    ensures { result ≡ covers (Covered.with_value register (with_core lists.now core.now) value) node.now.state }
+    ensures { result ≡ covers_parts (Covered.with_value register (Covered.with_parts states.now.core.now states.now.relations.now states.now.lists.now) value) node.now.state }
 {
-    covers_core(&with_value(register, value, core), claimed) && covers_held(lists, node)
+    covers_core(&with_value(register, value, states.core), claimed)
+        && covers_held(states.lists, node)
 }
 
-/// The values of a register with which the state of a node stands for these states: those of its
+/// The values of a register with which each part of a node's states stands for that of these states: those of its
 /// interval there, or none.
-fn covered_interval(register: Register, core: &Core, lists: &Abs, node: &NodeRef<'_>) -> Option<Val>
-    ensures some { IfSome result (λ val. (v : ℕ) → covers (Covered.with_value register (with_core lists.now core.now) v) node.now.state ≡ (nat_le val.lo v && nat_le v val.hi)) }
-    ensures none { IfNone result ((v : ℕ) → covers (Covered.with_value register (with_core lists.now core.now) v) node.now.state ≡ false) }
+fn covered_interval(register: Register, states: &States<'_>, node: &NodeRef<'_>) -> Option<Val>
+    ensures some { IfSome result (λ val. (v : ℕ) → covers_parts (Covered.with_value register (Covered.with_parts states.now.core.now states.now.relations.now states.now.lists.now) v) node.now.state ≡ (nat_le val.lo v && nat_le v val.hi)) }
+    ensures none { IfNone result ((v : ℕ) → covers_parts (Covered.with_value register (Covered.with_parts states.now.core.now states.now.relations.now states.now.lists.now) v) node.now.state ≡ false) }
 {
     let claimed = node.core();
     let val = claimed.registers.get(register);
-    if covers_value(register, val.lo, core, lists, node, &claimed) {
+    if covers_value(register, val.lo, states, node, &claimed) {
         Some(val)
     } else {
         None
     }
 }
 
-/// Marks the values of an interval.
-fn mark(marks: &mut [bool; 256], val: &Val)
-    ensures { (v : ℕ) → slice_index_or marks.new v false ≡ (slice_index_or marks.old v false || (nat_le val.now.lo v && nat_le v val.now.hi)) }
+/// Marks the values of an interval with which all is known together that is claimed.
+fn mark(
+    marks: &mut [bool; 256],
+    val: &Val,
+    register: Register,
+    states: &States<'_>,
+    claimed: &Relations,
+)
+    ensures { (v : ℕ) → slice_index_or marks.new v false ≡ (slice_index_or marks.old v false || ((nat_le val.now.lo v && nat_le v val.now.hi) && covers_relations (core_with_value register v states.now.core.now).registers states.now.relations.now claimed.now)) }
 {
     let after = u16::from(val.hi) + 1;
     for value in u16::from(val.lo)..after {
-        marks[usize::from(value)] = true;
+        let core = with_value(register, value as u8, states.core);
+        if covers_relations(&core.registers, states.relations, claimed) {
+            marks[usize::from(value)] = true;
+        }
     }
 }
 
@@ -112,18 +157,17 @@ fn covered_values(
     found: &Found,
     procedure: u8,
     address: u16,
-    core: &Core,
-    lists: &Abs,
+    states: &States<'_>,
     register: Register,
 ) -> [bool; 256]
     requires { IsFound (map key cert.now.nodes) (procedure, address) found.now.first found.now.after }
-    ensures { (v : ℕ) → v < 256 → slice_index_or result v false ≡ Covered.is_covered_by_one cert.now.nodes procedure address (Covered.with_value register (with_core lists.now core.now) v) }
+    ensures { (v : ℕ) → v < 256 → slice_index_or result v false ≡ Covered.is_covered_by_one cert.now.nodes procedure address (Covered.with_value register (Covered.with_parts states.now.core.now states.now.relations.now states.now.lists.now) v) }
 {
     let mut marks = [false; 256];
     for number in found.first..found.after {
         let node = cert.node(number);
-        if let Some(val) = covered_interval(register, core, lists, &node) {
-            mark(&mut marks, &val);
+        if let Some(val) = covered_interval(register, states, &node) {
+            mark(&mut marks, &val, register, states, &relations_of(&node));
         }
     }
     marks
@@ -136,15 +180,14 @@ fn is_covered_by_values(
     found: &Found,
     procedure: u8,
     address: u16,
-    core: &Core,
-    lists: &Abs,
+    states: &States<'_>,
     register: Register,
 ) -> bool
     requires { IsFound (map key cert.now.nodes) (procedure, address) found.now.first found.now.after }
-    ensures { result ≡ Covered.is_covered_by_values cert.now.nodes procedure address (with_core lists.now core.now) register }
+    ensures { result ≡ Covered.is_covered_by_values cert.now.nodes procedure address (Covered.with_parts states.now.core.now states.now.relations.now states.now.lists.now) register }
 {
-    let val = core.registers.get(register);
-    let marks = covered_values(cert, found, procedure, address, core, lists, register);
+    let val = states.core.registers.get(register);
+    let marks = covered_values(cert, found, procedure, address, states, register);
     let after = u16::from(val.hi) + 1;
     for value in u16::from(val.lo)..after {
         if !marks[usize::from(value)] {
@@ -155,28 +198,27 @@ fn is_covered_by_values(
 }
 
 /// Whether one node of the procedure stands for these states at the address, or for one register value
-/// by value some do: states with this core, and the items and cells of others. Only the nodes of that procedure and
-/// address are looked at, and they are looked for from the node with the number `near` on.
+/// by value some do. Only the nodes of that procedure and address are looked at, and they are looked for from the node with
+/// the number `near` on.
 #[tactic(auto, unfolding(crate::specs::Covered::covered_at))]
 pub fn covered_near(
     cert: &Cert<'_>,
     near: u32,
     procedure: u8,
     address: u16,
-    core: &Core,
-    lists: &Abs,
+    states: &States<'_>,
 ) -> bool
-    ensures { result ≡ Covered.covered_at cert.now.nodes procedure address (with_core lists.now core.now) }
+    ensures { result ≡ Covered.covered_at cert.now.nodes procedure address (Covered.with_parts states.now.core.now states.now.relations.now states.now.lists.now) }
 {
     let found = cert.find_near(near, procedure, address).found;
-    is_covered_by_one(cert, &found, procedure, address, core, lists)
-        || is_covered_by_values(cert, &found, procedure, address, core, lists, Register::A)
-        || is_covered_by_values(cert, &found, procedure, address, core, lists, Register::B)
-        || is_covered_by_values(cert, &found, procedure, address, core, lists, Register::C)
-        || is_covered_by_values(cert, &found, procedure, address, core, lists, Register::D)
-        || is_covered_by_values(cert, &found, procedure, address, core, lists, Register::E)
-        || is_covered_by_values(cert, &found, procedure, address, core, lists, Register::H)
-        || is_covered_by_values(cert, &found, procedure, address, core, lists, Register::L)
+    is_covered_by_one(cert, &found, procedure, address, states)
+        || is_covered_by_values(cert, &found, procedure, address, states, Register::A)
+        || is_covered_by_values(cert, &found, procedure, address, states, Register::B)
+        || is_covered_by_values(cert, &found, procedure, address, states, Register::C)
+        || is_covered_by_values(cert, &found, procedure, address, states, Register::D)
+        || is_covered_by_values(cert, &found, procedure, address, states, Register::E)
+        || is_covered_by_values(cert, &found, procedure, address, states, Register::H)
+        || is_covered_by_values(cert, &found, procedure, address, states, Register::L)
 }
 
 /// Whether one node of the procedure stands for these states at the address, or for one register value
@@ -184,5 +226,10 @@ pub fn covered_near(
 pub fn covered_at(cert: &Cert<'_>, procedure: u8, address: u16, state: &Abs) -> bool
     ensures { result ≡ Covered.covered_at cert.now.nodes procedure address state.now }
 {
-    covered_near(cert, 0, procedure, address, state.core(), state)
+    let states = States {
+        core: state.core(),
+        relations: state.relations(),
+        lists: state,
+    };
+    covered_near(cert, 0, procedure, address, &states)
 }

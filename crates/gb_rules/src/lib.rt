@@ -16,7 +16,7 @@ pub mod procedures;
 pub mod rules;
 
 // What lies below, for the crates above.
-pub use gb_abs::covering::{cell_at, covers};
+pub use gb_abs::covering::cell_at;
 pub use gb_abs::operations::with_value;
 pub use gb_abs::reason::Reason;
 pub use gb_abs::span::Span;
@@ -29,6 +29,7 @@ pub use gb_calls::resuming::resume;
 pub use gb_calls::{Cert, NodeRef, ProcedureRef};
 pub use gb_code::code::{area_end, known_byte, known_bytes, leaves_area, lies_in_high_ram};
 pub use gb_code::{holds_bytes, is_limited, known_bank, meets_closed_ram};
+pub use gb_product::covering::covers;
 pub use gb_states::CertFault;
 pub use gb_successors::refused::is_stack_limited;
 pub use gb_successors::successor::Successor;

@@ -1,21 +1,22 @@
 //! The procedures of a certificate, and what successors ask of them: where they call, where they go on,
 //! and whether they may return.
 
-ghost use Rattle.std.specs.Prelude.{◌≡◌, length, Option};
+ghost use Rattle.std.specs.Prelude.{◌≡◌, length, slice_get, Option};
+ghost use Rattle.gb_domain.specs.Limits as Limits;
 ghost use Rattle.gb_calls.specs.Calls.{callee_of};
 ghost use Rattle.gb_successors.specs.Successors.{has};
 ghost use Rattle.gb_rules.specs.Covered as Covered;
 ghost use Rattle.gb_rules.specs.Procedures as Procedures;
 ghost use Rattle.gb_rules.specs.Rules as Rules;
 
-use crate::covered::{covered_at, covered_near};
+use crate::covered::{States, covered_at, covered_near};
 use arrayvec::ArrayVec;
-use gb_abs::covering::covers;
 use gb_calls::Cert;
 use gb_calls::callees::callee;
 use gb_calls::ranges::are_ranges_inside;
 use gb_calls::resuming::resume;
-use gb_domain::types::{Abs, Range};
+use gb_domain::types::{Abs, Range, Rules as Form, Setting};
+use gb_product::covering::covers;
 use gb_successors::Target;
 use gb_successors::successor::Successor;
 use gb_successors::successors::Successors;
@@ -42,6 +43,36 @@ pub fn need_of(cert: &Cert<'_>, procedure: u8) -> u16
         cert.procedure(procedure).need()
     } else {
         0
+    }
+}
+
+/// The rules of the certificate's version.
+pub(crate) fn rules_of(cert: &Cert<'_>) -> Form
+    ensures { result ≡ Limits.rules_of cert.now.version }
+{
+    Form::of(cert.version())
+}
+
+/// The base that a procedure says; 0 where it says none, or there is none with the number.
+fn base_of(cert: &Cert<'_>, procedure: u8) -> u16
+    ensures { result ≡ Procedures.base_in (slice_get cert.now.procedures procedure) }
+{
+    if procedure < cert.procedures() {
+        cert.procedure(procedure).base()
+    } else {
+        0
+    }
+}
+
+/// Where a procedure's states stand.
+#[tactic(auto, unfolding(crate::specs::Procedures::setting_of))]
+pub fn setting_of(cert: &Cert<'_>, procedure: u8) -> Setting
+    ensures { result ≡ Procedures.setting_of cert.now procedure }
+{
+    Setting {
+        rules: rules_of(cert),
+        is_main: procedure == 0,
+        base: base_of(cert, procedure),
     }
 }
 
@@ -169,7 +200,7 @@ pub(crate) fn is_back_uncovered(
         return false;
     };
     let ranges = ranges_of(cert, callee);
-    let resumed = resume(ranges.as_slice(), state, &exit);
+    let resumed = resume(rules_of(cert), ranges.as_slice(), state, &exit);
     !covered_at(cert, procedure, back, &resumed)
 }
 
@@ -193,7 +224,17 @@ fn is_covered(
     ensures { result ≡ Covered.covered_at cert.now.nodes procedure address successor.now.state }
 {
     match successor.unmoved() {
-        Some(lists) => covered_near(cert, near, procedure, address, successor.core(), lists),
+        Some(lists) => covered_near(
+            cert,
+            near,
+            procedure,
+            address,
+            &States {
+                core: successor.core(),
+                relations: successor.relations(),
+                lists,
+            },
+        ),
         None => is_covered_moved(cert, procedure, address, successor),
     }
 }

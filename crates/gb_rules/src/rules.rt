@@ -3,6 +3,7 @@
 ghost use Rattle.std.specs.Prelude.{◌≡◌, ◌<◌, length, find, Option, Some, None, MatchResult, OnOk};
 ghost use Rattle.gb_successors.specs.Below.gb_abs_effects.Targets as Targets;
 ghost use Rattle.gb_successors.specs.Successors.{successors_of};
+ghost use Rattle.gb_rules.specs.Procedures.{setting_of};
 ghost use Rattle.gb_rules.specs.Rules as Rules;
 ghost use Rattle.gb_rules.specs.Rules.{callees_of, row_reasons, way_reasons, target_reasons, reason_at};
 ghost use Rattle.gb_rules.specs.Safety.{IsSafeAt};
@@ -10,7 +11,7 @@ ghost use Rattle.gb_rules.specs.Safety.{IsSafeAt};
 use crate::interrupts::{handles_too_deep, is_dispatch_limited};
 use crate::procedures::{
     Callees, callees_of, has_deep, has_uncallable, has_uncovered, has_unreturnable, need_of,
-    ranges_of,
+    ranges_of, rules_of, setting_of,
 };
 use gb_abs::reason::Reason;
 use gb_calls::{Cert, NodeRef};
@@ -18,7 +19,7 @@ use gb_code::code::{
     area_end, is_other_bank, known_byte, known_bytes, leaves_area, lies_in_high_ram,
 };
 use gb_code::{Rom, holds_bytes, known_bank};
-use gb_domain::types::{Abs, Core, ITEMS};
+use gb_domain::types::{Abs, Core, Rules as Form};
 use gb_ops::decode::decode;
 use gb_ops::machine::Region;
 use gb_ops::op::{Op, Pair, Row};
@@ -67,6 +68,14 @@ fn is_sp(pair: Pair) -> bool
     matches!(pair, Pair::Sp)
 }
 
+/// Whether the certificate is of version 3, which isn't judged yet: each of its nodes is refused.
+#[tactic(auto, unfolding(crate::specs::Rules::is_unjudged))]
+fn is_unjudged(cert: &Cert<'_>) -> bool
+    ensures { result ≡ Rules.is_unjudged cert.now }
+{
+    matches!(rules_of(cert), Form::Extended)
+}
+
 /// Whether an instruction finds a stack that it can't work with: a word is pushed without a known stack,
 /// POP finds none, or SP would be another one than what is known of it. LD SP,n16 is main's, to the
 /// address behind the region.
@@ -93,14 +102,14 @@ fn is_push(op: Op) -> bool
     matches!(op, Op::Push(_))
 }
 
-/// Whether PUSH pushes a word over the need, or over the bytes that a state can hold.
-#[tactic(auto, unfolding(crate::specs::Rules::pushes_too_deep))]
+/// Whether PUSH pushes a word over the need, or over the bytes that a state of versions 1 and 2 can hold.
+#[tactic(auto, unfolding(crate::specs::Rules::pushes_too_deep, gb_domain::specs::Limits::item_room))]
 fn pushes_too_deep(need: u16, node: &NodeRef<'_>, state: &Abs, op: Op) -> bool
     requires { state.now ≡ node.now.state }
     ensures { result ≡ Rules.pushes_too_deep need node.now op }
 {
     let bytes = state.items().len() + 2;
-    is_push(op) && (usize::from(need) < bytes || ITEMS < bytes)
+    is_push(op) && (usize::from(need) < bytes || Form::Simple.item_room() < bytes)
 }
 
 /// Whether an OAM transfer may close a byte of an instruction of so many bytes.
@@ -120,7 +129,7 @@ fn stores_outside(
     row: Row,
     ways: &Successors<'_>,
 ) -> bool
-    requires { ways.now ≡ successors_of rom.now row node.now.address node.now.state }
+    requires { ways.now ≡ successors_of (setting_of cert.now node.now.procedure) rom.now cert.now.region row node.now.address node.now.state }
     ensures { result ≡ Rules.stores_outside rom.now cert.now node.now row }
 {
     let ranges = ranges_of(cert, node.procedure());
@@ -131,14 +140,15 @@ fn stores_outside(
 #[tactic(auto, unfolding(crate::specs::Rules::meets_ram, crate::specs::Rules::any_of))]
 fn meets_ram(
     rom: &Rom<'_>,
+    cert: &Cert<'_>,
     node: &NodeRef<'_>,
     state: &Abs,
     row: Row,
     ways: &Successors<'_>,
 ) -> bool
     requires state { state.now ≡ node.now.state }
-    requires ways { ways.now ≡ successors_of rom.now row node.now.address node.now.state }
-    ensures { result ≡ Rules.meets_ram rom.now node.now row }
+    requires ways { ways.now ≡ successors_of (setting_of cert.now node.now.procedure) rom.now cert.now.region row node.now.address node.now.state }
+    ensures { result ≡ Rules.meets_ram rom.now cert.now node.now row }
 {
     ways.meet_closed_ram(rom, state.core())
 }
@@ -148,16 +158,17 @@ fn meets_ram(
 #[tactic(auto, unfolding(crate::specs::Rules::meets_transfer, crate::specs::Rules::any_of))]
 fn meets_transfer(
     rom: &Rom<'_>,
-    region: Region,
+    cert: &Cert<'_>,
     node: &NodeRef<'_>,
     state: &Abs,
     row: Row,
     ways: &Successors<'_>,
 ) -> bool
     requires state { state.now ≡ node.now.state }
-    requires ways { ways.now ≡ successors_of rom.now row node.now.address node.now.state }
-    ensures { result ≡ Rules.meets_transfer rom.now region node.now row }
+    requires ways { ways.now ≡ successors_of (setting_of cert.now node.now.procedure) rom.now cert.now.region row node.now.address node.now.state }
+    ensures { result ≡ Rules.meets_transfer rom.now cert.now node.now row }
 {
+    let region = cert.region();
     let limited = if is_code_limited(state.core(), node.address(), row.length) {
         ways.are_some()
     } else {
@@ -168,9 +179,15 @@ fn meets_transfer(
 
 /// Whether one of them may lead anywhere.
 #[tactic(auto, unfolding(crate::specs::Rules::leads_anywhere, crate::specs::Rules::any_of))]
-fn leads_anywhere(rom: &Rom<'_>, node: &NodeRef<'_>, row: Row, ways: &Successors<'_>) -> bool
-    requires { ways.now ≡ successors_of rom.now row node.now.address node.now.state }
-    ensures { result ≡ Rules.leads_anywhere rom.now node.now row }
+fn leads_anywhere(
+    rom: &Rom<'_>,
+    cert: &Cert<'_>,
+    node: &NodeRef<'_>,
+    row: Row,
+    ways: &Successors<'_>,
+) -> bool
+    requires { ways.now ≡ successors_of (setting_of cert.now node.now.procedure) rom.now cert.now.region row node.now.address node.now.state }
+    ensures { result ≡ Rules.leads_anywhere rom.now cert.now node.now row }
 {
     ways.lead_anywhere()
 }
@@ -187,7 +204,7 @@ fn grows_too_deep(
     callees: Callees,
 ) -> bool
     requires state { state.now ≡ node.now.state }
-    requires ways { ways.now ≡ successors_of rom.now row node.now.address node.now.state }
+    requires ways { ways.now ≡ successors_of (setting_of cert.now node.now.procedure) rom.now cert.now.region row node.now.address node.now.state }
     requires callees { callees ≡ callees_of cert.now ways.now }
     ensures { result ≡ Rules.grows_too_deep rom.now cert.now node.now row }
 {
@@ -210,7 +227,7 @@ fn leads_uncovered(
     ways: &Successors<'_>,
     callees: Callees,
 ) -> bool
-    requires ways { ways.now ≡ successors_of rom.now row node.now.address node.now.state }
+    requires ways { ways.now ≡ successors_of (setting_of cert.now node.now.procedure) rom.now cert.now.region row node.now.address node.now.state }
     requires callees { callees ≡ callees_of cert.now ways.now }
     ensures { result ≡ Rules.leads_uncovered rom.now cert.now node.now row }
 {
@@ -230,7 +247,7 @@ fn calls_wrongly(
     ways: &Successors<'_>,
     callees: Callees,
 ) -> bool
-    requires ways { ways.now ≡ successors_of rom.now row node.now.address node.now.state }
+    requires ways { ways.now ≡ successors_of (setting_of cert.now node.now.procedure) rom.now cert.now.region row node.now.address node.now.state }
     requires callees { callees ≡ callees_of cert.now ways.now }
     ensures { result ≡ Rules.calls_wrongly rom.now cert.now node.now row }
 {
@@ -249,7 +266,7 @@ fn returns_wrongly(
     row: Row,
     ways: &Successors<'_>,
 ) -> bool
-    requires { ways.now ≡ successors_of rom.now row node.now.address node.now.state }
+    requires { ways.now ≡ successors_of (setting_of cert.now node.now.procedure) rom.now cert.now.region row node.now.address node.now.state }
     ensures { result ≡ Rules.returns_wrongly rom.now cert.now node.now row }
 {
     let procedure = node.procedure();
@@ -269,11 +286,11 @@ fn reason_of_targets(
     ways: &Successors<'_>,
     callees: Callees,
 ) -> Option<Reason>
-    requires ways { ways.now ≡ successors_of rom.now row node.now.address node.now.state }
+    requires ways { ways.now ≡ successors_of (setting_of cert.now node.now.procedure) rom.now cert.now.region row node.now.address node.now.state }
     requires callees { callees ≡ callees_of cert.now ways.now }
     ensures { result ≡ find (Rules.applies_to_row rom.now cert.now node.now row) target_reasons }
 {
-    if leads_anywhere(rom, node, row, ways) {
+    if leads_anywhere(rom, cert, node, row, ways) {
         Some(Reason::JumpHl)
     } else if leads_uncovered(rom, cert, near, node, row, ways, callees) {
         Some(Reason::Uncovered)
@@ -298,7 +315,7 @@ fn reason_of_ways(
     ways: &Successors<'_>,
 ) -> Option<Reason>
     requires state { state.now ≡ node.now.state }
-    requires ways { ways.now ≡ successors_of rom.now row node.now.address node.now.state }
+    requires ways { ways.now ≡ successors_of (setting_of cert.now node.now.procedure) rom.now cert.now.region row node.now.address node.now.state }
     ensures { result ≡ find (Rules.applies_to_row rom.now cert.now node.now row) way_reasons }
 {
     let callees = callees_of(cert, ways);
@@ -306,9 +323,9 @@ fn reason_of_ways(
         Some(Reason::Depth)
     } else if stores_outside(rom, cert, node, row, ways) {
         Some(Reason::Store)
-    } else if meets_ram(rom, node, state, row, ways) {
+    } else if meets_ram(rom, cert, node, state, row, ways) {
         Some(Reason::CartridgeRam)
-    } else if meets_transfer(rom, cert.region(), node, state, row, ways) {
+    } else if meets_transfer(rom, cert, node, state, row, ways) {
         Some(Reason::OamTransfer)
     } else {
         reason_of_targets(rom, cert, near, node, row, ways, callees)
@@ -334,10 +351,11 @@ fn reason_of_row(
     if may_read_twice(rom, node, state, row.op) {
         return Some(Reason::Halt);
     }
-    if breaks_stack(cert.region(), node, state, row.op) {
+    if is_unjudged(cert) || breaks_stack(cert.region(), node, state, row.op) {
         return Some(Reason::Stack);
     }
-    let ways = successors_of(rom, row, node.address(), state);
+    let setting = setting_of(cert, node.procedure());
+    let ways = successors_of(setting, rom, cert.region(), row, node.address(), state);
     reason_of_ways(rom, cert, near, node, state, row, &ways)
 }
 

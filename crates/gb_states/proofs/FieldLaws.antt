@@ -8,7 +8,7 @@ use Rattle.gb_ops.specs.declared.registers.Registers.{Registers}
 use Rattle.gb_ops.specs.Registers.{get}
 use Rattle.gb_fields.specs.declared.fault.CertFault.TheVariants as fault
 use Rattle.gb_domain.specs.declared.types.Origin.{Origin}
-use Rattle.gb_domain.specs.declared.types.Origin.TheVariants.{Register as Of, F, Ie}
+use Rattle.gb_domain.specs.declared.types.Origin.TheVariants.{Register as Of, F, Ie, ReturnHigh, ReturnLow}
 use Rattle.gb_domain.specs.declared.types.Val.{Val}
 use Rattle.gb_domain.specs.declared.types.May.{May}
 use Rattle.gb_domain.specs.declared.types.Flg.{Flg}
@@ -17,9 +17,14 @@ use Rattle.gb_domain.specs.declared.types.Ctl.{Ctl}
 use Rattle.gb_domain.specs.declared.types.Core.{Core}
 use Rattle.gb_states.specs.declared.role.Role.{Role}
 use Rattle.gb_fields.specs.Format.{both, mapped, checked, byte}
+use Rattle.gb_domain.specs.declared.rules.Rules.{Rules}
+use Rattle.gb_domain.specs.declared.rules.Rules.TheVariants.{Simple, Extended}
+use Rattle.gb_domain.specs.Areas.{is_area}
 use Rattle.gb_domain.specs.Rules.{has_value, IsVal, IsFlg, IsCtl, may_be_any, IsCore}
+use Rattle.gb_fields.specs.Limits.{origin_limit}
+use Rattle.gb_states.specs.Rules.{may_be_of, is_traced, are_traced, is_core_traced}
 use Rattle.gb_fields.specs.Reading.{is_between, is_ordered, word_of, word, quad_of, quad, node_number_by, node_number, byte_between, word_between, count_within, is_one, yes_no}
-use Rattle.gb_states.specs.Reading.{origin_of, origin_at, to_val, val_at, to_may, may_at, to_ime, ime_at, is_test, to_test, test_at, to_flags, have_values, is_own_number, is_two, to_flg, flg_at, to_ctl, ctl_at, to_vals, vals_at, to_core, is_stack_right, core_at}
+use Rattle.gb_states.specs.Reading.{origin_of, origin_at, to_val, val_at, to_may, may_at, to_ime, ime_at, is_test, to_test, test_at, to_flags, have_values, is_own_number, is_two, to_flg, flg_at, to_ctl, ctl_at, to_vals, vals_at, Tested, to_core, is_stack_right, core_at}
 use Rattle.gb_states.specs.Spelling as spelled
 use Rattle.gb_states.proofs.Formats.{IsFormat, IsFormat-byte, IsFormat-both, IsFormat-checked, IsFormat-mapped, IsFormat-as, IsFormat-spelled}
 
@@ -61,6 +66,22 @@ below (suc n) p h b l =
 
 pub same : (a b : ℕ) → (a == b) ≡ true → a ≡ b
 same a b h = grind (arith, nat_tests)
+
+pub is_same : (a b : ℕ) → a ≡ b → (a == b) ≡ true
+is_same a b h = grind (arith, nat_tests)
+
+-- an area's addresses are words
+pub area_small : (first last : ℕ) → is_area first last ≡ true → (first < 65536) × (last < 65536)
+area_small first last h = (low, high)
+  where
+    low : first < 65536
+    low = grind (arith, nat_tests)
+
+    high : last < 65536
+    high = grind (arith, nat_tests)
+
+pub last_small : (first last : ℕ) → is_area first last ≡ true → last < 65535
+last_small first last h = grind (arith, nat_tests)
 
 -- ---- numbers
 
@@ -180,33 +201,73 @@ origin_of-number (Some (Of E)) = refl
 origin_of-number (Some (Of H)) = refl
 origin_of-number (Some (Of L)) = refl
 origin_of-number (Some Ie) = refl
+origin_of-number (Some ReturnHigh) = refl
+origin_of-number (Some ReturnLow) = refl
 
-number-origin_of : (b : ℕ) → (b < 256) × (is_between 0 9 b ≡ true) → spelled.origin_number (origin_of b) ≡ b
-number-origin_of b h = grind (arith, nat_tests)
+-- so small a number stands for an origin
+abbrev IsOriginNumber : Rules → ℕ → Type 0
+IsOriginNumber rules n = (n < 256) × (is_between 0 (origin_limit rules) n ≡ true)
 
-origin_small : (o : Option Origin) → spelled.origin_number o ≤ 9
-origin_small None = omega arith
-origin_small (Some (Of A)) = omega arith
-origin_small (Some F) = omega arith
-origin_small (Some (Of B)) = omega arith
-origin_small (Some (Of C)) = omega arith
-origin_small (Some (Of D)) = omega arith
-origin_small (Some (Of E)) = omega arith
-origin_small (Some (Of H)) = omega arith
-origin_small (Some (Of L)) = omega arith
-origin_small (Some Ie) = omega arith
+origin_below : (rules : Rules) (n : ℕ) → is_between 0 (origin_limit rules) n ≡ true → n < 12
+unfolding origin_limit
+origin_below Simple n h = grind (arith, nat_tests)
+origin_below Extended n h = grind (arith, nat_tests)
 
-origin_fits : (o : Option Origin) → (spelled.origin_number o < 256) × (is_between 0 9 (spelled.origin_number o) ≡ true)
-origin_fits o = let small = origin_small o in (omega (arith, origin_small o), is_within 9 (spelled.origin_number o) small)
+number-origin_of : (rules : Rules) (n : ℕ) → IsOriginNumber rules n → spelled.origin_number (origin_of n) ≡ n
+unfolding all_below
+number-origin_of rules n h = same _ _ (below 12 (λ c. spelled.origin_number (origin_of c) == c) refl n (origin_below rules n h.1))
+
+origin_fits : (rules : Rules) (o : Option Origin) → may_be_of rules o ≡ true → IsOriginNumber rules (spelled.origin_number o)
+unfolding origin_limit
+origin_fits Simple None h = (omega arith, refl)
+origin_fits Simple (Some (Of A)) h = (omega arith, refl)
+origin_fits Simple (Some F) h = (omega arith, refl)
+origin_fits Simple (Some (Of B)) h = (omega arith, refl)
+origin_fits Simple (Some (Of C)) h = (omega arith, refl)
+origin_fits Simple (Some (Of D)) h = (omega arith, refl)
+origin_fits Simple (Some (Of E)) h = (omega arith, refl)
+origin_fits Simple (Some (Of H)) h = (omega arith, refl)
+origin_fits Simple (Some (Of L)) h = (omega arith, refl)
+origin_fits Simple (Some Ie) h = (omega arith, refl)
+origin_fits Simple (Some ReturnHigh) h = absurd cc
+origin_fits Simple (Some ReturnLow) h = absurd cc
+origin_fits Extended None h = (omega arith, refl)
+origin_fits Extended (Some (Of A)) h = (omega arith, refl)
+origin_fits Extended (Some F) h = (omega arith, refl)
+origin_fits Extended (Some (Of B)) h = (omega arith, refl)
+origin_fits Extended (Some (Of C)) h = (omega arith, refl)
+origin_fits Extended (Some (Of D)) h = (omega arith, refl)
+origin_fits Extended (Some (Of E)) h = (omega arith, refl)
+origin_fits Extended (Some (Of H)) h = (omega arith, refl)
+origin_fits Extended (Some (Of L)) h = (omega arith, refl)
+origin_fits Extended (Some Ie) h = (omega arith, refl)
+origin_fits Extended (Some ReturnHigh) h = (omega arith, refl)
+origin_fits Extended (Some ReturnLow) h = (omega arith, refl)
+
+fits_origin : (rules : Rules) (o : Option Origin) → IsOriginNumber rules (spelled.origin_number o) → may_be_of rules o ≡ true
+unfolding origin_limit
+fits_origin Simple None h = refl
+fits_origin Simple (Some (Of A)) h = refl
+fits_origin Simple (Some F) h = refl
+fits_origin Simple (Some (Of B)) h = refl
+fits_origin Simple (Some (Of C)) h = refl
+fits_origin Simple (Some (Of D)) h = refl
+fits_origin Simple (Some (Of E)) h = refl
+fits_origin Simple (Some (Of H)) h = refl
+fits_origin Simple (Some (Of L)) h = refl
+fits_origin Simple (Some Ie) h = refl
+fits_origin Simple (Some ReturnHigh) h = absurd cc
+fits_origin Simple (Some ReturnLow) h = absurd cc
+fits_origin Extended o h = refl
 
 abbrev spelled_origin : Option Origin → List ℕ
 spelled_origin o = spelled.origin_number o ∷ []
 
-IsFormat-origin : IsFormat origin_at spelled_origin (λ o. Unit {0})
+IsFormat-origin : (rules : Rules) → IsFormat (origin_at rules) spelled_origin (λ o. may_be_of rules o ≡ true)
 unfolding origin_at
-IsFormat-origin =
-    IsFormat-as origin_at spelled_origin (λ o. (spelled.origin_number o < 256) × (is_between 0 9 (spelled.origin_number o) ≡ true)) (λ o. Unit {0}) (λ o h. tt) (λ o h. origin_fits o)
-    (IsFormat-mapped origin_of spelled.origin_number (byte_between 0 9) spelled_byte _ number-origin_of (λ o h. origin_of-number o) (IsFormat-byte_between 0 9))
+IsFormat-origin rules =
+    IsFormat-as (origin_at rules) spelled_origin (λ o. IsOriginNumber rules (spelled.origin_number o)) (λ o. may_be_of rules o ≡ true) (fits_origin rules) (origin_fits rules)
+    (IsFormat-mapped origin_of spelled.origin_number (byte_between 0 (origin_limit rules)) spelled_byte (IsOriginNumber rules) (number-origin_of rules) (λ o h. origin_of-number o) (IsFormat-byte_between 0 (origin_limit rules)))
 
 from_val : Val → (ℕ × ℕ) × Option Origin
 from_val v = ((v.lo, v.hi), v.origin)
@@ -218,12 +279,16 @@ AreOrdered lo hi = ((lo < 256) × (hi < 256)) × (nat_le lo hi ≡ true)
 are_ordered : (lo hi : ℕ) → lo ≤ hi → hi < 256 → AreOrdered lo hi
 are_ordered lo hi order small = ((omega arith, small), is_le lo hi order)
 
-pub IsFormat-val : IsFormat val_at spelled.val IsVal
+-- a value, of what there is by these rules
+abbrev pub IsValFor : Rules → Val → Type 0
+IsValFor rules v = IsVal v × (is_traced rules v ≡ true)
+
+pub IsFormat-val : (rules : Rules) → IsFormat (val_at rules) spelled.val (IsValFor rules)
 unfolding val_at from_val spelled.val
-IsFormat-val =
-    IsFormat-as val_at spelled.val (λ v. AreOrdered v.lo v.hi × Unit {0}) IsVal (λ v h. record { order = le_is v.lo v.hi h.0.1; hi = h.0.0.1 }) (λ v h. (are_ordered v.lo v.hi h.order h.hi, tt))
+IsFormat-val rules =
+    IsFormat-as (val_at rules) spelled.val (λ v. AreOrdered v.lo v.hi × (is_traced rules v ≡ true)) (IsValFor rules) (λ v h. (record { order = le_is v.lo v.hi h.0.1; hi = h.0.0.1 }, h.1)) (λ v h. (are_ordered v.lo v.hi h.0.order h.0.hi, h.1))
     (IsFormat-mapped to_val from_val _ _ _ (λ x h. refl) (λ y h. refl)
-    (IsFormat-both _ _ _ _ _ _ (IsFormat-checked fault.Field is_ordered _ _ _ (IsFormat-both byte byte _ _ _ _ IsFormat-byte IsFormat-byte)) IsFormat-origin))
+    (IsFormat-both _ _ _ _ _ _ (IsFormat-checked fault.Field is_ordered _ _ _ (IsFormat-both byte byte _ _ _ _ IsFormat-byte IsFormat-byte)) (IsFormat-origin rules)))
 
 number-may : (b : ℕ) → (b < 256) × (is_between 1 3 b ≡ true) → spelled.may_number (to_may b) ≡ b
 unfolding all_below
@@ -490,62 +555,91 @@ IsFormat-ctl =
 from_vals : Registers Val → Val × (Val × (Val × (Val × (Val × (Val × Val)))))
 from_vals r = (r.a, (r.b, (r.c, (r.d, (r.e, (r.h, r.l))))))
 
-abbrev AreVals : Registers Val → Type 0
-AreVals r = IsVal r.a × (IsVal r.b × (IsVal r.c × (IsVal r.d × (IsVal r.e × (IsVal r.h × IsVal r.l)))))
+abbrev AreVals : Rules → Registers Val → Type 0
+AreVals rules r = IsValFor rules r.a × (IsValFor rules r.b × (IsValFor rules r.c × (IsValFor rules r.d × (IsValFor rules r.e × (IsValFor rules r.h × IsValFor rules r.l)))))
 
-vals-are : (s : Registers Val) → AreVals s → (r : Register) → IsVal (get r s)
-vals-are s h A = h.0
-vals-are s h B = h.1.0
-vals-are s h C = h.1.1.0
-vals-are s h D = h.1.1.1.0
-vals-are s h E = h.1.1.1.1.0
-vals-are s h H = h.1.1.1.1.1.0
-vals-are s h L = h.1.1.1.1.1.1
+-- values, of what there is by these rules
+abbrev pub AreValsFor : Rules → Registers Val → Type 0
+AreValsFor rules s = ((r : Register) → IsVal (get r s)) × (are_traced rules s ≡ true)
 
-are-vals : (s : Registers Val) → ((r : Register) → IsVal (get r s)) → AreVals s
-are-vals s h = (h A, (h B, (h C, (h D, (h E, (h H, h L))))))
+vals-each : (rules : Rules) (s : Registers Val) → AreVals rules s → (r : Register) → IsVal (get r s)
+vals-each rules s h A = h.0.0
+vals-each rules s h B = h.1.0.0
+vals-each rules s h C = h.1.1.0.0
+vals-each rules s h D = h.1.1.1.0.0
+vals-each rules s h E = h.1.1.1.1.0.0
+vals-each rules s h H = h.1.1.1.1.1.0.0
+vals-each rules s h L = h.1.1.1.1.1.1.0
 
-IsFormat-vals : IsFormat vals_at spelled.vals (λ s. (r : Register) → IsVal (get r s))
+vals-are : (rules : Rules) (s : Registers Val) → AreVals rules s → AreValsFor rules s
+vals-are rules s h = (vals-each rules s h, both_and _ _ h.0.1 (both_and _ _ h.1.0.1 (both_and _ _ h.1.1.0.1 (both_and _ _ h.1.1.1.0.1 (both_and _ _ h.1.1.1.1.0.1 (both_and _ _ h.1.1.1.1.1.0.1 h.1.1.1.1.1.1.1))))))
+
+are-vals : (rules : Rules) (s : Registers Val) → AreValsFor rules s → AreVals rules s
+are-vals rules s h =
+    let of : Val → Bool = is_traced rules in
+    let a = and_both (of s.a) (of s.b && (of s.c && (of s.d && (of s.e && (of s.h && of s.l))))) h.1 in
+    let b = and_both (of s.b) (of s.c && (of s.d && (of s.e && (of s.h && of s.l)))) a.1 in
+    let c = and_both (of s.c) (of s.d && (of s.e && (of s.h && of s.l))) b.1 in
+    let d = and_both (of s.d) (of s.e && (of s.h && of s.l)) c.1 in
+    let e = and_both (of s.e) (of s.h && of s.l) d.1 in
+    let l = and_both (of s.h) (of s.l) e.1 in
+    ((h.0 A, a.0), ((h.0 B, b.0), ((h.0 C, c.0), ((h.0 D, d.0), ((h.0 E, e.0), ((h.0 H, l.0), (h.0 L, l.1)))))))
+
+IsFormat-vals : (rules : Rules) → IsFormat (vals_at rules) spelled.vals (AreValsFor rules)
 unfolding vals_at from_vals spelled.vals
-IsFormat-vals =
-    IsFormat-as vals_at spelled.vals AreVals (λ s. (r : Register) → IsVal (get r s)) vals-are are-vals
+IsFormat-vals rules =
+    let val = IsFormat-val rules in
+    IsFormat-as (vals_at rules) spelled.vals (AreVals rules) (AreValsFor rules) (vals-are rules) (are-vals rules)
     (IsFormat-mapped to_vals from_vals _ _ _ (λ x h. refl) (λ y h. refl)
-    (IsFormat-both _ _ _ _ _ _ IsFormat-val (IsFormat-both _ _ _ _ _ _ IsFormat-val (IsFormat-both _ _ _ _ _ _ IsFormat-val
-    (IsFormat-both _ _ _ _ _ _ IsFormat-val (IsFormat-both _ _ _ _ _ _ IsFormat-val (IsFormat-both _ _ _ _ _ _ IsFormat-val IsFormat-val)))))))
+    (IsFormat-both _ _ _ _ _ _ val (IsFormat-both _ _ _ _ _ _ val (IsFormat-both _ _ _ _ _ _ val
+    (IsFormat-both _ _ _ _ _ _ val (IsFormat-both _ _ _ _ _ _ val (IsFormat-both _ _ _ _ _ _ val val)))))))
 
-from_core : Core → ImeSet × (ℕ × (Bool × (Option ℕ × (Ctl × (Flg × (Val × Registers Val))))))
-from_core c = (c.ime, (c.bound, (c.stack_set, (c.test, (c.ctl, (c.flags, (c.ie, c.registers)))))))
+from_core : Tested → ImeSet × (ℕ × (Bool × (Option ℕ × (Ctl × (Flg × (Val × Registers Val))))))
+from_core k = let c = k.0 in (c.ime, (c.bound, (c.stack_set, (k.1, (c.ctl, (c.flags, (c.ie, c.registers)))))))
 
-abbrev AreCore : Role → Core → Type 0
-AreCore role c = (may_be_any c.ime ≡ true) × (((c.bound < 256) × (is_between 0 161 c.bound ≡ true)) × ((Unit {0} × (is_stack_right role c.stack_set ≡ true)) × (IfSome c.test (λ a. a < 256) × (IsCtl c.ctl × (IsFlg c.flags × (IsVal c.ie × ((r : Register) → IsVal (get r c.registers))))))))
+abbrev IsTest : Option ℕ → Type 0
+IsTest o = IfSome o (λ a. a < 256)
 
-abbrev pub IsCoreFor : Role → Core → Type 0
-IsCoreFor role c = IsCore c × (is_stack_right role c.stack_set ≡ true)
+abbrev AreCore : Rules → Role → Tested → Type 0
+AreCore rules role k = (may_be_any k.0.ime ≡ true) × (((k.0.bound < 256) × (is_between 0 161 k.0.bound ≡ true)) × ((Unit {0} × (is_stack_right role k.0.stack_set ≡ true)) × (IsTest k.1 × (IsCtl k.0.ctl × (IsFlg k.0.flags × (IsValFor rules k.0.ie × AreValsFor rules k.0.registers))))))
 
-core-is : (role : Role) (c : Core) → AreCore role c → IsCoreFor role c
-core-is role c h = (
-  record {
+-- a core that may stand in a state for this, and its test
+pub record IsCoreFor (rules : Rules) (role : Role) (k : Tested) : Type 0 where
+  pub core : IsCore k.0
+  pub stack : is_stack_right role k.0.stack_set ≡ true
+  pub traced : is_core_traced rules k.0 ≡ true
+  pub test : IfSome k.1 (λ a. a < 256)
+
+core-is : (rules : Rules) (role : Role) (k : Tested) → AreCore rules role k → IsCoreFor rules role k
+core-is rules role k h = record {
+  core = record {
     ime = h.0;
-    bound = within 161 c.bound h.1.0.1;
-    test = h.1.1.1.0;
+    bound = within 161 k.0.bound h.1.0.1;
     ctl = h.1.1.1.1.0;
     flags = h.1.1.1.1.1.0;
-    ie = h.1.1.1.1.1.1.0;
-    registers = h.1.1.1.1.1.1.1;
-  },
-  h.1.1.0.1,
-)
+    ie = h.1.1.1.1.1.1.0.0;
+    registers = h.1.1.1.1.1.1.1.0;
+  };
+  stack = h.1.1.0.1;
+  traced = both_and _ _ h.1.1.1.1.1.1.0.1 h.1.1.1.1.1.1.1.1;
+  test = h.1.1.1.0;
+}
 
-is-core : (role : Role) (c : Core) → IsCoreFor role c → AreCore role c
-is-core role c h =
-    let small : c.bound < 256 = omega (arith, h.0.bound) in
-    (h.0.ime, ((small, is_within 161 c.bound h.0.bound), ((tt, h.1), (h.0.test, (h.0.ctl, (h.0.flags, (h.0.ie, h.0.registers)))))))
+is-core : (rules : Rules) (role : Role) (k : Tested) → IsCoreFor rules role k → AreCore rules role k
+is-core rules role k h =
+    let small : k.0.bound < 256 = omega (arith, h.core.bound) in
+    let t = and_both (is_traced rules k.0.ie) (are_traced rules k.0.registers) h.traced in
+    (h.core.ime, ((small, is_within 161 k.0.bound h.core.bound), ((tt, h.stack), (h.test, (h.core.ctl, (h.core.flags, ((h.core.ie, t.0), (h.core.registers, t.1))))))))
 
-pub IsFormat-core : (role : Role) → IsFormat (core_at role) spelled.core (IsCoreFor role)
+-- a core behind its test
+abbrev pub spelled_core : Tested → List ℕ
+spelled_core k = spelled.core k.0 k.1
+
+pub IsFormat-core : (rules : Rules) (role : Role) → IsFormat (core_at rules role) spelled_core (IsCoreFor rules role)
 unfolding core_at from_core spelled.core
-IsFormat-core role =
-    IsFormat-as (core_at role) spelled.core (AreCore role) (IsCoreFor role) (core-is role) (is-core role)
+IsFormat-core rules role =
+    IsFormat-as (core_at rules role) spelled_core (AreCore rules role) (IsCoreFor rules role) (core-is rules role) (is-core rules role)
     (IsFormat-mapped to_core from_core _ _ _ (λ x h. refl) (λ y h. refl)
     (IsFormat-both _ _ _ _ _ _ IsFormat-ime (IsFormat-both _ _ _ _ _ _ (IsFormat-byte_between 0 161)
     (IsFormat-both _ _ _ _ _ _ (IsFormat-checked fault.Field (is_stack_right role) _ _ _ IsFormat-yes_no)
-    (IsFormat-both _ _ _ _ _ _ IsFormat-test (IsFormat-both _ _ _ _ _ _ IsFormat-ctl (IsFormat-both _ _ _ _ _ _ IsFormat-flg (IsFormat-both _ _ _ _ _ _ IsFormat-val IsFormat-vals))))))))
+    (IsFormat-both _ _ _ _ _ _ IsFormat-test (IsFormat-both _ _ _ _ _ _ IsFormat-ctl (IsFormat-both _ _ _ _ _ _ IsFormat-flg (IsFormat-both _ _ _ _ _ _ (IsFormat-val rules) (IsFormat-vals rules)))))))))

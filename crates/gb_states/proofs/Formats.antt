@@ -1,11 +1,12 @@
 -- What is read is spelled so, and what is spelled so is read: by the parts of a format.
-use Rattle.std.proofs.Common.{◌≡◌, ℕ, zero, suc, ◌*◌, ◌/◌, ◌%◌, ◌<◌, Bool, true, false, List, [], ◌∷◌, ◌++◌, length, get_or, Option, Some, None, Result, Ok, Err, refl, sym, ◌∙◌, ap, subst, append_assoc, arith}
+use Rattle.std.proofs.Common.{◌≡◌, ℕ, zero, suc, ◌*◌, ◌/◌, ◌%◌, ◌<◌, Bool, true, false, ◌&&◌, List, [], ◌∷◌, ◌++◌, length, get_or, Option, Some, None, Result, Ok, Err, refl, sym, ◌∙◌, ap, subst, append_assoc, arith}
 use Rattle.std.specs.Prelude.{IfSome}
-use Rattle.std.specs.List.{flat_map, AllByRecursion}
+use Rattle.std.specs.List.{flat_map, AllByRecursion, list_all}
 use Rattle.std.proofs.lemmas.List.Concat.{flat_map-cons}
 use Rattle.std.proofs.Math.Nat.{mod-eq-sub-mul-div, mul-div-le, mul-div_cancel_left}
 use Rattle.gb_fields.specs.declared.fault.CertFault.{CertFault}
 use Rattle.gb_fields.specs.Format.{Read, go_on, followed, both, mapped, if_passes, checked, optional, several, counted, byte}
+use Rattle.gb_fields.specs.Reading.{nothing}
 use Rattle.gb_domain.specs.Rules.{IsChain}
 
 abbrev pub IsBytes : List ℕ → Type 0
@@ -125,6 +126,17 @@ IsFormat-spelled r w v g same a = record {
 
 -- ---- what may be there
 
+pub IsFormat-nothing : {X : Type 0} (n : X) (w : X → List ℕ) → w n ≡ [] → IsFormat (nothing n) w (λ x. x ≡ n)
+IsFormat-nothing {X} n w none = record { takes = takes; again = again }
+  where
+    takes : (bytes : List ℕ) (x : X) (rest : List ℕ) → IsBytes bytes → nothing n bytes ≡ Ok (x, rest) → Takes w (λ x. x ≡ n) bytes x rest
+    takes bytes x rest i e =
+        let s = same_pair n x bytes rest e in
+        record { parts = s.1 ∙ sym (ap (λ y. y ++ rest) (ap w (sym s.0) ∙ none)); is_good = sym s.0; are_bytes = subst IsBytes s.1 i }
+
+    again : (x : X) (rest : List ℕ) → x ≡ n → nothing n (w x ++ rest) ≡ Ok (x, rest)
+    again x rest e = subst (λ y. nothing n (w y ++ rest) ≡ Ok (y, rest)) (sym e) (ap (λ (y : List ℕ). nothing n (y ++ rest)) none)
+
 -- whether it is there, and how it is spelled
 abbrev pub spelled_option : {X : Type 0} → (X → List ℕ) → Option X → List ℕ
 spelled_option w None = []
@@ -238,6 +250,10 @@ IsFormat-multiple k some count v g step next w good s a f =
     (λ xs h. (h.0, (no_rest k (length xs) h.1.0, h.1.1))) (λ xs h. (h.0, (is_multiple k (length xs) h.1.0, h.1.1)))
     (IsFormat-counted_by (λ n. k * n) (λ n. n / k) count v g step next w good s (λ n. mul-div_cancel_left n some) a f)
 
+and_parts : (a b : Bool) → (a && b) ≡ true → (a ≡ true) × (b ≡ true)
+and_parts true b h = (refl, h)
+and_parts false b h = cc
+
 -- each right by itself
 pub all_of_chain : {X : Type 0} (good : X → Type 0) (xs : List X) → IsChain {S = Unit {0}} (λ s. good) (λ x. tt) tt xs → AllByRecursion good xs
 all_of_chain good [] h = tt
@@ -246,6 +262,24 @@ all_of_chain good (x ∷ xs) h = (h.0, all_of_chain good xs h.1)
 pub chain_of_all : {X : Type 0} (good : X → Type 0) (xs : List X) → AllByRecursion good xs → IsChain {S = Unit {0}} (λ s. good) (λ x. tt) tt xs
 chain_of_all good [] h = tt
 chain_of_all good (x ∷ xs) h = (h.0, chain_of_all good xs h.1)
+
+-- what holds of each, and a test that each passes
+pub all_parts : {X : Type 0} (good : X → Type 0) (p : X → Bool) (xs : List X) → AllByRecursion (λ x. good x × (p x ≡ true)) xs → AllByRecursion good xs × (list_all p xs ≡ true)
+all_parts good p [] h = (tt, refl)
+all_parts good p (x ∷ xs) h = let k = all_parts good p xs h.1 in ((h.0.0, k.0), rw (h.0.1, k.1) refl)
+
+pub parts_all : {X : Type 0} (good : X → Type 0) (p : X → Bool) (xs : List X) → AllByRecursion good xs → list_all p xs ≡ true → AllByRecursion (λ x. good x × (p x ≡ true)) xs
+parts_all good p [] h e = tt
+parts_all good p (x ∷ xs) h e = let k = and_parts (p x) (list_all p xs) e in ((h.0, k.0), parts_all good p xs h.1 k.1)
+
+-- the same in a chain
+pub chain_parts : {S X : Type 0} (good : S → X → Type 0) (p : X → Bool) (next : X → S) (s : S) (xs : List X) → IsChain (λ s x. good s x × (p x ≡ true)) next s xs → IsChain good next s xs × (list_all p xs ≡ true)
+chain_parts good p next s [] h = (tt, refl)
+chain_parts good p next s (x ∷ xs) h = let k = chain_parts good p next (next x) xs h.1 in ((h.0.0, k.0), rw (h.0.1, k.1) refl)
+
+pub parts_chain : {S X : Type 0} (good : S → X → Type 0) (p : X → Bool) (next : X → S) (s : S) (xs : List X) → IsChain good next s xs → list_all p xs ≡ true → IsChain (λ s x. good s x × (p x ≡ true)) next s xs
+parts_chain good p next s [] h e = tt
+parts_chain good p next s (x ∷ xs) h e = let k = and_parts (p x) (list_all p xs) e in ((h.0, k.0), parts_chain good p next (next x) xs h.1 k.1)
 
 -- each element of a chain is right, by what some element leaves
 pub each_of_chain : {S X : Type 0} (good : S → X → Type 0) (next : X → S) (s : S) (xs : List X) → IsChain good next s xs → AllByRecursion (λ x. (t : S) × good t x) xs

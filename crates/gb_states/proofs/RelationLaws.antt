@@ -18,37 +18,23 @@ use Rattle.gb_domain.specs.declared.places.Test.{Test}
 use Rattle.gb_domain.specs.declared.places.Test.TheVariants.{Compare, Bits}
 use Rattle.gb_domain.specs.declared.places.OneByte.{OneByte}
 use Rattle.gb_domain.specs.declared.relations.Relations.{Relations}
-use Rattle.gb_domain.specs.Areas.{is_area, meets}
-use Rattle.gb_domain.specs.Pairs.{nothing_known, facts_of, is_factor, IsLink, IsPairFacts}
+use Rattle.gb_domain.specs.declared.rules.Rules.{Rules}
+use Rattle.gb_domain.specs.declared.rules.Rules.TheVariants.{Simple, Extended}
+use Rattle.gb_domain.specs.Areas.{is_area, meets, is_free_byte}
+use Rattle.gb_domain.specs.Pairs.{nothing_known, no_pairs, facts_of, is_factor, IsLink, IsPairFacts}
 use Rattle.gb_domain.specs.Places.{no_byte}
 use Rattle.gb_fields.specs.Format.{Read, both, followed, optional, byte}
-use Rattle.gb_fields.specs.Reading.{is_between, is_ordered, word, byte_between}
+use Rattle.gb_fields.specs.Reading.{is_between, is_ordered, word, byte_between, nothing}
 use Rattle.gb_states.specs.declared.relations.Present.{Present}
-use Rattle.gb_states.specs.Reading.{is_free_byte}
-use Rattle.gb_states.specs.RelationRules.{is_some_register, has_place, operand, compared, bits_of, IsOneByte, is_known, IsRelations}
-use Rattle.gb_states.specs.RelationReading.{defaulted, to_present, is_present, present_at, to_registers, have_place, registers_at, address_at, test_of, to_byte, byte_at, pair_of, pair_at, to_bounds, bounds_at, other_of, other_at, to_factor, factor_at, to_link, link_of, link_at, to_facts, facts_at, to_pairs, pairs_at, to_relations, relations_at}
+use Rattle.gb_domain.specs.RelationRules.{is_some_register, has_address, has_place, operand, compared, bits_of, IsOneByte, is_known, IsRelations, compared_a, test_byte, test_alone, is_a_alone, is_test_byte, are_unknown, is_test_alone}
+use Rattle.gb_states.specs.Rules.{may_be_known}
+use Rattle.gb_states.specs.RelationReading.{defaulted, to_present, is_present, present_at, to_registers, have_place, registers_at, address_at, test_of, to_byte, byte_at, pair_of, pair_at, to_bounds, bounds_at, other_of, other_at, to_factor, factor_at, to_link, link_of, link_at, to_facts, facts_at, to_pairs, pairs_at, to_relations, relations_at, relations_by}
 use Rattle.gb_states.specs.Spelling as spelled
 use Rattle.gb_states.specs.RelationSpelling as told
-use Rattle.gb_states.proofs.Formats.{IsBytes, Takes, IsFormat, same_pair, IsFormat-byte, IsFormat-both, IsFormat-followed, IsFormat-checked, IsFormat-onto, IsFormat-mapped, IsFormat-as, IsFormat-spelled, IsFormat-optional, spelled_option, is_there}
-use Rattle.gb_states.proofs.FieldLaws.{le_is, is_le, and_both, is_within, all_below, below, same, flag_small, one-flag, spelled_byte, IsFormat-word, IsFormat-byte_between}
-use Rattle.gb_states.proofs.StateLaws.{area_small}
+use Rattle.gb_states.proofs.Formats.{IsFormat, IsFormat-byte, IsFormat-nothing, IsFormat-both, IsFormat-followed, IsFormat-checked, IsFormat-onto, IsFormat-mapped, IsFormat-as, IsFormat-spelled, IsFormat-optional, spelled_option, is_there}
+use Rattle.gb_states.proofs.FieldLaws.{le_is, is_le, and_both, is_within, all_below, below, same, area_small, flag_small, one-flag, spelled_byte, IsFormat-word, IsFormat-byte_between}
 
 -- ---- what may be there
-
--- nothing is read, and it stands for this
-abbrev nothing : {X : Type 0} → X → Read X
-nothing n bytes = Ok (n, bytes)
-
-IsFormat-nothing : {X : Type 0} (n : X) (w : X → List ℕ) → w n ≡ [] → IsFormat (nothing n) w (λ x. x ≡ n)
-IsFormat-nothing {X} n w none = record { takes = takes; again = again }
-  where
-    takes : (bytes : List ℕ) (x : X) (rest : List ℕ) → IsBytes bytes → nothing n bytes ≡ Ok (x, rest) → Takes w (λ x. x ≡ n) bytes x rest
-    takes bytes x rest i e =
-        let s = same_pair n x bytes rest e in
-        record { parts = s.1 ∙ sym (ap (λ y. y ++ rest) (ap w (sym s.0) ∙ none)); is_good = sym s.0; are_bytes = subst IsBytes s.1 i }
-
-    again : (x : X) (rest : List ℕ) → x ≡ n → nothing n (w x ++ rest) ≡ Ok (x, rest)
-    again x rest e = subst (λ y. nothing n (w y ++ rest) ≡ Ok (y, rest)) (sym e) (ap (λ (y : List ℕ). nothing n (y ++ rest)) none)
 
 -- right where it is there, and else what stands for it
 abbrev IsWhere : {X : Type 0} → X → (X → Type 0) → Bool → X → Type 0
@@ -639,3 +625,119 @@ IsFormat-relations region test small =
     (IsFormat-followed (present_at test) (λ p. both (defaulted no_byte p.byte (byte_at region test p.address p.bits)) (both (optional p.zero pair_at) (pairs_at p))) spelled_present (λ p q. told_byte q.0 ++ (told.optional told.pair q.1.0 ++ told.pairs q.1.1)) (λ p. is_present test p ≡ true) (ArePresent region test) (IsFormat-present test)
     (λ p h. IsFormat-both (defaulted no_byte p.byte (byte_at region test p.address p.bits)) (both (optional p.zero pair_at) (pairs_at p)) told_byte (λ q. told.optional told.pair q.0 ++ told.pairs q.1) (IsByteFor region test p.byte p.address p.bits) (λ q. ((is_some q.0 ≡ p.zero) × IfSome q.0 (λ z. Unit {0})) × ArePairsFor p q.1) (IsFormat-one_byte region test p.byte p.address p.bits h small)
     (IsFormat-both (optional p.zero pair_at) (pairs_at p) (told.optional told.pair) told.pairs (λ z. (is_some z ≡ p.zero) × IfSome z (λ z. Unit {0})) (ArePairsFor p) (IsFormat-option p.zero pair_at told.pair (λ z. Unit {0}) IsFormat-pair) (IsFormat-pairs p))))
+
+-- ---- a test of A alone
+
+alone-compares : (test : Option ℕ) → compared (test_alone test).byte.test ≡ test
+alone-compares None = refl
+alone-compares (Some n) = refl
+
+alone-byte : (region : Region) (test : Option ℕ) → IfSome test (λ n. n < 256) → IsOneByte region (test_byte test)
+alone-byte region None small = record { address = tt; place = refl; test = tt }
+alone-byte region (Some n) small = record { address = tt; place = refl; test = small }
+
+unknown-facts : (p : WordPair) → IsPairFacts (facts_of p no_pairs)
+unknown-facts Bc = record { last = omega arith; link = tt }
+unknown-facts De = record { last = omega arith; link = tt }
+unknown-facts Hl = record { last = omega arith; link = tt }
+
+unknown-ordered : (p : WordPair) → (facts_of p no_pairs).bounds.first ≤ (facts_of p no_pairs).bounds.last
+unknown-ordered Bc = omega arith
+unknown-ordered De = omega arith
+unknown-ordered Hl = omega arith
+
+pub alone-relations : (region : Region) (test : Option ℕ) → IfSome test (λ n. n < 256) → IsRelations region (test_alone test)
+alone-relations region test small = record { byte = alone-byte region test small; pairs = record { each = unknown-facts }; order = unknown-ordered }
+
+alone-is : (test : Option ℕ) → is_test_alone (test_alone test) ≡ true
+alone-is None = refl
+alone-is (Some n) = refl
+
+not-true : (b : Bool) → not b ≡ true → b ≡ false
+not-true true h = cc
+not-true false h = refl
+
+a-alone : (s : Registers Bool) → is_a_alone s ≡ true → s ≡ registers true false false false false false false
+a-alone s h =
+    let t = and_both s.a (not (s.b || s.c || s.d || s.e || s.h || s.l)) h in
+    let l = neither (s.b || s.c || s.d || s.e || s.h) s.l (not-true (s.b || s.c || s.d || s.e || s.h || s.l) t.1) in
+    let k = neither (s.b || s.c || s.d || s.e) s.h l.0 in
+    let e = neither (s.b || s.c || s.d) s.e k.0 in
+    let d = neither (s.b || s.c) s.d e.0 in
+    let c = neither s.b s.c d.0 in
+    registers-same s.a s.b s.c s.d s.e s.h s.l true false false false false false false t.0 c.0 c.1 d.1 e.1 k.1 l.1
+
+byte-alone : (s : Registers Bool) (address : Option ℕ) (t : Option Test) → is_test_byte t (record { registers = s; address = address; test = t }) ≡ true → (let q : OneByte = record { registers = s; address = address; test = t } in q) ≡ test_byte (compared t)
+byte-alone s address None h =
+    let k = neither (is_some address) (is_some_register s) (not-true (is_some address || is_some_register s) h) in
+    byte-same s _ address None None None (no-registers s k.1) (none-is address k.0) refl
+byte-alone s address (Some (Compare n)) h =
+    let k = and_both (not (is_some address)) (is_a_alone s) h in
+    byte-same s _ address None (Some (Compare n)) (Some (Compare n)) (a-alone s k.1) (none-is address (not-true (is_some address) k.0)) refl
+byte-alone s address (Some (Bits m)) h = absurd cc
+
+pairs-same : (a b c x y z : PairFacts) → a ≡ x → b ≡ y → c ≡ z → (let q : Pairs = record { bc = a; de = b; hl = c } in q) ≡ record { bc = x; de = y; hl = z }
+pairs-same a b c x y z ea eb ec = rw (ea, eb, ec) refl
+
+pairs-unknown : (s : Pairs) → are_unknown s ≡ true → s ≡ no_pairs
+pairs-unknown s h =
+    let a = and_both (not (is_known s.bc)) (not (is_known s.de) && not (is_known s.hl)) h in
+    let b = and_both (not (is_known s.de)) (not (is_known s.hl)) a.1 in
+    pairs-same s.bc s.de s.hl nothing_known nothing_known nothing_known (facts-absent s.bc (not-true (is_known s.bc) a.0)) (facts-absent s.de (not-true (is_known s.de) b.0)) (facts-absent s.hl (not-true (is_known s.hl) b.1))
+
+relations-same : (a b : OneByte) (c d : Option WordPair) (e f : Pairs) → a ≡ b → c ≡ d → e ≡ f → (let q : Relations = record { byte = a; zero = c; pairs = e } in q) ≡ record { byte = b; zero = d; pairs = f }
+relations-same a b c d e f ea ec ee = rw (ea, ec, ee) refl
+
+-- Where nothing is known but a test of A, it is this.
+pub is-alone : (r : Relations) → is_test_alone r ≡ true → r ≡ test_alone (compared r.byte.test)
+is-alone r h =
+    let a = and_both (is_test_byte r.byte.test r.byte) (is_none r.zero && are_unknown r.pairs) h in
+    let b = and_both (is_none r.zero) (are_unknown r.pairs) a.1 in
+    relations-same r.byte (test_byte (compared r.byte.test)) r.zero None r.pairs no_pairs (byte-alone r.byte.registers r.byte.address r.byte.test a.0) (none_is r.zero b.0) (pairs-unknown r.pairs b.1)
+
+-- ---- all versions
+
+-- what there may be beside a state's test, by the rules
+abbrev pub IsToldBy : Rules → Region → Option ℕ → Relations → Type 0
+IsToldBy Simple region test r = r ≡ test_alone test
+IsToldBy Extended region test r = IsTold region test r
+
+pub told-compares : (rules : Rules) (region : Region) (test : Option ℕ) (r : Relations) → IsToldBy rules region test r → compared r.byte.test ≡ test
+told-compares Simple region test r h = ap (λ (s : Relations). compared s.byte.test) h ∙ alone-compares test
+told-compares Extended region test r h = h.1
+
+pub told-relations : (rules : Rules) (region : Region) (test : Option ℕ) (r : Relations) → IfSome test (λ n. n < 256) → IsToldBy rules region test r → IsRelations region r
+told-relations Simple region test r small h = subst (IsRelations region) (sym h) (alone-relations region test small)
+told-relations Extended region test r small h = h.0
+
+pub told-known : (rules : Rules) (region : Region) (test : Option ℕ) (r : Relations) → IsToldBy rules region test r → may_be_known rules r ≡ true
+told-known Simple region test r h = ap is_test_alone h ∙ alone-is test
+told-known Extended region test r h = refl
+
+pub is-told : (rules : Rules) (region : Region) (r : Relations) → IsRelations region r → may_be_known rules r ≡ true → IsToldBy rules region (compared r.byte.test) r
+is-told Simple region r h known = is-alone r known
+is-told Extended region r h known = (h, refl)
+
+pub compared-small : (t : Option Test) → IfSome t (λ t. operand t < 256) → IfSome (compared t) (λ n. n < 256)
+compared-small (Some (Compare n)) h = h
+compared-small (Some (Bits m)) h = tt
+compared-small None h = tt
+
+pub IsFormat-relations_by : (rules : Rules) (region : Region) (test : Option ℕ) → IfSome test (λ n. n < 256) → IsFormat (relations_by rules region test) (told.relations_by rules) (IsToldBy rules region test)
+IsFormat-relations_by Simple region test small = IsFormat-nothing (test_alone test) (told.relations_by Simple) refl
+IsFormat-relations_by Extended region test small = IsFormat-relations region test small
+
+no-flag : (b : Bool) → spelled.flag b ≡ 0 → b ≡ false
+no-flag true e = cc
+no-flag false e = refl
+
+-- Where no part is there nothing is known, and spelled.
+pub nothing-told : (region : Region) (r : Relations) → IsRelations region r → told.present_number (told.present_in r) ≡ 0 → (r ≡ test_alone None) × (told.relations r ≡ 0 ∷ [])
+unfolding told.relations told.pairs
+nothing-told region r h e =
+    let p = told.present_in r in
+    let none : r ≡ test_alone None =
+    relations-same r.byte no_byte r.zero None r.pairs no_pairs (byte-absent region r.byte h.byte (no-flag p.byte (omega (arith, e)))) (none-is r.zero (no-flag p.zero (omega (arith, e))))
+    (pairs-same r.pairs.bc r.pairs.de r.pairs.hl nothing_known nothing_known nothing_known (facts-absent r.pairs.bc (no-flag p.bc (omega (arith, e)))) (facts-absent r.pairs.de (no-flag p.de (omega (arith, e)))) (facts-absent r.pairs.hl (no-flag p.hl (omega (arith, e)))))
+    in
+    (none, ap told.relations none)

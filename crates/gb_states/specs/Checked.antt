@@ -1,10 +1,12 @@
 -- The core at the front of bytes that have been checked, each field at its place (own format).
-use Rattle.std.specs.Prelude.{ℕ, ◌+◌, Bool, false, ◌&&◌, ◌==◌, List, [], ◌∷◌, slice_index}
+use Rattle.std.specs.Prelude.{ℕ, ◌+◌, Bool, false, ◌&&◌, ◌==◌, List, [], ◌∷◌, slice_index, Option}
 use Rattle.gb_ops.specs.declared.registers.Registers.{Registers}
 use Rattle.gb_domain.specs.declared.types.Val.{Val}
 use Rattle.gb_domain.specs.declared.types.Flg.{Flg}
 use Rattle.gb_domain.specs.declared.types.Ctl.{Ctl}
 use Rattle.gb_domain.specs.declared.types.Core.{Core}
+use Rattle.gb_domain.specs.declared.rules.Rules.{Rules}
+use Rattle.gb_domain.specs.declared.rules.Rules.TheVariants.{Simple, Extended}
 use Rattle.gb_fields.specs.Reading.{word_of, is_one}
 use Rattle.gb_states.specs.Reading.{origin_of, to_may, to_ime, to_test, to_flags, to_flg, is_two}
 
@@ -33,18 +35,29 @@ core_in b = record {
   ime = to_ime (slice_index b 0);
   bound = slice_index b 1;
   stack_set = is_one (slice_index b 2);
-  test = to_test (is_one (slice_index b 3), slice_index b 4);
   ctl = ctl_in b;
   flags = flg_in (slice_index b 14) (slice_index b 15);
   ie = val_in b 16;
   registers = vals_in b;
 }
 
+-- the test that stands in it
+abbrev pub test_in : List ℕ → Option ℕ
+test_in b = to_test (is_one (slice_index b 3), slice_index b 4)
+
 abbrev pub begins_with_zero : List ℕ → Bool
 begins_with_zero [] = false
 begins_with_zero (n ∷ rest) = n == 0
 
--- behind the core stand the numbers of items and cells: none of both
-abbrev pub are_none : List ℕ → Bool
-are_none [] = false
-are_none (n ∷ rest) = n == 0 && begins_with_zero rest
+abbrev pub begins_with_zeros : List ℕ → Bool
+begins_with_zeros [] = false
+begins_with_zeros (n ∷ rest) = n == 0 && begins_with_zero rest
+
+abbrev pub are_three_zeros : List ℕ → Bool
+are_three_zeros [] = false
+are_three_zeros (n ∷ rest) = n == 0 && begins_with_zeros rest
+
+-- Behind the core stand the number of items, in version 3 what is known of several parts together, and the number of cells: none of them.
+abbrev pub are_none : Rules → List ℕ → Bool
+are_none Simple b = begins_with_zeros b
+are_none Extended b = are_three_zeros b

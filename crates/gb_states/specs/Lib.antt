@@ -1,7 +1,7 @@
 pub mod Checked
+pub mod Numbers
 pub mod Reading
 pub mod RelationReading
-pub mod RelationRules
 pub mod RelationSpelling
 pub mod Rules
 pub mod Spelling

@@ -6,7 +6,7 @@ use Rattle.gb_ops.specs.declared.registers.Registers.{Registers}
 use Rattle.gb_fields.specs.declared.fault.CertFault.{CertFault}
 use Rattle.gb_fields.specs.declared.fault.CertFault.TheVariants as fault
 use Rattle.gb_domain.specs.declared.types.Origin.{Origin}
-use Rattle.gb_domain.specs.declared.types.Origin.TheVariants.{Register as Of, F, Ie}
+use Rattle.gb_domain.specs.declared.types.Origin.TheVariants.{Register as Of, F, Ie, ReturnHigh, ReturnLow}
 use Rattle.gb_domain.specs.declared.types.Val.{Val}
 use Rattle.gb_domain.specs.declared.types.May.{May}
 use Rattle.gb_domain.specs.declared.types.Flg.{Flg}
@@ -18,13 +18,17 @@ use Rattle.gb_domain.specs.declared.types.Range.{Range}
 use Rattle.gb_states.specs.declared.role.Role.{Role}
 use Rattle.gb_states.specs.declared.role.Role.TheVariants as role
 use Rattle.gb_fields.specs.declared.head.Head.{Head}
-use Rattle.gb_fields.specs.Limits.{range_limit, cell_limit, item_limit}
+use Rattle.gb_domain.specs.declared.rules.Rules.{Rules}
+use Rattle.gb_domain.specs.declared.relations.Relations.{Relations}
+use Rattle.gb_domain.specs.Limits.{rules_of, cell_room}
+use Rattle.gb_fields.specs.Limits.{range_room, unit, item_limit, origin_limit}
 use Rattle.gb_domain.specs.Types.{AbsState, ProcedureParts, Node}
 use Rattle.gb_domain.specs.Certificate.{Certificate}
 use Rattle.gb_fields.specs.Format.{Read, followed, both, mapped, checked, optional, several, counted, whole, byte}
-use Rattle.gb_fields.specs.Reading.{is_ordered, word, byte_between, word_between, count_within, yes_no, returns_at, entry_at, need_at, key_at, head_at}
-use Rattle.gb_domain.specs.Areas.{is_area, meets}
+use Rattle.gb_fields.specs.Reading.{is_ordered, word, byte_between, word_between, count_within, yes_no, returns_at, entry_at, base_at, times, need_at, key_at, head_at}
+use Rattle.gb_domain.specs.Areas.{is_area, meets, is_free_byte}
 use Rattle.gb_domain.specs.Rules.{has_value, after_cell}
+use Rattle.gb_states.specs.RelationReading.{relations_by}
 use Rattle.gb_states.specs.Rules.{after_range, role_of, needs_stack, may_be_pushed, is_after, key, have_entries}
 
 -- ---- values
@@ -40,16 +44,18 @@ origin_of n =
     else if n == 6 then Some (Of E)
     else if n == 7 then Some (Of H)
     else if n == 8 then Some (Of L)
-    else Some Ie
+    else if n == 9 then Some Ie
+    else if n == 10 then Some ReturnHigh
+    else Some ReturnLow
 
-unfoldable pub origin_at : Read (Option Origin)
-origin_at = mapped origin_of (byte_between 0 9)
+unfoldable pub origin_at : Rules → Read (Option Origin)
+origin_at rules = mapped origin_of (byte_between 0 (origin_limit rules))
 
 abbrev pub to_val : (ℕ × ℕ) × Option Origin → Val
 to_val p = record { lo = p.0.0; hi = p.0.1; origin = p.1 }
 
-unfoldable pub val_at : Read Val
-val_at = mapped to_val (both (checked fault.Field is_ordered (both byte byte)) origin_at)
+unfoldable pub val_at : Rules → Read Val
+val_at rules = mapped to_val (both (checked fault.Field is_ordered (both byte byte)) (origin_at rules))
 
 -- bit 0: the bit may be clear; bit 1: it may be set
 abbrev pub to_may : ℕ → May
@@ -113,49 +119,55 @@ ctl_at = mapped to_ctl (both (checked fault.Field is_ordered (both (word_between
 abbrev pub to_vals : Val × (Val × (Val × (Val × (Val × (Val × Val))))) → Registers Val
 to_vals p = record { a = p.0; b = p.1.0; c = p.1.1.0; d = p.1.1.1.0; e = p.1.1.1.1.0; h = p.1.1.1.1.1.0; l = p.1.1.1.1.1.1 }
 
-unfoldable pub vals_at : Read (Registers Val)
-vals_at = mapped to_vals (both val_at (both val_at (both val_at (both val_at (both val_at (both val_at val_at))))))
+unfoldable pub vals_at : Rules → Read (Registers Val)
+vals_at rules = mapped to_vals (both (val_at rules) (both (val_at rules) (both (val_at rules) (both (val_at rules) (both (val_at rules) (both (val_at rules) (val_at rules)))))))
 
 -- ---- states
 
-abbrev pub to_core : ImeSet × (ℕ × (Bool × (Option ℕ × (Ctl × (Flg × (Val × Registers Val)))))) → Core
-to_core p = record { ime = p.0; bound = p.1.0; stack_set = p.1.1.0; test = p.1.1.1.0; ctl = p.1.1.1.1.0; flags = p.1.1.1.1.1.0; ie = p.1.1.1.1.1.1.0; registers = p.1.1.1.1.1.1.1 }
+-- a core, and the test that stands in it
+abbrev pub Tested : Type 0
+Tested = Core × Option ℕ
+
+abbrev pub to_core : ImeSet × (ℕ × (Bool × (Option ℕ × (Ctl × (Flg × (Val × Registers Val)))))) → Tested
+to_core p = (record { ime = p.0; bound = p.1.0; stack_set = p.1.1.0; ctl = p.1.1.1.1.0; flags = p.1.1.1.1.1.0; ie = p.1.1.1.1.1.1.0; registers = p.1.1.1.1.1.1.1 }, p.1.1.1.0)
 
 abbrev pub is_stack_right : Role → Bool → Bool
 is_stack_right role stack_set = stack_set || not (needs_stack role)
 
-unfoldable pub core_at : Role → Read Core
-core_at role = mapped to_core (both ime_at (both (byte_between 0 161) (both (checked fault.Field (is_stack_right role) yes_no) (both test_at (both ctl_at (both flg_at (both val_at vals_at)))))))
+unfoldable pub core_at : Rules → Role → Read Tested
+core_at rules role = mapped to_core (both ime_at (both (byte_between 0 161) (both (checked fault.Field (is_stack_right role) yes_no) (both test_at (both ctl_at (both flg_at (both (val_at rules) (vals_at rules))))))))
 
 -- so many bytes of the stack
-abbrev pub vals_of : ℕ → Read (List Val)
-vals_of count = several {S = Unit {0}} (λ s. val_at) (λ v. tt) tt count
+abbrev pub vals_of : Rules → ℕ → Read (List Val)
+vals_of rules count = several {S = Unit {0}} (λ s. val_at rules) (λ v. tt) tt count
 
--- the number of words, and their bytes, the oldest first
-unfoldable pub items_at : Role → Bool → Read (List Val)
-items_at role stack_set = mapped (λ p. p.1) (followed (checked fault.Field (may_be_pushed role stack_set) (count_within item_limit)) (λ words. vals_of (2 * words)))
+-- how many words, or in version 3 bytes, a state's items are
+unfoldable pub item_count_at : Rules → Role → Bool → Read ℕ
+item_count_at rules role stack_set = checked fault.Field (may_be_pushed rules role stack_set) (count_within (item_limit rules))
+
+-- that number, and the bytes, the oldest first
+unfoldable pub items_at : Rules → Role → Bool → Read (List Val)
+items_at rules role stack_set = mapped (λ p. p.1) (followed (item_count_at rules role stack_set) (λ count. vals_of rules (times (unit rules) count)))
 
 -- A cell's address lies in RAM and outside the region.
 abbrev pub is_free : Region → ℕ × ℕ → Bool
 is_free region p = is_area p.0 p.1 && not (meets region p.0 p.1)
 
-abbrev pub is_free_byte : Region → ℕ → Bool
-is_free_byte region address = is_free region (address, address)
-
 abbrev pub to_cell : ℕ × Val → Cell
 to_cell p = record { address = p.0; val = p.1 }
 
-unfoldable pub cell_at : Region → ℕ → Read Cell
-cell_at region least = mapped to_cell (both (checked fault.Order (nat_le least) (checked fault.Field (is_free_byte region) word)) val_at)
+unfoldable pub cell_at : Rules → Region → ℕ → Read Cell
+cell_at rules region least = mapped to_cell (both (checked fault.Order (nat_le least) (checked fault.Field (is_free_byte region) word)) (val_at rules))
 
-unfoldable pub cells_at : Region → Read (List Cell)
-cells_at region = counted (count_within cell_limit) (cell_at region) after_cell 0
+unfoldable pub cells_at : Rules → Region → Read (List Cell)
+cells_at rules region = counted (count_within (cell_room rules)) (cell_at rules region) after_cell 0
 
-abbrev pub to_state : Core × (List Val × List Cell) → AbsState
-to_state p = record { core = p.0; items = p.1.0; cells = p.1.1 }
+abbrev pub to_state : Tested × (List Val × (Relations × List Cell)) → AbsState
+to_state p = record { core = p.0.0; items = p.1.0; cells = p.1.1.1; relations = p.1.1.0 }
 
-unfoldable pub state_at : Role → Region → Read AbsState
-state_at role region = mapped to_state (followed (core_at role) (λ core. both (items_at role core.stack_set) (cells_at region)))
+-- a core with its test, items, what is known of several parts together, and cells
+unfoldable pub state_at : Rules → Role → Region → Read AbsState
+state_at rules role region = mapped to_state (followed (core_at rules role) (λ k. both (items_at rules role k.0.stack_set) (both (relations_by rules region k.1) (cells_at rules region))))
 
 -- ---- procedures
 
@@ -165,34 +177,46 @@ to_range p = record { first = p.0; last = p.1 }
 unfoldable pub range_at : Region → ℕ → Read Range
 range_at region least = mapped to_range (checked fault.Field (is_free region) (both (checked fault.Order (nat_le least) word) word))
 
-unfoldable pub ranges_at : Region → Read (List Range)
-ranges_at region = counted (count_within range_limit) (range_at region) after_range 0
+unfoldable pub ranges_at : Rules → Bool → Region → Read (List Range)
+ranges_at rules is_main region = counted (count_within (range_room rules is_main)) (range_at region) after_range 0
 
 -- in what state it returns, if it does
-unfoldable pub exit_at : Region → Bool → Read (Option AbsState)
-exit_at region is_main = mapped (λ p. p.1) (followed (returns_at is_main) (λ returns. optional returns (state_at role.Exit region)))
+unfoldable pub exit_at : Rules → Bool → Region → Read (Option AbsState)
+exit_at rules is_main region = mapped (λ p. p.1) (followed (returns_at is_main) (λ returns. optional returns (state_at rules role.Exit region)))
 
-abbrev pub to_procedure : ℕ × (ℕ × (List Range × Option AbsState)) → ProcedureParts
-to_procedure p = record { entry = p.0; need = p.1.0; ranges = p.1.1.0; exit = p.1.1.1 }
+-- a base, a need, ranges and an exit
+abbrev pub Body : Type 0
+Body = ℕ × (ℕ × (List Range × Option AbsState))
+
+-- a need, ranges and an exit
+abbrev pub needed_at : Rules → Bool → Region → Read (ℕ × (List Range × Option AbsState))
+needed_at rules is_main region = both (need_at rules is_main region) (both (ranges_at rules is_main region) (exit_at rules is_main region))
+
+-- all of a procedure but its entry
+abbrev pub body_at : Rules → Bool → Region → Read Body
+body_at rules is_main region = both (base_at rules is_main region) (needed_at rules is_main region)
+
+abbrev pub to_procedure : ℕ × Body → ProcedureParts
+to_procedure p = record { entry = p.0; base = p.1.0; need = p.1.1.0; ranges = p.1.1.1.0; exit = p.1.1.1.1 }
 
 unfoldable pub procedure_at : ℕ → Region → ℕ → Bool → Read ProcedureParts
-procedure_at version region nodes is_main = mapped to_procedure (both (entry_at version nodes) (both (need_at is_main region) (both (ranges_at region) (exit_at region is_main))))
+procedure_at version region nodes is_main = mapped to_procedure (both (entry_at version nodes) (body_at (rules_of version) is_main region))
 
 -- ---- nodes
 
 abbrev pub to_node : (ℕ × ℕ) × (ℕ × AbsState) → Node
 to_node p = record { procedure = p.0.0; address = p.0.1; bank = p.1.0; state = p.1.1 }
 
-unfoldable pub node_at : Region → ℕ → ℕ × ℕ → Read Node
-node_at region procedures before = mapped to_node (followed (key_at procedures before) (λ k. both (word_between 0 511) (state_at (role_of k.0) region)))
+unfoldable pub node_at : Rules → Region → ℕ → ℕ × ℕ → Read Node
+node_at rules region procedures before = mapped to_node (followed (key_at procedures before) (λ k. both (word_between 0 511) (state_at rules (role_of k.0) region)))
 
 -- ---- certificates
 
 unfoldable pub procedures_at : ℕ → Region → ℕ → ℕ → Read (List ProcedureParts)
 procedures_at version region nodes count = several (procedure_at version region nodes) is_after true count
 
-unfoldable pub nodes_at : Region → ℕ → ℕ → Read (List Node)
-nodes_at region procedures count = several (node_at region procedures) key (0, 0) count
+unfoldable pub nodes_at : Rules → Region → ℕ → ℕ → Read (List Node)
+nodes_at rules region procedures count = several (node_at rules region procedures) key (0, 0) count
 
 abbrev pub have_entries_in : Head × (List ProcedureParts × List Node) → Bool
 have_entries_in p = have_entries 0 p.1.0 p.1.1
@@ -202,7 +226,7 @@ to_certificate p = record { version = p.0.version; procedures = p.1.0; nodes = p
 
 -- the head, the procedures and the nodes; then each entry must be a node of its procedure
 unfoldable pub certificate_at : Read Certificate
-certificate_at = mapped to_certificate (checked fault.Field have_entries_in (followed head_at (λ h. both (procedures_at h.version h.region h.nodes h.procedures) (nodes_at h.region h.procedures h.nodes))))
+certificate_at = mapped to_certificate (checked fault.Field have_entries_in (followed head_at (λ h. both (procedures_at h.version h.region h.nodes h.procedures) (nodes_at (rules_of h.version) h.region h.procedures h.nodes))))
 
 -- a certificate that is all of the bytes
 unfoldable pub read_certificate : List ℕ → Result Certificate CertFault

@@ -1,5 +1,5 @@
 -- Reading what a state says of several of its parts together, field by field (own format). A test of two fields is made behind the later one.
-use Rattle.std.specs.Prelude.{ℕ, ◌+◌, ◌/◌, ◌%◌, Bool, true, false, not, ◌&&◌, ◌||◌, ◌==◌, nat_lt, Option, Some, None, Ok, is_some, if◌then◌else◌}
+use Rattle.std.specs.Prelude.{ℕ, ◌+◌, ◌/◌, ◌%◌, Bool, true, false, not, ◌&&◌, ◌||◌, ◌==◌, nat_lt, Option, Some, None, is_some, if◌then◌else◌}
 use Rattle.gb_ops.specs.declared.machine.Region.{Region}
 use Rattle.gb_ops.specs.declared.op.Register.TheVariants.{A, B, C, D, E, H, L}
 use Rattle.gb_ops.specs.declared.registers.Registers.{Registers}
@@ -16,18 +16,20 @@ use Rattle.gb_domain.specs.declared.places.Test.{Test}
 use Rattle.gb_domain.specs.declared.places.Test.TheVariants.{Compare, Bits}
 use Rattle.gb_domain.specs.declared.places.OneByte.{OneByte}
 use Rattle.gb_domain.specs.declared.relations.Relations.{Relations}
+use Rattle.gb_domain.specs.declared.rules.Rules.{Rules}
+use Rattle.gb_domain.specs.declared.rules.Rules.TheVariants.{Simple, Extended}
 use Rattle.gb_domain.specs.Pairs.{nothing_known}
 use Rattle.gb_domain.specs.Places.{no_byte}
 use Rattle.gb_states.specs.declared.relations.Present.{Present}
 use Rattle.gb_fields.specs.Format.{Read, followed, both, mapped, checked, optional, byte}
-use Rattle.gb_fields.specs.Reading.{is_ordered, word, byte_between}
-use Rattle.gb_states.specs.Reading.{is_free_byte}
-use Rattle.gb_states.specs.RelationRules.{is_some_register, is_known}
+use Rattle.gb_fields.specs.Reading.{is_ordered, word, byte_between, nothing}
+use Rattle.gb_domain.specs.Areas.{is_free_byte}
+use Rattle.gb_domain.specs.RelationRules.{is_some_register, is_known, test_alone}
 
 -- a field, or what stands for it where it isn't there
 abbrev pub defaulted : {X : Type 0} → X → Bool → Read X → Read X
 defaulted x true r = r
-defaulted x false r = λ bytes. Ok (x, bytes)
+defaulted x false r = nothing x
 
 -- ---- which parts there are
 
@@ -116,7 +118,7 @@ to_link other p = Some (record { other = other; factor = p.0; sum = p.1 })
 
 -- no link, or the factor and the sum of one
 abbrev pub link_of : Option Other → Read (Option Link)
-link_of None = λ bytes. Ok (None, bytes)
+link_of None = nothing None
 link_of (Some other) = mapped (to_link other) (both factor_at word)
 
 unfoldable pub link_at : Read (Option Link)
@@ -143,3 +145,8 @@ to_relations p = record { byte = p.1.0; zero = p.1.1.0; pairs = p.1.1.1 }
 -- those that there are, behind which these are; the test is the state's
 unfoldable pub relations_at : Region → Option ℕ → Read Relations
 relations_at region test = mapped to_relations (followed (present_at test) (λ p. both (defaulted no_byte p.byte (byte_at region test p.address p.bits)) (both (optional p.zero pair_at) (pairs_at p))))
+
+-- Versions 1 and 2 say nothing but the test, which is of A.
+abbrev pub relations_by : Rules → Region → Option ℕ → Read Relations
+relations_by Simple region test = nothing (test_alone test)
+relations_by Extended region test = relations_at region test

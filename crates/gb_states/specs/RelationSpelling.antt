@@ -11,9 +11,11 @@ use Rattle.gb_domain.specs.declared.pairs.PairFacts.{PairFacts}
 use Rattle.gb_domain.specs.declared.pairs.Pairs.{Pairs}
 use Rattle.gb_domain.specs.declared.places.OneByte.{OneByte}
 use Rattle.gb_domain.specs.declared.relations.Relations.{Relations}
+use Rattle.gb_domain.specs.declared.rules.Rules.{Rules}
+use Rattle.gb_domain.specs.declared.rules.Rules.TheVariants.{Simple, Extended}
 use Rattle.gb_states.specs.declared.relations.Present.{Present}
-use Rattle.gb_states.specs.RelationRules.{has_place, bits_of, is_known}
-use Rattle.gb_states.specs.Spelling.{word, flag}
+use Rattle.gb_domain.specs.RelationRules.{has_place, bits_of, is_known}
+use Rattle.gb_states.specs.Numbers.{word, flag}
 
 -- bytes that are there or not
 abbrev pub where_there : Bool → List ℕ → List ℕ
@@ -88,3 +90,8 @@ pairs s = known_facts s.bc ++ (known_facts s.de ++ known_facts s.hl)
 
 unfoldable pub relations : Relations → List ℕ
 relations r = present_number (present_in r) ∷ (where_there (has_place r.byte) (places r.byte) ++ (optional pair r.zero ++ pairs r.pairs))
+
+-- Versions 1 and 2 spell no more of them than the test, which stands elsewhere in the state.
+abbrev pub relations_by : Rules → Relations → List ℕ
+relations_by Simple r = []
+relations_by Extended r = relations r

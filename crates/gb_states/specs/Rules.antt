@@ -1,12 +1,23 @@
 -- Which certificates there are (own format).
-use Rattle.std.specs.Prelude.{◌≡◌, ℕ, ◌+◌, ◌/◌, ◌%◌, ◌≤◌, ◌<◌, Bool, true, false, ◌&&◌, ◌||◌, not, ◌==◌, List, [], ◌∷◌, length, slice_get, Option, Some, None, IfSome, is_some, if◌then◌else◌}
-use Rattle.std.specs.List.{AllByRecursion}
+use Rattle.std.specs.Prelude.{◌≡◌, ℕ, ◌+◌, ◌≤◌, ◌<◌, Bool, true, false, ◌&&◌, ◌||◌, not, ◌==◌, List, [], ◌∷◌, length, slice_get, Option, Some, None, IfSome, is_some, if◌then◌else◌}
+use Rattle.std.specs.List.{AllByRecursion, list_all}
 use Rattle.gb_ops.specs.declared.machine.Region.{Region}
+use Rattle.gb_ops.specs.declared.registers.Registers.{Registers}
+use Rattle.gb_domain.specs.declared.types.Origin.{Origin}
+use Rattle.gb_domain.specs.declared.types.Origin.TheVariants.{ReturnHigh, ReturnLow}
+use Rattle.gb_domain.specs.declared.types.Val.{Val}
+use Rattle.gb_domain.specs.declared.types.Core.{Core}
+use Rattle.gb_domain.specs.declared.types.Cell.{Cell}
 use Rattle.gb_domain.specs.declared.types.Range.{Range}
+use Rattle.gb_domain.specs.declared.rules.Rules.{Rules}
+use Rattle.gb_domain.specs.declared.rules.Rules.TheVariants.{Simple, Extended}
+use Rattle.gb_domain.specs.declared.relations.Relations.{Relations}
 use Rattle.gb_states.specs.declared.role.Role.{Role}
 use Rattle.gb_states.specs.declared.role.Role.TheVariants as role
-pub use Rattle.gb_fields.specs.Rules.{size, fits, is_from, is_version}
-use Rattle.gb_fields.specs.Limits.{procedure_limit, node_limit, range_limit, cell_limit, item_limit}
+pub use Rattle.gb_fields.specs.Rules.{size, fits, is_base_of, is_whole, is_from, is_version}
+use Rattle.gb_domain.specs.Limits.{rules_of, item_room, cell_room}
+use Rattle.gb_domain.specs.RelationRules.{IsRelations, is_test_alone}
+use Rattle.gb_fields.specs.Limits.{procedure_limit, node_limit, range_room}
 use Rattle.gb_domain.specs.Areas.{is_area, meets, IsRegion}
 use Rattle.gb_domain.specs.Rules.{IsChain, IsVal, IsCore, IsCell, after_cell}
 use Rattle.gb_domain.specs.Types.{AbsState, ProcedureParts, Node}
@@ -36,38 +47,76 @@ needs_stack role.Main = false
 needs_stack role.Other = true
 needs_stack role.Exit = true
 
--- A procedure returns with nothing pushed.
-abbrev pub may_have_items : Role → Bool
-may_have_items role.Main = true
-may_have_items role.Other = true
-may_have_items role.Exit = false
+-- By the rules of versions 1 and 2 a procedure returns with nothing pushed.
+abbrev pub may_have_items : Rules → Role → Bool
+may_have_items rules role.Main = true
+may_have_items rules role.Other = true
+may_have_items Simple role.Exit = false
+may_have_items Extended role.Exit = true
 
 -- so many items may be there
-abbrev pub may_be_pushed : Role → Bool → ℕ → Bool
-may_be_pushed role stack_set count = may_have_items role && stack_set || count == 0
+abbrev pub may_be_pushed : Rules → Role → Bool → ℕ → Bool
+may_be_pushed rules role stack_set count = may_have_items rules role && stack_set || count == 0
 
--- A state's parts are such, there are no items without a stack, its items are whole words, and the cells are in order of address.
-pub record IsState (role : Role) (region : Region) (s : AbsState) : Type 0 where
+-- a byte of the word that was pushed as the procedure was entered
+abbrev pub is_return_origin : Option Origin → Bool
+is_return_origin (Some ReturnHigh) = true
+is_return_origin (Some ReturnLow) = true
+is_return_origin _ = false
+
+-- By the rules of versions 1 and 2 nothing is a copy of the return word.
+abbrev pub may_be_of : Rules → Option Origin → Bool
+may_be_of Simple o = not (is_return_origin o)
+may_be_of Extended o = true
+
+-- the value is a copy of what there is by these rules
+abbrev pub is_traced : Rules → Val → Bool
+is_traced rules v = may_be_of rules v.origin
+
+abbrev pub are_traced : Rules → Registers Val → Bool
+are_traced rules s = is_traced rules s.a && (is_traced rules s.b && (is_traced rules s.c && (is_traced rules s.d && (is_traced rules s.e && (is_traced rules s.h && is_traced rules s.l)))))
+
+abbrev pub is_core_traced : Rules → Core → Bool
+is_core_traced rules c = is_traced rules c.ie && are_traced rules c.registers
+
+abbrev pub is_cell_traced : Rules → Cell → Bool
+is_cell_traced rules c = is_traced rules c.val
+
+-- each value of a state is
+abbrev pub is_state_traced : Rules → AbsState → Bool
+is_state_traced rules s = is_core_traced rules s.core && (list_all (is_traced rules) s.items && list_all (is_cell_traced rules) s.cells)
+
+-- By the rules of versions 1 and 2 nothing is known of several parts together but a test of A.
+abbrev pub may_be_known : Rules → Relations → Bool
+may_be_known Simple r = is_test_alone r
+may_be_known Extended r = true
+
+-- A state's parts are such, there are no items without a stack, its items can be counted, and the cells are in order of address.
+pub record IsState (rules : Rules) (role : Role) (region : Region) (s : AbsState) : Type 0 where
   pub core : IsCore s.core
   pub stack : (s.core.stack_set || not (needs_stack role)) ≡ true
-  pub pushed : may_be_pushed role s.core.stack_set (length s.items) ≡ true
+  pub pushed : may_be_pushed rules role s.core.stack_set (length s.items) ≡ true
   pub items : AllByRecursion IsVal s.items
-  pub whole : length s.items % 2 ≡ 0
-  pub item_count : length s.items / 2 ≤ item_limit
+  pub whole : is_whole rules (length s.items) ≡ true
+  pub item_count : length s.items ≤ item_room rules
   pub cells : IsChain (IsCell region) after_cell 0 s.cells
-  pub cell_count : length s.cells ≤ cell_limit
+  pub cell_count : length s.cells ≤ cell_room rules
+  pub relations : IsRelations region s.relations
+  pub known : may_be_known rules s.relations ≡ true
+  pub traced : is_state_traced rules s ≡ true
 
 -- ---- procedures and nodes
 
 -- A procedure begins at one of so many nodes. Main doesn't return.
-pub record IsProcedure (region : Region) (nodes : ℕ) (is_main : Bool) (p : ProcedureParts) : Type 0 where
+pub record IsProcedure (rules : Rules) (region : Region) (nodes : ℕ) (is_main : Bool) (p : ProcedureParts) : Type 0 where
   pub entry : p.entry < nodes
+  pub base : is_base_of rules is_main region p.base ≡ true
   pub need : p.need ≤ 8192
-  pub whole : p.need % 2 ≡ 0
+  pub whole : is_whole rules p.need ≡ true
   pub room : fits is_main region p.need ≡ true
   pub ranges : IsChain (IsRange region) after_range 0 p.ranges
-  pub range_count : length p.ranges ≤ range_limit
-  pub exit : IfSome p.exit (IsState role.Exit region)
+  pub range_count : length p.ranges ≤ range_room rules is_main
+  pub exit : IfSome p.exit (IsState rules role.Exit region)
   pub main : (is_main && is_some p.exit) ≡ false
 
 -- only the first procedure is main
@@ -79,12 +128,12 @@ abbrev pub key : Node → ℕ × ℕ
 key n = (n.procedure, n.address)
 
 -- A node belongs to one of so many procedures, and comes after the key before it or has the same.
-pub record IsNode (region : Region) (procedures : ℕ) (before : ℕ × ℕ) (n : Node) : Type 0 where
+pub record IsNode (rules : Rules) (region : Region) (procedures : ℕ) (before : ℕ × ℕ) (n : Node) : Type 0 where
   pub procedure : n.procedure < procedures
   pub order : is_from before (key n) ≡ true
   pub address : n.address < 65536
   pub bank : n.bank ≤ 511
-  pub state : IsState (role_of n.procedure) region n.state
+  pub state : IsState rules (role_of n.procedure) region n.state
 
 abbrev pub is_of : ℕ → Option Node → Bool
 is_of number None = false
@@ -100,10 +149,11 @@ have_entries number (p ∷ ps) nodes = is_of number (slice_get nodes p.entry) &&
 pub record IsCertificate (c : Certificate) : Type 0 where
   pub version : is_version c.version ≡ true
   pub region : IsRegion c.region
+  pub whole : is_whole (rules_of c.version) (size c.region) ≡ true
   pub some_procedure : 0 < length c.procedures
   pub procedure_count : length c.procedures ≤ procedure_limit
   pub some_node : 0 < length c.nodes
   pub node_count : length c.nodes ≤ node_limit c.version
-  pub procedures : IsChain (IsProcedure c.region (length c.nodes)) is_after true c.procedures
-  pub nodes : IsChain (IsNode c.region (length c.procedures)) key (0, 0) c.nodes
+  pub procedures : IsChain (IsProcedure (rules_of c.version) c.region (length c.nodes)) is_after true c.procedures
+  pub nodes : IsChain (IsNode (rules_of c.version) c.region (length c.procedures)) key (0, 0) c.nodes
   pub entries : have_entries 0 c.procedures c.nodes ≡ true

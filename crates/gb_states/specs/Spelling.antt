@@ -1,10 +1,10 @@
 -- The one spelling of each certificate, in bytes (own format). Words have their low byte first.
-use Rattle.std.specs.Prelude.{◌≡◌, ℕ, ◌+◌, ◌*◌, ◌/◌, ◌%◌, Bool, true, false, ◌==◌, List, [], ◌∷◌, ◌++◌, length, Option, Some, None}
+use Rattle.std.specs.Prelude.{◌≡◌, ℕ, ◌+◌, ◌*◌, ◌/◌, Bool, true, false, List, [], ◌∷◌, ◌++◌, length, Option, Some, None}
 use Rattle.std.specs.List.{flat_map}
 use Rattle.gb_ops.specs.declared.op.Register.TheVariants.{A, B, C, D, E, H, L}
 use Rattle.gb_ops.specs.declared.registers.Registers.{Registers}
 use Rattle.gb_domain.specs.declared.types.Origin.{Origin}
-use Rattle.gb_domain.specs.declared.types.Origin.TheVariants.{Register as Of, F, Ie}
+use Rattle.gb_domain.specs.declared.types.Origin.TheVariants.{Register as Of, F, Ie, ReturnHigh, ReturnLow}
 use Rattle.gb_domain.specs.declared.types.Val.{Val}
 use Rattle.gb_domain.specs.declared.types.May.{May}
 use Rattle.gb_domain.specs.declared.types.Flg.{Flg}
@@ -15,26 +15,14 @@ use Rattle.gb_domain.specs.declared.types.Cell.{Cell}
 use Rattle.gb_domain.specs.declared.types.Range.{Range}
 use Rattle.gb_domain.specs.Types.{AbsState, ProcedureParts, Node}
 use Rattle.gb_domain.specs.Certificate.{Certificate}
+use Rattle.gb_domain.specs.declared.rules.Rules.{Rules}
+use Rattle.gb_domain.specs.declared.rules.Rules.TheVariants.{Simple, Extended}
+use Rattle.gb_domain.specs.Limits.{rules_of}
+use Rattle.gb_domain.specs.RelationRules.{compared}
+use Rattle.gb_fields.specs.Limits.{unit}
+unfoldable pub use Rattle.gb_states.specs.Numbers.{word, quad, node_number_by, node_number, flag}
+use Rattle.gb_states.specs.RelationSpelling.{relations_by}
 use Rattle.gb_states.specs.Rules.{IsCertificate}
-
-abbrev pub word : ℕ → List ℕ
-word n = n % 256 ∷ n / 256 ∷ []
-
-abbrev pub quad : ℕ → List ℕ
-quad n = word (n % 65536) ++ word (n / 65536)
-
-abbrev pub node_number_by : Bool → ℕ → List ℕ
-node_number_by true = word
-node_number_by false = quad
-
--- the number of a node, or of all nodes: two bytes in version 1, else four
-unfoldable pub node_number : ℕ → ℕ → List ℕ
-node_number version = node_number_by (version == 1)
-
--- yes is 1, no is 0
-abbrev pub flag : Bool → ℕ
-flag true = 1
-flag false = 0
 
 abbrev pub origin_number : Option Origin → ℕ
 origin_number None = 0
@@ -47,6 +35,8 @@ origin_number (Some (Of E)) = 6
 origin_number (Some (Of H)) = 7
 origin_number (Some (Of L)) = 8
 origin_number (Some Ie) = 9
+origin_number (Some ReturnHigh) = 10
+origin_number (Some ReturnLow) = 11
 
 unfoldable pub val : Val → List ℕ
 val v = v.lo ∷ v.hi ∷ origin_number v.origin ∷ []
@@ -82,8 +72,9 @@ ctl c = word c.bank_lo ++ (word c.bank_hi ++ (c.second_lo ∷ c.second_hi ∷ ma
 unfoldable pub vals : Registers Val → List ℕ
 vals r = val r.a ++ (val r.b ++ (val r.c ++ (val r.d ++ (val r.e ++ (val r.h ++ val r.l)))))
 
-unfoldable pub core : Core → List ℕ
-core c = (ime_number c.ime ∷ c.bound ∷ flag c.stack_set ∷ []) ++ (test c.test ++ (ctl c.ctl ++ (flg c.flags ++ (val c.ie ++ vals c.registers))))
+-- a core, and the test that stands in it
+unfoldable pub core : Core → Option ℕ → List ℕ
+core c t = (ime_number c.ime ∷ c.bound ∷ flag c.stack_set ∷ []) ++ (test t ++ (ctl c.ctl ++ (flg c.flags ++ (val c.ie ++ vals c.registers))))
 
 unfoldable pub cell : Cell → List ℕ
 cell c = word c.address ++ val c.val
@@ -92,38 +83,48 @@ cell c = word c.address ++ val c.val
 abbrev pub counted : {X : Type 0} → (X → List ℕ) → List X → List ℕ
 counted spell xs = length xs ∷ flat_map spell xs
 
--- bytes of the stack, the oldest first, behind the number of words that they are
-abbrev pub items : List Val → List ℕ
-items vs = length vs / 2 ∷ flat_map val vs
+-- bytes of the stack, the oldest first, behind the number of words, or in version 3 of bytes, that they are
+abbrev pub items : Rules → List Val → List ℕ
+items rules vs = length vs / unit rules ∷ flat_map val vs
 
--- a state's items and its cells
-unfoldable pub state : AbsState → List ℕ
-state s = core s.core ++ (items s.items ++ counted cell s.cells)
+-- a state: its core with the test, its items, what is known of several parts together, and its cells
+unfoldable pub state : Rules → AbsState → List ℕ
+state rules s = core s.core (compared s.relations.byte.test) ++ (items rules s.items ++ (relations_by rules s.relations ++ counted cell s.cells))
 
 unfoldable pub range : Range → List ℕ
 range r = word r.first ++ word r.last
 
 -- whether it returns, and in what state
-unfoldable pub exit : Option AbsState → List ℕ
-exit None = 0 ∷ []
-exit (Some s) = 1 ∷ state s
+unfoldable pub exit : Rules → Option AbsState → List ℕ
+exit rules None = 0 ∷ []
+exit rules (Some s) = 1 ∷ state rules s
+
+-- the address above a procedure's items, which versions 1 and 2 don't say
+abbrev pub base : Rules → ℕ → List ℕ
+base Simple b = []
+base Extended b = word b
 
 -- all of a procedure but its entry
-unfoldable pub body : ProcedureParts → List ℕ
-body p = word (p.need / 2) ++ (counted range p.ranges ++ exit p.exit)
+unfoldable pub body : Rules → ProcedureParts → List ℕ
+body rules p = base rules p.base ++ (word (p.need / unit rules) ++ (counted range p.ranges ++ exit rules p.exit))
 
 unfoldable pub procedure : ℕ → ProcedureParts → List ℕ
-procedure version p = node_number version p.entry ++ body p
+procedure version p = node_number version p.entry ++ body (rules_of version) p
 
-unfoldable pub node : Node → List ℕ
-node n = (n.procedure ∷ word n.address) ++ (word n.bank ++ state n.state)
+unfoldable pub node : Rules → Node → List ℕ
+node rules n = (n.procedure ∷ word n.address) ++ (word n.bank ++ state rules n.state)
 
--- the letters GBBC, the version, the stack region, how many procedures and nodes there are
+-- the last of the letters: C in versions 1 and 2, X in version 3
+abbrev pub letter : Rules → ℕ
+letter Simple = 0x43
+letter Extended = 0x58
+
+-- the letters, the version, the stack region, how many procedures and nodes there are
 unfoldable pub head : Certificate → List ℕ
-head c = (0x47 ∷ 0x42 ∷ 0x42 ∷ 0x43 ∷ c.version ∷ []) ++ (word c.region.first ++ (word c.region.last ++ (length c.procedures ∷ node_number c.version (length c.nodes))))
+head c = (0x47 ∷ 0x42 ∷ 0x42 ∷ letter (rules_of c.version) ∷ c.version ∷ []) ++ (word c.region.first ++ (word c.region.last ++ (length c.procedures ∷ node_number c.version (length c.nodes))))
 
 unfoldable pub spelling : Certificate → List ℕ
-spelling c = head c ++ (flat_map (procedure c.version) c.procedures ++ flat_map node c.nodes)
+spelling c = head c ++ (flat_map (procedure c.version) c.procedures ++ flat_map (node (rules_of c.version)) c.nodes)
 
 -- The bytes are a certificate, and this one.
 pub record Spells (bytes : List ℕ) (c : Certificate) : Type 0 where

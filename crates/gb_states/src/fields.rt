@@ -3,12 +3,13 @@
 ghost use Rattle.std.specs.Prelude.{◌≡◌, ◌+◌, ◌≤◌, ◌&&◌, ◌||◌, nat_le, length};
 ghost use Rattle.gb_fields.specs.Format.{Gives};
 ghost use Rattle.gb_domain.specs.Rules.{has_value};
-ghost use Rattle.gb_states.specs.Checked.{val_in, flg_in, ctl_in, vals_in, core_in, begins_with_zero, are_none};
+ghost use Rattle.gb_states.specs.Checked.{val_in, flg_in, ctl_in, vals_in, core_in, test_in, are_none};
 ghost use Rattle.gb_states.specs.Reading.{to_may, origin_of, origin_at, val_at, may_at, ime_at, test_at, flg_at, ctl_at, vals_at, core_at};
 
 use crate::role::Role;
-use gb_domain::types::{Core, Ctl, Flg, ImeSet, May, Origin, Val};
+use gb_domain::types::{Core, Ctl, Flg, ImeSet, May, Origin, Rules, Val};
 use gb_fields::CertFault;
+use gb_fields::limits::origin_limit;
 use gb_fields::numbers::{byte, byte_between, word_between, yes_no};
 use gb_ops::op::Register;
 use gb_ops::registers::Registers;
@@ -27,30 +28,32 @@ fn origin_of(number: u8) -> Option<Origin>
         6 => Some(Origin::Register(Register::E)),
         7 => Some(Origin::Register(Register::H)),
         8 => Some(Origin::Register(Register::L)),
-        _ => Some(Origin::Ie),
+        9 => Some(Origin::Ie),
+        10 => Some(Origin::ReturnHigh),
+        _ => Some(Origin::ReturnLow),
     }
 }
 
 #[inline(always)]
 #[tactic(auto, unfolding(crate::specs::Reading::origin_at))]
-fn origin_at(bytes: &[u8]) -> Result<(Option<Origin>, &[u8]), CertFault>
-    ensures { Gives (λ x. (x.0, x.1.now)) result (origin_at bytes.now) }
+fn origin_at(rules: Rules, bytes: &[u8]) -> Result<(Option<Origin>, &[u8]), CertFault>
+    ensures { Gives (λ x. (x.0, x.1.now)) result (origin_at rules bytes.now) }
 {
-    let (number, rest) = byte_between(0, 9, bytes)?;
+    let (number, rest) = byte_between(0, origin_limit(rules), bytes)?;
     Ok((origin_of(number), rest))
 }
 
 #[inline(always)]
 #[tactic(auto, unfolding(crate::specs::Reading::val_at))]
-pub fn val_at(bytes: &[u8]) -> Result<(Val, &[u8]), CertFault>
-    ensures { Gives (λ x. (x.0, x.1.now)) result (val_at bytes.now) }
+pub fn val_at(rules: Rules, bytes: &[u8]) -> Result<(Val, &[u8]), CertFault>
+    ensures { Gives (λ x. (x.0, x.1.now)) result (val_at rules bytes.now) }
 {
     let (lo, rest) = byte(bytes)?;
     let (hi, rest) = byte(rest)?;
     if lo > hi {
         return Err(CertFault::Field);
     }
-    let (origin, rest) = origin_at(rest)?;
+    let (origin, rest) = origin_at(rules, rest)?;
     Ok((Val { lo, hi, origin }, rest))
 }
 
@@ -175,16 +178,16 @@ fn ctl_at(bytes: &[u8]) -> Result<(Ctl, &[u8]), CertFault>
 
 #[inline(always)]
 #[tactic(auto, unfolding(crate::specs::Reading::vals_at))]
-fn vals_at(bytes: &[u8]) -> Result<(Registers<Val>, &[u8]), CertFault>
-    ensures { Gives (λ x. (x.0, x.1.now)) result (vals_at bytes.now) }
+fn vals_at(rules: Rules, bytes: &[u8]) -> Result<(Registers<Val>, &[u8]), CertFault>
+    ensures { Gives (λ x. (x.0, x.1.now)) result (vals_at rules bytes.now) }
 {
-    let (a, rest) = val_at(bytes)?;
-    let (b, rest) = val_at(rest)?;
-    let (c, rest) = val_at(rest)?;
-    let (d, rest) = val_at(rest)?;
-    let (e, rest) = val_at(rest)?;
-    let (h, rest) = val_at(rest)?;
-    let (l, rest) = val_at(rest)?;
+    let (a, rest) = val_at(rules, bytes)?;
+    let (b, rest) = val_at(rules, rest)?;
+    let (c, rest) = val_at(rules, rest)?;
+    let (d, rest) = val_at(rules, rest)?;
+    let (e, rest) = val_at(rules, rest)?;
+    let (h, rest) = val_at(rules, rest)?;
+    let (l, rest) = val_at(rules, rest)?;
     let registers = Registers {
         a,
         b,
@@ -197,10 +200,15 @@ fn vals_at(bytes: &[u8]) -> Result<(Registers<Val>, &[u8]), CertFault>
     Ok((registers, rest))
 }
 
+/// A core, and the test that stands in it.
 #[inline(always)]
 #[tactic(auto, unfolding(crate::specs::Reading::core_at))]
-pub fn core_at(role: Role, bytes: &[u8]) -> Result<(Core, &[u8]), CertFault>
-    ensures { Gives (λ x. (x.0, x.1.now)) result (core_at role bytes.now) }
+pub fn core_at(
+    rules: Rules,
+    role: Role,
+    bytes: &[u8],
+) -> Result<((Core, Option<u8>), &[u8]), CertFault>
+    ensures { Gives (λ x. (x.0, x.1.now)) result (core_at rules role bytes.now) }
 {
     let (ime, rest) = ime_at(bytes)?;
     let (bound, rest) = byte_between(0, 161, rest)?;
@@ -211,19 +219,18 @@ pub fn core_at(role: Role, bytes: &[u8]) -> Result<(Core, &[u8]), CertFault>
     let (test, rest) = test_at(rest)?;
     let (ctl, rest) = ctl_at(rest)?;
     let (flags, rest) = flg_at(rest)?;
-    let (ie, rest) = val_at(rest)?;
-    let (registers, rest) = vals_at(rest)?;
+    let (ie, rest) = val_at(rules, rest)?;
+    let (registers, rest) = vals_at(rules, rest)?;
     let core = Core {
         ime,
         bound,
         stack_set,
-        test,
         ctl,
         flags,
         ie,
         registers,
     };
-    Ok((core, rest))
+    Ok(((core, test), rest))
 }
 
 // ---- reading again what has been checked
@@ -323,7 +330,6 @@ pub fn core_in(bytes: &[u8]) -> Core
         },
         bound: bytes[1],
         stack_set: bytes[2] == 1,
-        test: if bytes[3] == 1 { Some(bytes[4]) } else { None },
         ctl: ctl_in(bytes),
         flags: flg_in(bytes[14], bytes[15]),
         ie: val_in(bytes, 16),
@@ -331,23 +337,28 @@ pub fn core_in(bytes: &[u8]) -> Core
     }
 }
 
+/// The test at the front of bytes that have been checked.
 #[inline(always)]
-fn begins_with_zero(bytes: &[u8]) -> bool
-    ensures { result ≡ begins_with_zero bytes.now }
+pub fn test_in(bytes: &[u8]) -> Option<u8>
+    requires { 40 ≤ length bytes.now }
+    ensures { result ≡ test_in bytes.now }
 {
-    match bytes {
-        [] => false,
-        [first, ..] => *first == 0,
-    }
+    if bytes[3] == 1 { Some(bytes[4]) } else { None }
 }
 
-/// Whether the numbers of items and of cells behind a core say that there is none.
+/// Whether the numbers behind a core say that there are no items and cells, and nothing is known of several parts together.
 #[inline(always)]
-pub fn are_none(bytes: &[u8]) -> bool
-    ensures { result ≡ are_none bytes.now }
+pub fn are_none(rules: Rules, bytes: &[u8]) -> bool
+    ensures { result ≡ are_none rules bytes.now }
 {
-    match bytes {
-        [] => false,
-        [items, rest @ ..] => *items == 0 && begins_with_zero(rest),
+    match rules {
+        Rules::Simple => match bytes {
+            [items, cells, ..] => *items == 0 && *cells == 0,
+            _ => false,
+        },
+        Rules::Extended => match bytes {
+            [items, present, cells, ..] => *items == 0 && *present == 0 && *cells == 0,
+            _ => false,
+        },
     }
 }

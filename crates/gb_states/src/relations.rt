@@ -4,13 +4,14 @@ ghost use Rattle.std.specs.Prelude.{◌≡◌};
 ghost use Rattle.gb_fields.specs.Format.{Gives, optional, byte};
 ghost use Rattle.gb_domain.specs.Pairs.{nothing_known};
 ghost use Rattle.gb_domain.specs.Places.{no_byte};
-ghost use Rattle.gb_states.specs.RelationRules.{is_some_register, is_known};
-ghost use Rattle.gb_states.specs.RelationReading.{defaulted, is_present, present_at, registers_at, address_at, test_of, byte_at, pair_of, pair_at, bounds_at, other_of, other_at, factor_at, link_of, link_at, facts_at, pairs_at, relations_at};
+ghost use Rattle.gb_domain.specs.RelationRules.{is_some_register, is_known, compared_a, test_alone};
+ghost use Rattle.gb_states.specs.RelationReading.{defaulted, is_present, present_at, registers_at, address_at, test_of, byte_at, pair_of, pair_at, bounds_at, other_of, other_at, factor_at, link_of, link_at, facts_at, pairs_at, relations_at, relations_by};
 
 use crate::states::is_free;
 use gb_domain::pairs::{Bounds, Link, NOTHING_KNOWN, Other, PairFacts, Pairs, WordPair};
-use gb_domain::places::{OneByte, Test};
+use gb_domain::places::{NO_REGISTER, OneByte, Test};
 use gb_domain::relations::Relations;
+use gb_domain::types::Rules;
 use gb_fields::CertFault;
 use gb_fields::numbers::{byte, byte_between, word};
 use gb_ops::machine::Region;
@@ -343,4 +344,51 @@ pub fn relations_at(
     let (zero, rest) = zero_where(present.zero, rest)?;
     let (pairs, rest) = pairs_at(present, rest)?;
     Ok((Relations { byte, zero, pairs }, rest))
+}
+
+/// A's byte, compared with one.
+#[inline(always)]
+fn compared_a(value: u8) -> OneByte
+    ensures { result ≡ compared_a value }
+{
+    OneByte {
+        registers: Registers {
+            a: true,
+            ..NO_REGISTER
+        },
+        address: None,
+        test: Some(Test::Compare(value)),
+    }
+}
+
+/// What a state that has this test, and nothing else, knows of several parts together.
+#[inline(always)]
+pub fn test_alone(test: Option<u8>) -> Relations
+    ensures { result ≡ test_alone test }
+{
+    let byte = match test {
+        None => OneByte::default(),
+        Some(value) => compared_a(value),
+    };
+    Relations {
+        byte,
+        zero: None,
+        pairs: Pairs::default(),
+    }
+}
+
+/// What is known of several parts of a state together: in versions 1 and 2 the test alone.
+#[inline(always)]
+pub fn relations_by(
+    rules: Rules,
+    region: Region,
+    test: Option<u8>,
+    bytes: &[u8],
+) -> Result<(Relations, &[u8]), CertFault>
+    ensures { Gives (λ x. (x.0, x.1.now)) result (relations_by rules region test bytes.now) }
+{
+    match rules {
+        Rules::Simple => Ok((test_alone(test), bytes)),
+        Rules::Extended => relations_at(region, test, bytes),
+    }
 }

@@ -3,6 +3,8 @@
 ghost use Rattle.std.specs.Prelude.{◌≡◌};
 ghost use Rattle.gb_states.specs.Rules.{role_of, needs_stack, may_have_items};
 
+use gb_domain::types::Rules;
+
 /// What a state is for: a node of main, a node of another procedure, or a procedure's exit.
 #[derive(Clone, Copy)]
 pub enum Role {
@@ -31,9 +33,12 @@ impl Role {
     }
 
     /// Whether there may be items.
-    pub fn may_have_items(self) -> bool
-        ensures { result ≡ may_have_items self }
+    pub fn may_have_items(self, rules: Rules) -> bool
+        ensures { result ≡ may_have_items rules self }
     {
-        !matches!(self, Role::Exit)
+        match self {
+            Role::Main | Role::Other => true,
+            Role::Exit => matches!(rules, Rules::Extended),
+        }
     }
 }

@@ -1,51 +1,72 @@
 //! Reading states, and ranges.
 
-ghost use Rattle.std.specs.Prelude.{◌≡◌, ◌≤◌, ◌*◌, ◌&&◌, ◌||◌, true, nat_le};
+ghost use Rattle.std.specs.Prelude.{◌≡◌, ◌≤◌, ◌&&◌, ◌||◌, true, nat_le, IfOk};
 ghost use Rattle.gb_fields.specs.Format.{Gives, several};
-ghost use Rattle.gb_fields.specs.Limits.{item_limit, cell_limit, range_limit};
+ghost use Rattle.gb_fields.specs.Limits.{item_limit, range_limit};
 ghost use Rattle.gb_domain.specs.Areas.{is_area, meets};
 ghost use Rattle.gb_domain.specs.Rules.{after_cell};
 ghost use Rattle.gb_states.specs.Rules.{after_range};
-ghost use Rattle.gb_states.specs.Reading.{vals_of, items_at, is_free, cell_at, cells_at, state_at, range_at, ranges_at};
+ghost use Rattle.gb_states.specs.Reading.{vals_of, item_count_at, items_at, is_free, cell_at, cells_at, state_at, range_at, ranges_at};
 
 use crate::fields::{core_at, val_at};
+use crate::relations::relations_by;
 use crate::role::Role;
 use arrayvec::ArrayVec;
-use gb_domain::types::{Abs, Cell, Range, Val};
+use gb_domain::types::{Abs, Cell, Range, Rules, Val};
 use gb_fields::CertFault;
-use gb_fields::limits::{CELL_LIMIT, ITEM_LIMIT, RANGE_LIMIT};
+use gb_fields::limits::{cell_limit, item_bytes, item_limit, range_room};
 use gb_fields::numbers::{count_within, word};
 use gb_ops::machine::Region;
 
 /// Reads so many bytes of the stack.
-fn some_items(count: u8, bytes: &[u8]) -> Result<(ArrayVec<Val, 32>, &[u8]), CertFault>
-    requires { count ≤ 2 * item_limit }
-    ensures { Gives (λ x. (x.0.items, x.1.now)) result (vals_of count bytes.now) }
+fn some_items(
+    rules: Rules,
+    count: u8,
+    bytes: &[u8],
+) -> Result<(ArrayVec<Val, 255>, &[u8]), CertFault>
+    ensures { Gives (λ x. (x.0.items, x.1.now)) result (vals_of rules count bytes.now) }
 {
     let mut items = ArrayVec::new();
     let mut rest = bytes;
     for _ in 0..count {
-        let (item, after) = val_at(rest)?;
+        let (item, after) = val_at(rules, rest)?;
         items.push(item);
         rest = after;
     }
     Ok((items, rest))
 }
 
-/// The bytes of the stack, behind the number of words that they are.
-#[tactic(auto, unfolding(crate::specs::Reading::items_at))]
-fn items_at(
+/// How many words, or in version 3 bytes, a state's items are.
+#[inline(always)]
+#[tactic(auto, unfolding(crate::specs::Reading::item_count_at))]
+pub fn item_count_at(
+    rules: Rules,
     role: Role,
     stack_set: bool,
     bytes: &[u8],
-) -> Result<(ArrayVec<Val, 32>, &[u8]), CertFault>
-    ensures { Gives (λ x. (x.0.items, x.1.now)) result (items_at role stack_set bytes.now) }
+) -> Result<(u8, &[u8]), CertFault>
+    ensures exact { Gives (λ x. (x.0, x.1.now)) result (item_count_at rules role stack_set bytes.now) }
+    ensures few { IfOk result (λ x. x.0 ≤ item_limit rules) }
 {
-    let (words, rest) = count_within(ITEM_LIMIT, bytes)?;
-    if words > 0 && !(role.may_have_items() && stack_set) {
+    let (count, rest) = count_within(item_limit(rules), bytes)?;
+    if count > 0 && !(role.may_have_items(rules) && stack_set) {
         return Err(CertFault::Field);
     }
-    some_items(2 * words, rest)
+    Ok((count, rest))
+}
+
+/// The bytes of the stack, behind their number.
+#[tactic(auto, unfolding(crate::specs::Reading::items_at))]
+fn items_at(
+    rules: Rules,
+    role: Role,
+    stack_set: bool,
+    bytes: &[u8],
+) -> Result<(ArrayVec<Val, 255>, &[u8]), CertFault>
+    ensures { Gives (λ x. (x.0.items, x.1.now)) result (items_at rules role stack_set bytes.now) }
+{
+    let (count, rest) = item_count_at(rules, role, stack_set, bytes)?;
+    some_items(rules, item_bytes(rules, count), rest)
 }
 
 /// Whether the addresses from first to last are in RAM, and outside the region.
@@ -62,8 +83,13 @@ pub fn is_free(region: Region, first: u16, last: u16) -> bool
 /// A cell, its address from the least one on.
 #[inline(always)]
 #[tactic(auto, unfolding(crate::specs::Reading::cell_at))]
-pub fn cell_at(region: Region, least: u32, bytes: &[u8]) -> Result<(Cell, &[u8]), CertFault>
-    ensures { Gives (λ x. (x.0, x.1.now)) result (cell_at region least bytes.now) }
+pub fn cell_at(
+    rules: Rules,
+    region: Region,
+    least: u32,
+    bytes: &[u8],
+) -> Result<(Cell, &[u8]), CertFault>
+    ensures { Gives (λ x. (x.0, x.1.now)) result (cell_at rules region least bytes.now) }
 {
     let (address, rest) = word(bytes)?;
     if !is_free(region, address, address) {
@@ -72,24 +98,25 @@ pub fn cell_at(region: Region, least: u32, bytes: &[u8]) -> Result<(Cell, &[u8])
     if (address as u32) < least {
         return Err(CertFault::Order);
     }
-    let (val, rest) = val_at(rest)?;
+    let (val, rest) = val_at(rules, rest)?;
     Ok((Cell { address, val }, rest))
 }
 
 /// Reads as many cells as the count says.
 fn some_cells(
+    rules: Rules,
     region: Region,
     count: u8,
     bytes: &[u8],
-) -> Result<(ArrayVec<Cell, 32>, &[u8]), CertFault>
-    requires { count ≤ cell_limit }
-    ensures { Gives (λ x. (x.0.items, x.1.now)) result (several (cell_at region) after_cell 0 count bytes.now) }
+) -> Result<(ArrayVec<Cell, 64>, &[u8]), CertFault>
+    requires { count ≤ 64 }
+    ensures { Gives (λ x. (x.0.items, x.1.now)) result (several (cell_at rules region) after_cell 0 count bytes.now) }
 {
     let mut cells = ArrayVec::new();
     let mut least = 0;
     let mut rest = bytes;
     for _ in 0..count {
-        let (cell, after) = cell_at(region, least, rest)?;
+        let (cell, after) = cell_at(rules, region, least, rest)?;
         cells.push(cell);
         least = cell.address as u32 + 1;
         rest = after;
@@ -98,21 +125,31 @@ fn some_cells(
 }
 
 #[tactic(auto, unfolding(crate::specs::Reading::cells_at))]
-fn cells_at(region: Region, bytes: &[u8]) -> Result<(ArrayVec<Cell, 32>, &[u8]), CertFault>
-    ensures { Gives (λ x. (x.0.items, x.1.now)) result (cells_at region bytes.now) }
+fn cells_at(
+    rules: Rules,
+    region: Region,
+    bytes: &[u8],
+) -> Result<(ArrayVec<Cell, 64>, &[u8]), CertFault>
+    ensures { Gives (λ x. (x.0.items, x.1.now)) result (cells_at rules region bytes.now) }
 {
-    let (count, rest) = count_within(CELL_LIMIT, bytes)?;
-    some_cells(region, count, rest)
+    let (count, rest) = count_within(cell_limit(rules), bytes)?;
+    some_cells(rules, region, count, rest)
 }
 
 #[tactic(auto, unfolding(crate::specs::Reading::state_at))]
-pub fn state_at(role: Role, region: Region, bytes: &[u8]) -> Result<(Abs, &[u8]), CertFault>
-    ensures { Gives (λ x. (x.0, x.1.now)) result (state_at role region bytes.now) }
+pub fn state_at(
+    rules: Rules,
+    role: Role,
+    region: Region,
+    bytes: &[u8],
+) -> Result<(Abs, &[u8]), CertFault>
+    ensures { Gives (λ x. (x.0, x.1.now)) result (state_at rules role region bytes.now) }
 {
-    let (core, rest) = core_at(role, bytes)?;
-    let (items, rest) = items_at(role, core.stack_set, rest)?;
-    let (cells, rest) = cells_at(region, rest)?;
-    Ok((Abs::of_parts(core, items, cells), rest))
+    let ((core, test), rest) = core_at(rules, role, bytes)?;
+    let (items, rest) = items_at(rules, role, core.stack_set, rest)?;
+    let (relations, rest) = relations_by(rules, region, test, rest)?;
+    let (cells, rest) = cells_at(rules, region, rest)?;
+    Ok((Abs::of_parts(core, items, cells, relations), rest))
 }
 
 /// A range, its first address from the least one on.
@@ -153,9 +190,14 @@ fn some_ranges(
 }
 
 #[tactic(auto, unfolding(crate::specs::Reading::ranges_at))]
-pub fn ranges_at(region: Region, bytes: &[u8]) -> Result<(ArrayVec<Range, 8>, &[u8]), CertFault>
-    ensures { Gives (λ x. (x.0.items, x.1.now)) result (ranges_at region bytes.now) }
+pub fn ranges_at(
+    rules: Rules,
+    is_main: bool,
+    region: Region,
+    bytes: &[u8],
+) -> Result<(ArrayVec<Range, 8>, &[u8]), CertFault>
+    ensures { Gives (λ x. (x.0.items, x.1.now)) result (ranges_at rules is_main region bytes.now) }
 {
-    let (count, rest) = count_within(RANGE_LIMIT, bytes)?;
+    let (count, rest) = count_within(range_room(rules, is_main), bytes)?;
     some_ranges(region, count, rest)
 }

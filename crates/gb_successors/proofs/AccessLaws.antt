@@ -13,6 +13,8 @@ use Rattle.gb_ops.specs.Memory.{View, wrote, stored}
 use Rattle.gb_ops.specs.Machine.{loaded}
 use Rattle.gb_ops.specs.Faults.{no_faults, either_faults, write_faults, load_faults, store_faults}
 use Rattle.gb_ops.specs.Play.{MState}
+use Rattle.gb_domain.specs.declared.setting.Setting.{Setting}
+use Rattle.gb_domain.specs.Settings.{IsBase}
 use Rattle.gb_domain.specs.declared.types.Val.{Val}
 use Rattle.gb_domain.specs.declared.types.Core.{Core}
 use Rattle.gb_domain.specs.declared.types.Range.{Range}
@@ -25,7 +27,7 @@ use Rattle.gb_abs.specs.Span.{IsIn, one}
 use Rattle.gb_abs.specs.Storage.{is_ram, peek}
 use Rattle.gb_abs.specs.Cells.{ArePlaced}
 use Rattle.gb_abs.specs.Stack.{AreInRegion}
-use Rattle.gb_abs.specs.Meaning.{Holds, Means}
+use Rattle.gb_abs.specs.Meaning.{Holds, MeansParts}
 use Rattle.gb_abs_effects.specs.declared.reads.AbsRead.{AbsRead}
 use Rattle.gb_abs_effects.specs.declared.reads.AbsRead.TheVariants as read
 use Rattle.gb_abs_effects.specs.declared.writes.AbsWrite.{AbsWrite}
@@ -89,9 +91,9 @@ any_holds : (entry : MState) (n : ℕ) → n ≤ 255 → Holds any_val entry n
 any_holds entry n h = record { least = omega arith; most = h; origin = λ o e. cc }
 
 -- what an instruction reads, without a fault
-pub record Loads (rom : List ℕ) (s : AbsState) (what : AbsRead) (entry : MState) (m : View) (r : Read) (reads : List ℕ) : Type 0 where
-  pub low : Holds (read_word rom s what).low entry (loaded m r reads).low
-  pub high : Holds (read_word rom s what).high entry (loaded m r reads).high
+pub record Loads (z : Setting) (rom : List ℕ) (s : AbsState) (what : AbsRead) (entry : MState) (m : View) (r : Read) (reads : List ℕ) : Type 0 where
+  pub low : Holds (read_word z rom s what).low entry (loaded m r reads).low
+  pub high : Holds (read_word z rom s what).high entry (loaded m r reads).high
   pub faults : load_faults m r ≡ no_faults
 
 in_span : (span : Span) (a : ℕ) → IsIn span a → span.last < 65536 → a < 65536
@@ -100,34 +102,34 @@ in_span span a i h =
     omega arith
 
 pub Loads-read :
-    (rom : List ℕ) (region : Region) (s : AbsState) (entry : MState) (base : ℕ) (x : MState) (reads : List ℕ) (sp : ℕ) (what : AbsRead) (r : Read) → IsRom rom → Means s entry base x → IsVal s.core.ie
+    (z : Setting) (rom : List ℕ) (region : Region) (s : AbsState) (entry : MState) (base : ℕ) (x : MState) (reads : List ℕ) (sp : ℕ) (what : AbsRead) (r : Read) → IsRom rom → IsBase z base → MeansParts s entry base x → IsVal s.core.ie
     → slice_index reads 0 ≤ 255 → IsPlainRead what → HoldsRead what sp r → reads_closed_ram rom s.core what ≡ false → is_read_limited region s.core what ≡ false
-    → Loads rom s what entry (view rom x false) r reads
+    → Loads z rom s what entry (view rom x false) r reads
 unfolding read_word loaded load_faults reads_closed_ram is_read_limited
-Loads-read rom region s entry base x reads sp read.Nothing machine_read.Nothing c m ie byte plain h ram limited =
+Loads-read z rom region s entry base x reads sp read.Nothing machine_read.Nothing c right m ie byte plain h ram limited =
     record { low = any_holds entry 0 (omega arith); high = any_holds entry 0 (omega arith); faults = refl }
-Loads-read rom region s entry base x reads sp (read.Byte span) (machine_read.Byte a) c m ie byte plain h ram limited =
-    let l = IsLoaded-loaded_val rom s span entry base x false a reads ram limited h (in_span span a h plain) m ie c byte in
+Loads-read z rom region s entry base x reads sp (read.Byte span) (machine_read.Byte a) c right m ie byte plain h ram limited =
+    let l = IsLoaded-loaded_val z rom s span entry base x false a reads ram limited h (in_span span a h plain) right m ie c byte in
     record { low = l.holds; high = any_holds entry 0 (omega arith); faults = l.faults }
-Loads-read rom region s entry base x reads sp read.Top r c m ie byte plain h ram limited = absurd plain
-Loads-read rom region s entry base x reads sp read.Nothing (machine_read.Byte a) c m ie byte plain h ram limited = absurd h
-Loads-read rom region s entry base x reads sp read.Nothing (machine_read.Word a) c m ie byte plain h ram limited = absurd h
-Loads-read rom region s entry base x reads sp (read.Byte span) machine_read.Nothing c m ie byte plain h ram limited = absurd h
-Loads-read rom region s entry base x reads sp (read.Byte span) (machine_read.Word a) c m ie byte plain h ram limited = absurd h
+Loads-read z rom region s entry base x reads sp read.Top r c right m ie byte plain h ram limited = absurd plain
+Loads-read z rom region s entry base x reads sp read.Nothing (machine_read.Byte a) c right m ie byte plain h ram limited = absurd h
+Loads-read z rom region s entry base x reads sp read.Nothing (machine_read.Word a) c right m ie byte plain h ram limited = absurd h
+Loads-read z rom region s entry base x reads sp (read.Byte span) machine_read.Nothing c right m ie byte plain h ram limited = absurd h
+Loads-read z rom region s entry base x reads sp (read.Byte span) (machine_read.Word a) c right m ie byte plain h ram limited = absurd h
 
 -- ---- writes
 
 -- what an instruction writes, without a fault
-pub record Stores (rom : List ℕ) (region : Region) (ranges : List Range) (s : AbsState) (w : AbsWrite) (entry : MState) (base : ℕ) (x : MState) (m : View) (mw : Write) : Type 0 where
-  pub means : Means (written (kind_of rom) w s) entry base (record x { storage = (stored m mw).storage })
-  pub items : (written (kind_of rom) w s).items ≡ s.items
+pub record Stores (z : Setting) (rom : List ℕ) (region : Region) (ranges : List Range) (s : AbsState) (w : AbsWrite) (entry : MState) (base : ℕ) (x : MState) (m : View) (mw : Write) : Type 0 where
+  pub means : MeansParts (written z (kind_of rom) w s) entry base (record x { storage = (stored m mw).storage })
+  pub items : (written z (kind_of rom) w s).items ≡ s.items
   pub starting : (stored m mw).starting ≡ starts w
   pub faults : store_faults region m mw ≡ no_faults
   pub kept : (b : ℕ) → IsKept region ranges base b → peek (stored m mw).storage b ≡ peek x.storage b
 
 -- the state at a store, and where it may be
 pub record AtWrite (region : Region) (s : AbsState) (entry : MState) (base : ℕ) (x : MState) : Type 0 where
-  pub means : Means s entry base x
+  pub means : MeansParts s entry base x
   pub placed : ArePlaced region s.cells
   pub room : AreInRegion region base (length s.items)
   pub is_region : IsRegion region
@@ -146,12 +148,12 @@ is_other m a n region ranges s entry base x o b st k = choose (b == a) refl
     choose false e = e
 
 store_one :
-    (rom : List ℕ) (region : Region) (ranges : List Range) (s : AbsState) (span : Span) (v : Val) (entry : MState) (base : ℕ) (x : MState) (starting : Bool) (a n : ℕ) → AtWrite region s entry base x
+    (z : Setting) (rom : List ℕ) (region : Region) (ranges : List Range) (s : AbsState) (span : Span) (v : Val) (entry : MState) (base : ℕ) (x : MState) (starting : Bool) (a n : ℕ) → AtWrite region s entry base x
     → is_storable (kind_of rom) region ranges span ≡ true → store_meets_closed_ram rom s.core span v ≡ false → is_store_limited s.core span ≡ false
     → IsIn span a → a < 65536 → Holds v entry n → n ≤ 255
-    → IsStored (view rom x starting) a n region ranges s entry base x (record { state = stored_state (kind_of rom) span v s; starts = starts_oam_transfer span })
-store_one rom region ranges s span v entry base x starting a n w storable ram limited i lt h le =
-    (IsSoundStore-stored_state rom region ranges s span v storable ram limited).gives entry base x starting a n w.means w.placed w.room w.is_region i lt h le
+    → IsStored (view rom x starting) a n region ranges s entry base x (record { state = stored_state z (kind_of rom) span v s; starts = starts_oam_transfer span })
+store_one z rom region ranges s span v entry base x starting a n w storable ram limited i lt h le =
+    (IsSoundStore-stored_state z rom region ranges s span v storable ram limited).gives entry base x starting a n w.means w.placed w.room w.is_region i lt h le
 
 or_false : (b c : Bool) → (b || c) ≡ false → (b ≡ false) × (c ≡ false)
 or_false true c h = cc
@@ -161,13 +163,13 @@ at_one : (a : ℕ) → IsIn (one a) a
 at_one a = record { first = omega arith; last = omega arith }
 
 Stores-byte :
-    (rom : List ℕ) (region : Region) (ranges : List Range) (s : AbsState) (span : Span) (v : Val) (entry : MState) (base : ℕ) (x : MState) (a n : ℕ) → AtWrite region s entry base x
+    (z : Setting) (rom : List ℕ) (region : Region) (ranges : List Range) (s : AbsState) (span : Span) (v : Val) (entry : MState) (base : ℕ) (x : MState) (a n : ℕ) → AtWrite region s entry base x
     → is_storable (kind_of rom) region ranges span ≡ true → store_meets_closed_ram rom s.core span v ≡ false → is_store_limited s.core span ≡ false
     → IsIn span a → a < 65536 → Holds v entry n → n ≤ 255
-    → Stores rom region ranges s (write.Byte span v) entry base x (view rom x false) (machine_write.Byte a n)
+    → Stores z rom region ranges s (write.Byte span v) entry base x (view rom x false) (machine_write.Byte a n)
 unfolding written starts stored store_faults
-Stores-byte rom region ranges s span v entry base x a n w storable ram limited i lt h le =
-    let st = store_one rom region ranges s span v entry base x false a n w storable ram limited i lt h le in
+Stores-byte z rom region ranges s span v entry base x a n w storable ram limited i lt h le =
+    let st = store_one z rom region ranges s span v entry base x false a n w storable ram limited i lt h le in
     record {
       means = st.means;
       items = st.items;
@@ -183,20 +185,20 @@ word_byte v entry n is h =
     omega arith
 
 Stores-word :
-    (rom : List ℕ) (region : Region) (ranges : List Range) (s : AbsState) (a : ℕ) (low high : Val) (entry : MState) (base : ℕ) (x : MState) (n : ℕ) → AtWrite region s entry base x
+    (z : Setting) (rom : List ℕ) (region : Region) (ranges : List Range) (s : AbsState) (a : ℕ) (low high : Val) (entry : MState) (base : ℕ) (x : MState) (n : ℕ) → AtWrite region s entry base x
     → is_storable (kind_of rom) region ranges (one a) ≡ true → is_storable (kind_of rom) region ranges (one (behind a)) ≡ true
     → store_meets_closed_ram rom s.core (one a) low ≡ false → store_meets_closed_ram rom s.core (one (behind a)) high ≡ false
     → is_store_limited s.core (one a) ≡ false → is_store_limited s.core (one (behind a)) ≡ false
     → a < 65536 → IsVal low → IsVal high → Holds low entry (n % 256) → Holds high entry (n / 256)
-    → Stores rom region ranges s (write.Word a low high) entry base x (view rom x false) (machine_write.Word a n)
+    → Stores z rom region ranges s (write.Word a low high) entry base x (view rom x false) (machine_write.Word a n)
 unfolding written starts stored store_faults either_faults
-Stores-word rom region ranges s a low high entry base x n w here there ram_here ram_there clear_here clear_there lt is_low is_high l h =
-    let first = store_one rom region ranges s (one a) low entry base x false a (n % 256) w here ram_here clear_here (at_one a) lt l (word_byte low entry _ is_low l) in
+Stores-word z rom region ranges s a low high entry base x n w here there ram_here ram_there clear_here clear_there lt is_low is_high l h =
+    let first = store_one z rom region ranges s (one a) low entry base x false a (n % 256) w here ram_here clear_here (at_one a) lt l (word_byte low entry _ is_low l) in
     let y : MState = record x { storage = (wrote (view rom x false) a (n % 256)).storage } in
-    let middle : AbsState = stored_state (kind_of rom) (one a) low s in
+    let middle : AbsState = stored_state z (kind_of rom) (one a) low s in
     let begun : Bool = starts_oam_transfer (one a) in
     let seen : wrote (view rom x false) a (n % 256) ≡ view rom y begun = stored-view rom region ranges s entry base x false a (n % 256) _ first in
-    let second = store_one rom region ranges middle (one (behind a)) high entry base y begun (behind a) (n / 256)
+    let second = store_one z rom region ranges middle (one (behind a)) high entry base y begun (behind a) (n / 256)
     (record {
       means = first.means;
       placed = first.placed;
@@ -204,11 +206,11 @@ Stores-word rom region ranges s a low high entry base x n w here there ram_here 
       is_region = w.is_region;
     })
     there
-    (store_meets_closed_ram-stored rom (kind_of rom) a low s high ∙ ram_there)
-    (is_store_limited-stored (kind_of rom) (one a) (one (behind a)) low s ∙ clear_there)
+    (store_meets_closed_ram-stored z rom (kind_of rom) a low s high ∙ ram_there)
+    (is_store_limited-stored z (kind_of rom) (one a) (one (behind a)) low s ∙ clear_there)
     (at_one (behind a)) (omega arith) h (word_byte high entry _ is_high h) in
     record {
-      means = subst (λ (m : View). Means (stored_state (kind_of rom) (one (behind a)) high middle) entry base (record x { storage = (wrote m (behind a) (n / 256)).storage })) (sym seen) second.means;
+      means = subst (λ (m : View). MeansParts (stored_state z (kind_of rom) (one (behind a)) high middle) entry base (record x { storage = (wrote m (behind a) (n / 256)).storage })) (sym seen) second.means;
       items = second.items ∙ first.items;
       starting = ap (λ (m : View). (wrote m (behind a) (n / 256)).starting) seen ∙ second.starting;
       faults = rw (first.faults, ap (λ (m : View). write_faults m (behind a) (n / 256)) seen ∙ second.faults) refl;
@@ -219,27 +221,27 @@ Stores-word rom region ranges s a low high entry base x n w here there ram_here 
     }
 
 pub Stores-write :
-    (rom : List ℕ) (region : Region) (ranges : List Range) (s : AbsState) (entry : MState) (base : ℕ) (x : MState) (sp : ℕ) (w : AbsWrite) (mw : Write) → AtWrite region s entry base x
+    (z : Setting) (rom : List ℕ) (region : Region) (ranges : List Range) (s : AbsState) (entry : MState) (base : ℕ) (x : MState) (sp : ℕ) (w : AbsWrite) (mw : Write) → AtWrite region s entry base x
     → IsPlainWrite w → IsWrite w → HoldsWrite w entry sp mw → is_unstorable (kind_of rom) region ranges w ≡ false → writes_closed_ram rom s.core w ≡ false → is_write_limited region s.core w ≡ false
-    → Stores rom region ranges s w entry base x (view rom x false) mw
+    → Stores z rom region ranges s w entry base x (view rom x false) mw
 unfolding written starts stored store_faults is_unstorable writes_closed_ram is_write_limited
-Stores-write rom region ranges s entry base x sp write.Nothing machine_write.Nothing at plain is h allowed ram limited =
+Stores-write z rom region ranges s entry base x sp write.Nothing machine_write.Nothing at plain is h allowed ram limited =
     record { means = at.means; items = refl; starting = refl; faults = refl; kept = λ b k. refl }
-Stores-write rom region ranges s entry base x sp (write.Byte span v) (machine_write.Byte a n) at plain is h allowed ram limited =
-    Stores-byte rom region ranges s span v entry base x a n at (not-false _ allowed) ram limited h.0 (in_span span a h.0 plain) h.1 h.2
-Stores-write rom region ranges s entry base x sp (write.Word a low high) (machine_write.Word b n) at plain is h allowed ram limited =
+Stores-write z rom region ranges s entry base x sp (write.Byte span v) (machine_write.Byte a n) at plain is h allowed ram limited =
+    Stores-byte z rom region ranges s span v entry base x a n at (not-false _ allowed) ram limited h.0 (in_span span a h.0 plain) h.1 h.2
+Stores-write z rom region ranges s entry base x sp (write.Word a low high) (machine_write.Word b n) at plain is h allowed ram limited =
     let stores = or_false _ _ allowed in
     let rams = or_false _ _ ram in
     let clear = or_false _ _ limited in
-    subst (λ c. Stores rom region ranges s (write.Word a low high) entry base x (view rom x false) (machine_write.Word c n)) (sym h.0)
-    (Stores-word rom region ranges s a low high entry base x n at (not-false _ stores.0) (not-false _ stores.1) rams.0 rams.1 clear.0 clear.1 plain is.0 is.1 h.1 h.2)
-Stores-write rom region ranges s entry base x sp (write.Push high low) mw at plain is h allowed ram limited = absurd plain
-Stores-write rom region ranges s entry base x sp write.Nothing (machine_write.Byte a n) at plain is h allowed ram limited = absurd h
-Stores-write rom region ranges s entry base x sp write.Nothing (machine_write.Word a n) at plain is h allowed ram limited = absurd h
-Stores-write rom region ranges s entry base x sp write.Nothing (machine_write.Push a n) at plain is h allowed ram limited = absurd h
-Stores-write rom region ranges s entry base x sp (write.Byte span v) machine_write.Nothing at plain is h allowed ram limited = absurd h
-Stores-write rom region ranges s entry base x sp (write.Byte span v) (machine_write.Word a n) at plain is h allowed ram limited = absurd h
-Stores-write rom region ranges s entry base x sp (write.Byte span v) (machine_write.Push a n) at plain is h allowed ram limited = absurd h
-Stores-write rom region ranges s entry base x sp (write.Word a low high) machine_write.Nothing at plain is h allowed ram limited = absurd h
-Stores-write rom region ranges s entry base x sp (write.Word a low high) (machine_write.Byte b n) at plain is h allowed ram limited = absurd h
-Stores-write rom region ranges s entry base x sp (write.Word a low high) (machine_write.Push b n) at plain is h allowed ram limited = absurd h
+    subst (λ c. Stores z rom region ranges s (write.Word a low high) entry base x (view rom x false) (machine_write.Word c n)) (sym h.0)
+    (Stores-word z rom region ranges s a low high entry base x n at (not-false _ stores.0) (not-false _ stores.1) rams.0 rams.1 clear.0 clear.1 plain is.0 is.1 h.1 h.2)
+Stores-write z rom region ranges s entry base x sp (write.Push high low) mw at plain is h allowed ram limited = absurd plain
+Stores-write z rom region ranges s entry base x sp write.Nothing (machine_write.Byte a n) at plain is h allowed ram limited = absurd h
+Stores-write z rom region ranges s entry base x sp write.Nothing (machine_write.Word a n) at plain is h allowed ram limited = absurd h
+Stores-write z rom region ranges s entry base x sp write.Nothing (machine_write.Push a n) at plain is h allowed ram limited = absurd h
+Stores-write z rom region ranges s entry base x sp (write.Byte span v) machine_write.Nothing at plain is h allowed ram limited = absurd h
+Stores-write z rom region ranges s entry base x sp (write.Byte span v) (machine_write.Word a n) at plain is h allowed ram limited = absurd h
+Stores-write z rom region ranges s entry base x sp (write.Byte span v) (machine_write.Push a n) at plain is h allowed ram limited = absurd h
+Stores-write z rom region ranges s entry base x sp (write.Word a low high) machine_write.Nothing at plain is h allowed ram limited = absurd h
+Stores-write z rom region ranges s entry base x sp (write.Word a low high) (machine_write.Byte b n) at plain is h allowed ram limited = absurd h
+Stores-write z rom region ranges s entry base x sp (write.Word a low high) (machine_write.Push b n) at plain is h allowed ram limited = absurd h

@@ -4,6 +4,7 @@ pub mod AccessLaws
 pub mod WordLaws
 pub mod SuccessorLaws
 pub mod StackWayLaws
+pub mod RelatedLaws
 pub mod MarkLaws
 pub mod WayLaws
 pub mod Below

@@ -18,7 +18,8 @@ use Rattle.gb_ops.specs.declared.op.Op.TheVariants as op
 use Rattle.gb_domain.specs.declared.types.Val.{Val}
 use Rattle.gb_domain.specs.declared.types.Core.{Core}
 use Rattle.gb_domain.specs.Rules.{IsVal, IsCore}
-use Rattle.gb_abs.specs.Below.gb_vals.declared.branch.Branch.{Branch}
+use Rattle.gb_domain.specs.declared.types.Flg.{Flg}
+use Rattle.gb_domain.specs.Types.{AbsState}
 use Rattle.gb_abs.specs.declared.span.Span.{Span}
 use Rattle.gb_abs.specs.Span.{pair_span}
 use Rattle.gb_abs.specs.Operations.{core_set_register, core_settle}
@@ -30,7 +31,10 @@ use Rattle.gb_abs_effects.specs.declared.writes.AbsWrite.TheVariants as write
 use Rattle.gb_abs_effects.specs.declared.writes.AbsEffect.{AbsEffect}
 use Rattle.gb_abs_effects.specs.Accesses.{hl_span, indirect_span, high_span, operand_read, read_of}
 use Rattle.gb_abs_effects.specs.Pairs.{is_word_known, pair_halves, with_pair, with_indirect, with_stack_pair}
-use Rattle.gb_abs_effects.specs.Sides.{with_branch, side_of, sides_by, sides_of, condition_of}
+use Rattle.gb_abs_effects.specs.Sides.{with_flags_if, side_of}
+use Rattle.gb_abs_effects.specs.Sides as Flags
+use Rattle.gb_places.specs.declared.sides.Contents.{Contents}
+use Rattle.gb_product.specs.Sides.{with_contents_if, narrowed_core, narrowed_if, narrowed_by, sides_of}
 use Rattle.gb_abs_effects.specs.declared.targets.Target.{Target}
 use Rattle.gb_abs_effects.specs.declared.targets.Target.TheVariants as target
 use Rattle.gb_abs_effects.specs.Targets.{moves_sp, target_of}
@@ -56,29 +60,41 @@ pub Keeps-settle : (s : Core) → Keeps s (core_settle s)
 unfolding core_settle
 Keeps-settle s = record { ctl = refl; bound = refl; ie = refl; stack = refl }
 
-Keeps-with_branch : (s c : Core) (b : Option Branch) → with_branch s b ≡ Some c → Keeps s c
-Keeps-with_branch s c None h = cc
-Keeps-with_branch s c (Some b) h = subst (λ k. Keeps s k) (same_Some _ c h) (record { ctl = refl; bound = refl; ie = refl; stack = refl })
+Keeps-with_flags_if : (s c : Core) (o : Option Flg) → with_flags_if s o ≡ Some c → Keeps s c
+Keeps-with_flags_if s c None h = cc
+Keeps-with_flags_if s c (Some f) h = subst (λ k. Keeps s k) (same_Some _ c h) (record { ctl = refl; bound = refl; ie = refl; stack = refl })
 
 Keeps-side_of : (k : Condition) (s c : Core) → side_of k s ≡ Some c → Keeps s c
 unfolding side_of
-Keeps-side_of k s c h = Keeps-with_branch s c _ h
+Keeps-side_of k s c h = Keeps-with_flags_if s c _ h
 
-pub Keeps-taken : (o : Op) (s c : Core) → (sides_of o s).taken ≡ Some c → Keeps s c
-unfolding sides_of
-Keeps-taken o s c h = choose (condition_of o) h
+Keeps-narrowed : (s c : Core) (o : Option Contents) → with_contents_if s o ≡ Some c → Keeps s c
+Keeps-narrowed s c None h = cc
+Keeps-narrowed s c (Some o) h = subst (λ k. Keeps s k) (same_Some _ c h) (record { ctl = refl; bound = refl; ie = refl; stack = refl })
+
+Keeps-narrowed_if : (k : Condition) (t : AbsState) (s c : Core) (o : Option Core) → ((d : Core) → o ≡ Some d → Keeps s d) → narrowed_if k t o ≡ Some c → Keeps s c
+unfolding narrowed_core
+Keeps-narrowed_if k t s c None before h = cc
+Keeps-narrowed_if k t s c (Some d) before h = Keeps-both s d c (before d refl) (Keeps-narrowed d c _ h)
+
+Keeps-by : (k : Condition) (s d : Core) → side_of k s ≡ Some d → Keeps s d
+Keeps-by k s d h = Keeps-side_of k s d h
+
+pub Keeps-taken : (o : Op) (t : AbsState) (s c : Core) → (sides_of o t s).taken ≡ Some c → Keeps s c
+unfolding sides_of Flags.sides_of
+Keeps-taken o t s c h = choose (Flags.condition_of o) h
   where
-    choose : (k : Option Condition) → (sides_by k s).taken ≡ Some c → Keeps s c
+    choose : (k : Option Condition) → (narrowed_by k t (Flags.sides_by k s)).taken ≡ Some c → Keeps s c
     choose None e = subst (λ k. Keeps s k) (same_Some s c e) (Keeps-itself s)
-    choose (Some k) e = Keeps-side_of k s c e
+    choose (Some k) e = Keeps-narrowed_if k t s c _ (λ d. Keeps-by k s d) e
 
-pub Keeps-not_taken : (o : Op) (s c : Core) → (sides_of o s).not_taken ≡ Some c → Keeps s c
-unfolding sides_of
-Keeps-not_taken o s c h = choose (condition_of o) h
+pub Keeps-not_taken : (o : Op) (t : AbsState) (s c : Core) → (sides_of o t s).not_taken ≡ Some c → Keeps s c
+unfolding sides_of Flags.sides_of
+Keeps-not_taken o t s c h = choose (Flags.condition_of o) h
   where
-    choose : (k : Option Condition) → (sides_by k s).not_taken ≡ Some c → Keeps s c
+    choose : (k : Option Condition) → (narrowed_by k t (Flags.sides_by k s)).not_taken ≡ Some c → Keeps s c
     choose None e = cc
-    choose (Some k) e = Keeps-side_of _ s c e
+    choose (Some k) e = Keeps-narrowed_if _ t s c _ (λ d. Keeps-by _ s d) e
 
 Keeps-set : (r : Register) (v : Val) (s c : Core) → Keeps s c → Keeps s (core_set_register r v c)
 unfolding core_set_register
@@ -119,32 +135,32 @@ Keeps-alu how (operand.Register A) s low = record { ctl = refl; bound = refl; ie
 Keeps-alu how (operand.Register r) s low = record { ctl = refl; bound = refl; ie = refl; stack = refl }
 Keeps-alu how operand.AtHl s low = record { ctl = refl; bound = refl; ie = refl; stack = refl }
 
-pub Keeps-transfer : (o : Op) (next : ℕ) (s : Core) (low high : Val) → Keeps s (transfer o next s low high).core
+pub Keeps-transfer : (o : Op) (next : ℕ) (sp : Halves) (s : Core) (low high : Val) → Keeps s (transfer o next sp s low high).core
 unfolding transfer update_operand update_a
-Keeps-transfer (op.LoadPair to w) next s low high = Keeps-pair to _ s s (Keeps-itself s)
-Keeps-transfer (op.StoreA to) next s low high = Keeps-indirect to s
-Keeps-transfer (op.LoadA from) next s low high = Keeps-set A low s _ (Keeps-indirect from s)
-Keeps-transfer (op.IncrementPair which) next s low high = Keeps-pair which _ s s (Keeps-itself s)
-Keeps-transfer (op.DecrementPair which) next s low high = Keeps-pair which _ s s (Keeps-itself s)
-Keeps-transfer (op.Increment which) next s low high = Keeps-store which _ s _ (record { ctl = refl; bound = refl; ie = refl; stack = refl })
-Keeps-transfer (op.Decrement which) next s low high = Keeps-store which _ s _ (record { ctl = refl; bound = refl; ie = refl; stack = refl })
-Keeps-transfer (op.LoadImmediate to v) next s low high = Keeps-store to _ s s (Keeps-itself s)
-Keeps-transfer (op.AddHl which) next s low high =
+Keeps-transfer (op.LoadPair to w) next sp s low high = Keeps-pair to _ s s (Keeps-itself s)
+Keeps-transfer (op.StoreA to) next sp s low high = Keeps-indirect to s
+Keeps-transfer (op.LoadA from) next sp s low high = Keeps-set A low s _ (Keeps-indirect from s)
+Keeps-transfer (op.IncrementPair which) next sp s low high = Keeps-pair which _ s s (Keeps-itself s)
+Keeps-transfer (op.DecrementPair which) next sp s low high = Keeps-pair which _ s s (Keeps-itself s)
+Keeps-transfer (op.Increment which) next sp s low high = Keeps-store which _ s _ (record { ctl = refl; bound = refl; ie = refl; stack = refl })
+Keeps-transfer (op.Decrement which) next sp s low high = Keeps-store which _ s _ (record { ctl = refl; bound = refl; ie = refl; stack = refl })
+Keeps-transfer (op.LoadImmediate to v) next sp s low high = Keeps-store to _ s s (Keeps-itself s)
+Keeps-transfer (op.AddHl which) next sp s low high =
     let h = Keeps-pair pair.Hl _ s s (Keeps-itself s) in
     record { ctl = h.ctl; bound = h.bound; ie = h.ie; stack = h.stack }
-Keeps-transfer (op.Load to from) next s low high = Keeps-store to _ s s (Keeps-itself s)
-Keeps-transfer (op.Alu how from) next s low high = Keeps-alu how from s low
-Keeps-transfer (op.Pop to) next s low high = Keeps-stack_pair to _ s
-Keeps-transfer (op.LoadHigh b) next s low high = Keeps-set A low s s (Keeps-itself s)
-Keeps-transfer op.LoadHighC next s low high = Keeps-set A low s s (Keeps-itself s)
-Keeps-transfer (op.LoadAbsolute w) next s low high = Keeps-set A low s s (Keeps-itself s)
-Keeps-transfer (op.LoadHlSp e8) next s low high =
+Keeps-transfer (op.Load to from) next sp s low high = Keeps-store to _ s s (Keeps-itself s)
+Keeps-transfer (op.Alu how from) next sp s low high = Keeps-alu how from s low
+Keeps-transfer (op.Pop to) next sp s low high = Keeps-stack_pair to _ s
+Keeps-transfer (op.LoadHigh b) next sp s low high = Keeps-set A low s s (Keeps-itself s)
+Keeps-transfer op.LoadHighC next sp s low high = Keeps-set A low s s (Keeps-itself s)
+Keeps-transfer (op.LoadAbsolute w) next sp s low high = Keeps-set A low s s (Keeps-itself s)
+Keeps-transfer (op.LoadHlSp e8) next sp s low high =
     let h = Keeps-pair pair.Hl _ s s (Keeps-itself s) in
     record { ctl = h.ctl; bound = h.bound; ie = h.ie; stack = h.stack }
-Keeps-transfer (op.Shift how which) next s low high = Keeps-store which _ s _ (record { ctl = refl; bound = refl; ie = refl; stack = refl })
-Keeps-transfer (op.Reset n which) next s low high = Keeps-store which _ s s (Keeps-itself s)
-Keeps-transfer (op.Set n which) next s low high = Keeps-store which _ s s (Keeps-itself s)
-Keeps-transfer o next s low high = record { ctl = refl; bound = refl; ie = refl; stack = refl }
+Keeps-transfer (op.Shift how which) next sp s low high = Keeps-store which _ s _ (record { ctl = refl; bound = refl; ie = refl; stack = refl })
+Keeps-transfer (op.Reset n which) next sp s low high = Keeps-store which _ s s (Keeps-itself s)
+Keeps-transfer (op.Set n which) next sp s low high = Keeps-store which _ s s (Keeps-itself s)
+Keeps-transfer o next sp s low high = record { ctl = refl; bound = refl; ie = refl; stack = refl }
 
 -- ---- addresses
 
@@ -218,26 +234,26 @@ IsPlainWrite-alu how (operand.Register A) s low = tt
 IsPlainWrite-alu how (operand.Register r) s low = tt
 IsPlainWrite-alu how operand.AtHl s low = tt
 
-pub IsPlainWrite-transfer : (o : Op) (next : ℕ) (s : Core) (low high : Val) → moves_sp o ≡ false → HasBytes o → IsCore s → IsPlainWrite (transfer o next s low high).write
+pub IsPlainWrite-transfer : (o : Op) (next : ℕ) (sp : Halves) (s : Core) (low high : Val) → moves_sp o ≡ false → HasBytes o → IsCore s → IsPlainWrite (transfer o next sp s low high).write
 unfolding transfer update_operand update_a hl_span
-IsPlainWrite-transfer (op.StoreA to) next s low high e b c = small_indirect to s c
-IsPlainWrite-transfer (op.Increment which) next s low high e b c = IsPlainWrite-store which _ s _ refl c
-IsPlainWrite-transfer (op.Decrement which) next s low high e b c = IsPlainWrite-store which _ s _ refl c
-IsPlainWrite-transfer (op.LoadImmediate to v) next s low high e b c = IsPlainWrite-store to _ s s refl c
-IsPlainWrite-transfer (op.StoreSp w) next s low high e b c = b
-IsPlainWrite-transfer (op.Load to from) next s low high e b c = IsPlainWrite-store to _ s s refl c
-IsPlainWrite-transfer (op.Alu how from) next s low high e b c = IsPlainWrite-alu how from s low
-IsPlainWrite-transfer (op.Push from) next s low high e b c = cc
-IsPlainWrite-transfer (op.CallIf condition w) next s low high e b c = cc
-IsPlainWrite-transfer (op.Call w) next s low high e b c = cc
-IsPlainWrite-transfer (op.Restart w) next s low high e b c = cc
-IsPlainWrite-transfer (op.StoreHigh n) next s low high e b c = let small : n < 256 = b in omega arith
-IsPlainWrite-transfer op.StoreHighC next s low high e b c = small_high s c
-IsPlainWrite-transfer (op.StoreAbsolute w) next s low high e b c = b
-IsPlainWrite-transfer (op.Shift how which) next s low high e b c = IsPlainWrite-store which _ s _ refl c
-IsPlainWrite-transfer (op.Reset n which) next s low high e b c = IsPlainWrite-store which _ s s refl c
-IsPlainWrite-transfer (op.Set n which) next s low high e b c = IsPlainWrite-store which _ s s refl c
-IsPlainWrite-transfer o next s low high e b c = tt
+IsPlainWrite-transfer (op.StoreA to) next sp s low high e b c = small_indirect to s c
+IsPlainWrite-transfer (op.Increment which) next sp s low high e b c = IsPlainWrite-store which _ s _ refl c
+IsPlainWrite-transfer (op.Decrement which) next sp s low high e b c = IsPlainWrite-store which _ s _ refl c
+IsPlainWrite-transfer (op.LoadImmediate to v) next sp s low high e b c = IsPlainWrite-store to _ s s refl c
+IsPlainWrite-transfer (op.StoreSp w) next sp s low high e b c = b
+IsPlainWrite-transfer (op.Load to from) next sp s low high e b c = IsPlainWrite-store to _ s s refl c
+IsPlainWrite-transfer (op.Alu how from) next sp s low high e b c = IsPlainWrite-alu how from s low
+IsPlainWrite-transfer (op.Push from) next sp s low high e b c = cc
+IsPlainWrite-transfer (op.CallIf condition w) next sp s low high e b c = cc
+IsPlainWrite-transfer (op.Call w) next sp s low high e b c = cc
+IsPlainWrite-transfer (op.Restart w) next sp s low high e b c = cc
+IsPlainWrite-transfer (op.StoreHigh n) next sp s low high e b c = let small : n < 256 = b in omega arith
+IsPlainWrite-transfer op.StoreHighC next sp s low high e b c = small_high s c
+IsPlainWrite-transfer (op.StoreAbsolute w) next sp s low high e b c = b
+IsPlainWrite-transfer (op.Shift how which) next sp s low high e b c = IsPlainWrite-store which _ s _ refl c
+IsPlainWrite-transfer (op.Reset n which) next sp s low high e b c = IsPlainWrite-store which _ s s refl c
+IsPlainWrite-transfer (op.Set n which) next sp s low high e b c = IsPlainWrite-store which _ s s refl c
+IsPlainWrite-transfer o next sp s low high e b c = tt
 
 -- ---- targets
 

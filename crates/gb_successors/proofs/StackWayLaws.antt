@@ -21,6 +21,7 @@ use Rattle.gb_ops.specs.Memory.{View, stored, passed}
 use Rattle.gb_ops.specs.Machine.{advanced, loaded}
 use Rattle.gb_ops.specs.Faults.{no_faults, load_faults, store_faults}
 use Rattle.gb_ops.specs.Play.{MState}
+use Rattle.gb_domain.specs.declared.setting.Setting.{Setting}
 use Rattle.gb_domain.specs.declared.types.Val.{Val}
 use Rattle.gb_domain.specs.declared.types.Core.{Core}
 use Rattle.gb_domain.specs.declared.types.Halves.{Halves}
@@ -30,12 +31,13 @@ use Rattle.gb_domain.specs.Areas.{meets}
 use Rattle.gb_domain.specs.Rules.{IsVal}
 use Rattle.gb_abs.specs.Below.gb_vals.Vals.{single, any_val}
 use Rattle.gb_abs.specs.Storage.{peek}
+use Rattle.gb_abs.specs.Located.{sp_halves}
 use Rattle.gb_abs.specs.Operations.{core_end, with_core}
-use Rattle.gb_abs.specs.Meaning.{Holds, MeansCore, Means, IsMemory}
+use Rattle.gb_abs.specs.Meaning.{Holds, MeansCore, MeansParts, IsMemory}
 use Rattle.gb_abs.specs.Cells.{ArePlaced}
 use Rattle.gb_abs.specs.Stack.{AreInRegion, pushed, popped, last_word, youngest}
 use Rattle.gb_abs.specs.Sound.{Pops}
-use Rattle.gb_abs.proofs.StackLaws.{IsRegionOpen-bound, Means-pushed, Pops-popped, Means-with_core, youngest_is}
+use Rattle.gb_abs.proofs.StackLaws.{IsRegionOpen-bound, MeansParts-pushed, Pops-popped, MeansParts-with_core, youngest_is}
 use Rattle.gb_abs_effects.specs.declared.reads.AbsRead.{AbsRead}
 use Rattle.gb_abs_effects.specs.declared.reads.AbsRead.TheVariants as read
 use Rattle.gb_abs_effects.specs.declared.writes.AbsWrite.{AbsWrite}
@@ -50,33 +52,33 @@ use Rattle.gb_abs_effects.proofs.TargetLaws.{sp-pushed, sp-popped, pc-returned}
 use Rattle.gb_abs_memory.specs.Sound.{view}
 use Rattle.gb_abs_memory.specs.Kept.{IsKept}
 use Rattle.gb_successors.specs.Behind.{read_word, written, starts, with_stack_of, ended}
-use Rattle.gb_successors.specs.Successors.{taken_successor}
+use Rattle.gb_successors.specs.Successors.{taken_parts}
 use Rattle.gb_successors.specs.Refused.{reads_closed_ram, is_stack_limited, is_read_limited, is_write_limited}
-use Rattle.gb_successors.specs.Sound.{bytes_behind, IsPushable, IsPoppable, IsReturnable, IsStackKnown, IsStackFit, IsAllowed, Leads, LeadsTo}
+use Rattle.gb_successors.specs.Sound.{bytes_behind, IsPushable, IsPoppable, IsReturnable, IsStackKnown, IsStackFit, IsAllowed, LeadsParts, LeadsTo}
 use Rattle.gb_successors.specs.Words.{word_or_any}
 use Rattle.gb_successors.proofs.PlainLaws.{IsPlainRead}
 use Rattle.gb_successors.proofs.AccessLaws.{Loads, clear_stack}
 use Rattle.gb_successors.proofs.WordLaws.{IsPush-is_push, IsCall-is_call, IsPop-is_pop, IsReturn-is_return, pushed-if_room}
-use Rattle.gb_successors.proofs.SuccessorLaws.{begun, begun_sp, given, effect, behind_row, left_by, faults_are, Means-ended, passed_peek, IsTaken, keeps_side, means_begun, known_read, low_of, high_of, abs_effect, acted, loads, follows, keeps_effect, is_write, allowed_read, allowed_write, read_is, write_is, target_is, state_is, executed_taken, goes_to, Done, bytes-least, Done-plain}
+use Rattle.gb_successors.proofs.SuccessorLaws.{begun, begun_sp, given, effect, behind_row, left_by, faults_are, MeansParts-ended, passed_peek, IsTaken, keeps_side, means_begun, known_read, low_of, high_of, abs_effect, acted, loads, follows, keeps_effect, is_write, allowed_read, allowed_write, read_is, write_is, target_is, state_is, executed_taken, goes_to, Done, bytes-least, Done-plain}
 
 -- ---- the parts of the successor, where its write is known
 
-state_by : (rom : List ℕ) (row : Row) (a : ℕ) (s : AbsState) (c : Core) (v : AbsWrite) → (abs_effect rom row a s c).write ≡ v → (taken_successor rom row (behind_row a row) s c).state
-    ≡ ended (starts v) row.cycles (written (kind_of rom) v (with_stack_of row.op v (with_core s (abs_effect rom row a s c).core)))
-state_by rom row a s c v e =
-    state_is rom row a s c ∙ ap (λ w. ended (starts w) row.cycles (written (kind_of rom) w (with_stack_of row.op w (with_core s (abs_effect rom row a s c).core)))) e
+state_by : (z : Setting) (rom : List ℕ) (row : Row) (a : ℕ) (s : AbsState) (c : Core) (v : AbsWrite) → (abs_effect z rom row a s c).write ≡ v → (taken_parts z rom row (behind_row a row) s c).state
+    ≡ ended (starts v) row.cycles (written z (kind_of rom) v (with_stack_of z row.op v (with_core s (abs_effect z rom row a s c).core)))
+state_by z rom row a s c v e =
+    state_is z rom row a s c ∙ ap (λ w. ended (starts w) row.cycles (written z (kind_of rom) w (with_stack_of z row.op w (with_core s (abs_effect z rom row a s c).core)))) e
 
-next_is : (rom : List ℕ) (row : Row) (a : ℕ) (s : AbsState) (c : Core) → (taken_successor rom row (behind_row a row) s c).next ≡ behind_row a row
-unfolding taken_successor
-next_is rom row a s c = refl
+next_is : (z : Setting) (rom : List ℕ) (row : Row) (a : ℕ) (s : AbsState) (c : Core) → (taken_parts z rom row (behind_row a row) s c).next ≡ behind_row a row
+unfolding taken_parts
+next_is z rom row a s c = refl
 
-ended_push : (k : Kind) (high low : Val) (n : ℕ) (s : AbsState) → ended (starts (write.Push high low)) n (written k (write.Push high low) s) ≡ ended false n s
+ended_push : (z : Setting) (k : Kind) (high low : Val) (n : ℕ) (s : AbsState) → ended (starts (write.Push high low)) n (written z k (write.Push high low) s) ≡ ended false n s
 unfolding starts written
-ended_push k high low n s = refl
+ended_push z k high low n s = refl
 
-ended_nothing : (k : Kind) (n : ℕ) (s : AbsState) → ended (starts write.Nothing) n (written k write.Nothing s) ≡ ended false n s
+ended_nothing : (z : Setting) (k : Kind) (n : ℕ) (s : AbsState) → ended (starts write.Nothing) n (written z k write.Nothing s) ≡ ended false n s
 unfolding starts written
-ended_nothing k n s = refl
+ended_nothing z k n s = refl
 
 -- ---- a word is pushed
 
@@ -119,7 +121,7 @@ not_pushed region base sp bytes a b room stack at above = choose (b == a) refl
 
 -- what is left of the machine, whose word stands on the stack
 record Pushed (rom : List ℕ) (region : Region) (ranges : List Range) (s : AbsState) (core : Core) (i : Halves) (entry : MState) (base : ℕ) (x : MState) (e : Effect) : Type 0 where
-  pub means : Means (pushed i (with_core s core)) entry base (record { processor = e.processor; storage = (stored (view rom x false) e.write).storage })
+  pub means : MeansParts (pushed i (with_core s core)) entry base (record { processor = e.processor; storage = (stored (view rom x false) e.write).storage })
   pub faults : store_faults region (view rom x false) e.write ≡ no_faults
   pub starting : (stored (view rom x false) e.write).starting ≡ false
   pub kept : (b : ℕ) → IsKept region ranges base b → peek (stored (view rom x false) e.write).storage b ≡ peek x.storage b
@@ -132,36 +134,35 @@ same_but_sp core entry x y sp m e = subst (λ z. MeansCore core entry z) (sym e)
   ime = m.ime;
   controller = m.controller;
   count = m.count;
-  test = m.test;
   locked = m.locked;
   stopped = m.stopped;
 })
 
-pushes : (rom : List ℕ) (region : Region) (ranges : List Range) (row : Row) (a : ℕ) (s : AbsState) (entry : MState) (base : ℕ) (x : MState) (reads : List ℕ) (c : Core)
-    → IsTaken rom region ranges row a s entry base x reads c → (high low : Val) → (abs_effect rom row a s c).write ≡ write.Push high low
+pushes : (z : Setting) (rom : List ℕ) (region : Region) (ranges : List Range) (row : Row) (a : ℕ) (s : AbsState) (entry : MState) (base : ℕ) (x : MState) (reads : List ℕ) (c : Core)
+    → IsTaken z rom region ranges row a s entry base x reads c → (high low : Val) → (abs_effect z rom row a s c).write ≡ write.Push high low
     → s.core.stack_set ≡ true → AreInRegion region base (length s.items + 2) → is_stack_limited region s.core ≡ false
-    → Follows (abs_effect rom row a s c) entry (begun row x) (effect rom row x reads)
-    → Pushed rom region ranges s (abs_effect rom row a s c).core (record { high = high; low = low }) entry base x (effect rom row x reads)
-pushes rom region ranges row a s entry base x reads c k high low is set room limited f =
+    → Follows (abs_effect z rom row a s c) entry (begun row x) (effect rom row x reads)
+    → Pushed rom region ranges s (abs_effect z rom row a s c).core (record { high = high; low = low }) entry base x (effect rom row x reads)
+pushes z rom region ranges row a s entry base x reads c k high low is set room limited f =
     let e = effect rom row x reads in
-    let core = (abs_effect rom row a s c).core in
-    let keeps = keeps_effect rom region ranges row a s entry base x reads c k in
+    let core = (abs_effect z rom row a s c).core in
+    let keeps = keeps_effect z rom region ranges row a s entry base x reads c k in
     let held = push_of high low entry (begun row x).processor.sp e.write (subst (λ v. HoldsWrite v entry (begun row x).processor.sp e.write) is f.write) in
-    let vals : IsWrite (write.Push high low) = subst IsWrite is (is_write rom region ranges row a s entry base x reads c k) in
+    let vals : IsWrite (write.Push high low) = subst IsWrite is (is_write z rom region ranges row a s entry base x reads c k) in
     let small = small_word high entry held.value vals.0 held.high_held in
     let writes : e.write ≡ machine_write.Push x.processor.sp held.value = held.is ∙ ap (λ n. machine_write.Push n held.value) (begun_sp row x) in
     let moved : e.processor.sp ≡ (x.processor.sp + 65534) % 65536 =
     sp-pushed row.op (advanced x.processor row) (given rom row x reads).low (given rom row x reads).high (begun row x).processor.sp held.value held.is ∙ ap (λ n. (n + 65534) % 65536) (begun_sp row x) in
     let before : MState = record { processor = with_sp e.processor x.processor.sp; storage = x.storage } in
-    let means : Means (with_core s core) entry base before =
-    Means-with_core s core entry base x before k.stands.means (same_but_sp core entry (acted rom row x reads) before x.processor.sp f.core refl) refl refl refl (λ on. sym keeps.stack ∙ on) in
+    let means : MeansParts (with_core s core) entry base before =
+    MeansParts-with_core s core entry base x before k.stands.means.parts (same_but_sp core entry (acted rom row x reads) before x.processor.sp f.core refl) refl refl refl (λ on. sym keeps.stack ∙ on) in
     let done =
-    Means-pushed region (with_core s core) entry base before (view rom x false) (record { high = high; low = low }) held.value means refl (keeps.stack ∙ set) room k.stands.is_region k.stands.placed
-    (IsRegionOpen-bound s.core entry x region k.stands.means.core (clear_stack region s.core limited)) held.high_held held.low_held small in
-    let top = k.stands.means.stack set in
+    MeansParts-pushed region (with_core s core) entry base before (view rom x false) (record { high = high; low = low }) held.value means refl (keeps.stack ∙ set) room k.stands.is_region k.stands.placed
+    (IsRegionOpen-bound s.core entry x region k.stands.means.parts.core (clear_stack region s.core limited)) held.high_held held.low_held small in
+    let top = k.stands.means.parts.stack set in
     record {
-      means = subst (λ w. Means (pushed (record { high = high; low = low }) (with_core s core)) entry base (record { processor = e.processor; storage = (stored (view rom x false) w).storage })) (sym writes)
-          (subst (λ n. Means (pushed (record { high = high; low = low }) (with_core s core)) entry base (record { processor = with_sp e.processor n; storage = (stored (view rom x false) (machine_write.Push x.processor.sp held.value)).storage })) (sym moved) done.means);
+      means = subst (λ w. MeansParts (pushed (record { high = high; low = low }) (with_core s core)) entry base (record { processor = e.processor; storage = (stored (view rom x false) w).storage })) (sym writes)
+          (subst (λ n. MeansParts (pushed (record { high = high; low = low }) (with_core s core)) entry base (record { processor = with_sp e.processor n; storage = (stored (view rom x false) (machine_write.Push x.processor.sp held.value)).storage })) (sym moved) done.means);
       faults = ap (store_faults region (view rom x false)) writes ∙ done.faults;
       starting = ap (λ w. (stored (view rom x false) w).starting) writes ∙ done.starting;
       kept = λ b kept.
@@ -196,34 +197,34 @@ bytes_popped o n s =
 
 -- PUSH
 pub Done-push :
-    (rom : List ℕ) (region : Region) (ranges : List Range) (row : Row) (a : ℕ) (s : AbsState) (entry : MState) (base : ℕ) (x : MState) (reads : List ℕ) (c : Core)
-    → IsTaken rom region ranges row a s entry base x reads c → is_push row.op ≡ true → IsPushable region s base → IsAllowed rom region ranges s base (taken_successor rom row (behind_row a row) s c)
-    → Done rom region ranges row s (taken_successor rom row (behind_row a row) s c) entry base x reads
+    (z : Setting) (rom : List ℕ) (region : Region) (ranges : List Range) (row : Row) (a : ℕ) (s : AbsState) (entry : MState) (base : ℕ) (x : MState) (reads : List ℕ) (c : Core)
+    → IsTaken z rom region ranges row a s entry base x reads c → is_push row.op ≡ true → IsPushable z region s base → IsAllowed rom region ranges s base (taken_parts z rom row (behind_row a row) s c)
+    → Done rom region ranges row s (taken_parts z rom row (behind_row a row) s c) entry base x reads
 unfolding is_write_limited
-Done-push rom region ranges row a s entry base x reads c k is able allowed =
-    let p = IsPush-is_push row.op (behind_row a row) c (low_of rom row s c) (high_of rom row s c) is in
-    let t = taken_successor rom row (behind_row a row) s c in
+Done-push z rom region ranges row a s entry base x reads c k is able allowed =
+    let p = IsPush-is_push z row.op (behind_row a row) (sp_halves z s) c (low_of z rom row s c) (high_of z rom row s c) is in
+    let t = taken_parts z rom row (behind_row a row) s c in
     let e = effect rom row x reads in
-    let core = (abs_effect rom row a s c).core in
+    let core = (abs_effect z rom row a s c).core in
     let i : Halves = record { high = p.first; low = p.second } in
     let may = allowed_read rom region ranges s base _ allowed in
-    let l = loads rom region ranges row a s entry base x reads c k (subst IsPlainRead (sym p.read_is) tt)
-    (subst (λ v. reads_closed_ram rom s.core v ≡ false) (read_is rom row a s c) may.0) (subst (λ v. is_read_limited region s.core v ≡ false) (read_is rom row a s c) may.1) in
-    let f = follows rom region ranges row a s entry base x reads c k l in
+    let l = loads z rom region ranges row a s entry base x reads c k (subst IsPlainRead (sym p.read_is) tt)
+    (subst (λ v. reads_closed_ram rom s.core v ≡ false) (read_is z rom row a s c) may.0) (subst (λ v. is_read_limited region s.core v ≡ false) (read_is z rom row a s c) may.1) in
+    let f = follows z rom region ranges row a s entry base x reads c k l in
     let limited : is_stack_limited region s.core ≡ false =
-    subst (λ v. is_write_limited region s.core v ≡ false) (write_is rom row a s c ∙ p.write_is) (allowed_write rom region ranges s base _ allowed).1 in
-    let w = pushes rom region ranges row a s entry base x reads c k p.first p.second p.write_is able.stack_set able.room limited f.0 in
+    subst (λ v. is_write_limited region s.core v ≡ false) (write_is z rom row a s c ∙ p.write_is) (allowed_write rom region ranges s base _ allowed).1 in
+    let w = pushes z rom region ranges row a s entry base x reads c k p.first p.second p.write_is able.stack_set able.room limited f.0 in
     let state : t.state ≡ ended false row.cycles (pushed i (with_core s core)) =
-    state_by rom row a s c _ p.write_is ∙ (ended_push (kind_of rom) p.first p.second row.cycles _ ∙ ap (ended false row.cycles) (p.leaves (with_core s core) ∙ pushed-if_room i (with_core s core) able.held)) in
+    state_by z rom row a s c _ p.write_is ∙ (ended_push z (kind_of rom) p.first p.second row.cycles _ ∙ ap (ended false row.cycles) (p.leaves (with_core s core) ∙ pushed-if_room z i (with_core s core) able.held)) in
     record {
       held = subst (λ (z : AbsState). length z.items ≤ bytes_behind row.op (length s.items)) (sym state) (bytes_pushed row.op row.cycles i (with_core s core) is);
-      leads = subst (λ y. Leads region ranges t entry base x y) (sym (executed_taken rom region ranges row a s entry base x reads c k))
+      leads = subst (λ y. LeadsParts region ranges t entry base x y) (sym (executed_taken z rom region ranges row a s entry base x reads c k))
           (record {
-            to = subst (λ v. LeadsTo region v t entry base x (left_by rom x e row.cycles)) (sym (target_is rom row a s c ∙ p.target_is))
+            to = subst (λ v. LeadsTo region v t entry base x (left_by rom x e row.cycles)) (sym (target_is z rom row a s c ∙ p.target_is))
                 (record {
-                  means = subst (λ z. Means z entry base (left_by rom x e row.cycles)) (sym state)
-                      (Means-ended rom (pushed i (with_core s core)) entry base e.processor (stored (view rom x false) e.write) false row.cycles w.starting w.means);
-                  goes = subst (λ v. HoldsTarget v e.processor.pc) p.target_is (goes_to rom region ranges row a s entry base x reads c k);
+                  means = subst (λ z. MeansParts z entry base (left_by rom x e row.cycles)) (sym state)
+                      (MeansParts-ended rom (pushed i (with_core s core)) entry base e.processor (stored (view rom x false) e.write) false row.cycles w.starting w.means);
+                  goes = subst (λ v. HoldsTarget v e.processor.pc) p.target_is (goes_to z rom region ranges row a s entry base x reads c k);
                   room = subst (λ (z : AbsState). AreInRegion region base (length z.items)) (sym state) (pushed_room region base row.cycles i (with_core s core) able.room);
                 });
             kept = λ b kept. passed_peek (stored (view rom x false) e.write) row.cycles b ∙ w.kept b kept;
@@ -250,41 +251,41 @@ unfolding ended
 ended_cells n s = refl
 
 pub Done-call :
-    (rom : List ℕ) (region : Region) (ranges : List Range) (row : Row) (a : ℕ) (s : AbsState) (entry : MState) (base : ℕ) (x : MState) (reads : List ℕ) (c : Core)
-    → IsTaken rom region ranges row a s entry base x reads c → is_call row.op ≡ true → s.core.stack_set ≡ true → IsAllowed rom region ranges s base (taken_successor rom row (behind_row a row) s c)
-    → Done rom region ranges row s (taken_successor rom row (behind_row a row) s c) entry base x reads
+    (z : Setting) (rom : List ℕ) (region : Region) (ranges : List Range) (row : Row) (a : ℕ) (s : AbsState) (entry : MState) (base : ℕ) (x : MState) (reads : List ℕ) (c : Core)
+    → IsTaken z rom region ranges row a s entry base x reads c → is_call row.op ≡ true → s.core.stack_set ≡ true → IsAllowed rom region ranges s base (taken_parts z rom row (behind_row a row) s c)
+    → Done rom region ranges row s (taken_parts z rom row (behind_row a row) s c) entry base x reads
 unfolding is_write_limited
-Done-call rom region ranges row a s entry base x reads c k is set allowed =
+Done-call z rom region ranges row a s entry base x reads c k is set allowed =
     let next = behind_row a row in
-    let p = IsCall-is_call row.op next c (low_of rom row s c) (high_of rom row s c) is in
-    let t = taken_successor rom row next s c in
+    let p = IsCall-is_call z row.op next (sp_halves z s) c (low_of z rom row s c) (high_of z rom row s c) is in
+    let t = taken_parts z rom row next s c in
     let e = effect rom row x reads in
-    let core = (abs_effect rom row a s c).core in
+    let core = (abs_effect z rom row a s c).core in
     let may = allowed_read rom region ranges s base _ allowed in
-    let l = loads rom region ranges row a s entry base x reads c k (subst IsPlainRead (sym p.read_is) tt)
-    (subst (λ v. reads_closed_ram rom s.core v ≡ false) (read_is rom row a s c) may.0) (subst (λ v. is_read_limited region s.core v ≡ false) (read_is rom row a s c) may.1) in
-    let f = follows rom region ranges row a s entry base x reads c k l in
+    let l = loads z rom region ranges row a s entry base x reads c k (subst IsPlainRead (sym p.read_is) tt)
+    (subst (λ v. reads_closed_ram rom s.core v ≡ false) (read_is z rom row a s c) may.0) (subst (λ v. is_read_limited region s.core v ≡ false) (read_is z rom row a s c) may.1) in
+    let f = follows z rom region ranges row a s entry base x reads c k l in
     let limited : is_stack_limited region s.core ≡ false =
-    subst (λ v. is_write_limited region s.core v ≡ false) (write_is rom row a s c ∙ p.write_is) (allowed_write rom region ranges s base _ allowed).1 in
-    let target : t.target ≡ target.Call p.address = target_is rom row a s c ∙ p.target_is in
-    let keeps = keeps_effect rom region ranges row a s entry base x reads c k in
+    subst (λ v. is_write_limited region s.core v ≡ false) (write_is z rom row a s c ∙ p.write_is) (allowed_write rom region ranges s base _ allowed).1 in
+    let target : t.target ≡ target.Call p.address = target_is z rom row a s c ∙ p.target_is in
+    let keeps = keeps_effect z rom region ranges row a s entry base x reads c k in
     let state : t.state ≡ ended false row.cycles (with_core s core) =
-    state_by rom row a s c _ p.write_is ∙ (ended_push (kind_of rom) (single (next / 256)) (single (next % 256)) row.cycles _ ∙ ap (ended false row.cycles) (p.leaves _ (with_core s core))) in
+    state_by z rom row a s c _ p.write_is ∙ (ended_push z (kind_of rom) (single (next / 256)) (single (next % 256)) row.cycles _ ∙ ap (ended false row.cycles) (p.leaves _ (with_core s core))) in
     let fits : AreInRegion region base (length t.state.items + 2) = subst (λ v. IsStackFit region v s t base) target allowed.stack in
     let room : AreInRegion region base (length s.items + 2) = subst (λ items. AreInRegion region base (length items + 2)) (ap (λ (z : AbsState). z.items) state ∙ ended_items row.cycles (with_core s core)) fits in
-    let w = pushes rom region ranges row a s entry base x reads c k (single (next / 256)) (single (next % 256)) p.write_is set room limited f.0 in
+    let w = pushes z rom region ranges row a s entry base x reads c k (single (next / 256)) (single (next % 256)) p.write_is set room limited f.0 in
     record {
       held = subst (λ (z : AbsState). length z.items ≤ bytes_behind row.op (length s.items)) (sym state) (bytes_same row.op row.cycles (with_core s core));
-      leads = subst (λ y. Leads region ranges t entry base x y) (sym (executed_taken rom region ranges row a s entry base x reads c k))
+      leads = subst (λ y. LeadsParts region ranges t entry base x y) (sym (executed_taken z rom region ranges row a s entry base x reads c k))
           (record {
             to = subst (λ v. LeadsTo region v t entry base x (left_by rom x e row.cycles)) (sym target)
                 (record {
-                  means = subst (λ n. Means (pushed (known_word n) t.state) entry base (left_by rom x e row.cycles)) (sym (next_is rom row a s c))
-                      (subst (λ z. Means (pushed (known_word next) z) entry base (left_by rom x e row.cycles)) (sym state)
-                      (subst (λ z. Means z entry base (left_by rom x e row.cycles)) (ended_pushed row.cycles (known_word next) (with_core s core))
-                      (Means-ended rom (pushed (known_word next) (with_core s core)) entry base e.processor (stored (view rom x false) e.write) false row.cycles w.starting w.means)));
-                  next = subst (λ n. n < 65536) (sym (next_is rom row a s c)) (wrapped (a + row.length));
-                  goes = subst (λ v. HoldsTarget v e.processor.pc) p.target_is (goes_to rom region ranges row a s entry base x reads c k);
+                  means = subst (λ n. MeansParts (pushed (known_word n) t.state) entry base (left_by rom x e row.cycles)) (sym (next_is z rom row a s c))
+                      (subst (λ z. MeansParts (pushed (known_word next) z) entry base (left_by rom x e row.cycles)) (sym state)
+                      (subst (λ z. MeansParts z entry base (left_by rom x e row.cycles)) (ended_pushed row.cycles (known_word next) (with_core s core))
+                      (MeansParts-ended rom (pushed (known_word next) (with_core s core)) entry base e.processor (stored (view rom x false) e.write) false row.cycles w.starting w.means)));
+                  next = subst (λ n. n < 65536) (sym (next_is z rom row a s c)) (wrapped (a + row.length));
+                  goes = subst (λ v. HoldsTarget v e.processor.pc) p.target_is (goes_to z rom region ranges row a s entry base x reads c k);
                   stack_set = ap (λ (z : AbsState). z.core.stack_set) state ∙ (ended_set row.cycles (with_core s core) ∙ (keeps.stack ∙ set));
                   placed = subst (λ cells. ArePlaced region cells) (sym (ap (λ (z : AbsState). z.cells) state ∙ ended_cells row.cycles (with_core s core))) k.stands.placed;
                 });
@@ -303,14 +304,14 @@ unfolding popped
 popped_set s h = h
 
 -- the stack is set on the side too
-set_of : (rom : List ℕ) (region : Region) (ranges : List Range) (row : Row) (a : ℕ) (s : AbsState) (entry : MState) (base : ℕ) (x : MState) (reads : List ℕ) (c : Core)
-    → IsTaken rom region ranges row a s entry base x reads c → s.core.stack_set ≡ true → c.stack_set ≡ true
-set_of rom region ranges row a s entry base x reads c k set = (keeps_side row.op s.core c k.side).stack ∙ set
+set_of : (z : Setting) (rom : List ℕ) (region : Region) (ranges : List Range) (row : Row) (a : ℕ) (s : AbsState) (entry : MState) (base : ℕ) (x : MState) (reads : List ℕ) (c : Core)
+    → IsTaken z rom region ranges row a s entry base x reads c → s.core.stack_set ≡ true → c.stack_set ≡ true
+set_of z rom region ranges row a s entry base x reads c k set = (keeps_side row.op s c k.side).stack ∙ set
 
 -- the state before its reads is meant
-means_begun_taken : (rom : List ℕ) (region : Region) (ranges : List Range) (row : Row) (a : ℕ) (s : AbsState) (entry : MState) (base : ℕ) (x : MState) (reads : List ℕ) (c : Core)
-    → IsTaken rom region ranges row a s entry base x reads c → Means (with_core s c) entry base (begun row x)
-means_begun_taken rom region ranges row a s entry base x reads c k = means_begun rom row s entry base x c (keeps_side row.op s.core c k.side) k.stands.means k.means
+means_begun_taken : (z : Setting) (rom : List ℕ) (region : Region) (ranges : List Range) (row : Row) (a : ℕ) (s : AbsState) (entry : MState) (base : ℕ) (x : MState) (reads : List ℕ) (c : Core)
+    → IsTaken z rom region ranges row a s entry base x reads c → MeansParts (with_core s c) entry base (begun row x)
+means_begun_taken z rom region ranges row a s entry base x reads c k = means_begun rom row s entry base x c (keeps_side row.op s c k.side) k.stands.means.parts k.means
 
 is_word_read : (sp : ℕ) (r : Read) → HoldsRead read.Top sp r → r ≡ machine_read.Word sp
 is_word_read sp machine_read.Nothing h = absurd h
@@ -318,20 +319,20 @@ is_word_read sp (machine_read.Byte a) h = absurd h
 is_word_read sp (machine_read.Word a) h = ap machine_read.Word h
 
 -- what the machine reads is the word on top of the stack
-reads_top : (rom : List ℕ) (region : Region) (ranges : List Range) (row : Row) (a : ℕ) (s : AbsState) (entry : MState) (base : ℕ) (x : MState) (reads : List ℕ) (c : Core)
-    → IsTaken rom region ranges row a s entry base x reads c → read_of row.op c ≡ read.Top → Effects.read_of row.op (advanced x.processor row) ≡ machine_read.Word (begun row x).processor.sp
-reads_top rom region ranges row a s entry base x reads c k is =
+reads_top : (z : Setting) (rom : List ℕ) (region : Region) (ranges : List Range) (row : Row) (a : ℕ) (s : AbsState) (entry : MState) (base : ℕ) (x : MState) (reads : List ℕ) (c : Core)
+    → IsTaken z rom region ranges row a s entry base x reads c → read_of row.op c ≡ read.Top → Effects.read_of row.op (advanced x.processor row) ≡ machine_read.Word (begun row x).processor.sp
+reads_top z rom region ranges row a s entry base x reads c k is =
     is_word_read (begun row x).processor.sp (Effects.read_of row.op (advanced x.processor row))
     (subst (λ v. HoldsRead v (begun row x).processor.sp (Effects.read_of row.op (advanced x.processor row))) is
     ((read_of_sound row.op c (read_of row.op c) refl).gives entry (begun row x) (given rom row x reads).low (given rom row x reads).high k.means k.taken))
 
 -- the word of a state that holds it on top
-pops : (rom : List ℕ) (region : Region) (ranges : List Range) (row : Row) (a : ℕ) (s : AbsState) (entry : MState) (base : ℕ) (x : MState) (reads : List ℕ) (c : Core)
-    → IsTaken rom region ranges row a s entry base x reads c → (held : AbsState) (i : Halves) (top : ℕ) → Means held entry top (begun row x) → youngest held ≡ Some i → held.core.stack_set ≡ true
+pops : (z : Setting) (rom : List ℕ) (region : Region) (ranges : List Range) (row : Row) (a : ℕ) (s : AbsState) (entry : MState) (base : ℕ) (x : MState) (reads : List ℕ) (c : Core)
+    → IsTaken z rom region ranges row a s entry base x reads c → (held : AbsState) (i : Halves) (top : ℕ) → MeansParts held entry top (begun row x) → youngest held ≡ Some i → held.core.stack_set ≡ true
     → AreInRegion region top (length held.items) → is_stack_limited region s.core ≡ false → Pops (popped held) i entry top (begun row x) (view rom x false) reads
-pops rom region ranges row a s entry base x reads c k held i top means is set room limited =
+pops z rom region ranges row a s entry base x reads c k held i top means is set room limited =
     Pops-popped region held entry top (begun row x) (view rom x false) i reads means refl set is room k.stands.is_region
-    (IsRegionOpen-bound s.core entry x region k.stands.means.core (clear_stack region s.core limited))
+    (IsRegionOpen-bound s.core entry x region k.stands.means.parts.core (clear_stack region s.core limited))
 
 pub no_write : (entry : MState) (sp : ℕ) (w : Write) → HoldsWrite write.Nothing entry sp w → w ≡ machine_write.Nothing
 no_write entry sp machine_write.Nothing h = refl
@@ -349,26 +350,26 @@ no_store_faults region m w e = ap (store_faults region m) e
 
 -- what is left of the machine, whose word is off the stack
 record Popped (rom : List ℕ) (region : Region) (core : Core) (held : AbsState) (n : ℕ) (entry : MState) (top : ℕ) (x : MState) (e : Effect) : Type 0 where
-  pub means : Means (ended false n (with_core held core)) entry top (left_by rom x e n)
+  pub means : MeansParts (ended false n (with_core held core)) entry top (left_by rom x e n)
   pub faults : store_faults region (view rom x false) e.write ≡ no_faults
   pub same : (b : ℕ) → peek (left_by rom x e n).storage b ≡ peek x.storage b
 
-leaves_word : (rom : List ℕ) (region : Region) (ranges : List Range) (row : Row) (a : ℕ) (s : AbsState) (entry : MState) (base : ℕ) (x : MState) (reads : List ℕ) (c : Core)
-    → IsTaken rom region ranges row a s entry base x reads c → (after : AbsState) (i : Halves) (top : ℕ) → Pops after i entry top (begun row x) (view rom x false) reads → after.core.stack_set ≡ true
-    → read_of row.op c ≡ read.Top → (abs_effect rom row a s c).write ≡ write.Nothing → Follows (abs_effect rom row a s c) entry (begun row x) (effect rom row x reads)
-    → Popped rom region (abs_effect rom row a s c).core after row.cycles entry top x (effect rom row x reads)
-leaves_word rom region ranges row a s entry base x reads c k after i top p set is nothing f =
+leaves_word : (z : Setting) (rom : List ℕ) (region : Region) (ranges : List Range) (row : Row) (a : ℕ) (s : AbsState) (entry : MState) (base : ℕ) (x : MState) (reads : List ℕ) (c : Core)
+    → IsTaken z rom region ranges row a s entry base x reads c → (after : AbsState) (i : Halves) (top : ℕ) → Pops after i entry top (begun row x) (view rom x false) reads → after.core.stack_set ≡ true
+    → read_of row.op c ≡ read.Top → (abs_effect z rom row a s c).write ≡ write.Nothing → Follows (abs_effect z rom row a s c) entry (begun row x) (effect rom row x reads)
+    → Popped rom region (abs_effect z rom row a s c).core after row.cycles entry top x (effect rom row x reads)
+leaves_word z rom region ranges row a s entry base x reads c k after i top p set is nothing f =
     let e = effect rom row x reads in
-    let core = (abs_effect rom row a s c).core in
+    let core = (abs_effect z rom row a s c).core in
     let quiet : e.write ≡ machine_write.Nothing = no_write entry (begun row x).processor.sp e.write (subst (λ v. HoldsWrite v entry (begun row x).processor.sp e.write) nothing f.write) in
     let same : stored (view rom x false) e.write ≡ view rom x false = nothing_stored (view rom x false) e.write quiet in
     let moved : e.processor.sp ≡ ((begun row x).processor.sp + 2) % 65536 =
-    sp-popped row.op (advanced x.processor row) (given rom row x reads).low (given rom row x reads).high (begun row x).processor.sp k.taken (reads_top rom region ranges row a s entry base x reads c k is) in
-    let means : Means (with_core after core) entry top (acted rom row x reads) =
-    Means-with_core after core entry top (record (begun row x) { processor = with_sp (begun row x).processor (((begun row x).processor.sp + 2) % 65536) }) (acted rom row x reads) p.means f.core refl refl moved (λ on. set) in
+    sp-popped row.op (advanced x.processor row) (given rom row x reads).low (given rom row x reads).high (begun row x).processor.sp k.taken (reads_top z rom region ranges row a s entry base x reads c k is) in
+    let means : MeansParts (with_core after core) entry top (acted rom row x reads) =
+    MeansParts-with_core after core entry top (record (begun row x) { processor = with_sp (begun row x).processor (((begun row x).processor.sp + 2) % 65536) }) (acted rom row x reads) p.means f.core refl refl moved (λ on. set) in
     record {
-      means = subst (λ (m : View). Means (ended false row.cycles (with_core after core)) entry top (record { processor = e.processor; storage = (passed m row.cycles).storage })) (sym same)
-          (Means-ended rom (with_core after core) entry top e.processor (view rom x false) false row.cycles refl means);
+      means = subst (λ (m : View). MeansParts (ended false row.cycles (with_core after core)) entry top (record { processor = e.processor; storage = (passed m row.cycles).storage })) (sym same)
+          (MeansParts-ended rom (with_core after core) entry top e.processor (view rom x false) false row.cycles refl means);
       faults = no_store_faults region (view rom x false) e.write quiet;
       same = λ b. ap (λ (m : View). peek (passed m row.cycles).storage b) same ∙ passed_peek (view rom x false) row.cycles b;
     }
@@ -377,16 +378,16 @@ leaves_word rom region ranges row a s entry base x reads c k after i top p set i
 top_held : (s : AbsState) (c : Core) → 2 ≤ length s.items → (i : Halves) × (youngest (with_core s c) ≡ Some i)
 top_held s c h = (_, youngest_is (with_core s c) s.items any_val refl h)
 
-read_top : (rom : List ℕ) (s : AbsState) (what : AbsRead) (o : Option Halves) → what ≡ read.Top → youngest s ≡ o → read_word rom s what ≡ word_or_any o
+read_top : (z : Setting) (rom : List ℕ) (s : AbsState) (what : AbsRead) (o : Option Halves) → what ≡ read.Top → youngest s ≡ o → read_word z rom s what ≡ word_or_any o
 unfolding read_word
-read_top rom s what o e is = ap (read_word rom s) e ∙ ap word_or_any is
+read_top z rom s what o e is = ap (read_word z rom s) e ∙ ap word_or_any is
 
-loads_word : (rom : List ℕ) (row : Row) (s : AbsState) (c : Core) (entry : MState) (x : MState) (reads : List ℕ) (i : Halves) (sp : ℕ)
-    → known_read rom row s c ≡ i → Effects.read_of row.op (advanced x.processor row) ≡ machine_read.Word sp
+loads_word : (z : Setting) (rom : List ℕ) (row : Row) (s : AbsState) (c : Core) (entry : MState) (x : MState) (reads : List ℕ) (i : Halves) (sp : ℕ)
+    → known_read z rom row s c ≡ i → Effects.read_of row.op (advanced x.processor row) ≡ machine_read.Word sp
     → Holds i.low entry (loaded (view rom x false) (machine_read.Word sp) reads).low → Holds i.high entry (loaded (view rom x false) (machine_read.Word sp) reads).high
     → load_faults (view rom x false) (machine_read.Word sp) ≡ no_faults
-    → Loads rom (with_core s c) (read_of row.op c) entry (view rom x false) (Effects.read_of row.op (advanced x.processor row)) reads
-loads_word rom row s c entry x reads i sp item word low high faults = record {
+    → Loads z rom (with_core s c) (read_of row.op c) entry (view rom x false) (Effects.read_of row.op (advanced x.processor row)) reads
+loads_word z rom row s c entry x reads i sp item word low high faults = record {
   low = subst (λ (j : Halves). Holds j.low entry (loaded (view rom x false) (Effects.read_of row.op (advanced x.processor row)) reads).low) (sym item)
       (subst (λ r. Holds i.low entry (loaded (view rom x false) r reads).low) (sym word) low);
   high = subst (λ (j : Halves). Holds j.high entry (loaded (view rom x false) (Effects.read_of row.op (advanced x.processor row)) reads).high) (sym item)
@@ -407,35 +408,35 @@ popped_room region base n s room =
 
 -- POP
 pub Done-pop :
-    (rom : List ℕ) (region : Region) (ranges : List Range) (row : Row) (a : ℕ) (s : AbsState) (entry : MState) (base : ℕ) (x : MState) (reads : List ℕ) (c : Core)
-    → IsTaken rom region ranges row a s entry base x reads c → is_pop row.op ≡ true → IsPoppable s → IsAllowed rom region ranges s base (taken_successor rom row (behind_row a row) s c)
-    → Done rom region ranges row s (taken_successor rom row (behind_row a row) s c) entry base x reads
+    (z : Setting) (rom : List ℕ) (region : Region) (ranges : List Range) (row : Row) (a : ℕ) (s : AbsState) (entry : MState) (base : ℕ) (x : MState) (reads : List ℕ) (c : Core)
+    → IsTaken z rom region ranges row a s entry base x reads c → is_pop row.op ≡ true → IsPoppable s → IsAllowed rom region ranges s base (taken_parts z rom row (behind_row a row) s c)
+    → Done rom region ranges row s (taken_parts z rom row (behind_row a row) s c) entry base x reads
 unfolding is_read_limited
-Done-pop rom region ranges row a s entry base x reads c k is able allowed =
+Done-pop z rom region ranges row a s entry base x reads c k is able allowed =
     let next = behind_row a row in
-    let p = IsPop-is_pop row.op next c (low_of rom row s c) (high_of rom row s c) is in
-    let t = taken_successor rom row next s c in
+    let p = IsPop-is_pop z row.op next (sp_halves z s) c (low_of z rom row s c) (high_of z rom row s c) is in
+    let t = taken_parts z rom row next s c in
     let e = effect rom row x reads in
-    let core = (abs_effect rom row a s c).core in
+    let core = (abs_effect z rom row a s c).core in
     let limited : is_stack_limited region s.core ≡ false =
-    subst (λ v. is_read_limited region s.core v ≡ false) (read_is rom row a s c ∙ p.read_is) (allowed_read rom region ranges s base _ allowed).1 in
-    let set : c.stack_set ≡ true = set_of rom region ranges row a s entry base x reads c k able.stack_set in
+    subst (λ v. is_read_limited region s.core v ≡ false) (read_is z rom row a s c ∙ p.read_is) (allowed_read rom region ranges s base _ allowed).1 in
+    let set : c.stack_set ≡ true = set_of z rom region ranges row a s entry base x reads c k able.stack_set in
     let top = top_held s c able.held in
-    let word = pops rom region ranges row a s entry base x reads c k (with_core s c) top.0 base (means_begun_taken rom region ranges row a s entry base x reads c k) top.1 set k.stands.room limited in
-    let l = loads_word rom row s c entry x reads top.0 (begun row x).processor.sp (read_top rom (with_core s c) (read_of row.op c) (Some top.0) p.read_is top.1)
-    (reads_top rom region ranges row a s entry base x reads c k p.read_is) word.low word.high word.faults in
-    let f = follows rom region ranges row a s entry base x reads c k l in
-    let left = leaves_word rom region ranges row a s entry base x reads c k (popped (with_core s c)) top.0 base word (popped_set (with_core s c) set) p.read_is p.write_is f.0 in
+    let word = pops z rom region ranges row a s entry base x reads c k (with_core s c) top.0 base (means_begun_taken z rom region ranges row a s entry base x reads c k) top.1 set k.stands.room limited in
+    let l = loads_word z rom row s c entry x reads top.0 (begun row x).processor.sp (read_top z rom (with_core s c) (read_of row.op c) (Some top.0) p.read_is top.1)
+    (reads_top z rom region ranges row a s entry base x reads c k p.read_is) word.low word.high word.faults in
+    let f = follows z rom region ranges row a s entry base x reads c k l in
+    let left = leaves_word z rom region ranges row a s entry base x reads c k (popped (with_core s c)) top.0 base word (popped_set (with_core s c) set) p.read_is p.write_is f.0 in
     let state : t.state ≡ ended false row.cycles (popped (with_core s core)) =
-    state_by rom row a s c _ p.write_is ∙ (ended_nothing (kind_of rom) row.cycles _ ∙ ap (ended false row.cycles) (p.leaves _ (with_core s core))) in
+    state_by z rom row a s c _ p.write_is ∙ (ended_nothing z (kind_of rom) row.cycles _ ∙ ap (ended false row.cycles) (p.leaves _ (with_core s core))) in
     record {
       held = subst (λ (z : AbsState). length z.items ≤ bytes_behind row.op (length s.items)) (sym state) (bytes_popped row.op row.cycles (with_core s core));
-      leads = subst (λ y. Leads region ranges t entry base x y) (sym (executed_taken rom region ranges row a s entry base x reads c k))
+      leads = subst (λ y. LeadsParts region ranges t entry base x y) (sym (executed_taken z rom region ranges row a s entry base x reads c k))
           (record {
-            to = subst (λ v. LeadsTo region v t entry base x (left_by rom x e row.cycles)) (sym (target_is rom row a s c ∙ p.target_is))
+            to = subst (λ v. LeadsTo region v t entry base x (left_by rom x e row.cycles)) (sym (target_is z rom row a s c ∙ p.target_is))
                 (record {
-                  means = subst (λ z. Means z entry base (left_by rom x e row.cycles)) (sym (state ∙ popped_ended row.cycles s c core)) left.means;
-                  goes = subst (λ v. HoldsTarget v e.processor.pc) p.target_is (goes_to rom region ranges row a s entry base x reads c k);
+                  means = subst (λ z. MeansParts z entry base (left_by rom x e row.cycles)) (sym (state ∙ popped_ended row.cycles s c core)) left.means;
+                  goes = subst (λ v. HoldsTarget v e.processor.pc) p.target_is (goes_to z rom region ranges row a s entry base x reads c k);
                   room = subst (λ (z : AbsState). AreInRegion region base (length z.items)) (sym state) (popped_room region base row.cycles (with_core s core) k.stands.room);
                 });
             kept = λ b kept. left.same b;
@@ -447,7 +448,7 @@ Done-pop rom region ranges row a s entry base x reads c k is able allowed =
 
 -- the bytes of the return word as items, where nothing is held
 abbrev with_return_word : AbsState → Core → ℕ → ℕ → AbsState
-with_return_word s c low high = record { core = c; items = single high ∷ single low ∷ []; cells = s.cells }
+with_return_word s c low high = record s { core = c; items = single high ∷ single low ∷ [] }
 
 Holds-single : (entry : MState) (n : ℕ) → Holds (single n) entry n
 Holds-single entry n = record { least = omega arith; most = omega arith; origin = λ o h. cc }
@@ -461,8 +462,8 @@ single-held entry n v h =
 Holds-any : (entry : MState) (n : ℕ) → n ≤ 255 → Holds any_val entry n
 Holds-any entry n h = record { least = omega arith; most = h; origin = λ o e. cc }
 
-return_word_means : (s : AbsState) (c : Core) (entry : MState) (base : ℕ) (x : MState) → Means s entry base x → s.core.stack_set ≡ true → s.items ≡ [] → (y : MState) → y.storage ≡ x.storage → y.processor.sp ≡ x.processor.sp → MeansCore c entry y
-    → Means (with_return_word s c (peek x.storage base) (peek x.storage (base + 1))) entry (base + 2) y
+return_word_means : (s : AbsState) (c : Core) (entry : MState) (base : ℕ) (x : MState) → MeansParts s entry base x → s.core.stack_set ≡ true → s.items ≡ [] → (y : MState) → y.storage ≡ x.storage → y.processor.sp ≡ x.processor.sp → MeansCore c entry y
+    → MeansParts (with_return_word s c (peek x.storage base) (peek x.storage (base + 1))) entry (base + 2) y
 return_word_means s c entry base x m set none y storage sp core =
     let stack = m.stack set in
     let empty : length s.items ≡ 0 = ap length none in
@@ -482,7 +483,7 @@ return_word_means s c entry base x m set none y storage sp core =
 
 returned_state : (n : ℕ) (s : AbsState) (c core : Core) (low high : ℕ) → s.items ≡ [] → ended false n (with_core s core) ≡ ended false n (with_core (popped (with_return_word s c low high)) core)
 unfolding popped
-returned_state n s c core low high none = ap (λ items. ended false n (record { core = core; items = items; cells = s.cells })) none
+returned_state n s c core low high none = ap (λ items. ended false n (record s { core = core; items = items })) none
 
 no_youngest : (s : AbsState) (c : Core) → s.items ≡ [] → youngest (with_core s c) ≡ None
 unfolding youngest
@@ -493,45 +494,45 @@ unfolding youngest
 return_youngest s c low high = refl
 
 pub Done-return :
-    (rom : List ℕ) (region : Region) (ranges : List Range) (row : Row) (a : ℕ) (s : AbsState) (entry : MState) (base : ℕ) (x : MState) (reads : List ℕ) (c : Core)
-    → IsTaken rom region ranges row a s entry base x reads c → is_return row.op ≡ true → IsAllowed rom region ranges s base (taken_successor rom row (behind_row a row) s c)
-    → Done rom region ranges row s (taken_successor rom row (behind_row a row) s c) entry base x reads
+    (z : Setting) (rom : List ℕ) (region : Region) (ranges : List Range) (row : Row) (a : ℕ) (s : AbsState) (entry : MState) (base : ℕ) (x : MState) (reads : List ℕ) (c : Core)
+    → IsTaken z rom region ranges row a s entry base x reads c → is_return row.op ≡ true → IsAllowed rom region ranges s base (taken_parts z rom row (behind_row a row) s c)
+    → Done rom region ranges row s (taken_parts z rom row (behind_row a row) s c) entry base x reads
 unfolding is_read_limited
-Done-return rom region ranges row a s entry base x reads c k is allowed =
+Done-return z rom region ranges row a s entry base x reads c k is allowed =
     let next = behind_row a row in
-    let p = IsReturn-is_return row.op next c (low_of rom row s c) (high_of rom row s c) is in
-    let t = taken_successor rom row next s c in
+    let p = IsReturn-is_return z row.op next (sp_halves z s) c (low_of z rom row s c) (high_of z rom row s c) is in
+    let t = taken_parts z rom row next s c in
     let e = effect rom row x reads in
-    let core = (abs_effect rom row a s c).core in
+    let core = (abs_effect z rom row a s c).core in
     let low = peek x.storage base in
     let high = peek x.storage (base + 1) in
     let limited : is_stack_limited region s.core ≡ false =
-    subst (λ v. is_read_limited region s.core v ≡ false) (read_is rom row a s c ∙ p.read_is) (allowed_read rom region ranges s base _ allowed).1 in
-    let target : t.target ≡ target.Return = target_is rom row a s c ∙ p.target_is in
+    subst (λ v. is_read_limited region s.core v ≡ false) (read_is z rom row a s c ∙ p.read_is) (allowed_read rom region ranges s base _ allowed).1 in
+    let target : t.target ≡ target.Return = target_is z rom row a s c ∙ p.target_is in
     let able : IsReturnable region s t base = subst (λ v. IsStackFit region v s t base) target allowed.stack in
     let state : t.state ≡ ended false row.cycles (with_core s core) =
-    state_by rom row a s c _ p.write_is ∙ (ended_nothing (kind_of rom) row.cycles _ ∙ ap (ended false row.cycles) (p.leaves _ (with_core s core))) in
+    state_by z rom row a s c _ p.write_is ∙ (ended_nothing z (kind_of rom) row.cycles _ ∙ ap (ended false row.cycles) (p.leaves _ (with_core s core))) in
     let none : s.items ≡ [] = sym (ap (λ (z : AbsState). z.items) state ∙ ended_items row.cycles (with_core s core)) ∙ able.held in
-    let set : c.stack_set ≡ true = set_of rom region ranges row a s entry base x reads c k able.stack_set in
-    let means = return_word_means s c entry base x k.stands.means able.stack_set none (begun row x) refl (begun_sp row x) k.means in
-    let word = pops rom region ranges row a s entry base x reads c k (with_return_word s c low high) (record { high = single high; low = single low }) (base + 2) means (return_youngest s c low high) set able.return_word limited in
+    let set : c.stack_set ≡ true = set_of z rom region ranges row a s entry base x reads c k able.stack_set in
+    let means = return_word_means s c entry base x k.stands.means.parts able.stack_set none (begun row x) refl (begun_sp row x) k.means in
+    let word = pops z rom region ranges row a s entry base x reads c k (with_return_word s c low high) (record { high = single high; low = single low }) (base + 2) means (return_youngest s c low high) set able.return_word limited in
     let top : Loaded = loaded (view rom x false) (machine_read.Word (begun row x).processor.sp) reads in
     let at_low : top.low ≡ low = single-held entry low top.low word.low in
     let at_high : top.high ≡ high = single-held entry high top.high word.high in
-    let reads_word = reads_top rom region ranges row a s entry base x reads c k p.read_is in
-    let l = loads_word rom row s c entry x reads any_word (begun row x).processor.sp (read_top rom (with_core s c) (read_of row.op c) None p.read_is (no_youngest s c none))
-    reads_word (subst (λ n. Holds any_val entry n) (sym at_low) (Holds-any entry low (k.stands.means.memory.bytes base))) (subst (λ n. Holds any_val entry n) (sym at_high) (Holds-any entry high (k.stands.means.memory.bytes (base + 1)))) word.faults in
-    let f = follows rom region ranges row a s entry base x reads c k l in
-    let left = leaves_word rom region ranges row a s entry base x reads c k (popped (with_return_word s c low high)) (record { high = single high; low = single low }) (base + 2) word (popped_set (with_return_word s c low high) set) p.read_is p.write_is f.0 in
+    let reads_word = reads_top z rom region ranges row a s entry base x reads c k p.read_is in
+    let l = loads_word z rom row s c entry x reads any_word (begun row x).processor.sp (read_top z rom (with_core s c) (read_of row.op c) None p.read_is (no_youngest s c none))
+    reads_word (subst (λ n. Holds any_val entry n) (sym at_low) (Holds-any entry low (k.stands.means.parts.memory.bytes base))) (subst (λ n. Holds any_val entry n) (sym at_high) (Holds-any entry high (k.stands.means.parts.memory.bytes (base + 1)))) word.faults in
+    let f = follows z rom region ranges row a s entry base x reads c k l in
+    let left = leaves_word z rom region ranges row a s entry base x reads c k (popped (with_return_word s c low high)) (record { high = single high; low = single low }) (base + 2) word (popped_set (with_return_word s c low high) set) p.read_is p.write_is f.0 in
     let pc : e.processor.pc ≡ machine_word (given rom row x reads).high (given rom row x reads).low =
     pc-returned row.op next c (advanced x.processor row) (given rom row x reads).low (given rom row x reads).high p.target_is k.taken in
     record {
       held = subst (λ (z : AbsState). length z.items ≤ bytes_behind row.op (length s.items)) (sym state) (bytes_same row.op row.cycles (with_core s core));
-      leads = subst (λ y. Leads region ranges t entry base x y) (sym (executed_taken rom region ranges row a s entry base x reads c k))
+      leads = subst (λ y. LeadsParts region ranges t entry base x y) (sym (executed_taken z rom region ranges row a s entry base x reads c k))
           (record {
             to = subst (λ v. LeadsTo region v t entry base x (left_by rom x e row.cycles)) (sym target)
                 (record {
-                  means = subst (λ z. Means z entry (base + 2) (left_by rom x e row.cycles)) (sym (state ∙ returned_state row.cycles s c core low high none)) left.means;
+                  means = subst (λ z. MeansParts z entry (base + 2) (left_by rom x e row.cycles)) (sym (state ∙ returned_state row.cycles s c core low high none)) left.means;
                   goes = pc ∙ (ap (λ r. machine_word (loaded (view rom x false) r reads).high (loaded (view rom x false) r reads).low) reads_word ∙ (ap (λ h. machine_word h top.low) at_high ∙ ap (machine_word high) at_low));
                 });
             kept = λ b kept. left.same b;
@@ -542,15 +543,15 @@ Done-return rom region ranges row a s entry base x reads c k is allowed =
 -- ---- any instruction that is taken
 
 pub taken_executes :
-    (rom : List ℕ) (region : Region) (ranges : List Range) (row : Row) (a : ℕ) (s : AbsState) (entry : MState) (base : ℕ) (x : MState) (reads : List ℕ) (c : Core)
-    → IsTaken rom region ranges row a s entry base x reads c → IsAllowed rom region ranges s base (taken_successor rom row (behind_row a row) s c)
-    → Done rom region ranges row s (taken_successor rom row (behind_row a row) s c) entry base x reads
-taken_executes rom region ranges row a s entry base x reads c k allowed = by k.ruled.stack
+    (z : Setting) (rom : List ℕ) (region : Region) (ranges : List Range) (row : Row) (a : ℕ) (s : AbsState) (entry : MState) (base : ℕ) (x : MState) (reads : List ℕ) (c : Core)
+    → IsTaken z rom region ranges row a s entry base x reads c → IsAllowed rom region ranges s base (taken_parts z rom row (behind_row a row) s c)
+    → Done rom region ranges row s (taken_parts z rom row (behind_row a row) s c) entry base x reads
+taken_executes z rom region ranges row a s entry base x reads c k allowed = by k.ruled.stack
   where
-    by : IsStackKnown region row.op s base → Done rom region ranges row s (taken_successor rom row (behind_row a row) s c) entry base x reads
-    by (inl still) = Done-plain rom region ranges row a s entry base x reads c k (inl still) allowed
-    by (inr (inl loaded)) = Done-plain rom region ranges row a s entry base x reads c k (inr loaded) allowed
-    by (inr (inr (inl push))) = Done-push rom region ranges row a s entry base x reads c k push.0 push.1 allowed
-    by (inr (inr (inr (inl pop)))) = Done-pop rom region ranges row a s entry base x reads c k pop.0 pop.1 allowed
-    by (inr (inr (inr (inr (inl call))))) = Done-call rom region ranges row a s entry base x reads c k call.0 call.1 allowed
-    by (inr (inr (inr (inr (inr returns))))) = Done-return rom region ranges row a s entry base x reads c k returns allowed
+    by : IsStackKnown z region row.op s base → Done rom region ranges row s (taken_parts z rom row (behind_row a row) s c) entry base x reads
+    by (inl still) = Done-plain z rom region ranges row a s entry base x reads c k (inl still) allowed
+    by (inr (inl loaded)) = Done-plain z rom region ranges row a s entry base x reads c k (inr loaded) allowed
+    by (inr (inr (inl push))) = Done-push z rom region ranges row a s entry base x reads c k push.0 push.1 allowed
+    by (inr (inr (inr (inl pop)))) = Done-pop z rom region ranges row a s entry base x reads c k pop.0 pop.1 allowed
+    by (inr (inr (inr (inr (inl call))))) = Done-call z rom region ranges row a s entry base x reads c k call.0 call.1 allowed
+    by (inr (inr (inr (inr (inr returns))))) = Done-return z rom region ranges row a s entry base x reads c k returns allowed

@@ -1,5 +1,5 @@
 -- Whatever the machine executes from a state that is meant leads by one of the successors.
-use Rattle.std.proofs.Common.{◌≡◌, ℕ, zero, suc, ◌+◌, ◌-◌, ◌%◌, ◌≤◌, ◌<◌, Bool, true, false, if◌then◌else◌, cond, ◌||◌, ◌⊎◌, inl, inr, List, [], ◌∷◌, length, slice_index, slice_get, nat_lt, Option, Some, None, refl, sym, ◌∙◌, ap, subst, arith}
+use Rattle.std.proofs.Common.{◌≡◌, ℕ, zero, suc, ◌+◌, ◌-◌, ◌/◌, ◌%◌, ◌≤◌, ◌<◌, Bool, true, false, if◌then◌else◌, cond, ◌||◌, ◌⊎◌, inl, inr, List, [], ◌∷◌, length, slice_index, slice_get, nat_lt, Option, Some, None, refl, sym, ◌∙◌, ap, subst, arith}
 use Rattle.std.specs.Prelude.{IfSome}
 use Rattle.std.specs.List.{AllByRecursion}
 use Rattle.gb_ops.specs.declared.machine.Region.{Region}
@@ -17,21 +17,25 @@ use Rattle.gb_ops.specs.Effects as Effects
 use Rattle.gb_ops.specs.Machine.{executed, advanced, way_of, mark_of, loaded, cycles_of}
 use Rattle.gb_ops.specs.Faults.{no_faults, either_faults, row_faults, load_faults, store_faults}
 use Rattle.gb_ops.specs.Play.{MState, within, outside}
+use Rattle.gb_domain.specs.declared.setting.Setting.{Setting}
 use Rattle.gb_domain.specs.declared.types.Val.{Val}
 use Rattle.gb_domain.specs.declared.types.Core.{Core}
 use Rattle.gb_domain.specs.declared.types.Range.{Range}
 use Rattle.gb_domain.specs.Types.{AbsState}
 use Rattle.gb_domain.specs.Areas.{IsRegion}
+use Rattle.gb_domain.specs.Settings.{IsBase}
 use Rattle.gb_domain.specs.Rules.{IsVal, IsCore, IsWord}
 use Rattle.gb_abs.specs.Below.gb_vals.Vals.{any_val}
 use Rattle.gb_domain.specs.declared.types.Halves.{Halves}
 use Rattle.gb_abs.specs.Storage.{peek}
+use Rattle.gb_abs.specs.Located.{sp_halves, halves_by, stack_base}
 use Rattle.gb_abs.specs.Operations.{core_settle, core_end, with_core}
 use Rattle.gb_abs.specs.Cells.{ArePlaced}
 use Rattle.gb_abs.specs.Stack.{AreInRegion, word_of, last_word, youngest}
-use Rattle.gb_abs.specs.Meaning.{Holds, MeansCore, Means, IsMemory}
+use Rattle.gb_abs.specs.Meaning.{Holds, MeansCore, MeansParts, IsMemory}
+use Rattle.gb_abs.proofs.LocatedLaws.{halves_sound}
 use Rattle.gb_abs.proofs.OperationLaws.{MeansCore-settle, end_sound}
-use Rattle.gb_abs.proofs.StackLaws.{Means-with_core}
+use Rattle.gb_abs.proofs.StackLaws.{MeansParts-with_core}
 use Rattle.gb_abs_effects.specs.declared.reads.AbsRead.{AbsRead}
 use Rattle.gb_abs_effects.specs.declared.reads.AbsRead.TheVariants as read
 use Rattle.gb_abs_effects.specs.declared.writes.AbsWrite.{AbsWrite}
@@ -40,7 +44,7 @@ use Rattle.gb_abs_effects.specs.declared.targets.Target.{Target}
 use Rattle.gb_abs_effects.specs.declared.targets.Target.TheVariants as target
 use Rattle.gb_abs_effects.specs.Pairs.{any_word}
 use Rattle.gb_abs_effects.specs.Accesses.{read_of}
-use Rattle.gb_abs_effects.specs.Sides.{sides_of}
+use Rattle.gb_product.specs.Sides.{sides_of}
 use Rattle.gb_abs_effects.specs.Targets.{target_of, moves_sp, is_sp, is_push}
 use Rattle.gb_abs_effects.specs.Transfer.{transfer}
 use Rattle.gb_abs_effects.specs.Sound.{HasBytes, HoldsTarget, IsWrite, Follows, Begins}
@@ -52,9 +56,9 @@ use Rattle.gb_abs_memory.specs.Sound.{view, AreVals}
 use Rattle.gb_abs_memory.proofs.LoadLaws.{IsVal-loaded_val}
 use Rattle.gb_successors.specs.Way.{Successor}
 use Rattle.gb_successors.specs.Behind.{read_word, written, starts, with_stack_of, ended}
-use Rattle.gb_successors.specs.Successors.{taken_successor}
+use Rattle.gb_successors.specs.Successors.{taken_parts}
 use Rattle.gb_successors.specs.Refused.{is_unstorable, meets_closed, meets_oam_transfer, reads_closed_ram, writes_closed_ram, is_read_limited, is_write_limited}
-use Rattle.gb_successors.specs.Sound.{bytes_behind, IsAllowed, Leads, LeadsTo, Stands, IsRuled}
+use Rattle.gb_successors.specs.Sound.{bytes_behind, IsAllowed, LeadsParts, LeadsTo, Stands, IsRuled}
 use Rattle.gb_successors.specs.Words.{word_or_any}
 use Rattle.gb_successors.proofs.PlainLaws.{Keeps, Keeps-both, Keeps-settle, Keeps-taken, Keeps-transfer, IsPlainRead, IsPlainWrite, IsPlainTarget, IsPlainRead-read_of, IsPlainWrite-transfer, plain_target}
 use Rattle.gb_successors.proofs.AccessLaws.{IsSameGate, closed_same, limited_same, writes_same, write_limited_same, Loads, Loads-read, Stores, AtWrite, Stores-write}
@@ -119,16 +123,16 @@ ended_stack true n s set = set
 ended_stack false n s set = set
 
 -- time passes, and an OAM transfer may start
-pub Means-ended :
+pub MeansParts-ended :
     (rom : List ℕ) (s : AbsState) (entry : MState) (base : ℕ) (p : Processor) (m : View) (is_started : Bool) (n : ℕ) → m.starting ≡ is_started
-    → Means s entry base (record { processor = p; storage = m.storage }) → Means (ended is_started n s) entry base (record { processor = p; storage = (passed m n).storage })
+    → MeansParts s entry base (record { processor = p; storage = m.storage }) → MeansParts (ended is_started n s) entry base (record { processor = p; storage = (passed m n).storage })
 unfolding ended passed
-Means-ended rom s entry base p m is_started n e h =
+MeansParts-ended rom s entry base p m is_started n e h =
     let x : MState = record { processor = p; storage = m.storage } in
     let core = (end_sound is_started n s.core (core_end is_started n s.core) refl).gives rom entry x h.core in
     let y : MState = record { processor = p; storage = record m.storage { count = if m.starting then 161 else m.storage.count - n } } in
     let same : MeansCore (core_end is_started n s.core) entry y = subst (λ b. MeansCore (core_end is_started n s.core) entry (record { processor = p; storage = record m.storage { count = if b then 161 else m.storage.count - n } })) (sym e) core in
-    Means-with_core s (core_end is_started n s.core) entry base x y h same refl refl refl (ended_stack is_started n s.core)
+    MeansParts-with_core s (core_end is_started n s.core) entry base x y h same refl refl refl (ended_stack is_started n s.core)
 
 ended_items : (is_started : Bool) (n : ℕ) (s : AbsState) → (ended is_started n s).items ≡ s.items
 unfolding ended
@@ -141,18 +145,18 @@ passed_peek m n b = refl
 -- ---- taken
 
 -- the instruction is taken, from the side's core
-pub record IsTaken (rom : List ℕ) (region : Region) (ranges : List Range) (row : Row) (a : ℕ) (s : AbsState) (entry : MState) (base : ℕ) (x : MState) (reads : List ℕ) (c : Core) : Type 0 where
-  pub stands : Stands rom region row a s entry base x
-  pub ruled : IsRuled region row s base
+pub record IsTaken (z : Setting) (rom : List ℕ) (region : Region) (ranges : List Range) (row : Row) (a : ℕ) (s : AbsState) (entry : MState) (base : ℕ) (x : MState) (reads : List ℕ) (c : Core) : Type 0 where
+  pub stands : Stands z rom region row a s entry base x
+  pub ruled : IsRuled z region row s base
   pub mark : x.processor.halt_mark ≡ false
   pub byte : slice_index reads 0 ≤ 255
-  pub side : (sides_of row.op (core_settle s.core)).taken ≡ Some c
+  pub side : (sides_of row.op s (core_settle s.core)).taken ≡ Some c
   pub means : MeansCore c entry (begun row x)
   pub core : IsCore c
   pub taken : (effect rom row x reads).is_taken ≡ true
 
-pub keeps_side : (o : Op) (s c : Core) → (sides_of o (core_settle s)).taken ≡ Some c → Keeps s c
-keeps_side o s c h = Keeps-both s (core_settle s) c (Keeps-settle s) (Keeps-taken o (core_settle s) c h)
+pub keeps_side : (o : Op) (s : AbsState) (c : Core) → (sides_of o s (core_settle s.core)).taken ≡ Some c → Keeps s.core c
+keeps_side o s c h = Keeps-both s.core (core_settle s.core) c (Keeps-settle s.core) (Keeps-taken o s (core_settle s.core) c h)
 
 -- SP stays, or LD SP,n16 sets it to the base
 abbrev IsPlain : Op → ℕ → Type 0
@@ -163,45 +167,61 @@ unfolding read_of
 plain_read o base c (inl still) bytes is = IsPlainRead-read_of o c still bytes is
 plain_read o base c (inr e) bytes is = subst (λ q. IsPlainRead (read_of q c)) (sym e) tt
 
-plain_write : (o : Op) (base next : ℕ) (c : Core) (low high : Val) → IsPlain o base → HasBytes o → IsCore c → IsPlainWrite (transfer o next c low high).write
+plain_write : (o : Op) (base next : ℕ) (sp : Halves) (c : Core) (low high : Val) → IsPlain o base → HasBytes o → IsCore c → IsPlainWrite (transfer o next sp c low high).write
 unfolding transfer
-plain_write o base next c low high (inl still) bytes is = IsPlainWrite-transfer o next c low high still bytes is
-plain_write o base next c low high (inr e) bytes is = subst (λ q. IsPlainWrite (transfer q next c low high).write) (sym e) tt
+plain_write o base next sp c low high (inl still) bytes is = IsPlainWrite-transfer o next sp c low high still bytes is
+plain_write o base next sp c low high (inr e) bytes is = subst (λ q. IsPlainWrite (transfer q next sp c low high).write) (sym e) tt
 
 -- the state before its reads
-pub means_begun : (rom : List ℕ) (row : Row) (s : AbsState) (entry : MState) (base : ℕ) (x : MState) (c : Core) → Keeps s.core c → Means s entry base x → MeansCore c entry (begun row x)
-    → Means (with_core s c) entry base (begun row x)
-means_begun rom row s entry base x c k m h = Means-with_core s c entry base x (begun row x) m h refl refl (begun_sp row x) (λ set. sym k.stack ∙ set)
+pub means_begun : (rom : List ℕ) (row : Row) (s : AbsState) (entry : MState) (base : ℕ) (x : MState) (c : Core) → Keeps s.core c → MeansParts s entry base x → MeansCore c entry (begun row x)
+    → MeansParts (with_core s c) entry base (begun row x)
+means_begun rom row s entry base x c k m h = MeansParts-with_core s c entry base x (begun row x) m h refl refl (begun_sp row x) (λ set. sym k.stack ∙ set)
 
 -- what its reads give is known, and has no fault
-pub loads : (rom : List ℕ) (region : Region) (ranges : List Range) (row : Row) (a : ℕ) (s : AbsState) (entry : MState) (base : ℕ) (x : MState) (reads : List ℕ) (c : Core)
-    → IsTaken rom region ranges row a s entry base x reads c → IsPlainRead (read_of row.op c) → reads_closed_ram rom s.core (read_of row.op c) ≡ false → is_read_limited region s.core (read_of row.op c) ≡ false
-    → Loads rom (with_core s c) (read_of row.op c) entry (view rom x false) (Effects.read_of row.op (advanced x.processor row)) reads
-loads rom region ranges row a s entry base x reads c k plain ram limited =
-    let keeps = keeps_side row.op s.core c k.side in
-    Loads-read rom region (with_core s c) entry base (begun row x) reads (begun row x).processor.sp (read_of row.op c) (Effects.read_of row.op (advanced x.processor row))
-    k.stands.cartridge (means_begun rom row s entry base x c keeps k.stands.means k.means) k.core.ie k.byte
+pub loads : (z : Setting) (rom : List ℕ) (region : Region) (ranges : List Range) (row : Row) (a : ℕ) (s : AbsState) (entry : MState) (base : ℕ) (x : MState) (reads : List ℕ) (c : Core)
+    → IsTaken z rom region ranges row a s entry base x reads c → IsPlainRead (read_of row.op c) → reads_closed_ram rom s.core (read_of row.op c) ≡ false → is_read_limited region s.core (read_of row.op c) ≡ false
+    → Loads z rom (with_core s c) (read_of row.op c) entry (view rom x false) (Effects.read_of row.op (advanced x.processor row)) reads
+loads z rom region ranges row a s entry base x reads c k plain ram limited =
+    let keeps = keeps_side row.op s c k.side in
+    Loads-read z rom region (with_core s c) entry base (begun row x) reads (begun row x).processor.sp (read_of row.op c) (Effects.read_of row.op (advanced x.processor row))
+    k.stands.cartridge k.stands.based (means_begun rom row s entry base x c keeps k.stands.means.parts k.means) k.core.ie k.byte
     plain
     ((read_of_sound row.op c (read_of row.op c) refl).gives entry (begun row x) (given rom row x reads).low (given rom row x reads).high k.means k.taken)
     (closed_same rom s.core c (read_of row.op c) keeps ∙ ram)
     (limited_same region s.core c (read_of row.op c) keeps ∙ limited)
 
 -- what is known of what it reads
-abbrev pub known_read : List ℕ → Row → AbsState → Core → Halves
-known_read rom row s c = read_word rom (with_core s c) (read_of row.op c)
+abbrev pub known_read : Setting → List ℕ → Row → AbsState → Core → Halves
+known_read z rom row s c = read_word z rom (with_core s c) (read_of row.op c)
 
-abbrev pub low_of : List ℕ → Row → AbsState → Core → Val
-low_of rom row s c = (known_read rom row s c).low
+abbrev pub low_of : Setting → List ℕ → Row → AbsState → Core → Val
+low_of z rom row s c = (known_read z rom row s c).low
 
-abbrev pub high_of : List ℕ → Row → AbsState → Core → Val
-high_of rom row s c = (known_read rom row s c).high
+abbrev pub high_of : Setting → List ℕ → Row → AbsState → Core → Val
+high_of z rom row s c = (known_read z rom row s c).high
 
 IsVal-any : IsVal any_val
 IsVal-any = record { order = omega arith; hi = omega arith }
 
+-- SP as a pair, whose halves are bytes
+pub IsWord-sp : (z : Setting) (s : AbsState) (entry : MState) (base : ℕ) (x : MState) → IsBase z base → MeansParts s entry base x → IsWord (sp_halves z s)
+unfolding sp_halves
+IsWord-sp z s entry base x right m =
+    let known = halves_sound z s (sp_halves z s) refl in
+    by (stack_base z s.core) (known.high entry base x right m) (known.low entry base x right m)
+  where
+    by : (o : Option ℕ) → Holds (halves_by o (length s.items)).high entry (x.processor.sp / 256) → Holds (halves_by o (length s.items)).low entry (x.processor.sp % 256)
+        → IsWord (halves_by o (length s.items))
+    by None h l = record { high = IsVal-any; low = IsVal-any }
+    by (Some b) h l =
+        let small = m.sp in
+        let least = h.least in
+        let less = l.least in
+        record { high = record { order = omega arith; hi = omega arith }; low = record { order = omega arith; hi = omega arith } }
+
 -- the transfer function's effect
-abbrev pub abs_effect : List ℕ → Row → ℕ → AbsState → Core → AbsEffect
-abs_effect rom row a s c = transfer row.op (behind_row a row) c (low_of rom row s c) (high_of rom row s c)
+abbrev pub abs_effect : Setting → List ℕ → Row → ℕ → AbsState → Core → AbsEffect
+abs_effect z rom row a s c = transfer row.op (behind_row a row) (sp_halves z s) c (low_of z rom row s c) (high_of z rom row s c)
 
 IsWord-any : IsWord any_word
 IsWord-any = record { high = IsVal-any; low = IsVal-any }
@@ -224,25 +244,28 @@ IsWord-last items h = choose (nat_lt (length items) 2)
     choose true = IsWord-any
     choose false = IsWord-of _ _ (IsVal-at items (length items - 2) h) (IsVal-at items (length items - 1) h)
 
-is_word : (rom : List ℕ) (s : AbsState) (c : Core) (what : AbsRead) → IsVal c.ie → AreVals s.cells → AllByRecursion IsVal s.items → ((i : ℕ) → slice_index rom i ≤ 255) → IsWord (read_word rom (with_core s c) what)
+pub is_word : (z : Setting) (rom : List ℕ) (s : AbsState) (c : Core) (what : AbsRead) → IsVal c.ie → AreVals s.cells → AllByRecursion IsVal s.items → ((i : ℕ) → slice_index rom i ≤ 255) → IsWord (read_word z rom (with_core s c) what)
 unfolding read_word youngest
-is_word rom s c read.Nothing ie cells items bytes = IsWord-any
-is_word rom s c (read.Byte span) ie cells items bytes = record { high = IsVal-any; low = IsVal-loaded_val rom (with_core s c) span ie cells bytes }
-is_word rom s c read.Top ie cells items bytes = IsWord-last s.items items
+is_word z rom s c read.Nothing ie cells items bytes = IsWord-any
+is_word z rom s c (read.Byte span) ie cells items bytes = record { high = IsVal-any; low = IsVal-loaded_val z rom (with_core s c) span ie cells items bytes }
+is_word z rom s c read.Top ie cells items bytes = IsWord-last s.items items
 
-pub follows : (rom : List ℕ) (region : Region) (ranges : List Range) (row : Row) (a : ℕ) (s : AbsState) (entry : MState) (base : ℕ) (x : MState) (reads : List ℕ) (c : Core)
-    → IsTaken rom region ranges row a s entry base x reads c
-    → Loads rom (with_core s c) (read_of row.op c) entry (view rom x false) (Effects.read_of row.op (advanced x.processor row)) reads
-    → Follows (abs_effect rom row a s c) entry (begun row x) (effect rom row x reads) × ((effect rom row x reads).processor.sp < 65536)
-follows rom region ranges row a s entry base x reads c k l =
-    let sound = transfer_sound row.op (behind_row a row) c (low_of rom row s c) (high_of rom row s c) (abs_effect rom row a s c) refl k.ruled.operands k.core
-    (is_word rom s c (read_of row.op c) k.core.ie k.stands.vals k.stands.items k.stands.cartridge.bytes).low in
-    let begins : Begins row.op (behind_row a row) c (low_of rom row s c) (high_of rom row s c) entry (begun row x) (given rom row x reads).low (given rom row x reads).high = record {
+pub follows : (z : Setting) (rom : List ℕ) (region : Region) (ranges : List Range) (row : Row) (a : ℕ) (s : AbsState) (entry : MState) (base : ℕ) (x : MState) (reads : List ℕ) (c : Core)
+    → IsTaken z rom region ranges row a s entry base x reads c
+    → Loads z rom (with_core s c) (read_of row.op c) entry (view rom x false) (Effects.read_of row.op (advanced x.processor row)) reads
+    → Follows (abs_effect z rom row a s c) entry (begun row x) (effect rom row x reads) × ((effect rom row x reads).processor.sp < 65536)
+follows z rom region ranges row a s entry base x reads c k l =
+    let sound = transfer_sound row.op (behind_row a row) (sp_halves z s) c (low_of z rom row s c) (high_of z rom row s c) (abs_effect z rom row a s c) refl k.ruled.operands k.core
+    (is_word z rom s c (read_of row.op c) k.core.ie k.stands.vals k.stands.items k.stands.cartridge.bytes).low in
+    let sp_known = halves_sound z s (sp_halves z s) refl in
+    let begins : Begins row.op (behind_row a row) (sp_halves z s) c (low_of z rom row s c) (high_of z rom row s c) entry (begun row x) (given rom row x reads).low (given rom row x reads).high = record {
       core = k.means;
       low_read = l.low;
       high_read = l.high;
       pc = begun_pc row x a k.ruled.runs k.mark k.stands.at;
-      sp = subst (λ n. n < 65536) (sym (begun_sp row x)) k.stands.means.sp;
+      sp = subst (λ n. n < 65536) (sym (begun_sp row x)) k.stands.means.parts.sp;
+      sp_high = subst (λ n. Holds (sp_halves z s).high entry (n / 256)) (sym (begun_sp row x)) (sp_known.high entry base x k.stands.based k.stands.means.parts);
+      sp_low = subst (λ n. Holds (sp_halves z s).low entry (n % 256)) (sym (begun_sp row x)) (sp_known.low entry base x k.stands.based k.stands.means.parts);
       taken = k.taken;
     } in (
       sound.gives entry (begun row x) (given rom row x reads).low (given rom row x reads).high k.ruled.runs begins,
@@ -251,41 +274,41 @@ follows rom region ranges row a s entry base x reads c k l =
 
 -- ---- the state behind its effect, before its write
 
-abbrev effect_state : List ℕ → Row → ℕ → AbsState → Core → AbsState
-effect_state rom row a s c = with_stack_of row.op (abs_effect rom row a s c).write (with_core s (abs_effect rom row a s c).core)
+abbrev effect_state : Setting → List ℕ → Row → ℕ → AbsState → Core → AbsState
+effect_state z rom row a s c = with_stack_of z row.op (abs_effect z rom row a s c).write (with_core s (abs_effect z rom row a s c).core)
 
 -- the machine with the effect's processor
 abbrev pub acted : List ℕ → Row → MState → List ℕ → MState
 acted rom row x reads = record x { processor = (effect rom row x reads).processor }
 
-stack_still : (o : Op) (w : AbsWrite) (s : AbsState) → moves_sp o ≡ false → with_stack_of o w s ≡ s
+stack_still : (z : Setting) (o : Op) (w : AbsWrite) (s : AbsState) → moves_sp o ≡ false → with_stack_of z o w s ≡ s
 unfolding with_stack_of
-stack_still (op.LoadPair which a) w s h = other which a h
+stack_still z (op.LoadPair which a) w s h = other which a h
   where
-    other : (which : Pair) (a : ℕ) → is_sp which ≡ false → with_stack_of (op.LoadPair which a) w s ≡ s
+    other : (which : Pair) (a : ℕ) → is_sp which ≡ false → with_stack_of z (op.LoadPair which a) w s ≡ s
     other pair.Bc a h = refl
     other pair.De a h = refl
     other pair.Hl a h = refl
     other pair.Sp a h = cc
-stack_still (op.Push from) w s h = cc
-stack_still (op.Pop to) w s h = cc
-stack_still o w s h = refl
+stack_still z (op.Push from) w s h = cc
+stack_still z (op.Pop to) w s h = cc
+stack_still z o w s h = refl
 
-stack_loaded : (o : Op) (a : ℕ) (w : AbsWrite) (t : AbsState) → o ≡ op.LoadPair pair.Sp a → with_stack_of o w t ≡ record { core = record t.core { stack_set = true }; items = []; cells = t.cells }
+stack_loaded : (z : Setting) (o : Op) (a : ℕ) (w : AbsWrite) (t : AbsState) → o ≡ op.LoadPair pair.Sp a → with_stack_of z o w t ≡ record t { core = record t.core { stack_set = true }; items = [] }
 unfolding with_stack_of
-stack_loaded o a w t e = ap (λ q. with_stack_of q w t) e
+stack_loaded z o a w t e = ap (λ q. with_stack_of z q w t) e
 
 -- what a write may rely on
 record IsActed (region : Region) (s t : AbsState) (entry : MState) (base : ℕ) (y : MState) : Type 0 where
   pub at : AtWrite region t entry base y
   pub gate : IsSameGate s.core t.core
 
-acted_still : (region : Region) (s : AbsState) (core : Core) (entry : MState) (base : ℕ) (x y : MState) → Means s entry base x → Keeps s.core core → MeansCore core entry y
+acted_still : (region : Region) (s : AbsState) (core : Core) (entry : MState) (base : ℕ) (x y : MState) → MeansParts s entry base x → Keeps s.core core → MeansCore core entry y
     → y.storage ≡ x.storage → y.processor.sp ≡ x.processor.sp → ArePlaced region s.cells → AreInRegion region base (length s.items) → IsRegion region
     → IsActed region s (with_core s core) entry base y
 acted_still region s core entry base x y m k h storage sp placed room is = record {
   at = record {
-    means = Means-with_core s core entry base x y m h (ap (λ t. t.work) storage) (ap (λ t. t.high) storage) sp (λ set. sym k.stack ∙ set);
+    means = MeansParts-with_core s core entry base x y m h (ap (λ t. t.work) storage) (ap (λ t. t.high) storage) sp (λ set. sym k.stack ∙ set);
     placed = placed;
     room = room;
     is_region = is;
@@ -294,10 +317,10 @@ acted_still region s core entry base x y m k h storage sp placed room is = recor
 }
 
 -- LD SP,n16: the stack is set, with nothing on it
-acted_set : (region : Region) (s : AbsState) (core : Core) (entry : MState) (base : ℕ) (x y : MState) → Means s entry base x → Keeps s.core core → MeansCore core entry y
+acted_set : (z : Setting) (region : Region) (s : AbsState) (core : Core) (entry : MState) (base : ℕ) (x y : MState) → MeansParts s entry base x → Keeps s.core core → MeansCore core entry y
     → y.storage ≡ x.storage → y.processor.sp ≡ base → y.processor.sp < 65536 → ArePlaced region s.cells → AreInRegion region base (length s.items) → IsRegion region
-    → IsActed region s (record { core = record core { stack_set = true }; items = []; cells = s.cells }) entry base y
-acted_set region s core entry base x y m k h storage sp small placed room is = record {
+    → IsActed region s (record (with_core s core) { core = record core { stack_set = true }; items = [] }) entry base y
+acted_set z region s core entry base x y m k h storage sp small placed room is = record {
   at = record {
     means = record {
       core = record {
@@ -307,7 +330,6 @@ acted_set region s core entry base x y m k h storage sp small placed room is = r
         ime = h.ime;
         controller = h.controller;
         count = h.count;
-        test = h.test;
         locked = h.locked;
         stopped = h.stopped;
       };
@@ -330,30 +352,30 @@ acted_set region s core entry base x y m k h storage sp small placed room is = r
     same_cells : x.storage ≡ y.storage → AllByRecursion (λ c. Holds c.val entry (peek x.storage c.address)) s.cells → AllByRecursion (λ c. Holds c.val entry (peek y.storage c.address)) s.cells
     same_cells e i = subst (λ t. AllByRecursion (λ c. Holds c.val entry (peek t c.address)) s.cells) e i
 
-pub keeps_effect : (rom : List ℕ) (region : Region) (ranges : List Range) (row : Row) (a : ℕ) (s : AbsState) (entry : MState) (base : ℕ) (x : MState) (reads : List ℕ) (c : Core)
-    → IsTaken rom region ranges row a s entry base x reads c → Keeps s.core (abs_effect rom row a s c).core
-keeps_effect rom region ranges row a s entry base x reads c k =
-    Keeps-both s.core c _ (keeps_side row.op s.core c k.side) (Keeps-transfer row.op (behind_row a row) c (low_of rom row s c) (high_of rom row s c))
+pub keeps_effect : (z : Setting) (rom : List ℕ) (region : Region) (ranges : List Range) (row : Row) (a : ℕ) (s : AbsState) (entry : MState) (base : ℕ) (x : MState) (reads : List ℕ) (c : Core)
+    → IsTaken z rom region ranges row a s entry base x reads c → Keeps s.core (abs_effect z rom row a s c).core
+keeps_effect z rom region ranges row a s entry base x reads c k =
+    Keeps-both s.core c _ (keeps_side row.op s c k.side) (Keeps-transfer row.op (behind_row a row) (sp_halves z s) c (low_of z rom row s c) (high_of z rom row s c))
 
-acts : (rom : List ℕ) (region : Region) (ranges : List Range) (row : Row) (a : ℕ) (s : AbsState) (entry : MState) (base : ℕ) (x : MState) (reads : List ℕ) (c : Core)
-    → IsTaken rom region ranges row a s entry base x reads c → IsPlain row.op base → Follows (abs_effect rom row a s c) entry (begun row x) (effect rom row x reads) → (effect rom row x reads).processor.sp < 65536
-    → IsActed region s (effect_state rom row a s c) entry base (acted rom row x reads)
-acts rom region ranges row a s entry base x reads c k plain f small = choose plain
+acts : (z : Setting) (rom : List ℕ) (region : Region) (ranges : List Range) (row : Row) (a : ℕ) (s : AbsState) (entry : MState) (base : ℕ) (x : MState) (reads : List ℕ) (c : Core)
+    → IsTaken z rom region ranges row a s entry base x reads c → IsPlain row.op base → Follows (abs_effect z rom row a s c) entry (begun row x) (effect rom row x reads) → (effect rom row x reads).processor.sp < 65536
+    → IsActed region s (effect_state z rom row a s c) entry base (acted rom row x reads)
+acts z rom region ranges row a s entry base x reads c k plain f small = choose plain
   where
-    keeps : Keeps s.core (abs_effect rom row a s c).core
-    keeps = keeps_effect rom region ranges row a s entry base x reads c k
+    keeps : Keeps s.core (abs_effect z rom row a s c).core
+    keeps = keeps_effect z rom region ranges row a s entry base x reads c k
 
-    choose : IsPlain row.op base → IsActed region s (effect_state rom row a s c) entry base (acted rom row x reads)
+    choose : IsPlain row.op base → IsActed region s (effect_state z rom row a s c) entry base (acted rom row x reads)
     choose (inl still) =
-        subst (λ t. IsActed region s t entry base (acted rom row x reads)) (sym (stack_still row.op (abs_effect rom row a s c).write (with_core s (abs_effect rom row a s c).core) still))
-        (acted_still region s (abs_effect rom row a s c).core entry base x (acted rom row x reads) k.stands.means keeps f.core refl
+        subst (λ t. IsActed region s t entry base (acted rom row x reads)) (sym (stack_still z row.op (abs_effect z rom row a s c).write (with_core s (abs_effect z rom row a s c).core) still))
+        (acted_still region s (abs_effect z rom row a s c).core entry base x (acted rom row x reads) k.stands.means.parts keeps f.core refl
         (sp-kept row.op (advanced x.processor row) (given rom row x reads).low (given rom row x reads).high still ∙ begun_sp row x) k.stands.placed k.stands.room k.stands.is_region)
     choose (inr e) =
         let sp : (effect rom row x reads).processor.sp ≡ base =
         ap (λ o. (Effects.effect_of o (advanced x.processor row) (given rom row x reads).low (given rom row x reads).high).processor.sp) e
         ∙ sp-loaded base (advanced x.processor row) (given rom row x reads).low (given rom row x reads).high in
-        subst (λ t. IsActed region s t entry base (acted rom row x reads)) (sym (stack_loaded row.op base (abs_effect rom row a s c).write (with_core s (abs_effect rom row a s c).core) e))
-        (acted_set region s (abs_effect rom row a s c).core entry base x (acted rom row x reads) k.stands.means keeps f.core refl sp small k.stands.placed k.stands.room k.stands.is_region)
+        subst (λ t. IsActed region s t entry base (acted rom row x reads)) (sym (stack_loaded z row.op base (abs_effect z rom row a s c).write (with_core s (abs_effect z rom row a s c).core) e))
+        (acted_set z region s (abs_effect z rom row a s c).core entry base x (acted rom row x reads) k.stands.means.parts keeps f.core refl sp small k.stands.placed k.stands.room k.stands.is_region)
 
 -- ---- the way on
 
@@ -372,48 +394,48 @@ unfolding meets_closed meets_oam_transfer
 allowed_write rom region ranges s base t h = ((or_parts_of _ _ h.ram).1, (or_parts_of _ _ h.oam_transfer).1)
 
 -- the parts of the successor
-pub read_is : (rom : List ℕ) (row : Row) (a : ℕ) (s : AbsState) (c : Core) → (taken_successor rom row (behind_row a row) s c).read ≡ read_of row.op c
-unfolding taken_successor
-read_is rom row a s c = refl
+pub read_is : (z : Setting) (rom : List ℕ) (row : Row) (a : ℕ) (s : AbsState) (c : Core) → (taken_parts z rom row (behind_row a row) s c).read ≡ read_of row.op c
+unfolding taken_parts
+read_is z rom row a s c = refl
 
-pub write_is : (rom : List ℕ) (row : Row) (a : ℕ) (s : AbsState) (c : Core) → (taken_successor rom row (behind_row a row) s c).write ≡ (abs_effect rom row a s c).write
-unfolding taken_successor
-write_is rom row a s c = refl
+pub write_is : (z : Setting) (rom : List ℕ) (row : Row) (a : ℕ) (s : AbsState) (c : Core) → (taken_parts z rom row (behind_row a row) s c).write ≡ (abs_effect z rom row a s c).write
+unfolding taken_parts
+write_is z rom row a s c = refl
 
-pub target_is : (rom : List ℕ) (row : Row) (a : ℕ) (s : AbsState) (c : Core) → (taken_successor rom row (behind_row a row) s c).target ≡ target_of row.op (behind_row a row) c
-unfolding taken_successor
-target_is rom row a s c = refl
+pub target_is : (z : Setting) (rom : List ℕ) (row : Row) (a : ℕ) (s : AbsState) (c : Core) → (taken_parts z rom row (behind_row a row) s c).target ≡ target_of row.op (behind_row a row) c
+unfolding taken_parts
+target_is z rom row a s c = refl
 
-pub state_is : (rom : List ℕ) (row : Row) (a : ℕ) (s : AbsState) (c : Core) → (taken_successor rom row (behind_row a row) s c).state
-    ≡ ended (starts (abs_effect rom row a s c).write) row.cycles (written (kind_of rom) (abs_effect rom row a s c).write (effect_state rom row a s c))
-unfolding taken_successor
-state_is rom row a s c = refl
+pub state_is : (z : Setting) (rom : List ℕ) (row : Row) (a : ℕ) (s : AbsState) (c : Core) → (taken_parts z rom row (behind_row a row) s c).state
+    ≡ ended (starts (abs_effect z rom row a s c).write) row.cycles (written z (kind_of rom) (abs_effect z rom row a s c).write (effect_state z rom row a s c))
+unfolding taken_parts
+state_is z rom row a s c = refl
 
 -- what it writes are bytes
-pub is_write : (rom : List ℕ) (region : Region) (ranges : List Range) (row : Row) (a : ℕ) (s : AbsState) (entry : MState) (base : ℕ) (x : MState) (reads : List ℕ) (c : Core)
-    → IsTaken rom region ranges row a s entry base x reads c → IsWrite (abs_effect rom row a s c).write
-is_write rom region ranges row a s entry base x reads c k =
-    let word = is_word rom s c (read_of row.op c) k.core.ie k.stands.vals k.stands.items k.stands.cartridge.bytes in
-    (transfer_inhabited row.op (behind_row a row) c (low_of rom row s c) (high_of rom row s c) (abs_effect rom row a s c) refl k.ruled.operands (omega arith) k.core word.low word.high).write
+pub is_write : (z : Setting) (rom : List ℕ) (region : Region) (ranges : List Range) (row : Row) (a : ℕ) (s : AbsState) (entry : MState) (base : ℕ) (x : MState) (reads : List ℕ) (c : Core)
+    → IsTaken z rom region ranges row a s entry base x reads c → IsWrite (abs_effect z rom row a s c).write
+is_write z rom region ranges row a s entry base x reads c k =
+    let word = is_word z rom s c (read_of row.op c) k.core.ie k.stands.vals k.stands.items k.stands.cartridge.bytes in
+    (transfer_inhabited row.op (behind_row a row) (sp_halves z s) c (low_of z rom row s c) (high_of z rom row s c) (abs_effect z rom row a s c) refl k.ruled.operands (omega arith) k.core word.low word.high (IsWord-sp z s entry base x k.stands.based k.stands.means.parts)).write
 
 -- its write
-stores : (rom : List ℕ) (region : Region) (ranges : List Range) (row : Row) (a : ℕ) (s : AbsState) (entry : MState) (base : ℕ) (x : MState) (reads : List ℕ) (c : Core)
-    → IsTaken rom region ranges row a s entry base x reads c → IsPlain row.op base → IsAllowed rom region ranges s base (taken_successor rom row (behind_row a row) s c)
-    → Follows (abs_effect rom row a s c) entry (begun row x) (effect rom row x reads) → (effect rom row x reads).processor.sp < 65536
-    → Stores rom region ranges (effect_state rom row a s c) (abs_effect rom row a s c).write entry base (acted rom row x reads) (view rom x false) (effect rom row x reads).write
-stores rom region ranges row a s entry base x reads c k plain allowed f small =
-    let acted_at = acts rom region ranges row a s entry base x reads c k plain f small in
-    let w : AbsWrite = (abs_effect rom row a s c).write in
+stores : (z : Setting) (rom : List ℕ) (region : Region) (ranges : List Range) (row : Row) (a : ℕ) (s : AbsState) (entry : MState) (base : ℕ) (x : MState) (reads : List ℕ) (c : Core)
+    → IsTaken z rom region ranges row a s entry base x reads c → IsPlain row.op base → IsAllowed rom region ranges s base (taken_parts z rom row (behind_row a row) s c)
+    → Follows (abs_effect z rom row a s c) entry (begun row x) (effect rom row x reads) → (effect rom row x reads).processor.sp < 65536
+    → Stores z rom region ranges (effect_state z rom row a s c) (abs_effect z rom row a s c).write entry base (acted rom row x reads) (view rom x false) (effect rom row x reads).write
+stores z rom region ranges row a s entry base x reads c k plain allowed f small =
+    let acted_at = acts z rom region ranges row a s entry base x reads c k plain f small in
+    let w : AbsWrite = (abs_effect z rom row a s c).write in
     let may = allowed_write rom region ranges s base _ allowed in
-    Stores-write rom region ranges (effect_state rom row a s c) entry base (acted rom row x reads) (begun row x).processor.sp w (effect rom row x reads).write acted_at.at
-    (plain_write row.op base (behind_row a row) c (low_of rom row s c) (high_of rom row s c) plain k.ruled.operands k.core)
-    (is_write rom region ranges row a s entry base x reads c k) f.write
-    (subst (λ v. is_unstorable (kind_of rom) region ranges v ≡ false) (write_is rom row a s c) allowed.stores)
-    (writes_same rom s.core (effect_state rom row a s c).core w acted_at.gate ∙ subst (λ v. writes_closed_ram rom s.core v ≡ false) (write_is rom row a s c) may.0)
-    (write_limited_same region s.core (effect_state rom row a s c).core w acted_at.gate ∙ subst (λ v. is_write_limited region s.core v ≡ false) (write_is rom row a s c) may.1)
+    Stores-write z rom region ranges (effect_state z rom row a s c) entry base (acted rom row x reads) (begun row x).processor.sp w (effect rom row x reads).write acted_at.at
+    (plain_write row.op base (behind_row a row) (sp_halves z s) c (low_of z rom row s c) (high_of z rom row s c) plain k.ruled.operands k.core)
+    (is_write z rom region ranges row a s entry base x reads c k) f.write
+    (subst (λ v. is_unstorable (kind_of rom) region ranges v ≡ false) (write_is z rom row a s c) allowed.stores)
+    (writes_same rom s.core (effect_state z rom row a s c).core w acted_at.gate ∙ subst (λ v. writes_closed_ram rom s.core v ≡ false) (write_is z rom row a s c) may.0)
+    (write_limited_same region s.core (effect_state z rom row a s c).core w acted_at.gate ∙ subst (λ v. is_write_limited region s.core v ≡ false) (write_is z rom row a s c) may.1)
 
 -- where the machine goes on in the same procedure, it stays; of a jump to somewhere nothing is said
-leads_plain : (region : Region) (w : Target) (t : Successor) (entry : MState) (base : ℕ) (x y : MState) → IsPlainTarget w → Means t.state entry base y → HoldsTarget w y.processor.pc
+leads_plain : (region : Region) (w : Target) (t : Successor) (entry : MState) (base : ℕ) (x y : MState) → IsPlainTarget w → MeansParts t.state entry base y → HoldsTarget w y.processor.pc
     → AreInRegion region base (length t.state.items) → LeadsTo region w t entry base x y
 leads_plain region (target.At a) t entry base x y plain means goes room = record { means = means; goes = goes; room = room }
 leads_plain region (target.Call a) t entry base x y plain means goes room = absurd plain
@@ -421,22 +443,22 @@ leads_plain region target.Return t entry base x y plain means goes room = absurd
 leads_plain region target.Unknown t entry base x y plain means goes room = tt
 
 -- the machine behind it
-pub executed_taken : (rom : List ℕ) (region : Region) (ranges : List Range) (row : Row) (a : ℕ) (s : AbsState) (entry : MState) (base : ℕ) (x : MState) (reads : List ℕ) (c : Core)
-    → IsTaken rom region ranges row a s entry base x reads c → outside (executed (within rom x) row reads) ≡ left_by rom x (effect rom row x reads) row.cycles
-executed_taken rom region ranges row a s entry base x reads c k =
+pub executed_taken : (z : Setting) (rom : List ℕ) (region : Region) (ranges : List Range) (row : Row) (a : ℕ) (s : AbsState) (entry : MState) (base : ℕ) (x : MState) (reads : List ℕ) (c : Core)
+    → IsTaken z rom region ranges row a s entry base x reads c → outside (executed (within rom x) row reads) ≡ left_by rom x (effect rom row x reads) row.cycles
+executed_taken z rom region ranges row a s entry base x reads c k =
     executed_is rom x row reads ∙ ap (left_by rom x (effect rom row x reads)) (ap (λ b. cond b row.cycles row.cycles_not_taken) k.taken)
 
 -- where it goes on
-pub goes_to : (rom : List ℕ) (region : Region) (ranges : List Range) (row : Row) (a : ℕ) (s : AbsState) (entry : MState) (base : ℕ) (x : MState) (reads : List ℕ) (c : Core)
-    → IsTaken rom region ranges row a s entry base x reads c → HoldsTarget (target_of row.op (behind_row a row) c) (effect rom row x reads).processor.pc
-goes_to rom region ranges row a s entry base x reads c k =
+pub goes_to : (z : Setting) (rom : List ℕ) (region : Region) (ranges : List Range) (row : Row) (a : ℕ) (s : AbsState) (entry : MState) (base : ℕ) (x : MState) (reads : List ℕ) (c : Core)
+    → IsTaken z rom region ranges row a s entry base x reads c → HoldsTarget (target_of row.op (behind_row a row) c) (effect rom row x reads).processor.pc
+goes_to z rom region ranges row a s entry base x reads c k =
     (target_of_sound row.op (behind_row a row) c (target_of row.op (behind_row a row) c) refl).gives entry (begun row x) (given rom row x reads).low (given rom row x reads).high
     k.means (begun_pc row x a k.ruled.runs k.mark k.stands.at) k.taken
 
 -- an instruction leads by a successor, and has no fault
 pub record Done (rom : List ℕ) (region : Region) (ranges : List Range) (row : Row) (s : AbsState) (t : Successor) (entry : MState) (base : ℕ) (x : MState) (reads : List ℕ) : Type 0 where
   pub held : length t.state.items ≤ bytes_behind row.op (length s.items)
-  pub leads : Leads region ranges t entry base x (outside (executed (within rom x) row reads))
+  pub leads : LeadsParts region ranges t entry base x (outside (executed (within rom x) row reads))
   pub faults : row_faults (Some row) region (within rom x) reads ≡ no_faults
 
 pub bytes-least : (o : Op) (n : ℕ) → n ≤ bytes_behind o n
@@ -448,40 +470,40 @@ bytes-least o n = by (is_push o)
     by false = omega arith
 
 -- no more bytes than before
-bytes_plain : (rom : List ℕ) (row : Row) (a : ℕ) (s : AbsState) (c : Core) (base : ℕ) → IsPlain row.op base → length (effect_state rom row a s c).items ≤ bytes_behind row.op (length s.items)
-bytes_plain rom row a s c base (inl still) =
-    subst (λ (t : AbsState). length t.items ≤ bytes_behind row.op (length s.items)) (sym (stack_still row.op (abs_effect rom row a s c).write (with_core s (abs_effect rom row a s c).core) still)) (bytes-least row.op (length s.items))
-bytes_plain rom row a s c base (inr e) =
-    subst (λ (t : AbsState). length t.items ≤ bytes_behind row.op (length s.items)) (sym (stack_loaded row.op base (abs_effect rom row a s c).write (with_core s (abs_effect rom row a s c).core) e)) (omega arith)
+bytes_plain : (z : Setting) (rom : List ℕ) (row : Row) (a : ℕ) (s : AbsState) (c : Core) (base : ℕ) → IsPlain row.op base → length (effect_state z rom row a s c).items ≤ bytes_behind row.op (length s.items)
+bytes_plain z rom row a s c base (inl still) =
+    subst (λ (t : AbsState). length t.items ≤ bytes_behind row.op (length s.items)) (sym (stack_still z row.op (abs_effect z rom row a s c).write (with_core s (abs_effect z rom row a s c).core) still)) (bytes-least row.op (length s.items))
+bytes_plain z rom row a s c base (inr e) =
+    subst (λ (t : AbsState). length t.items ≤ bytes_behind row.op (length s.items)) (sym (stack_loaded z row.op base (abs_effect z rom row a s c).write (with_core s (abs_effect z rom row a s c).core) e)) (omega arith)
 
 -- one that leaves SP, or sets it
 pub Done-plain :
-    (rom : List ℕ) (region : Region) (ranges : List Range) (row : Row) (a : ℕ) (s : AbsState) (entry : MState) (base : ℕ) (x : MState) (reads : List ℕ) (c : Core)
-    → IsTaken rom region ranges row a s entry base x reads c → IsPlain row.op base → IsAllowed rom region ranges s base (taken_successor rom row (behind_row a row) s c)
-    → Done rom region ranges row s (taken_successor rom row (behind_row a row) s c) entry base x reads
-Done-plain rom region ranges row a s entry base x reads c k plain allowed =
+    (z : Setting) (rom : List ℕ) (region : Region) (ranges : List Range) (row : Row) (a : ℕ) (s : AbsState) (entry : MState) (base : ℕ) (x : MState) (reads : List ℕ) (c : Core)
+    → IsTaken z rom region ranges row a s entry base x reads c → IsPlain row.op base → IsAllowed rom region ranges s base (taken_parts z rom row (behind_row a row) s c)
+    → Done rom region ranges row s (taken_parts z rom row (behind_row a row) s c) entry base x reads
+Done-plain z rom region ranges row a s entry base x reads c k plain allowed =
     let may = allowed_read rom region ranges s base _ allowed in
-    let l = loads rom region ranges row a s entry base x reads c k (plain_read row.op base c plain k.ruled.operands k.core)
-    (subst (λ v. reads_closed_ram rom s.core v ≡ false) (read_is rom row a s c) may.0) (subst (λ v. is_read_limited region s.core v ≡ false) (read_is rom row a s c) may.1) in
-    let f = follows rom region ranges row a s entry base x reads c k l in
-    let st = stores rom region ranges row a s entry base x reads c k plain allowed f.0 f.1 in
+    let l = loads z rom region ranges row a s entry base x reads c k (plain_read row.op base c plain k.ruled.operands k.core)
+    (subst (λ v. reads_closed_ram rom s.core v ≡ false) (read_is z rom row a s c) may.0) (subst (λ v. is_read_limited region s.core v ≡ false) (read_is z rom row a s c) may.1) in
+    let f = follows z rom region ranges row a s entry base x reads c k l in
+    let st = stores z rom region ranges row a s entry base x reads c k plain allowed f.0 f.1 in
     let e = effect rom row x reads in
-    let w : AbsWrite = (abs_effect rom row a s c).write in
-    let after : AbsState = written (kind_of rom) w (effect_state rom row a s c) in
-    let means : Means (ended (starts w) row.cycles after) entry base (left_by rom x e row.cycles) =
-    Means-ended rom after entry base e.processor (stored (view rom x false) e.write) (starts w) row.cycles st.starting st.means in
-    let items : (taken_successor rom row (behind_row a row) s c).state.items ≡ (effect_state rom row a s c).items =
-    ap (λ (t : AbsState). t.items) (state_is rom row a s c) ∙ (ended_items (starts w) row.cycles after ∙ st.items) in
+    let w : AbsWrite = (abs_effect z rom row a s c).write in
+    let after : AbsState = written z (kind_of rom) w (effect_state z rom row a s c) in
+    let means : MeansParts (ended (starts w) row.cycles after) entry base (left_by rom x e row.cycles) =
+    MeansParts-ended rom after entry base e.processor (stored (view rom x false) e.write) (starts w) row.cycles st.starting st.means in
+    let items : (taken_parts z rom row (behind_row a row) s c).state.items ≡ (effect_state z rom row a s c).items =
+    ap (λ (t : AbsState). t.items) (state_is z rom row a s c) ∙ (ended_items (starts w) row.cycles after ∙ st.items) in
     record {
-      held = subst (λ xs. length xs ≤ bytes_behind row.op (length s.items)) (sym items) (bytes_plain rom row a s c base plain);
-      leads = subst (λ y. Leads region ranges (taken_successor rom row (behind_row a row) s c) entry base x y) (sym (executed_taken rom region ranges row a s entry base x reads c k))
+      held = subst (λ xs. length xs ≤ bytes_behind row.op (length s.items)) (sym items) (bytes_plain z rom row a s c base plain);
+      leads = subst (λ y. LeadsParts region ranges (taken_parts z rom row (behind_row a row) s c) entry base x y) (sym (executed_taken z rom region ranges row a s entry base x reads c k))
           (record {
-            to = subst (λ v. LeadsTo region v (taken_successor rom row (behind_row a row) s c) entry base x (left_by rom x e row.cycles)) (sym (target_is rom row a s c))
-                (leads_plain region (target_of row.op (behind_row a row) c) (taken_successor rom row (behind_row a row) s c) entry base x (left_by rom x e row.cycles)
+            to = subst (λ v. LeadsTo region v (taken_parts z rom row (behind_row a row) s c) entry base x (left_by rom x e row.cycles)) (sym (target_is z rom row a s c))
+                (leads_plain region (target_of row.op (behind_row a row) c) (taken_parts z rom row (behind_row a row) s c) entry base x (left_by rom x e row.cycles)
                 (plain_target row.op base (behind_row a row) c plain)
-                (subst (λ t. Means t entry base (left_by rom x e row.cycles)) (sym (state_is rom row a s c)) means)
-                (goes_to rom region ranges row a s entry base x reads c k)
-                (subst (λ t. AreInRegion region base (length t)) (sym items) (acts rom region ranges row a s entry base x reads c k plain f.0 f.1).at.room));
+                (subst (λ t. MeansParts t entry base (left_by rom x e row.cycles)) (sym (state_is z rom row a s c)) means)
+                (goes_to z rom region ranges row a s entry base x reads c k)
+                (subst (λ t. AreInRegion region base (length t)) (sym items) (acts z rom region ranges row a s entry base x reads c k plain f.0 f.1).at.room));
             kept = λ b kept. passed_peek (stored (view rom x false) e.write) row.cycles b ∙ st.kept b kept;
           });
       faults = faults_are rom region x row reads l.faults st.faults;

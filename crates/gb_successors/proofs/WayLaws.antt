@@ -11,10 +11,12 @@ use Rattle.gb_ops.specs.declared.registers.Ime.TheVariants as ime
 use Rattle.gb_ops.specs.declared.op.Op.{Op}
 use Rattle.gb_ops.specs.declared.op.Op.TheVariants as op
 use Rattle.gb_ops.specs.declared.op.Row.{Row}
+use Rattle.gb_ops.specs.declared.registers.Registers.{Registers}
 use Rattle.gb_ops.specs.Memory.{View, stored, passed}
 use Rattle.gb_ops.specs.Machine.{executed, advanced, cycles_of, mark_of, halt_stay, halt_bug, has_enabled}
 use Rattle.gb_ops.specs.Faults.{no_faults, row_faults, load_faults}
 use Rattle.gb_ops.specs.Play.{MState, within, outside}
+use Rattle.gb_domain.specs.declared.setting.Setting.{Setting}
 use Rattle.gb_domain.specs.declared.types.Val.{Val}
 use Rattle.gb_domain.specs.declared.types.ImeSet.{ImeSet}
 use Rattle.gb_domain.specs.declared.types.Core.{Core}
@@ -23,26 +25,36 @@ use Rattle.gb_domain.specs.Types.{AbsState}
 use Rattle.gb_domain.specs.Rules.{IsCore}
 use Rattle.gb_abs.specs.Below.gb_vals.Bits.{may_enable}
 use Rattle.gb_abs.specs.Operations.{core_settle, with_core, ime_set_after}
-use Rattle.gb_abs.specs.Meaning.{Holds, MeansCore, Means, ime_may_be}
+use Rattle.gb_abs.specs.Meaning.{Holds, MeansCore, MeansParts, ime_may_be}
 use Rattle.gb_abs.specs.Stack.{AreInRegion}
+use Rattle.gb_abs.specs.Storage.{peek}
 use Rattle.gb_abs.proofs.OperationLaws.{IsCore-settle}
-use Rattle.gb_abs.proofs.StackLaws.{Means-with_core}
+use Rattle.gb_abs.proofs.StackLaws.{MeansParts-with_core}
 use Rattle.gb_abs_effects.specs.declared.sides.Sides.{Sides}
-use Rattle.gb_abs_effects.specs.Sides.{sides_of, sides_by, condition_of}
+use Rattle.gb_abs_effects.specs.Sides as Flags
 use Rattle.gb_abs_effects.specs.declared.targets.Target.TheVariants as target
 use Rattle.gb_abs_effects.specs.Targets.{target_of}
 use Rattle.gb_abs_effects.specs.Transfer.{transfer, untaken}
 use Rattle.gb_abs_effects.specs.Sound.{IsMeant, side_by}
-use Rattle.gb_abs_effects.proofs.SideLaws.{sides_of_sound, sides_of_inhabited}
 use Rattle.gb_abs_effects.proofs.TransferLaws.{untaken_sound}
 use Rattle.gb_abs_memory.specs.Sound.{view}
+use Rattle.gb_pairs.specs.Meaning.{AreBytes}
+use Rattle.gb_places.specs.Meaning.{HoldOneByte}
+use Rattle.gb_relations.specs.Compared.{comparison_of, writes_a, compared_after}
+use Rattle.gb_relations.specs.Written.{writes_flags}
+use Rattle.gb_relations.specs.Written.{written as written_registers}
+use Rattle.gb_relations.proofs.ComparedLaws.{HoldOneByte-only_of_a}
+use Rattle.gb_product.specs.Meaning.{AreRelated}
+use Rattle.gb_product.specs.Sides.{narrowed_by, sides_of}
+use Rattle.gb_product.proofs.SideLaws.{sides_of_sound, sides_of_inhabited}
 use Rattle.gb_successors.specs.declared.successors.Successors.{Successors}
 use Rattle.gb_successors.specs.Behind.{starts, written, with_stack_of, ended}
-use Rattle.gb_successors.specs.Successors.{taken_successor, untaken_successor, staying_successor, woken, may_stay, stays, successors_of}
-use Rattle.gb_successors.specs.Sound.{bytes_behind, Leads, LeadsTo, LeadsBy, IsHalt, Stands, IsRuled, Executes, AreSoundSuccessors}
+use Rattle.gb_successors.specs.Successors.{taken_parts, relations_behind, taken_successor, untaken_successor, staying_successor, woken, may_stay, stays, successors_of}
+use Rattle.gb_successors.specs.Sound.{bytes_behind, IsAllowed, Leads, LeadsTo, LeadsBy, IsHalt, Stands, IsRuled, Executes, AreSoundSuccessors}
 use Rattle.gb_successors.proofs.PlainLaws.{Keeps-both, Keeps-settle, Keeps-not_taken}
 use Rattle.gb_successors.proofs.MarkLaws.{executed_mark}
-use Rattle.gb_successors.proofs.SuccessorLaws.{begun, given, effect, behind_row, begun_pc, begun_sp, begun_core, left_by, executed_is, faults_are, Means-ended, passed_peek, bytes-least, IsTaken}
+use Rattle.gb_successors.proofs.RelatedLaws.{IsAllowed-parts, LeadsTo-related, AreBytes-core, by_rules, related_begun, Leads-taken, HoldRelations-same}
+use Rattle.gb_successors.proofs.SuccessorLaws.{begun, given, effect, behind_row, begun_pc, begun_sp, begun_core, left_by, executed_is, faults_are, MeansParts-ended, passed_peek, bytes-least, IsTaken, Done}
 use Rattle.gb_successors.proofs.StackWayLaws.{no_write, nothing_stored, no_store_faults, taken_executes}
 
 -- ---- not taken
@@ -64,18 +76,18 @@ unfolding untaken_successor ended
 bytes_untaken row next s c = bytes-least row.op (length s.items)
 
 untaken_executes :
-    (rom : List ℕ) (region : Region) (ranges : List Range) (row : Row) (a : ℕ) (s : AbsState) (entry : MState) (base : ℕ) (x : MState) (reads : List ℕ) (c : Core)
-    → Stands rom region row a s entry base x → IsRuled region row s base → x.processor.halt_mark ≡ false
-    → (sides_of row.op (core_settle s.core)).not_taken ≡ Some c → MeansCore c entry (begun row x) → (effect rom row x reads).is_taken ≡ false
+    (z : Setting) (rom : List ℕ) (region : Region) (ranges : List Range) (row : Row) (a : ℕ) (s : AbsState) (entry : MState) (base : ℕ) (x : MState) (reads : List ℕ) (c : Core)
+    → Stands z rom region row a s entry base x → IsRuled z region row s base → x.processor.halt_mark ≡ false
+    → (sides_of row.op s (core_settle s.core)).not_taken ≡ Some c → MeansCore c entry (begun row x) → (effect rom row x reads).is_taken ≡ false
     → Leads region ranges (untaken_successor row (behind_row a row) s c) entry base x (outside (executed (within rom x) row reads)) × (row_faults (Some row) region (within rom x) reads ≡ no_faults)
-unfolding untaken_successor untaken
-untaken_executes rom region ranges row a s entry base x reads c stands ruled mark side means not_taken =
+unfolding untaken_successor untaken ended
+untaken_executes z rom region ranges row a s entry base x reads c stands ruled mark side means not_taken =
     let e = effect rom row x reads in
     let v = given rom row x reads in
     let sound = untaken_sound c (untaken c) refl in
     let nothing : e.write ≡ machine_write.Nothing = no_write entry (begun row x).processor.sp e.write ((sound.gives row.op entry (begun row x) v.low v.high means not_taken).write) in
     let same : e.processor ≡ advanced x.processor row = sound.stays row.op (advanced x.processor row) v.low v.high not_taken in
-    let keeps = Keeps-both s.core (core_settle s.core) c (Keeps-settle s.core) (Keeps-not_taken row.op (core_settle s.core) c side) in
+    let keeps = Keeps-both s.core (core_settle s.core) c (Keeps-settle s.core) (Keeps-not_taken row.op s (core_settle s.core) c side) in
     let cycles : cycles_of row e.is_taken ≡ row.cycles_not_taken = ap (λ b. cond b row.cycles row.cycles_not_taken) not_taken in
     let is : outside (executed (within rom x) row reads) ≡ record { processor = advanced x.processor row; storage = (passed (view rom x false) row.cycles_not_taken).storage } =
     executed_is rom x row reads
@@ -85,12 +97,13 @@ untaken_executes rom region ranges row a s entry base x reads c stands ruled mar
       subst (λ y. Leads region ranges (untaken_successor row (behind_row a row) s c) entry base x y) (sym is)
           (record {
             to = record {
-              means = Means-ended rom (with_core s c) entry base (advanced x.processor row) (view rom x false) false row.cycles_not_taken refl
-                  (Means-with_core s c entry base x (begun row x) stands.means means refl refl (begun_sp row x) (λ set. sym keeps.stack ∙ set));
+              means = MeansParts-ended rom (with_core s c) entry base (advanced x.processor row) (view rom x false) false row.cycles_not_taken refl
+                  (MeansParts-with_core s c entry base x (begun row x) stands.means.parts means refl refl (begun_sp row x) (λ set. sym keeps.stack ∙ set));
               goes = begun_pc row x a ruled.runs mark stands.at;
               room = ended_room region base false row.cycles_not_taken (with_core s c) stands.room;
             };
             kept = λ b kept. passed_peek (view rom x false) row.cycles_not_taken b;
+            related = λ known. HoldRelations-same s.relations _ (peek x.storage) _ _ (λ b. passed_peek (view rom x false) row.cycles_not_taken b) (related_begun row x s.relations stands.means.related);
           }),
       faults_are rom region x row reads
           (no_load_faults (view rom x false) _ (sound.reads row.op (advanced x.processor row) v.low v.high not_taken))
@@ -99,68 +112,84 @@ untaken_executes rom region ranges row a s entry base x reads c stands ruled mar
 
 -- ---- executed
 
-taken_way : (rom : List ℕ) (row : Row) (a : ℕ) (s : AbsState) (c : Core) → (sides_of row.op (core_settle s.core)).taken ≡ Some c
-    → (successors_of rom row a s).taken ≡ Some (taken_successor rom row (behind_row a row) s c)
+taken_way : (z : Setting) (rom : List ℕ) (region : Region) (row : Row) (a : ℕ) (s : AbsState) (c : Core) → (sides_of row.op s (core_settle s.core)).taken ≡ Some c
+    → (successors_of z rom region row a s).taken ≡ Some (taken_successor z rom region row (behind_row a row) s c)
 unfolding successors_of
-taken_way rom row a s c e = ap (option_map (taken_successor rom row (behind_row a row) s)) e
+taken_way z rom region row a s c e = ap (option_map (taken_successor z rom region row (behind_row a row) s)) e
 
-untaken_way : (rom : List ℕ) (row : Row) (a : ℕ) (s : AbsState) (c : Core) → (sides_of row.op (core_settle s.core)).not_taken ≡ Some c
-    → (successors_of rom row a s).not_taken ≡ Some (untaken_successor row (behind_row a row) s c)
+untaken_way : (z : Setting) (rom : List ℕ) (region : Region) (row : Row) (a : ℕ) (s : AbsState) (c : Core) → (sides_of row.op s (core_settle s.core)).not_taken ≡ Some c
+    → (successors_of z rom region row a s).not_taken ≡ Some (untaken_successor row (behind_row a row) s c)
 unfolding successors_of
-untaken_way rom row a s c e = ap (option_map (untaken_successor row (behind_row a row) s)) e
+untaken_way z rom region row a s c e = ap (option_map (untaken_successor row (behind_row a row) s)) e
 
 core_in : (o : Option Core) (c : Core) → IfSome o IsCore → o ≡ Some c → IsCore c
 core_in None c h e = cc
 core_in (Some d) c h e = let same : d ≡ c = cc in subst IsCore same h
 
+done_held :
+    (z : Setting) (rom : List ℕ) (region : Region) (ranges : List Range) (row : Row) (a : ℕ) (s : AbsState) (entry : MState) (base : ℕ) (x : MState) (reads : List ℕ) (c : Core)
+    → Done rom region ranges row s (taken_parts z rom row (behind_row a row) s c) entry base x reads
+    → length (taken_successor z rom region row (behind_row a row) s c).state.items ≤ bytes_behind row.op (length s.items)
+unfolding taken_successor
+done_held z rom region ranges row a s entry base x reads c d = d.held
+
+taken_allowed :
+    (z : Setting) (rom : List ℕ) (region : Region) (ranges : List Range) (row : Row) (a : ℕ) (s : AbsState) (base : ℕ) (c : Core)
+    → IsAllowed rom region ranges s base (taken_successor z rom region row (behind_row a row) s c) → IsAllowed rom region ranges s base (taken_parts z rom row (behind_row a row) s c)
+unfolding taken_successor
+taken_allowed z rom region ranges row a s base c h =
+    IsAllowed-parts rom region ranges s base (relations_behind z rom region row.op s c) (taken_parts z rom row (behind_row a row) s c) h
+
 executes :
-    (rom : List ℕ) (row : Row) (a : ℕ) (s : AbsState) (region : Region) (ranges : List Range) (entry : MState) (base : ℕ) (x : MState) (reads : List ℕ)
-    → Stands rom region row a s entry base x → IsRuled region row s base → x.processor.halt_mark ≡ false → slice_index reads 0 ≤ 255
-    → Executes rom region ranges row s (successors_of rom row a s) entry base x reads
-executes rom row a s region ranges entry base x reads stands ruled mark byte =
+    (z : Setting) (rom : List ℕ) (row : Row) (a : ℕ) (s : AbsState) (region : Region) (ranges : List Range) (entry : MState) (base : ℕ) (x : MState) (reads : List ℕ)
+    → Stands z rom region row a s entry base x → IsRuled z region row s base → x.processor.halt_mark ≡ false → slice_index reads 0 ≤ 255
+    → Executes rom region ranges row s (successors_of z rom region row a s) entry base x reads
+executes z rom row a s region ranges entry base x reads stands ruled mark byte =
     choose (effect rom row x reads).is_taken refl
-    ((sides_of_sound row.op settled sides refl is_settled).gives entry (begun row x) (given rom row x reads).low (given rom row x reads).high (begun_core row x s.core entry stands.means.core))
+    ((sides_of_sound row.op s settled sides refl).gives entry (begun row x) (given rom row x reads).low (given rom row x reads).high
+    (record { memory = stands.means.parts.memory; cells = stands.means.parts.cells; related = related_begun row x s.relations stands.means.related })
+    (begun_core row x s.core entry stands.means.parts.core))
   where
     settled : Core
     settled = core_settle s.core
 
     sides : Sides
-    sides = sides_of row.op settled
+    sides = sides_of row.op s settled
 
     is_settled : IsCore settled
     is_settled = IsCore-settle s.core stands.core
 
     by_taken : (o : Option Core) → sides.taken ≡ o → (effect rom row x reads).is_taken ≡ true → IsMeant o entry (begun row x)
-        → Executes rom region ranges row s (successors_of rom row a s) entry base x reads
+        → Executes rom region ranges row s (successors_of z rom region row a s) entry base x reads
     by_taken None e taken h = absurd h
     by_taken (Some c) e taken h =
-        let k : IsTaken rom region ranges row a s entry base x reads c = record {
+        let k : IsTaken z rom region ranges row a s entry base x reads c = record {
           stands = stands;
           ruled = ruled;
           mark = mark;
           byte = byte;
           side = e;
           means = h;
-          core = core_in sides.taken c (sides_of_inhabited row.op settled sides refl is_settled).taken e;
+          core = core_in sides.taken c (sides_of_inhabited row.op s settled sides refl is_settled).taken e;
           taken = taken;
         } in
         record {
-          successor = taken_successor rom row (behind_row a row) s c;
-          is_one = inl (taken_way rom row a s c e);
+          successor = taken_successor z rom region row (behind_row a row) s c;
+          is_one = inl (taken_way z rom region row a s c e);
           mark = executed_mark rom x row reads;
-          held = λ allowed. (taken_executes rom region ranges row a s entry base x reads c k allowed).held;
-          leads = λ allowed. (taken_executes rom region ranges row a s entry base x reads c k allowed).leads;
-          faults = λ allowed. (taken_executes rom region ranges row a s entry base x reads c k allowed).faults;
+          held = λ allowed. done_held z rom region ranges row a s entry base x reads c (taken_executes z rom region ranges row a s entry base x reads c k (taken_allowed z rom region ranges row a s base c allowed));
+          leads = λ allowed. Leads-taken z rom region ranges row a s entry base x reads c k (taken_executes z rom region ranges row a s entry base x reads c k (taken_allowed z rom region ranges row a s base c allowed)).leads;
+          faults = λ allowed. (taken_executes z rom region ranges row a s entry base x reads c k (taken_allowed z rom region ranges row a s base c allowed)).faults;
         }
 
     by_not_taken : (o : Option Core) → sides.not_taken ≡ o → (effect rom row x reads).is_taken ≡ false → IsMeant o entry (begun row x)
-        → Executes rom region ranges row s (successors_of rom row a s) entry base x reads
+        → Executes rom region ranges row s (successors_of z rom region row a s) entry base x reads
     by_not_taken None e not_taken h = absurd h
     by_not_taken (Some c) e not_taken h =
-        let done = untaken_executes rom region ranges row a s entry base x reads c stands ruled mark e h not_taken in
+        let done = untaken_executes z rom region ranges row a s entry base x reads c stands ruled mark e h not_taken in
         record {
           successor = untaken_successor row (behind_row a row) s c;
-          is_one = inr (inl (untaken_way rom row a s c e));
+          is_one = inr (inl (untaken_way z rom region row a s c e));
           mark = executed_mark rom x row reads;
           held = λ allowed. bytes_untaken row (behind_row a row) s c;
           leads = λ allowed. done.0;
@@ -168,7 +197,7 @@ executes rom row a s region ranges entry base x reads stands ruled mark byte =
         }
 
     choose : (b : Bool) → (effect rom row x reads).is_taken ≡ b → IsMeant (side_by (effect rom row x reads).is_taken sides) entry (begun row x)
-        → Executes rom region ranges row s (successors_of rom row a s) entry base x reads
+        → Executes rom region ranges row s (successors_of z rom region row a s) entry base x reads
     choose true e h = by_taken sides.taken refl e (subst (λ b. IsMeant (side_by b sides) entry (begun row x)) e h)
     choose false e h = by_not_taken sides.not_taken refl e (subst (λ b. IsMeant (side_by b sides) entry (begun row x)) e h)
 
@@ -189,9 +218,9 @@ stays_way : (row : Row) (a : ℕ) (s : AbsState) → row.op ≡ op.Halt → s.co
 unfolding stays may_stay
 stays_way row a s is pending enable = rw (is, pending, enable) refl
 
-stays_at : (rom : List ℕ) (row : Row) (a : ℕ) (s : AbsState) → (successors_of rom row a s).stays ≡ stays row a s
+stays_at : (z : Setting) (rom : List ℕ) (region : Region) (row : Row) (a : ℕ) (s : AbsState) → (successors_of z rom region row a s).stays ≡ stays row a s
 unfolding successors_of
-stays_at rom row a s = refl
+stays_at z rom region row a s = refl
 
 -- interrupts are on
 woken_core : (s : Core) (entry x : MState) → MeansCore s entry x → MeansCore (woken s) entry (record x { processor = record x.processor { ime = ime.On } })
@@ -202,31 +231,31 @@ woken_core s entry x m = record {
   ime = refl;
   controller = m.controller;
   count = m.count;
-  test = m.test;
   locked = m.locked;
   stopped = m.stopped;
 }
 
 halt_stays :
-    (rom : List ℕ) (row : Row) (a : ℕ) (s : AbsState) (region : Region) (ranges : List Range) (entry : MState) (base : ℕ) (x : MState)
-    → Stands rom region row a s entry base x → IsHalt row → x.processor.ime ≡ ime.Pending → has_enabled (within rom x) ≡ true
-    → LeadsBy region ranges (length s.items) (successors_of rom row a s).stays entry base x (outside (halt_stay (within rom x)))
-unfolding halt_stay within outside staying_successor
-halt_stays rom row a s region ranges entry base x stands halt pending enabled =
-    let m = stands.means in
+    (z : Setting) (rom : List ℕ) (row : Row) (a : ℕ) (s : AbsState) (region : Region) (ranges : List Range) (entry : MState) (base : ℕ) (x : MState)
+    → Stands z rom region row a s entry base x → IsHalt row → x.processor.ime ≡ ime.Pending → has_enabled (within rom x) ≡ true
+    → LeadsBy region ranges (length s.items) (successors_of z rom region row a s).stays entry base x (outside (halt_stay (within rom x)))
+unfolding halt_stay within outside staying_successor ended
+halt_stays z rom row a s region ranges entry base x stands halt pending enabled =
+    let m = stands.means.parts in
     let woke : MState = record x { processor = record x.processor { ime = ime.On } } in
     record {
       successor = staying_successor a s;
       held = bytes_ended 1 (with_core s (woken s.core));
-      is_way = stays_at rom row a s ∙ stays_way row a s halt.op_is (pending_known s.core.ime x.processor.ime pending m.core.ime) (enabled_known s.core.ie entry x.storage.ie m.core.ie enabled);
+      is_way = stays_at z rom region row a s ∙ stays_way row a s halt.op_is (pending_known s.core.ime x.processor.ime pending m.core.ime) (enabled_known s.core.ie entry x.storage.ie m.core.ie enabled);
       leads = record {
         to = record {
-          means = Means-ended rom (with_core s (woken s.core)) entry base woke.processor (view rom x false) false 1 refl
-              (Means-with_core s (woken s.core) entry base x woke m (woken_core s.core entry x m.core) refl refl refl (λ set. set));
+          means = MeansParts-ended rom (with_core s (woken s.core)) entry base woke.processor (view rom x false) false 1 refl
+              (MeansParts-with_core s (woken s.core) entry base x woke m (woken_core s.core entry x m.core) refl refl refl (λ set. set));
           goes = stands.at;
           room = ended_room region base false 1 (with_core s (woken s.core)) stands.room;
         };
         kept = λ b kept. passed_peek (view rom x false) 1 b;
+        related = λ known. HoldRelations-same s.relations _ (peek x.storage) _ _ (λ b. passed_peek (view rom x false) 1 b) stands.means.related;
       };
     }
 
@@ -246,55 +275,72 @@ repeated_core s entry x off m = record {
   ime = off_settled s.ime x.processor.ime off m.ime;
   controller = m.controller;
   count = m.count;
-  test = m.test;
   locked = m.locked;
   stopped = m.stopped;
 }
 
-halt_side : (row : Row) (s : Core) → row.op ≡ op.Halt → (sides_of row.op s).taken ≡ Some s
-unfolding sides_of
-halt_side row s e = ap (λ (o : Op). (sides_by (condition_of o) s).taken) e
+halt_side : (row : Row) (s : AbsState) (c : Core) → row.op ≡ op.Halt → (sides_of row.op s c).taken ≡ Some c
+unfolding sides_of Flags.sides_of
+halt_side row s c e = ap (λ (o : Op). (narrowed_by (Flags.condition_of o) s (Flags.sides_by (Flags.condition_of o) c)).taken) e
 
-halt_state : (rom : List ℕ) (row : Row) (a : ℕ) (s : AbsState) (c : Core) → IsHalt row → (taken_successor rom row (behind_row a row) s c).state ≡ ended false 1 (with_core s c)
-unfolding taken_successor transfer written starts with_stack_of
-halt_state rom row a s c halt = rw (halt.op_is, halt.cycles_are) refl
+halt_state : (z : Setting) (rom : List ℕ) (row : Row) (a : ℕ) (s : AbsState) (c : Core) → IsHalt row → (taken_parts z rom row (behind_row a row) s c).state ≡ ended false 1 (with_core s c)
+unfolding taken_parts transfer written starts with_stack_of
+halt_state z rom row a s c halt = rw (halt.op_is, halt.cycles_are) refl
 
-halt_target : (rom : List ℕ) (row : Row) (a : ℕ) (s : AbsState) (c : Core) → IsHalt row → (taken_successor rom row (behind_row a row) s c).target ≡ target.At ((a + 1) % 65536)
-unfolding taken_successor target_of
-halt_target rom row a s c halt = rw (halt.op_is, halt.length_is) refl
+halt_target : (z : Setting) (rom : List ℕ) (row : Row) (a : ℕ) (s : AbsState) (c : Core) → IsHalt row → (taken_parts z rom row (behind_row a row) s c).target ≡ target.At ((a + 1) % 65536)
+unfolding taken_parts target_of
+halt_target z rom row a s c halt = rw (halt.op_is, halt.length_is) refl
+
+-- what is known together stays
+halt_related :
+    (z : Setting) (rom : List ℕ) (region : Region) (row : Row) (a : ℕ) (s : AbsState) (entry : MState) (base : ℕ) (x y : MState)
+    → Stands z rom region row a s entry base x → IsHalt row → y.processor.registers ≡ x.processor.registers → y.processor.flags ≡ x.processor.flags
+    → AreRelated (relations_behind z rom region row.op s (core_settle s.core)) y
+unfolding relations_behind compared_after comparison_of writes_a writes_flags written_registers
+halt_related z rom region row a s entry base x y stands halt registers flags =
+    by_rules z.rules region row.op _ _ _ s.relations _ _ _ stands.rules
+    (subst (λ (o : Op). HoldOneByte (compared_after o s.relations.byte) y.processor.registers (peek y.storage) y.processor.flags) (sym halt.op_is)
+    (HoldOneByte-only_of_a s.relations.byte x.processor.registers y.processor.registers (peek x.storage) (peek y.storage) x.processor.flags y.processor.flags
+    (ap (λ (r : Registers ℕ). r.a) registers) flags stands.means.related.byte))
+    (subst (λ r. AreBytes r) (sym registers) (AreBytes-core s.core entry x stands.core stands.means.parts.core))
 
 halt_repeats :
-    (rom : List ℕ) (row : Row) (a : ℕ) (s : AbsState) (region : Region) (ranges : List Range) (entry : MState) (base : ℕ) (x : MState)
-    → Stands rom region row a s entry base x → IsHalt row → x.processor.ime ≡ ime.Off → x.processor.halt_mark ≡ false
-    → LeadsBy region ranges (length s.items) (successors_of rom row a s).taken entry base x (outside (halt_bug (within rom x)))
-unfolding halt_bug within outside
-halt_repeats rom row a s region ranges entry base x stands halt off mark =
-    let m = stands.means in
+    (z : Setting) (rom : List ℕ) (row : Row) (a : ℕ) (s : AbsState) (region : Region) (ranges : List Range) (entry : MState) (base : ℕ) (x : MState)
+    → Stands z rom region row a s entry base x → IsHalt row → x.processor.ime ≡ ime.Off → x.processor.halt_mark ≡ false
+    → LeadsBy region ranges (length s.items) (successors_of z rom region row a s).taken entry base x (outside (halt_bug (within rom x)))
+unfolding halt_bug within outside taken_successor
+halt_repeats z rom row a s region ranges entry base x stands halt off mark =
+    let m = stands.means.parts in
     let c = core_settle s.core in
+    let y : MState = record { processor = (repeated x).processor; storage = (passed (view rom x false) 1).storage } in
+    let t = taken_parts z rom row (behind_row a row) s c in
     let none : mark_of x.processor ≡ 0 = ap (λ b. cond b 1 0) mark in
     let pc : (x.processor.pc + (1 - mark_of x.processor)) % 65536 ≡ (a + 1) % 65536 = rw (none, stands.at) refl in
+    let to : LeadsTo region t.target t entry base x y =
+    subst (λ v. LeadsTo region v t entry base x y) (sym (halt_target z rom row a s c halt))
+    (record {
+      means = subst (λ k. MeansParts k entry base y) (sym (halt_state z rom row a s c halt))
+          (MeansParts-ended rom (with_core s c) entry base (repeated x).processor (view rom x false) false 1 refl
+          (MeansParts-with_core s c entry base x (repeated x) m (repeated_core s.core entry x off m.core) refl refl refl (λ set. sym (Keeps-settle s.core).stack ∙ set)));
+      goes = pc;
+      room = subst (λ (k : AbsState). AreInRegion region base (length k.items)) (sym (halt_state z rom row a s c halt)) (ended_room region base false 1 (with_core s c) stands.room);
+    }) in
     record {
-      successor = taken_successor rom row (behind_row a row) s c;
-      is_way = taken_way rom row a s c (halt_side row c halt.op_is);
-      held = subst (λ (t : AbsState). length t.items ≤ length s.items) (sym (halt_state rom row a s c halt)) (bytes_ended 1 (with_core s c));
+      successor = taken_successor z rom region row (behind_row a row) s c;
+      is_way = taken_way z rom region row a s c (halt_side row s c halt.op_is);
+      held = subst (λ (k : AbsState). length k.items ≤ length s.items) (sym (halt_state z rom row a s c halt)) (bytes_ended 1 (with_core s c));
       leads = record {
-        to = subst (λ v. LeadsTo region v (taken_successor rom row (behind_row a row) s c) entry base x (record { processor = (repeated x).processor; storage = (passed (view rom x false) 1).storage })) (sym (halt_target rom row a s c halt))
-            (record {
-              means = subst (λ t. Means t entry base (record { processor = (repeated x).processor; storage = (passed (view rom x false) 1).storage })) (sym (halt_state rom row a s c halt))
-                  (Means-ended rom (with_core s c) entry base (repeated x).processor (view rom x false) false 1 refl
-                  (Means-with_core s c entry base x (repeated x) m (repeated_core s.core entry x off m.core) refl refl refl (λ set. sym (Keeps-settle s.core).stack ∙ set)));
-              goes = pc;
-              room = subst (λ (t : AbsState). AreInRegion region base (length t.items)) (sym (halt_state rom row a s c halt)) (ended_room region base false 1 (with_core s c) stands.room);
-            });
+        to = LeadsTo-related region t.target (relations_behind z rom region row.op s c) t entry base x y to;
         kept = λ b kept. passed_peek (view rom x false) 1 b;
+        related = λ known. halt_related z rom region row a s entry base x y stands halt refl refl;
       };
     }
 
-pub successors_of_sound : (rom : List ℕ) (row : Row) (a : ℕ) (s : AbsState) (ss : Successors) → ss ≡ successors_of rom row a s → AreSoundSuccessors rom row a s ss
-successors_of_sound rom row a s ss e =
-    subst (AreSoundSuccessors rom row a s) (sym e)
+pub successors_of_sound : (z : Setting) (rom : List ℕ) (region : Region) (row : Row) (a : ℕ) (s : AbsState) (ss : Successors) → ss ≡ successors_of z rom region row a s → AreSoundSuccessors z rom region row a s ss
+successors_of_sound z rom region row a s ss e =
+    subst (AreSoundSuccessors z rom region row a s) (sym e)
     (record {
-      executes = λ region ranges entry base x reads stands ruled mark byte. executes rom row a s region ranges entry base x reads stands ruled mark byte;
-      stays = λ region ranges entry base x stands halt pending enabled. halt_stays rom row a s region ranges entry base x stands halt pending enabled;
-      repeats = λ region ranges entry base x stands halt off mark. halt_repeats rom row a s region ranges entry base x stands halt off mark;
+      executes = λ ranges entry base x reads stands ruled mark byte. executes z rom row a s region ranges entry base x reads stands ruled mark byte;
+      stays = λ ranges entry base x stands halt pending enabled. halt_stays z rom row a s region ranges entry base x stands halt pending enabled;
+      repeats = λ ranges entry base x stands halt off mark. halt_repeats z rom row a s region ranges entry base x stands halt off mark;
     })

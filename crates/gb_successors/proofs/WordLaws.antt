@@ -3,10 +3,12 @@ use Rattle.std.proofs.Common.{◌≡◌, ℕ, ◌+◌, ◌/◌, ◌%◌, ◌≤�
 use Rattle.std.proofs.lemmas.Bool.Decides.{nat_tests}
 use Rattle.gb_ops.specs.declared.op.Op.{Op}
 use Rattle.gb_ops.specs.declared.op.Op.TheVariants as op
+use Rattle.gb_domain.specs.declared.setting.Setting.{Setting}
 use Rattle.gb_domain.specs.declared.types.Val.{Val}
 use Rattle.gb_domain.specs.declared.types.Core.{Core}
 use Rattle.gb_domain.specs.declared.types.Halves.{Halves}
 use Rattle.gb_domain.specs.Types.{AbsState}
+use Rattle.gb_domain.specs.Limits.{item_room}
 use Rattle.gb_abs.specs.Below.gb_vals.Vals.{single}
 use Rattle.gb_abs.specs.Stack.{pushed, popped, youngest, last_word}
 use Rattle.gb_abs.proofs.StackLaws.{youngest_is}
@@ -26,69 +28,69 @@ no_other : false ≡ true → ⊥
 no_other h = cc
 
 -- PUSH
-pub record IsPush (o : Op) (next : ℕ) (c : Core) (low high : Val) : Type 0 where
+pub record IsPush (z : Setting) (o : Op) (next : ℕ) (sp : Halves) (c : Core) (low high : Val) : Type 0 where
   pub first : Val
   pub second : Val
-  pub write_is : (transfer o next c low high).write ≡ write.Push first second
+  pub write_is : (transfer o next sp c low high).write ≡ write.Push first second
   pub read_is : read_of o c ≡ read.Nothing
   pub target_is : target_of o next c ≡ target.At next
-  pub leaves : (s : AbsState) → with_stack_of o (write.Push first second) s ≡ pushed_if_room (record { high = first; low = second }) s
+  pub leaves : (s : AbsState) → with_stack_of z o (write.Push first second) s ≡ pushed_if_room z (record { high = first; low = second }) s
 
-pub IsPush-is_push : (o : Op) (next : ℕ) (c : Core) (low high : Val) → is_push o ≡ true → IsPush o next c low high
+pub IsPush-is_push : (z : Setting) (o : Op) (next : ℕ) (sp : Halves) (c : Core) (low high : Val) → is_push o ≡ true → IsPush z o next sp c low high
 unfolding transfer read_of target_of with_stack_of
-IsPush-is_push (op.Push from) next c low high h = record { first = _; second = _; write_is = refl; read_is = refl; target_is = refl; leaves = λ s. refl }
-IsPush-is_push o next c low high h = absurd (no_other h)
+IsPush-is_push z (op.Push from) next sp c low high h = record { first = _; second = _; write_is = refl; read_is = refl; target_is = refl; leaves = λ s. refl }
+IsPush-is_push z o next sp c low high h = absurd (no_other h)
 
 -- a call
-pub record IsCall (o : Op) (next : ℕ) (c : Core) (low high : Val) : Type 0 where
+pub record IsCall (z : Setting) (o : Op) (next : ℕ) (sp : Halves) (c : Core) (low high : Val) : Type 0 where
   pub address : ℕ
-  pub write_is : (transfer o next c low high).write ≡ write.Push (single (next / 256)) (single (next % 256))
+  pub write_is : (transfer o next sp c low high).write ≡ write.Push (single (next / 256)) (single (next % 256))
   pub read_is : read_of o c ≡ read.Nothing
   pub target_is : target_of o next c ≡ target.Call address
-  pub leaves : (w : AbsWrite) (s : AbsState) → with_stack_of o w s ≡ s
+  pub leaves : (w : AbsWrite) (s : AbsState) → with_stack_of z o w s ≡ s
 
-pub IsCall-is_call : (o : Op) (next : ℕ) (c : Core) (low high : Val) → is_call o ≡ true → IsCall o next c low high
+pub IsCall-is_call : (z : Setting) (o : Op) (next : ℕ) (sp : Halves) (c : Core) (low high : Val) → is_call o ≡ true → IsCall z o next sp c low high
 unfolding transfer read_of target_of with_stack_of
-IsCall-is_call (op.CallIf k a) next c low high h = record { address = a; write_is = refl; read_is = refl; target_is = refl; leaves = λ w s. refl }
-IsCall-is_call (op.Call a) next c low high h = record { address = a; write_is = refl; read_is = refl; target_is = refl; leaves = λ w s. refl }
-IsCall-is_call (op.Restart a) next c low high h = record { address = a; write_is = refl; read_is = refl; target_is = refl; leaves = λ w s. refl }
-IsCall-is_call o next c low high h = absurd (no_other h)
+IsCall-is_call z (op.CallIf k a) next sp c low high h = record { address = a; write_is = refl; read_is = refl; target_is = refl; leaves = λ w s. refl }
+IsCall-is_call z (op.Call a) next sp c low high h = record { address = a; write_is = refl; read_is = refl; target_is = refl; leaves = λ w s. refl }
+IsCall-is_call z (op.Restart a) next sp c low high h = record { address = a; write_is = refl; read_is = refl; target_is = refl; leaves = λ w s. refl }
+IsCall-is_call z o next sp c low high h = absurd (no_other h)
 
 -- POP
-pub record IsPop (o : Op) (next : ℕ) (c : Core) (low high : Val) : Type 0 where
-  pub write_is : (transfer o next c low high).write ≡ write.Nothing
+pub record IsPop (z : Setting) (o : Op) (next : ℕ) (sp : Halves) (c : Core) (low high : Val) : Type 0 where
+  pub write_is : (transfer o next sp c low high).write ≡ write.Nothing
   pub read_is : read_of o c ≡ read.Top
   pub target_is : target_of o next c ≡ target.At next
-  pub leaves : (w : AbsWrite) (s : AbsState) → with_stack_of o w s ≡ popped s
+  pub leaves : (w : AbsWrite) (s : AbsState) → with_stack_of z o w s ≡ popped s
 
-pub IsPop-is_pop : (o : Op) (next : ℕ) (c : Core) (low high : Val) → is_pop o ≡ true → IsPop o next c low high
+pub IsPop-is_pop : (z : Setting) (o : Op) (next : ℕ) (sp : Halves) (c : Core) (low high : Val) → is_pop o ≡ true → IsPop z o next sp c low high
 unfolding transfer read_of target_of with_stack_of
-IsPop-is_pop (op.Pop to) next c low high h = record { write_is = refl; read_is = refl; target_is = refl; leaves = λ w s. refl }
-IsPop-is_pop o next c low high h = absurd (no_other h)
+IsPop-is_pop z (op.Pop to) next sp c low high h = record { write_is = refl; read_is = refl; target_is = refl; leaves = λ w s. refl }
+IsPop-is_pop z o next sp c low high h = absurd (no_other h)
 
 -- a return
-pub record IsReturn (o : Op) (next : ℕ) (c : Core) (low high : Val) : Type 0 where
-  pub write_is : (transfer o next c low high).write ≡ write.Nothing
+pub record IsReturn (z : Setting) (o : Op) (next : ℕ) (sp : Halves) (c : Core) (low high : Val) : Type 0 where
+  pub write_is : (transfer o next sp c low high).write ≡ write.Nothing
   pub read_is : read_of o c ≡ read.Top
   pub target_is : target_of o next c ≡ target.Return
-  pub leaves : (w : AbsWrite) (s : AbsState) → with_stack_of o w s ≡ s
+  pub leaves : (w : AbsWrite) (s : AbsState) → with_stack_of z o w s ≡ s
 
-pub IsReturn-is_return : (o : Op) (next : ℕ) (c : Core) (low high : Val) → is_return o ≡ true → IsReturn o next c low high
+pub IsReturn-is_return : (z : Setting) (o : Op) (next : ℕ) (sp : Halves) (c : Core) (low high : Val) → is_return o ≡ true → IsReturn z o next sp c low high
 unfolding transfer read_of target_of with_stack_of
-IsReturn-is_return (op.ReturnIf k) next c low high h = record { write_is = refl; read_is = refl; target_is = refl; leaves = λ w s. refl }
-IsReturn-is_return op.Return next c low high h = record { write_is = refl; read_is = refl; target_is = refl; leaves = λ w s. refl }
-IsReturn-is_return op.ReturnFromInterrupt next c low high h = record { write_is = refl; read_is = refl; target_is = refl; leaves = λ w s. refl }
-IsReturn-is_return o next c low high h = absurd (no_other h)
+IsReturn-is_return z (op.ReturnIf k) next sp c low high h = record { write_is = refl; read_is = refl; target_is = refl; leaves = λ w s. refl }
+IsReturn-is_return z op.Return next sp c low high h = record { write_is = refl; read_is = refl; target_is = refl; leaves = λ w s. refl }
+IsReturn-is_return z op.ReturnFromInterrupt next sp c low high h = record { write_is = refl; read_is = refl; target_is = refl; leaves = λ w s. refl }
+IsReturn-is_return z o next sp c low high h = absurd (no_other h)
 
 -- where there is room, the word is pushed
-pub pushed-if_room : (i : Halves) (s : AbsState) → nat_lt 32 (length s.items + 2) ≡ false → pushed_if_room i s ≡ pushed i s
+pub pushed-if_room : (z : Setting) (i : Halves) (s : AbsState) → nat_lt (item_room z.rules) (length s.items + 2) ≡ false → pushed_if_room z i s ≡ pushed i s
 unfolding pushed_if_room
-pushed-if_room i s h = ap (λ b. cond b s (pushed i s)) h
+pushed-if_room z i s h = ap (λ b. cond b s (pushed i s)) h
 
 -- of fewer than two bytes none is left
 pub popped_few : (s : AbsState) → (2 ≤ length s.items → ⊥) → record s { items = [] } ≡ popped s
 unfolding popped
-popped_few s h = sym (ap (λ items. record { core = s.core; items = items; cells = s.cells }) (nothing s.items h))
+popped_few s h = sym (ap (λ items. record s { items = items }) (nothing s.items h))
   where
     nothing : (xs : List Val) → (2 ≤ length xs → ⊥) → take (length xs - 2) xs ≡ []
     nothing [] h = refl

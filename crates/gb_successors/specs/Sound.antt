@@ -12,23 +12,28 @@ use Rattle.gb_ops.specs.Pairs.{word}
 use Rattle.gb_ops.specs.Machine.{executed, halt_stay, halt_bug, has_enabled}
 use Rattle.gb_ops.specs.Faults.{no_faults, row_faults}
 use Rattle.gb_ops.specs.Play.{MState, within, outside}
+use Rattle.gb_domain.specs.declared.rules.Rules.TheVariants.{Simple}
+use Rattle.gb_domain.specs.declared.setting.Setting.{Setting}
 use Rattle.gb_domain.specs.declared.types.Range.{Range}
 use Rattle.gb_domain.specs.Types.{AbsState}
 use Rattle.gb_domain.specs.Areas.{IsRegion}
+use Rattle.gb_domain.specs.Limits.{item_room}
 use Rattle.gb_domain.specs.Rules.{IsCore, IsVal}
+use Rattle.gb_domain.specs.Settings.{IsBase}
 use Rattle.gb_abs.specs.Storage.{peek}
 use Rattle.gb_abs.specs.Cells.{ArePlaced}
 use Rattle.gb_abs.specs.Stack.{AreInRegion, pushed}
-use Rattle.gb_abs.specs.Meaning.{Means}
+use Rattle.gb_abs.specs.Meaning.{MeansParts}
 use Rattle.gb_abs_effects.specs.declared.targets.Target.{Target}
 use Rattle.gb_abs_effects.specs.declared.targets.Target.TheVariants as target
 use Rattle.gb_abs_effects.specs.Sound.{HasBytes}
 use Rattle.gb_abs_effects.specs.Targets.{moves_sp, is_push, is_pop, is_call, is_return}
 use Rattle.gb_abs_memory.specs.Kept.{IsKept}
 use Rattle.gb_abs_memory.specs.Sound.{IsRom, AreVals}
+use Rattle.gb_product.specs.Meaning.{AreRelated, Means}
 use Rattle.gb_successors.specs.Way.{Successor}
 use Rattle.gb_successors.specs.declared.successors.Successors.{Successors}
-use Rattle.gb_successors.specs.Refused.{is_unstorable, meets_closed, meets_oam_transfer}
+use Rattle.gb_successors.specs.Refused.{is_unstorable, meets_closed, meets_oam_transfer, is_unknown}
 use Rattle.gb_abs_effects.specs.Pairs.{known_word}
 
 -- one of the successors
@@ -38,9 +43,9 @@ IsOneOf ss t = (ss.taken ≡ Some t) ⊎ ((ss.not_taken ≡ Some t) ⊎ (ss.stay
 -- ---- the stack
 
 -- the stack is set, with room for a word behind the bytes that are held
-pub record IsPushable (region : Region) (s : AbsState) (base : ℕ) : Type 0 where
+pub record IsPushable (z : Setting) (region : Region) (s : AbsState) (base : ℕ) : Type 0 where
   pub stack_set : s.core.stack_set ≡ true
-  pub held : nat_lt 32 (length s.items + 2) ≡ false
+  pub held : nat_lt (item_room z.rules) (length s.items + 2) ≡ false
   pub room : AreInRegion region base (length s.items + 2)
 
 -- the stack is set, and a word is held
@@ -56,11 +61,11 @@ pub record IsReturnable (region : Region) (s : AbsState) (t : Successor) (base :
 
 -- SP stays; LD SP,n16 sets it to the base; or the instruction is one of the stack's, and finds what it asks for. What
 -- calls and returns ask for more is asked where they are taken.
-abbrev pub IsStackKnown : Region → Op → AbsState → ℕ → Type 0
-IsStackKnown region o s base =
+abbrev pub IsStackKnown : Setting → Region → Op → AbsState → ℕ → Type 0
+IsStackKnown z region o s base =
     (moves_sp o ≡ false)
     ⊎ ((o ≡ op.LoadPair pair.Sp base)
-    ⊎ (((is_push o ≡ true) × IsPushable region s base)
+    ⊎ (((is_push o ≡ true) × IsPushable z region s base)
     ⊎ (((is_pop o ≡ true) × IsPoppable s)
     ⊎ (((is_call o ≡ true) × (s.core.stack_set ≡ true))
     ⊎ (is_return o ≡ true)))))
@@ -86,13 +91,13 @@ pub record IsAllowed (rom : List ℕ) (region : Region) (ranges : List Range) (s
 
 -- the machine stands in the same procedure at an address
 pub record StaysAt (region : Region) (a : ℕ) (t : Successor) (entry : MState) (base : ℕ) (y : MState) : Type 0 where
-  pub means : Means t.state entry base y
+  pub means : MeansParts t.state entry base y
   pub goes : y.processor.pc ≡ a
   pub room : AreInRegion region base (length t.state.items)
 
 -- the machine has called: the word of the address behind the call is on its stack
 pub record CallsAt (region : Region) (a : ℕ) (t : Successor) (entry : MState) (base : ℕ) (y : MState) : Type 0 where
-  pub means : Means (pushed (known_word t.next) t.state) entry base y
+  pub means : MeansParts (pushed (known_word t.next) t.state) entry base y
   pub next : t.next < 65536
   pub goes : y.processor.pc ≡ a
   pub stack_set : t.state.core.stack_set ≡ true
@@ -100,7 +105,7 @@ pub record CallsAt (region : Region) (a : ℕ) (t : Successor) (entry : MState) 
 
 -- from x to y the machine has returned to the word at the base, which is off the stack
 pub record ReturnsTo (t : Successor) (entry : MState) (base : ℕ) (x y : MState) : Type 0 where
-  pub means : Means t.state entry (base + 2) y
+  pub means : MeansParts t.state entry (base + 2) y
   pub goes : y.processor.pc ≡ word (peek x.storage (base + 1)) (peek x.storage base)
 
 -- of a jump to somewhere nothing is said
@@ -110,13 +115,19 @@ LeadsTo region (target.Call a) t entry base x y = CallsAt region a t entry base 
 LeadsTo region target.Return t entry base x y = ReturnsTo t entry base x y
 LeadsTo region target.Unknown t entry base x y = Unit {0}
 
--- an event leads from x to y by the successor, and leaves what the procedure keeps
-pub record Leads (region : Region) (ranges : List Range) (t : Successor) (entry : MState) (base : ℕ) (x y : MState) : Type 0 where
+-- each part of the states behind by itself: an event leads from x to y by the successor, and leaves what the procedure keeps
+pub record LeadsParts (region : Region) (ranges : List Range) (t : Successor) (entry : MState) (base : ℕ) (x y : MState) : Type 0 where
   pub to : LeadsTo region t.target t entry base x y
   pub kept : (b : ℕ) → IsKept region ranges base b → peek y.storage b ≡ peek x.storage b
 
--- the machine stands before an instruction at an address, in a state that s means
-pub record Stands (rom : List ℕ) (region : Region) (row : Row) (a : ℕ) (s : AbsState) (entry : MState) (base : ℕ) (x : MState) : Type 0 where
+-- so it does, and what is known together of the states behind holds of y, but for a jump to somewhere
+pub record Leads (region : Region) (ranges : List Range) (t : Successor) (entry : MState) (base : ℕ) (x y : MState) : Type 0 where
+  pub to : LeadsTo region t.target t entry base x y
+  pub kept : (b : ℕ) → IsKept region ranges base b → peek y.storage b ≡ peek x.storage b
+  pub related : is_unknown t.target ≡ false → AreRelated t.state.relations y
+
+-- the machine stands before an instruction at an address, in a state that s means, by the rules of versions 1 and 2
+pub record Stands (z : Setting) (rom : List ℕ) (region : Region) (row : Row) (a : ℕ) (s : AbsState) (entry : MState) (base : ℕ) (x : MState) : Type 0 where
   pub cartridge : IsRom rom
   pub is_region : IsRegion region
   pub core : IsCore s.core
@@ -125,13 +136,15 @@ pub record Stands (rom : List ℕ) (region : Region) (row : Row) (a : ℕ) (s : 
   pub items : AllByRecursion IsVal s.items
   pub room : AreInRegion region base (length s.items)
   pub means : Means s entry base x
+  pub based : IsBase z base
+  pub rules : z.rules ≡ Simple
   pub at : x.processor.pc ≡ a
 
 -- the instruction is one that may stand there
-pub record IsRuled (region : Region) (row : Row) (s : AbsState) (base : ℕ) : Type 0 where
+pub record IsRuled (z : Setting) (region : Region) (row : Row) (s : AbsState) (base : ℕ) : Type 0 where
   pub operands : HasBytes row.op
   pub runs : row.op ≡ op.Stop → ⊥
-  pub stack : IsStackKnown region row.op s base
+  pub stack : IsStackKnown z region row.op s base
 
 -- where the HALT mark is clear, an instruction that is executed leads by one of the successors, if nothing is against that
 -- one's accesses, and then without a fault
@@ -159,16 +172,16 @@ pub record IsHalt (row : Row) : Type 0 where
 -- Whatever an instruction but STOP does where the HALT mark is clear, it leads by one of the successors: executed, or HALT with an
 -- interrupt that is requested.
 -- Then, with IME pending, the processor stays on it; with IME off the byte behind it will be read twice.
-pub record AreSoundSuccessors (rom : List ℕ) (row : Row) (a : ℕ) (s : AbsState) (ss : Successors) : Type 0 where
+pub record AreSoundSuccessors (z : Setting) (rom : List ℕ) (region : Region) (row : Row) (a : ℕ) (s : AbsState) (ss : Successors) : Type 0 where
   pub executes :
-      (region : Region) (ranges : List Range) (entry : MState) (base : ℕ) (x : MState) (reads : List ℕ)
-      → Stands rom region row a s entry base x → IsRuled region row s base → x.processor.halt_mark ≡ false → slice_index reads 0 ≤ 255
+      (ranges : List Range) (entry : MState) (base : ℕ) (x : MState) (reads : List ℕ)
+      → Stands z rom region row a s entry base x → IsRuled z region row s base → x.processor.halt_mark ≡ false → slice_index reads 0 ≤ 255
       → Executes rom region ranges row s ss entry base x reads
   pub stays :
-      (region : Region) (ranges : List Range) (entry : MState) (base : ℕ) (x : MState)
-      → Stands rom region row a s entry base x → IsHalt row → x.processor.ime ≡ ime.Pending → has_enabled (within rom x) ≡ true
+      (ranges : List Range) (entry : MState) (base : ℕ) (x : MState)
+      → Stands z rom region row a s entry base x → IsHalt row → x.processor.ime ≡ ime.Pending → has_enabled (within rom x) ≡ true
       → LeadsBy region ranges (length s.items) ss.stays entry base x (outside (halt_stay (within rom x)))
   pub repeats :
-      (region : Region) (ranges : List Range) (entry : MState) (base : ℕ) (x : MState)
-      → Stands rom region row a s entry base x → IsHalt row → x.processor.ime ≡ ime.Off → x.processor.halt_mark ≡ false
+      (ranges : List Range) (entry : MState) (base : ℕ) (x : MState)
+      → Stands z rom region row a s entry base x → IsHalt row → x.processor.ime ≡ ime.Off → x.processor.halt_mark ≡ false
       → LeadsBy region ranges (length s.items) ss.taken entry base x (outside (halt_bug (within rom x)))

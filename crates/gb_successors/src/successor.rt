@@ -9,6 +9,7 @@ ghost use Rattle.gb_successors.specs.Words.{word_or_any};
 
 pub use crate::way::{Moved, Successor};
 use gb_abs::any;
+use gb_abs::located::sp_halves;
 use gb_abs::operations::end;
 use gb_abs::span::Span;
 use gb_abs_effects::pairs::any_word;
@@ -19,9 +20,11 @@ use gb_abs_effects::writes::AbsWrite;
 use gb_abs_memory::Rom;
 use gb_abs_memory::load::loaded_by;
 use gb_abs_memory::store::{Area, area_of, starts_oam_transfer, stored_core};
-use gb_domain::types::{Abs, Core, Halves, ImeSet};
-use gb_ops::machine::Kind;
+use gb_domain::pairs::ANY_BOUNDS;
+use gb_domain::types::{Abs, Core, Halves, ImeSet, Setting};
+use gb_ops::machine::{Kind, Region};
 use gb_ops::op::{Op, Pair, Row};
+use gb_relations::transfer::relations_after;
 
 /// The word that was pushed last, as far as it is known.
 #[tactic(auto, using(crate::proofs::WordLaws::top_word_is, crate::proofs::WordLaws::no_word_is))]
@@ -39,13 +42,13 @@ fn top_word(state: &Abs) -> Halves
 
 /// What is known of what is read: of a byte, or of the word that was pushed last.
 #[tactic(auto, unfolding(crate::specs::Behind::read_word, gb_abs::specs::Stack::youngest))]
-fn read_word(rom: &Rom<'_>, state: &Abs, core: &Core, read: AbsRead) -> Halves
-    ensures { result ≡ Behind.read_word rom.now (with_core state.now core.now) read }
+fn read_word(setting: Setting, rom: &Rom<'_>, state: &Abs, core: &Core, read: AbsRead) -> Halves
+    ensures { result ≡ Behind.read_word setting rom.now (with_core state.now core.now) read }
 {
     match read {
         AbsRead::Byte(span) => Halves {
             high: any(),
-            low: loaded_by(rom, core, state, span),
+            low: loaded_by(setting, rom, core, state, span),
         },
         AbsRead::Top => top_word(state),
         AbsRead::Nothing => any_word(),
@@ -100,11 +103,11 @@ fn changes_cells(kind: Kind, write: AbsWrite) -> bool
 
 /// What changes items or cells, if something does.
 #[tactic(auto, unfolding(crate::specs::Behind::move_of))]
-fn move_of(kind: Kind, op: Op, write: AbsWrite) -> Option<Moved>
-    ensures { result ≡ Behind.move_of kind op write }
+fn move_of(setting: Setting, kind: Kind, op: Op, write: AbsWrite) -> Option<Moved>
+    ensures { result ≡ Behind.move_of setting kind op write }
 {
     if moves_stack(op, write) || changes_cells(kind, write) {
-        Some(Moved { kind, op })
+        Some(Moved { setting, kind, op })
     } else {
         None
     }
@@ -149,19 +152,21 @@ fn core_behind(kind: Kind, op: Op, cycles: u8, write: AbsWrite, core: Core) -> C
 }
 
 /// The successor where the instruction is taken, from a settled core. The address behind it is given.
-#[tactic(auto, using(crate::proofs::MovedLaws::taken_state), unfolding(crate::specs::Successors::taken_successor))]
+#[tactic(auto, using(crate::proofs::MovedLaws::taken_state), unfolding(crate::specs::Successors::taken_successor, crate::specs::Successors::taken_parts, crate::specs::Successors::relations_behind))]
 pub(crate) fn taken_successor<'a>(
+    setting: Setting,
     rom: &Rom<'_>,
+    region: Region,
     row: Row,
     next: u16,
     state: &'a Abs,
     core: Core,
 ) -> Successor<'a>
-    ensures { result ≡ Succession.taken_successor rom.now row next state.now core }
+    ensures { result ≡ Succession.taken_successor setting rom.now region row next state.now core }
 {
     let read = read_of(row.op, &core);
-    let word = read_word(rom, state, &core, read);
-    let effect = transfer(row.op, next, &core, word.low, word.high);
+    let word = read_word(setting, rom, state, &core, read);
+    let effect = transfer(row.op, next, sp_halves(setting, state), &core, word.low, word.high);
     let kind = rom.kind();
     Successor {
         read,
@@ -169,7 +174,16 @@ pub(crate) fn taken_successor<'a>(
         target: target_of(row.op, next, &core),
         next,
         core: core_behind(kind, row.op, row.cycles, effect.write, effect.core),
-        moved: move_of(kind, row.op, effect.write),
+        relations: relations_after(
+            setting.rules,
+            region,
+            row.op,
+            ANY_BOUNDS,
+            &core.registers,
+            word.low,
+            state.relations(),
+        ),
+        moved: move_of(setting, kind, row.op, effect.write),
         before: state,
     }
 }
@@ -185,6 +199,7 @@ pub(crate) fn untaken_successor(row: Row, next: u16, state: &Abs, core: Core) ->
         target: Target::At(next),
         next,
         core: end(false, row.cycles_not_taken, &core),
+        relations: *state.relations(),
         moved: None,
         before: state,
     }
@@ -209,6 +224,7 @@ pub(crate) fn staying_successor(address: u16, state: &Abs) -> Successor<'_>
         target: Target::At(address),
         next: address,
         core: end(false, 1, &woken),
+        relations: *state.relations(),
         moved: None,
         before: state,
     }

@@ -7,10 +7,11 @@ ghost use Rattle.gb_successors.specs.Sound.{AreSoundSuccessors};
 use crate::successor::{Successor, staying_successor, taken_successor, untaken_successor};
 use gb_abs::may_enable;
 use gb_abs::operations::settle;
-use gb_abs_effects::sides::sides_of;
 use gb_abs_memory::Rom;
-use gb_domain::types::{Abs, Core};
+use gb_domain::types::{Abs, Core, Setting};
+use gb_ops::machine::Region;
 use gb_ops::op::{Op, Row};
+use gb_product::sides::sides_of;
 
 /// The possible successors of an instruction.
 #[derive(Drop)]
@@ -47,21 +48,35 @@ fn stays(row: Row, address: u16, state: &Abs) -> Option<Successor<'_>>
 /// Where the HALT mark is clear and the instruction isn't STOP, executing it leads by one of them, if
 /// nothing refuses that one's accesses; so do staying on HALT and the halt bug.
 #[tactic(auto, using(crate::proofs::WayLaws::successors_of_sound))]
-pub fn successors_of<'a>(rom: &Rom<'_>, row: Row, address: u16, state: &'a Abs) -> Successors<'a>
-    ensures exact { result ≡ Succession.successors_of rom.now row address state.now }
-    ensures sound { AreSoundSuccessors rom.now row address state.now result }
+pub fn successors_of<'a>(
+    setting: Setting,
+    rom: &Rom<'_>,
+    region: Region,
+    row: Row,
+    address: u16,
+    state: &'a Abs,
+) -> Successors<'a>
+    ensures exact { result ≡ Succession.successors_of setting rom.now region row address state.now }
+    ensures sound { AreSoundSuccessors setting rom.now region row address state.now result }
 {
-    ways(rom, row, address, state)
+    ways(setting, rom, region, row, address, state)
 }
 
 #[tactic(auto, unfolding(crate::specs::Successors::successors_of))]
-fn ways<'a>(rom: &Rom<'_>, row: Row, address: u16, state: &'a Abs) -> Successors<'a>
-    ensures { result ≡ Succession.successors_of rom.now row address state.now }
+fn ways<'a>(
+    setting: Setting,
+    rom: &Rom<'_>,
+    region: Region,
+    row: Row,
+    address: u16,
+    state: &'a Abs,
+) -> Successors<'a>
+    ensures { result ≡ Succession.successors_of setting rom.now region row address state.now }
 {
     let next = address.wrapping_add(u16::from(row.length));
-    let sides = sides_of(row.op, &settle(state.core()));
+    let sides = sides_of(row.op, state, &settle(state.core()));
     let taken = match sides.taken {
-        Some(core) => Some(taken_successor(rom, row, next, state, core)),
+        Some(core) => Some(taken_successor(setting, rom, region, row, next, state, core)),
         None => None,
     };
     let not_taken = match sides.not_taken {

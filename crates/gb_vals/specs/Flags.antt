@@ -54,9 +54,8 @@ own_origin false = None
 
 abbrev pub is_own_origin : Option Origin → Bool
 is_own_origin None = false
-is_own_origin (Some (origin.Register r)) = false
 is_own_origin (Some origin.F) = true
-is_own_origin (Some origin.Ie) = false
+is_own_origin (Some _) = false
 
 abbrev pub any_flags : Bool → Flg
 any_flags is_own = record { zero = either; subtract = either; half_carry = either; carry = either; is_own = is_own }

@@ -1,41 +1,19 @@
 -- What a conditional instruction learns from its condition (abstract interpretation: branch refinement; own).
-use Rattle.std.specs.Prelude.{◌≡◌, ℕ, ◌+◌, ◌-◌, ◌<◌, Bool, true, false, ◌==◌, if◌then◌else◌, nat_lt, Option, Some, None}
-use Rattle.gb_ops.specs.declared.op.AluOp.{AluOp}
-use Rattle.gb_ops.specs.declared.op.AluOp.TheVariants as alu
+use Rattle.std.specs.Prelude.{◌≡◌, ℕ, ◌+◌, ◌-◌, Bool, true, false, ◌==◌, if◌then◌else◌, nat_lt, Option, Some, None}
 use Rattle.gb_ops.specs.declared.op.Condition.{Condition}
 use Rattle.gb_ops.specs.declared.op.Condition.TheVariants as condition
 use Rattle.gb_ops.specs.declared.registers.Flags.{Flags}
-use Rattle.gb_ops.specs.declared.machine.Computed.{Computed}
 use Rattle.gb_ops.specs.Flags.{is_met}
 use Rattle.gb_domain.specs.declared.types.Val.{Val}
 use Rattle.gb_domain.specs.declared.types.Flg.{Flg}
-use Rattle.gb_domain.specs.Rules.{IsVal, IsFlg}
-use Rattle.gb_vals.specs.declared.branch.Branch.{Branch}
+use Rattle.gb_domain.specs.Rules.{IsFlg}
 use Rattle.gb_vals.specs.Flags.{known}
 use Rattle.gb_vals.specs.Logic.{smaller, larger}
-use Rattle.gb_vals.specs.Meaning.{In, FlagsIn}
+use Rattle.gb_vals.specs.Meaning.{FlagsIn}
 
--- ---- tests
-
--- test n: Z is set exactly where A is n, and C exactly where A is below n
-abbrev pub IsTested : Option ℕ → ℕ → Flags → Type 0
-IsTested None a f = Unit {0}
-IsTested (Some n) a f = (f.zero ≡ (a == n)) × (f.carry ≡ nat_lt a n)
-
--- a test holds of what the machine computes
-pub record IsTestOf (machine : ℕ → Flags → Computed) (test : Option ℕ) : Type 0 where
-  pub holds : (a : ℕ) (f : Flags) → a < 256 → IsTested test (machine a f).value (machine a f).flags
-
--- the test that an operation with n leaves: CP alone leaves one
-abbrev pub test_of_immediate : AluOp → ℕ → Option ℕ
-test_of_immediate alu.Cp n = Some n
-test_of_immediate _ n = None
-
--- the test that an operation of A with A leaves: AND and OR compare A with 0
-abbrev pub test_of_itself : AluOp → Option ℕ
-test_of_itself alu.And = Some 0
-test_of_itself alu.Or = Some 0
-test_of_itself _ = None
+-- what the flags say of a value that was compared with n: Z is set exactly where it is n, and C exactly where it is below n
+abbrev pub IsCompared : ℕ → ℕ → Flags → Type 0
+IsCompared n v f = (f.zero ≡ (v == n)) × (f.carry ≡ nat_lt v n)
 
 -- ---- sides
 
@@ -66,40 +44,32 @@ without n v =
     else if v.hi == n then meet 0 n v
     else Some v
 
--- A where a condition is met after test n
+-- the values that a condition leaves behind a comparison with n
 abbrev pub narrowed_by : ℕ → Condition → Val → Option Val
 narrowed_by n condition.NotZero v = without n v
 narrowed_by n condition.Zero v = meet n (n + 1) v
 narrowed_by n condition.NotCarry v = meet n 256 v
 narrowed_by n condition.Carry v = meet 0 n v
 
-unfoldable pub narrowed : Option ℕ → Condition → Val → Option Val
-narrowed None condition v = Some v
-narrowed (Some n) condition v = narrowed_by n condition v
+-- the flags where a condition is met, if that is possible
+unfoldable pub side : Condition → Flg → Option Flg
+side condition f = if may_be_met condition f then Some (flags_met condition f) else None
 
-abbrev pub side_with : Flg → Option Val → Option Branch
-side_with f None = None
-side_with f (Some a) = Some (record { a = a; flags = f })
+-- a side stands for the flags; one that can't be, for none
+abbrev pub IsOnSide : Option Flg → Flags → Type 0
+IsOnSide None g = ⊥
+IsOnSide (Some f) g = FlagsIn f g
 
--- the side of a conditional instruction where its condition is met, if that is possible
-unfoldable pub side : Option ℕ → Condition → Val → Flg → Option Branch
-side test condition a f = if may_be_met condition f then side_with (flags_met condition f) (narrowed test condition a) else None
+-- the side stands for all flags that f stands for, that meet the condition
+pub record IsSoundSide (condition : Condition) (f : Flg) (o : Option Flg) : Type 0 where
+  pub gives : (g : Flags) → FlagsIn f g → is_met condition g ≡ true → IsOnSide o g
 
--- a side stands for A and the flags; one that can't be, for none
-abbrev pub IsOnSide : Option Branch → ℕ → Flags → Type 0
-IsOnSide None x g = ⊥
-IsOnSide (Some s) x g = In s.a x × FlagsIn s.flags g
-
--- the side stands for all that a and f stand for, that keep the test and meet the condition
-pub record IsSoundSide (test : Option ℕ) (condition : Condition) (a : Val) (f : Flg) (o : Option Branch) : Type 0 where
-  pub gives : (x : ℕ) (g : Flags) → In a x → FlagsIn f g → IsTested test x g → is_met condition g ≡ true → IsOnSide o x g
-
--- a side that can be has a value of A, and each flag one
-abbrev pub IsSide : Option Branch → Type 0
+-- on a side that can be each flag has a value
+abbrev pub IsSide : Option Flg → Type 0
 IsSide None = Unit {0}
-IsSide (Some s) = IsVal s.a × IsFlg s.flags
+IsSide (Some f) = IsFlg f
 
--- A and F stay copies of what they were copies of
-abbrev pub IsKept : Val → Flg → Option Branch → Type 0
-IsKept a f None = Unit {0}
-IsKept a f (Some s) = (s.a.origin ≡ a.origin) × (s.flags.is_own ≡ f.is_own)
+-- F stays a copy of what it was a copy of
+abbrev pub IsKept : Flg → Option Flg → Type 0
+IsKept f None = Unit {0}
+IsKept f (Some g) = g.is_own ≡ f.is_own

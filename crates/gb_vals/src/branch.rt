@@ -1,45 +1,13 @@
 //! What a conditional instruction learns from its condition.
 
 ghost use Rattle.std.specs.Prelude.{◌≡◌};
-ghost use Rattle.gb_domain.specs.Rules.{IsVal, IsFlg};
-ghost use Rattle.gb_vals.specs.Alu.{result_with, result_with_itself};
+ghost use Rattle.gb_domain.specs.Rules.{IsFlg};
 ghost use Rattle.gb_vals.specs.Tests as Tests;
-ghost use Rattle.gb_vals.specs.Tests.{IsTestOf, IsSoundSide, IsSide, IsKept};
+ghost use Rattle.gb_vals.specs.Tests.{IsSoundSide, IsSide, IsKept};
 
 use crate::flags::known;
 use gb_domain::types::{Flg, Val};
-use gb_ops::op::{AluOp, Condition};
-
-/// A and the flags where a condition is met.
-#[derive(Clone, Copy, PartialEq, Eq)]
-pub struct Branch {
-    pub a: Val,
-    pub flags: Flg,
-}
-
-/// The test that an operation of A with a known operand leaves: CP alone leaves one.
-#[tactic(auto, using(crate::proofs::BranchLaws::test_of_immediate_sound))]
-pub fn test_of_immediate(op: AluOp, operand: u8) -> Option<u8>
-    ensures exact { result ≡ Tests.test_of_immediate op operand }
-    ensures sound { IsTestOf (result_with op operand) result }
-{
-    match op {
-        AluOp::Cp => Some(operand),
-        _ => None,
-    }
-}
-
-/// The test that an operation of A with A leaves: AND and OR compare A with 0.
-#[tactic(auto, using(crate::proofs::BranchLaws::test_of_itself_sound))]
-pub fn test_of_itself(op: AluOp) -> Option<u8>
-    ensures exact { result ≡ Tests.test_of_itself op }
-    ensures sound { IsTestOf (result_with_itself op) result }
-{
-    match op {
-        AluOp::And | AluOp::Or => Some(0),
-        _ => None,
-    }
-}
+use gb_ops::op::Condition;
 
 fn may_be_met(condition: Condition, flags: Flg) -> bool
     ensures { result ≡ Tests.may_be_met condition flags }
@@ -119,33 +87,25 @@ pub fn narrowed_by(n: u8, condition: Condition, val: Val) -> Option<Val>
     }
 }
 
-/// A where a condition is met after a test.
-#[tactic(auto, unfolding(crate::specs::Tests::narrowed))]
-fn narrowed(test: Option<u8>, condition: Condition, a: Val) -> Option<Val>
-    ensures { result ≡ Tests.narrowed test condition a }
+/// The flags on the side of a conditional instruction where its condition is met: the flag is known. `None` where the
+/// flag can't be so. F stays a copy.
+#[tactic(auto, using(crate::proofs::BranchLaws::side_sound, crate::proofs::BranchLaws::side_inhabited, crate::proofs::BranchLaws::side_kept))]
+pub fn side(condition: Condition, flags: Flg) -> Option<Flg>
+    ensures exact { result ≡ Tests.side condition flags }
+    ensures sound { IsSoundSide condition flags result }
+    ensures inhabited { IsFlg flags → IsSide result }
+    ensures kept { IsKept flags result }
 {
-    match test {
-        Some(n) => narrowed_by(n, condition, a),
-        None => Some(a),
-    }
+    flags_where(condition, flags)
 }
 
-/// A and the flags on the side of a conditional instruction where its condition is met: the flag
-/// is known, and A is narrowed by the test, if there is one. `None` where the flag can't be so, or
-/// no value of A is left. Origins stay.
-#[tactic(auto, using(crate::proofs::BranchLaws::side_sound), unfolding(crate::specs::Tests::side))]
-pub fn side(test: Option<u8>, condition: Condition, a: Val, flags: Flg) -> Option<Branch>
-    ensures exact { result ≡ Tests.side test condition a flags }
-    ensures sound { IsSoundSide test condition a flags result }
-    ensures inhabited { IsVal a → IsFlg flags → IsSide result }
-    ensures kept { IsKept a flags result }
+#[tactic(auto, unfolding(crate::specs::Tests::side))]
+fn flags_where(condition: Condition, flags: Flg) -> Option<Flg>
+    ensures { result ≡ Tests.side condition flags }
 {
-    if !may_be_met(condition, flags) {
-        return None;
+    if may_be_met(condition, flags) {
+        Some(flags_met(condition, flags))
+    } else {
+        None
     }
-    let a = narrowed(test, condition, a)?;
-    Some(Branch {
-        a,
-        flags: flags_met(condition, flags),
-    })
 }

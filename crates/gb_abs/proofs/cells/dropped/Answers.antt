@@ -7,7 +7,7 @@ use Rattle.gb_abs.proofs.cells.dropped.Goals as goal
 
 pub push-requires : goal.push-requires
 push-requires c =
-    let room : length {A = Cell} [] + length (filter (is_outside c.args.first c.args.last) c.cells-cell-items.result.now) ≤ 32 =
+    let room : length {A = Cell} [] + length (filter (is_outside c.args.first c.args.last) c.cells-cell-items.result.now) ≤ 64 =
     let fewer = length-where (is_outside c.args.first c.args.last) c.cells-cell-items.result.now in
     let same = ap length c.cells-cell-items.ensures.cells in
     let few = c.cells-cell-items.ensures.few in

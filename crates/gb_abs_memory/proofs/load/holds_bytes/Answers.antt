@@ -1,4 +1,4 @@
-use Rattle.std.proofs.Common.{◌≡◌, ℕ, ◌≤◌, slice_index, subst}
+use Rattle.std.proofs.Common.{ℕ, ◌≤◌, slice_index, subst}
 use Rattle.gb_abs_memory.proofs.LoadLaws.{IsRom-cartridge}
 use Rattle.gb_abs_memory.proofs.load.holds_bytes.Goals as goal
 

@@ -8,7 +8,7 @@ use Rattle.gb_calls.proofs.cells.outside.Goals as goal
 pub push-requires : goal.push-requires
 push-requires c =
     let out = is_out_of_ranges c.args.ranges.now in
-    let room : length {A = Cell} [] + length (filter out c.args.cells.now) ≤ 32 = (let fewer = length-where out c.args.cells.now in omega arith) in
+    let room : length {A = Cell} [] + length (filter out c.args.cells.now) ≤ 64 = (let fewer = length-where out c.args.cells.now in omega arith) in
     let apart : is_in_ranges c.args.ranges.now (get_or c.args.cells.now c.loop-cell.cell-index blank) ≡ false =
     sym c.is_in_ranges.ensures ∙ c.if-not-is_in_ranges.true in (
       omega arith,

@@ -17,5 +17,5 @@ returns-else-place-lt-CELLS c =
     let place = c.place_among-place.result in
     let is : inserted c.args.cell xs ≡ insert xs place c.args.cell = rw c.as_slice.ensures.value at c.place_among-place.ensures.place in
     let within : place ≤ length xs = rw c.as_slice.ensures.value at c.place_among-place.ensures.within in
-    let few : length xs ≤ 32 = rw c.as_slice.ensures.value at c.as_slice.ensures.fits in
+    let few : length xs ≤ 64 = rw c.as_slice.ensures.value at c.as_slice.ensures.fits in
     put-behind c.args.cell xs place is c.if-place-lt-CELLS.false within few

@@ -2,6 +2,7 @@ use Rattle.std.proofs.Common.{true, false, refl, arith}
 use Rattle.std.proofs.lemmas.Result.{err_from_is_err_and}
 use Rattle.gb_states.specs.Rules.{IsProcedure, is_after}
 use Rattle.gb_states.specs.Reading.{procedure_at, procedures_at}
+use Rattle.gb_domain.specs.Limits.{rules_of}
 use Rattle.gb_states.specs.Spelling as spelled
 use Rattle.gb_cert.proofs.Placing.{way-begins, way-on, way-ends, way-done, mapped_all, mapped_none}
 use Rattle.gb_states.proofs.StateLaws.{IsFormat-procedure}
@@ -20,8 +21,8 @@ returns-in_err-after c =
 pub loop-preserved : goal.loop-preserved
 loop-preserved c =
     let right = mapped_all is_after false (procedure_at c.args.head.version c.args.head.region c.args.head.nodes c.loop.is_main) c.loop.rest.now c.in_ok-after.after.now (λ x. refl) c.in_ok-after.ensures in
-    rw c.in_ok-push.ensures.items (way-on (procedure_at c.args.head.version c.args.head.region c.args.head.nodes) is_after (spelled.procedure c.args.head.version) (IsProcedure c.args.head.region c.args.head.nodes) c.args.bytes.now true c.args.head.procedures c.args.start.now c.loop.is_main false c.loop.counter c.loop.rest.now c.in_ok-after.after.now c.loop.places.items
-    (IsFormat-procedure c.args.head.version c.args.head.region c.args.head.nodes c.loop.is_main c.requires.few) (λ i. omega (arith, c.type_inv.bytes i)) c.loop-test.true right c.loop.invariant)
+    rw c.in_ok-push.ensures.items (way-on (procedure_at c.args.head.version c.args.head.region c.args.head.nodes) is_after (spelled.procedure c.args.head.version) (IsProcedure (rules_of c.args.head.version) c.args.head.region c.args.head.nodes) c.args.bytes.now true c.args.head.procedures c.args.start.now c.loop.is_main false c.loop.counter c.loop.rest.now c.in_ok-after.after.now c.loop.places.items
+    (IsFormat-procedure c.args.head.version c.args.head.region c.args.head.nodes c.loop.is_main c.requires.few c.requires.last) (λ i. omega (arith, c.type_inv.bytes i)) c.loop-test.true right c.loop.invariant)
 
 pub returns : goal.returns
 unfolding procedures_at

@@ -1,7 +1,7 @@
 use Rattle.std.proofs.Common.{◌≡◌, ◌∙◌, sym, true, false, arith}
 use Rattle.std.proofs.lemmas.Result.{err_from_is_err_and}
 use Rattle.gb_cert.specs.Places.{have_entries_at}
-use Rattle.gb_cert.proofs.Laying.{few-nodes, head-left, no-head, no-procedures, no-nodes, IsWalked, no-entries, some-left, read-in, is-laid}
+use Rattle.gb_cert.proofs.Laying.{few-nodes, last-small, head-left, no-head, no-procedures, no-nodes, IsWalked, no-entries, some-left, read-in, is-laid}
 use Rattle.gb_cert.proofs.parse.read.Goals as goal
 
 pub returns-in_err-head : goal.returns-in_err-head
@@ -11,6 +11,9 @@ returns-in_err-head c =
 
 pub place_procedures-requires-clause-few : goal.place_procedures-requires-clause-few
 place_procedures-requires-clause-few c = few-nodes c.args.bytes.now c.in_ok-head.head c.in_ok-head.rest.now (λ i. omega (arith, c.type_inv.bytes i)) c.in_ok-head.ensures
+
+pub place_procedures-requires-clause-last : goal.place_procedures-requires-clause-last
+place_procedures-requires-clause-last c = last-small c.args.bytes.now c.in_ok-head.head c.in_ok-head.rest.now (λ i. omega (arith, c.type_inv.bytes i)) c.in_ok-head.ensures
 
 pub place_procedures-requires-clause-left : goal.place_procedures-requires-clause-left
 place_procedures-requires-clause-left c = head-left c.args.bytes.now c.in_ok-head.head c.in_ok-head.rest.now (λ i. omega (arith, c.type_inv.bytes i)) c.in_ok-head.ensures

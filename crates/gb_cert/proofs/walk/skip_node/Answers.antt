@@ -9,22 +9,22 @@ use Rattle.gb_cert.proofs.walk.skip_node.Goals as goal
 pub returns-in_err-key : goal.returns-in_err-key
 returns-in_err-key c =
     let p = err_from_is_err_and c.from_residual.result c.from_residual.ensures.1 in
-    rw (p.1, p.2) (no_key c.args.region c.args.procedures c.args.before c.args.bytes.now c.in_err-key.field-0.0 c.in_err-key.ensures)
+    rw (p.1, p.2) (no_key c.args.rules c.args.region c.args.procedures c.args.before c.args.bytes.now c.in_err-key.field-0.0 c.in_err-key.ensures)
 
 pub returns-in_err-_bank : goal.returns-in_err-_bank
 returns-in_err-_bank c =
     let p = err_from_is_err_and c.from_residual-in_err-_bank.result c.from_residual-in_err-_bank.ensures.1 in
-    rw (p.1, p.2) (no_bank c.args.region c.args.procedures c.args.before c.args.bytes.now c.in_ok-key.key c.in_ok-key.rest.now c.in_err-_bank.field-0.0 c.in_ok-key.ensures c.in_err-_bank.ensures)
+    rw (p.1, p.2) (no_bank c.args.rules c.args.region c.args.procedures c.args.before c.args.bytes.now c.in_ok-key.key c.in_ok-key.rest.now c.in_err-_bank.field-0.0 c.in_ok-key.ensures c.in_err-_bank.ensures)
 
 pub returns-in_err-after : goal.returns-in_err-after
 returns-in_err-after c =
     let p = err_from_is_err_and c.from_residual-in_err-after.result c.from_residual-in_err-after.ensures.1 in
-    let e = bank_then c.args.region c.args.procedures c.args.before c.args.bytes.now c.in_ok-key.key c.in_ok-key.rest.now c.in_ok-_bank._bank c.in_ok-_bank.state.now c.in_ok-key.ensures c.in_ok-_bank.ensures in
-    let f = subst (λ (role : Role). skipped (state_at role c.args.region) c.in_ok-_bank.state.now ≡ Err c.in_err-after.field-0.0) c.of.ensures c.in_err-after.ensures in
+    let e = bank_then c.args.rules c.args.region c.args.procedures c.args.before c.args.bytes.now c.in_ok-key.key c.in_ok-key.rest.now c.in_ok-_bank._bank c.in_ok-_bank.state.now c.in_ok-key.ensures c.in_ok-_bank.ensures in
+    let f = subst (λ (role : Role). skipped (state_at c.args.rules role c.args.region) c.in_ok-_bank.state.now ≡ Err c.in_err-after.field-0.0) c.of.ensures c.in_err-after.ensures in
     rw (p.1, p.2) (e ∙ ap (λ r. past r (λ rest. Ok (c.in_ok-key.key, rest))) f)
 
 pub returns : goal.returns
 returns c =
-    let e = bank_then c.args.region c.args.procedures c.args.before c.args.bytes.now c.in_ok-key.key c.in_ok-key.rest.now c.in_ok-_bank._bank c.in_ok-_bank.state.now c.in_ok-key.ensures c.in_ok-_bank.ensures in
-    let f = subst (λ (role : Role). skipped (state_at role c.args.region) c.in_ok-_bank.state.now ≡ Ok c.in_ok-after.after.now) c.of.ensures c.in_ok-after.ensures in
+    let e = bank_then c.args.rules c.args.region c.args.procedures c.args.before c.args.bytes.now c.in_ok-key.key c.in_ok-key.rest.now c.in_ok-_bank._bank c.in_ok-_bank.state.now c.in_ok-key.ensures c.in_ok-_bank.ensures in
+    let f = subst (λ (role : Role). skipped (state_at c.args.rules role c.args.region) c.in_ok-_bank.state.now ≡ Ok c.in_ok-after.after.now) c.of.ensures c.in_ok-after.ensures in
     e ∙ ap (λ r. past r (λ rest. Ok (c.in_ok-key.key, rest))) f

@@ -6,4 +6,4 @@ use Rattle.gb_states.specs.Reading.{cell_at}
 use Rattle.gb_cert.proofs.walk.skip_some_cells.Given as goal
 
 abbrev pub invariant-loop : goal.invariant-loop
-invariant-loop l = skipped (several (cell_at l.region) after_cell l.least (l.count - l.counter)) l.rest ≡ skipped (several (cell_at l.region) after_cell 0 l.count) l.bytes
+invariant-loop l = skipped (several (cell_at l.rules l.region) after_cell l.least (l.count - l.counter)) l.rest ≡ skipped (several (cell_at l.rules l.region) after_cell 0 l.count) l.bytes

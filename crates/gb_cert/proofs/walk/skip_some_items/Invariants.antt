@@ -5,4 +5,4 @@ use Rattle.gb_states.specs.Reading.{val_at}
 use Rattle.gb_cert.proofs.walk.skip_some_items.Given as goal
 
 abbrev pub invariant-loop : goal.invariant-loop
-invariant-loop l = skipped (several {S = Unit {0}} (λ s. val_at) (λ v. tt) tt (l.count - l.counter)) l.rest ≡ skipped (several {S = Unit {0}} (λ s. val_at) (λ v. tt) tt l.count) l.bytes
+invariant-loop l = skipped (several {S = Unit {0}} (λ s. val_at l.rules) (λ v. tt) tt (l.count - l.counter)) l.rest ≡ skipped (several {S = Unit {0}} (λ s. val_at l.rules) (λ v. tt) tt l.count) l.bytes

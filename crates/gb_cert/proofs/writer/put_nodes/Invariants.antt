@@ -5,4 +5,4 @@ use Rattle.gb_cert.specs.Written.{node_of}
 use Rattle.gb_cert.proofs.writer.put_nodes.Given as goal
 
 abbrev pub invariant-loop-node : goal.invariant-loop-node
-invariant-loop-node l = l.out.items ≡ l.initial.out.items ++ flat_map (λ n. spelled.node (node_of n)) (take l.node-index l.nodes)
+invariant-loop-node l = l.out.items ≡ l.initial.out.items ++ flat_map (λ n. spelled.node l.rules (node_of n)) (take l.node-index l.nodes)

@@ -9,29 +9,29 @@ use Rattle.gb_cert_place.proofs.StandingLaws.{stops_in_front, stops_within_part}
 use Rattle.gb_cert_place.proofs.walk.walk_node.Goals as goal
 
 pub returns-in-Err-clause-reads : goal.returns-in-Err-clause-reads
-returns-in-Err-clause-reads c = stop_in_key c.args.region c.args.procedures c.args.before c.args.bytes.now c.stopped.result c.stopped.ensures.place
+returns-in-Err-clause-reads c = stop_in_key c.args.rules c.args.region c.args.procedures c.args.before c.args.bytes.now c.stopped.result c.stopped.ensures.place
 
 pub stopped-requires-in-Err-word_between : goal.stopped-requires-in-Err-word_between
 stopped-requires-in-Err-word_between c = no_bank c.in-Ok.x.1.now c.in-Err-word_between.fault c.in-Err-word_between.ensures
 
 pub returns-in-Err-word_between-clause-reads : goal.returns-in-Err-word_between-clause-reads
-returns-in-Err-word_between-clause-reads c = stop_in_bank c.args.region c.args.procedures c.args.before c.args.bytes.now c.in-Ok.x.0 c.in-Ok.x.1.now c.stopped-in-Err-word_between.result c.in-Ok.ensures c.stopped-in-Err-word_between.ensures.place
+returns-in-Err-word_between-clause-reads c = stop_in_bank c.args.rules c.args.region c.args.procedures c.args.before c.args.bytes.now c.in-Ok.x.0 c.in-Ok.x.1.now c.stopped-in-Err-word_between.result c.in-Ok.ensures c.stopped-in-Err-word_between.ensures.place
 
 pub returns-in_err-rest-clause-reads : goal.returns-in_err-rest-clause-reads
 returns-in_err-rest-clause-reads c =
     let p = err_from_is_err_and c.from_residual.result c.from_residual.ensures.1 in
-    rw (p.1, p.2) (stop_in_state c.args.region c.args.procedures c.args.before c.args.bytes.now c.in-Ok.x.0 c.in-Ok.x.1.now c.in-Ok-word_between._bank c.in-Ok-word_between.after.now c.of.result c.in_err-rest.field-0.0 c.in-Ok.ensures c.in-Ok-word_between.ensures c.of.ensures c.in_err-rest.ensures.reads)
+    rw (p.1, p.2) (stop_in_state c.args.rules c.args.region c.args.procedures c.args.before c.args.bytes.now c.in-Ok.x.0 c.in-Ok.x.1.now c.in-Ok-word_between._bank c.in-Ok-word_between.after.now c.of.result c.in_err-rest.field-0.0 c.in-Ok.ensures c.in-Ok-word_between.ensures c.of.ensures c.in_err-rest.ensures.reads)
 
 pub returns-in-Err-clause-block : goal.returns-in-Err-clause-block
-returns-in-Err-clause-block c = stops_in_front (Of (part.Node c.args.number) (InNode c.args.region c.args.procedures c.args.before c.args.bytes.now)) (part.Node c.args.number) (block.Key c.args.procedures c.args.before) c.args.bytes.now c.stopped.result c.stopped.ensures.part c.stopped.ensures.block c.stopped.ensures.before c.stopped.ensures.place (refl, AtKey)
+returns-in-Err-clause-block c = stops_in_front (Of (part.Node c.args.number) (InNode c.args.rules c.args.region c.args.procedures c.args.before c.args.bytes.now)) (part.Node c.args.number) (block.Key c.args.procedures c.args.before) c.args.bytes.now c.stopped.result c.stopped.ensures.part c.stopped.ensures.block c.stopped.ensures.before c.stopped.ensures.place (refl, AtKey)
 
 pub returns-in-Err-word_between-clause-block : goal.returns-in-Err-word_between-clause-block
 returns-in-Err-word_between-clause-block c =
-    stops_in_front (Of (part.Node c.args.number) (InNode c.args.region c.args.procedures c.args.before c.args.bytes.now)) (part.Node c.args.number) block.Bank c.in-Ok.x.1.now c.stopped-in-Err-word_between.result c.stopped-in-Err-word_between.ensures.part c.stopped-in-Err-word_between.ensures.block c.stopped-in-Err-word_between.ensures.before c.stopped-in-Err-word_between.ensures.place
+    stops_in_front (Of (part.Node c.args.number) (InNode c.args.rules c.args.region c.args.procedures c.args.before c.args.bytes.now)) (part.Node c.args.number) block.Bank c.in-Ok.x.1.now c.stopped-in-Err-word_between.result c.stopped-in-Err-word_between.ensures.part c.stopped-in-Err-word_between.ensures.block c.stopped-in-Err-word_between.ensures.before c.stopped-in-Err-word_between.ensures.place
     (refl, AtBank c.in-Ok.ensures)
 
 pub returns-in_err-rest-clause-block : goal.returns-in_err-rest-clause-block
 returns-in_err-rest-clause-block c =
     let p = err_from_is_err_and c.from_residual.result c.from_residual.ensures.1 in
-    rw (p.1, p.2) (stops_within_part (part.Node c.args.number) (InState c.of.result c.args.region c.in-Ok-word_between.after.now) (Of (part.Node c.args.number) (InNode c.args.region c.args.procedures c.args.before c.args.bytes.now)) c.in_err-rest.field-0.0
-    (λ b rest a. (refl, BehindBank c.in-Ok.ensures c.in-Ok-word_between.ensures (subst (λ r. InState r c.args.region c.in-Ok-word_between.after.now b rest) c.of.ensures a))) c.in_err-rest.ensures.block)
+    rw (p.1, p.2) (stops_within_part (part.Node c.args.number) (InState c.args.rules c.of.result c.args.region c.in-Ok-word_between.after.now) (Of (part.Node c.args.number) (InNode c.args.rules c.args.region c.args.procedures c.args.before c.args.bytes.now)) c.in_err-rest.field-0.0
+    (λ b rest a. (refl, BehindBank c.in-Ok.ensures c.in-Ok-word_between.ensures (subst (λ r. InState c.args.rules r c.args.region c.in-Ok-word_between.after.now b rest) c.of.ensures a))) c.in_err-rest.ensures.block)

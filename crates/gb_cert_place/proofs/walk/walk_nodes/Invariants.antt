@@ -8,5 +8,5 @@ use Rattle.gb_cert_place.proofs.walk.walk_nodes.Given as goal
 
 abbrev pub invariant-loop-number : goal.invariant-loop-number
 invariant-loop-number l =
-    (Leads (several (node_at l.head.region l.head.procedures) key (0, 0) l.head.nodes) l.bytes (several (node_at l.head.region l.head.procedures) key l.before (l.head.nodes - l.number)) l.rest)
-    × Passed (node_at l.head.region l.head.procedures) key (0, 0) l.bytes l.number l.before l.rest
+    (Leads (several (node_at l.rules l.head.region l.head.procedures) key (0, 0) l.head.nodes) l.bytes (several (node_at l.rules l.head.region l.head.procedures) key l.before (l.head.nodes - l.number)) l.rest)
+    × Passed (node_at l.rules l.head.region l.head.procedures) key (0, 0) l.bytes l.number l.before l.rest

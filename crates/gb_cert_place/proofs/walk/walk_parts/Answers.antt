@@ -27,4 +27,4 @@ returns-in_err-rest-in-Ok-clause-block c =
 pub returns-in_err-end-in-Ok-clause-block : goal.returns-in_err-end-in-Ok-clause-block
 returns-in_err-end-in-Ok-clause-block c =
     let p = err_from_is_err_and c.from_residual-in_err-end-in-Ok.result c.from_residual-in_err-end-in-Ok.ensures.1 in
-    rw (p.1, p.2) (stops_within (InNodes c.in-Ok.head c.in_ok-rest-in-Ok.rest.now) (InCertificate c.args.bytes.now) c.in_err-end-in-Ok.field-0.0 (λ q b rest a. BehindProcedures c.in-Ok.ensures c.in_ok-rest-in-Ok.ensures.reads a) c.in_err-end-in-Ok.ensures.block)
+    rw (p.1, p.2) (stops_within (InNodes c.of-rules.result c.in-Ok.head c.in_ok-rest-in-Ok.rest.now) (InCertificate c.args.bytes.now) c.in_err-end-in-Ok.field-0.0 (λ q b rest a. BehindProcedures c.in-Ok.ensures c.in_ok-rest-in-Ok.ensures.reads (subst (λ r. InNodes r c.in-Ok.head c.in_ok-rest-in-Ok.rest.now q b rest) c.of-rules.ensures a)) c.in_err-end-in-Ok.ensures.block)

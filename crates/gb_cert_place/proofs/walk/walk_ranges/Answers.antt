@@ -1,4 +1,5 @@
-use Rattle.std.proofs.Common.{refl}
+use Rattle.std.proofs.Common.{◌≡◌, ℕ, Ok, subst, refl}
+use Rattle.gb_fields.specs.Reading.{count_within}
 use Rattle.std.proofs.lemmas.Result.{err_from_is_err_and}
 use Rattle.gb_cert_place.specs.declared.block.Block.TheVariants as block
 use Rattle.gb_cert_place.specs.Standing.{Of, InRanges, AmongRanges, AtRangeCount, BehindRangeCount}
@@ -7,17 +8,17 @@ use Rattle.gb_cert_place.proofs.StandingLaws.{stops_in_front, stops_within_part}
 use Rattle.gb_cert_place.proofs.walk.walk_ranges.Goals as goal
 
 pub returns-in-Err-clause-reads : goal.returns-in-Err-clause-reads
-returns-in-Err-clause-reads c = stop_in_range_count c.args.region c.args.bytes.now c.stopped.result c.stopped.ensures.place
+returns-in-Err-clause-reads c = stop_in_range_count c.args.rules c.args.is_main c.args.region c.args.bytes.now c.stopped.result c.stopped.ensures.place
 
 pub returns-in_err-end-in-Ok-clause-reads : goal.returns-in_err-end-in-Ok-clause-reads
 returns-in_err-end-in-Ok-clause-reads c =
     let p = err_from_is_err_and c.from_residual.result c.from_residual.ensures.1 in
-    rw (p.1, p.2) (in_ranges c.args.region c.args.bytes.now c.in-Ok.count c.in-Ok.rest.now c.in_err-end-in-Ok.field-0.0 c.in-Ok.ensures c.in_err-end-in-Ok.ensures.reads)
+    rw (p.1, p.2) (in_ranges c.args.rules c.args.is_main c.args.region c.args.bytes.now c.in-Ok.count c.in-Ok.rest.now c.in_err-end-in-Ok.field-0.0 (subst (λ (n : ℕ). count_within n c.args.bytes.now ≡ Ok (c.in-Ok.count, c.in-Ok.rest.now)) c.range_room.ensures.exact c.in-Ok.ensures) c.in_err-end-in-Ok.ensures.reads)
 
 pub returns-in-Err-clause-block : goal.returns-in-Err-clause-block
-returns-in-Err-clause-block c = stops_in_front (Of c.args.part (InRanges c.args.region c.args.bytes.now)) c.args.part (block.RangeCount) c.args.bytes.now c.stopped.result c.stopped.ensures.part c.stopped.ensures.block c.stopped.ensures.before c.stopped.ensures.place (refl, AtRangeCount)
+returns-in-Err-clause-block c = stops_in_front (Of c.args.part (InRanges c.args.rules c.args.is_main c.args.region c.args.bytes.now)) c.args.part (block.RangeCount c.args.rules c.args.is_main) c.args.bytes.now c.stopped.result c.stopped.ensures.part c.stopped.ensures.block c.stopped.ensures.before c.stopped.ensures.place (refl, AtRangeCount)
 
 pub returns-in_err-end-in-Ok-clause-block : goal.returns-in_err-end-in-Ok-clause-block
 returns-in_err-end-in-Ok-clause-block c =
     let p = err_from_is_err_and c.from_residual.result c.from_residual.ensures.1 in
-    rw (p.1, p.2) (stops_within_part c.args.part (AmongRanges c.args.region c.in-Ok.count c.in-Ok.rest.now) (Of c.args.part (InRanges c.args.region c.args.bytes.now)) c.in_err-end-in-Ok.field-0.0 (λ b rest a. (refl, BehindRangeCount c.in-Ok.ensures a)) c.in_err-end-in-Ok.ensures.block)
+    rw (p.1, p.2) (stops_within_part c.args.part (AmongRanges c.args.region c.in-Ok.count c.in-Ok.rest.now) (Of c.args.part (InRanges c.args.rules c.args.is_main c.args.region c.args.bytes.now)) c.in_err-end-in-Ok.field-0.0 (λ b rest a. (refl, BehindRangeCount (subst (λ (n : ℕ). count_within n c.args.bytes.now ≡ Ok (c.in-Ok.count, c.in-Ok.rest.now)) c.range_room.ensures.exact c.in-Ok.ensures) a)) c.in_err-end-in-Ok.ensures.block)

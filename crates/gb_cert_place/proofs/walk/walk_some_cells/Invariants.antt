@@ -7,4 +7,4 @@ use Rattle.gb_cert_place.proofs.WalkLaws.{Leads}
 use Rattle.gb_cert_place.proofs.walk.walk_some_cells.Given as goal
 
 abbrev pub invariant-loop-index : goal.invariant-loop-index
-invariant-loop-index l = (Leads (several (cell_at l.region) after_cell 0 l.count) l.bytes (several (cell_at l.region) after_cell l.least (l.count - l.index)) l.rest) × Passed (cell_at l.region) after_cell 0 l.bytes l.index l.least l.rest
+invariant-loop-index l = (Leads (several (cell_at l.rules l.region) after_cell 0 l.count) l.bytes (several (cell_at l.rules l.region) after_cell l.least (l.count - l.index)) l.rest) × Passed (cell_at l.rules l.region) after_cell 0 l.bytes l.index l.least l.rest

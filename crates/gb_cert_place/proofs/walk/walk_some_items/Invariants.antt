@@ -6,4 +6,4 @@ use Rattle.gb_cert_place.proofs.WalkLaws.{Leads}
 use Rattle.gb_cert_place.proofs.walk.walk_some_items.Given as goal
 
 abbrev pub invariant-loop-index : goal.invariant-loop-index
-invariant-loop-index l = (Leads (several (λ (s : Unit {0}). val_at) (λ v. tt) tt l.count) l.bytes (several (λ (s : Unit {0}). val_at) (λ v. tt) tt (l.count - l.index)) l.rest) × Passed (λ (s : Unit {0}). val_at) (λ v. tt) tt l.bytes l.index tt l.rest
+invariant-loop-index l = (Leads (several (λ (s : Unit {0}). val_at l.rules) (λ v. tt) tt l.count) l.bytes (several (λ (s : Unit {0}). val_at l.rules) (λ v. tt) tt (l.count - l.index)) l.rest) × Passed (λ (s : Unit {0}). val_at l.rules) (λ v. tt) tt l.bytes l.index tt l.rest

@@ -6,5 +6,5 @@ use Rattle.gb_printed.proofs.show.put_procedures.Given as goal
 abbrev pub invariant-loop-i : goal.invariant-loop-i
 invariant-loop-i g l = record {
   works : g.W.Sink.has_failed l.out ≡ false;
-  remains : Remains (g.W.Sink.contents l.fn.out) (numbered procedure_text 0 l.cert.procedures) (g.W.Sink.contents l.out) (numbered procedure_text l.i (drop l.i l.cert.procedures));
+  remains : Remains (g.W.Sink.contents l.fn.out) (numbered (procedure_text l.rules) 0 l.cert.procedures) (g.W.Sink.contents l.out) (numbered (procedure_text l.rules) l.i (drop l.i l.cert.procedures));
 }

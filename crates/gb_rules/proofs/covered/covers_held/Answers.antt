@@ -4,5 +4,5 @@ use Rattle.gb_rules.proofs.covered.covers_held.Goals as goal
 
 pub returns-else-has_lists : goal.returns-else-has_lists
 returns-else-has_lists c =
-    let none = c.has_lists.ensures c.if-has_lists.false in
+    let none = c.has_lists.ensures.lists c.if-has_lists.false in
     c.is_empty.ensures ∙ (ap (λ l. length l == 0) c.items.ensures.items ∙ covers-no_lists c.args.s.now.items c.args.node.now.state.items c.args.s.now.cells c.args.node.now.state.cells none.0 none.1)

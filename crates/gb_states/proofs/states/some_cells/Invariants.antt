@@ -9,5 +9,5 @@ use Rattle.gb_states.proofs.states.some_cells.Given as goal
 abbrev pub invariant-loop : goal.invariant-loop
 invariant-loop l = record {
   count : array_vec_len l.cells ≡ l.counter;
-  read : with_front l.cells.items (several (cell_at l.region) after_cell l.least (l.count - l.counter) l.rest) ≡ several (cell_at l.region) after_cell 0 l.count l.bytes;
+  read : with_front l.cells.items (several (cell_at l.rules l.region) after_cell l.least (l.count - l.counter) l.rest) ≡ several (cell_at l.rules l.region) after_cell 0 l.count l.bytes;
 }

@@ -8,5 +8,5 @@ use Rattle.gb_states.proofs.states.some_items.Given as goal
 abbrev pub invariant-loop : goal.invariant-loop
 invariant-loop l = record {
   count : array_vec_len l.items ≡ l.counter;
-  read : with_front l.items.items (several {S = Unit {0}} (λ s. val_at) (λ v. tt) tt (l.count - l.counter) l.rest) ≡ several {S = Unit {0}} (λ s. val_at) (λ v. tt) tt l.count l.bytes;
+  read : with_front l.items.items (several {S = Unit {0}} (λ s. val_at l.rules) (λ v. tt) tt (l.count - l.counter) l.rest) ≡ several {S = Unit {0}} (λ s. val_at l.rules) (λ v. tt) tt l.count l.bytes;
 }

@@ -30,7 +30,7 @@ of_parts-requires c =
     let place : c.index-place.result.now ≡ get_or c.self.inside.nodes.items c.args.i 0 = c.index-place.ensures ∙ get_or_default_zero c.self.inside.nodes.items c.args.i c.index-place.result.now small in
     let from : c.from_place.result.now ≡ drop (get_or c.self.inside.nodes.items c.args.i 0) c.self.inside.bytes.now = c.from_place.ensures ∙ ap (λ (n : ℕ). drop n c.self.inside.bytes.now) place in
     let right : both byte (both word word) (drop (get_or c.self.inside.nodes.items c.args.i 0) c.self.inside.bytes.now) ≡ Ok (c.in-Ok.front, c.in-Ok.state.now) = ap (both byte (both word word)) (sym from) ∙ c.in-Ok.ensures in
-    (node-lent c.self.inside.bytes.now c.self.inside.version c.self.inside.region c.self.inside.procedures.items c.self.inside.nodes.items (certificate_in c.self.inside.bytes.now) c.args.i c.in-Ok.front c.in-Ok.state.now c.self.invariant lt right).0
+    rw c.of-rules.ensures (node-lent c.self.inside.bytes.now c.self.inside.version c.self.inside.region c.self.inside.procedures.items c.self.inside.nodes.items (certificate_in c.self.inside.bytes.now) c.args.i c.in-Ok.front c.in-Ok.state.now c.self.invariant lt right).0
 
 pub returns : goal.returns
 returns c =
@@ -41,4 +41,4 @@ returns c =
     let from : c.from_place.result.now ≡ drop (get_or c.self.inside.nodes.items c.args.i 0) c.self.inside.bytes.now = c.from_place.ensures ∙ ap (λ (n : ℕ). drop n c.self.inside.bytes.now) place in
     let right : both byte (both word word) (drop (get_or c.self.inside.nodes.items c.args.i 0) c.self.inside.bytes.now) ≡ Ok (c.in-Ok.front, c.in-Ok.state.now) = ap (both byte (both word word)) (sym from) ∙ c.in-Ok.ensures in
     let found = (node-lent c.self.inside.bytes.now c.self.inside.version c.self.inside.region c.self.inside.procedures.items c.self.inside.nodes.items (certificate_in c.self.inside.bytes.now) c.args.i c.in-Ok.front c.in-Ok.state.now c.self.invariant lt right).1 in
-    rw (← c.self.view_is, c.of_parts.ensures) found
+    rw (← c.self.view_is, c.of_parts.ensures, c.of-rules.ensures) found

@@ -29,7 +29,7 @@ of_parts-requires c =
     let place : c.index-place.result.now ≡ get_or c.self.inside.procedures.items c.args.i 0 = c.index-place.ensures ∙ get_or_default_zero c.self.inside.procedures.items c.args.i c.index-place.result.now small in
     let from : c.from_place.result.now ≡ drop (get_or c.self.inside.procedures.items c.args.i 0) c.self.inside.bytes.now = c.from_place.ensures ∙ ap (λ (n : ℕ). drop n c.self.inside.bytes.now) place in
     let right : node_number c.self.inside.version (drop (get_or c.self.inside.procedures.items c.args.i 0) c.self.inside.bytes.now) ≡ Ok (c.in-Ok.entry, c.in-Ok.body.now) = ap (node_number c.self.inside.version) (sym from) ∙ c.in-Ok.ensures in
-    (procedure-lent c.self.inside.bytes.now c.self.inside.version c.self.inside.region c.self.inside.procedures.items c.self.inside.nodes.items (certificate_in c.self.inside.bytes.now) c.args.i c.in-Ok.entry c.in-Ok.body.now c.self.invariant lt right).0
+    rw c.of-rules.ensures (procedure-lent c.self.inside.bytes.now c.self.inside.version c.self.inside.region c.self.inside.procedures.items c.self.inside.nodes.items (certificate_in c.self.inside.bytes.now) c.args.i c.in-Ok.entry c.in-Ok.body.now c.self.invariant lt right).0
 
 pub returns : goal.returns
 returns c =
@@ -40,4 +40,4 @@ returns c =
     let from : c.from_place.result.now ≡ drop (get_or c.self.inside.procedures.items c.args.i 0) c.self.inside.bytes.now = c.from_place.ensures ∙ ap (λ (n : ℕ). drop n c.self.inside.bytes.now) place in
     let right : node_number c.self.inside.version (drop (get_or c.self.inside.procedures.items c.args.i 0) c.self.inside.bytes.now) ≡ Ok (c.in-Ok.entry, c.in-Ok.body.now) = ap (node_number c.self.inside.version) (sym from) ∙ c.in-Ok.ensures in
     let found = (procedure-lent c.self.inside.bytes.now c.self.inside.version c.self.inside.region c.self.inside.procedures.items c.self.inside.nodes.items (certificate_in c.self.inside.bytes.now) c.args.i c.in-Ok.entry c.in-Ok.body.now c.self.invariant lt right).1 in
-    rw (← c.self.view_is, c.of_parts.ensures) found
+    rw (← c.self.view_is, c.of_parts.ensures, c.of-rules.ensures) found

@@ -1,0 +1,108 @@
+-- Bytes of the stack, taken off and put on: what the machine's stack holds then.
+use Rattle.std.proofs.Common.{◌≡◌, ℕ, zero, suc, ◌+◌, ◌-◌, ◌%◌, ◌≤◌, ◌<◌, Bool, true, false, nat_lt, cond, List, [], ◌∷◌, ◌++◌, length, take, replicate, Option, Some, None, refl, sym, ap, subst, arith, length-append, length-take-le}
+use Rattle.std.proofs.lemmas.List.{length-replicate}
+use Rattle.std.specs.Prelude.{IfSome}
+use Rattle.std.proofs.lemmas.Bool.Decides.{nat_tests}
+use Rattle.gb_ops.specs.declared.machine.Region.{Region}
+use Rattle.gb_ops.specs.Effects.{with_sp}
+use Rattle.gb_ops.specs.Memory.{Storage}
+use Rattle.gb_ops.specs.Play.{MState}
+use Rattle.gb_domain.specs.declared.types.Val.{Val}
+use Rattle.gb_domain.specs.Types.{AbsState}
+use Rattle.gb_domain.specs.Areas.{IsRegion}
+use Rattle.gb_vals.specs.Vals.{any_val}
+use Rattle.gb_abs.specs.Meaning.{AreItems, MeansParts, IsMemory}
+use Rattle.gb_abs.specs.Stack.{AreInRegion}
+use Rattle.gb_abs.specs.Bytes.{without_newest, with_any_bytes, IsSoundTaking, IsSoundAppending}
+use Rattle.gb_abs.proofs.CoveringLaws.{Holds-any}
+use Rattle.gb_abs.proofs.StackLaws.{MeansCore-sp}
+
+-- ---- lists
+
+replicate-next : (c : ℕ) → 0 < c → any_val ∷ replicate (c - 1) any_val ≡ replicate c any_val
+replicate-next zero h = absurd (omega arith)
+replicate-next (suc c) h = let e : suc c - 1 ≡ c = omega arith in rw e refl
+
+pub appended_any : (xs : List Val) (c : ℕ) → 0 < c → (xs ++ any_val ∷ []) ++ replicate (c - 1) any_val ≡ xs ++ replicate c any_val
+appended_any [] c h = replicate-next c h
+appended_any (x ∷ xs) c h = ap (λ ys. x ∷ ys) (appended_any xs c h)
+
+-- ---- items
+
+AreItems-take : (j : ℕ) (items : List Val) (entry : MState) (top : ℕ) (s : Storage) → AreItems items entry top s → AreItems (take j items) entry top s
+AreItems-take zero [] entry top s h = tt
+AreItems-take zero (v ∷ items) entry top s h = tt
+AreItems-take (suc j) [] entry top s h = tt
+AreItems-take (suc j) (v ∷ items) entry top s h = (h.0, AreItems-take j items entry (top - 1) s h.1)
+
+AreItems-any : (k : ℕ) (entry : MState) (top : ℕ) (s : Storage) → IsMemory s → AreItems (replicate k any_val) entry top s
+AreItems-any zero entry top s m = tt
+AreItems-any (suc k) entry top s m = (Holds-any entry _ (m.bytes (top - 1)), AreItems-any k entry (top - 1) s m)
+
+AreItems-behind :
+    (items : List Val) (k : ℕ) (entry : MState) (top : ℕ) (s : Storage) → IsMemory s → AreItems items entry top s → AreItems (items ++ replicate k any_val) entry top s
+AreItems-behind [] k entry top s m h = AreItems-any k entry top s m
+AreItems-behind (v ∷ items) k entry top s m h = (h.0, AreItems-behind items k entry (top - 1) s m h.1)
+
+-- ---- the operations
+
+region_end : (region : Region) → IsRegion region → region.last < 0xFFFF
+region_end region r = let area = r.area in grind (arith, nat_tests)
+
+MeansParts-without_newest :
+    (k : ℕ) (s : AbsState) (region : Region) (entry : MState) (base : ℕ) (x : MState) → k ≤ length s.items → MeansParts s entry base x → s.core.stack_set ≡ true
+    → AreInRegion region base (length s.items) → IsRegion region
+    → MeansParts (without_newest k s) entry base (record x { processor = with_sp x.processor ((x.processor.sp + k) % 65536) })
+unfolding without_newest
+MeansParts-without_newest k s region entry base x some m set room r =
+    let stack = m.stack set in
+    let last = room.last in
+    let end = region_end region r in
+    let left : length (take (length s.items - k) s.items) ≡ length s.items - k = length-take-le (length s.items - k) s.items (omega arith) in
+    record {
+      core = MeansCore-sp s.core entry x ((x.processor.sp + k) % 65536) m.core;
+      memory = m.memory;
+      sp = omega arith;
+      stack = λ e. omega arith;
+      items = AreItems-take (length s.items - k) s.items entry base x.storage m.items;
+      cells = m.cells;
+    }
+
+MeansParts-with_any_bytes :
+    (k : ℕ) (s : AbsState) (region : Region) (entry : MState) (base : ℕ) (x : MState) → MeansParts s entry base x → s.core.stack_set ≡ true
+    → AreInRegion region base (length s.items + k) → IsRegion region
+    → MeansParts (with_any_bytes k s) entry base (record x { processor = with_sp x.processor ((x.processor.sp + (65536 - k)) % 65536) })
+unfolding with_any_bytes
+MeansParts-with_any_bytes k s region entry base x m set room r =
+    let stack = m.stack set in
+    let first = room.first in
+    let last = room.last in
+    let end = region_end region r in
+    let whole = length-append s.items (replicate k any_val) in
+    let more = length-replicate k any_val in
+    record {
+      core = MeansCore-sp s.core entry x ((x.processor.sp + (65536 - k)) % 65536) m.core;
+      memory = m.memory;
+      sp = omega arith;
+      stack = λ e. omega arith;
+      items = AreItems-behind s.items k entry base x.storage m.memory m.items;
+      cells = m.cells;
+    }
+
+pub taking_sound :
+    (k : ℕ) (s : AbsState) (o : Option AbsState) → o ≡ cond (nat_lt (length s.items) k) None (Some (without_newest k s)) → IfSome o (λ after. IsSoundTaking k s after)
+taking_sound k s o e = subst (λ r. IfSome r (λ after. IsSoundTaking k s after)) (sym e) (choose (nat_lt (length s.items) k) refl)
+  where
+    choose : (b : Bool) → nat_lt (length s.items) k ≡ b → IfSome (cond b None (Some (without_newest k s))) (λ after. IsSoundTaking k s after)
+    choose true h = tt
+    choose false h =
+        let some : k ≤ length s.items = grind (arith, nat_tests) in
+        record { gives = λ region entry base x m set room r. MeansParts-without_newest k s region entry base x some m set room r }
+
+pub appending_sound :
+    (k room : ℕ) (s : AbsState) (o : Option AbsState) → o ≡ cond (nat_lt room (length s.items + k)) None (Some (with_any_bytes k s)) → IfSome o (λ after. IsSoundAppending k s after)
+appending_sound k room s o e = subst (λ r. IfSome r (λ after. IsSoundAppending k s after)) (sym e) (choose (nat_lt room (length s.items + k)))
+  where
+    choose : (b : Bool) → IfSome (cond b None (Some (with_any_bytes k s))) (λ after. IsSoundAppending k s after)
+    choose true = tt
+    choose false = record { gives = λ region entry base x m set inside r. MeansParts-with_any_bytes k s region entry base x m set inside r }

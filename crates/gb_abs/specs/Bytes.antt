@@ -1,0 +1,34 @@
+-- Bytes of the stack, taken off and put on (own; CPU instruction set: stack manipulation instructions).
+use Rattle.std.specs.Prelude.{◌≡◌, ℕ, ◌+◌, ◌-◌, ◌%◌, true, ◌++◌, length, take, replicate}
+use Rattle.gb_ops.specs.declared.machine.Region.{Region}
+use Rattle.gb_ops.specs.Effects.{with_sp}
+use Rattle.gb_ops.specs.Play.{MState}
+use Rattle.gb_domain.specs.Areas.{IsRegion}
+use Rattle.gb_domain.specs.Types.{AbsState}
+use Rattle.gb_vals.specs.Vals.{any_val}
+use Rattle.gb_abs.specs.Meaning.{MeansParts}
+use Rattle.gb_abs.specs.Stack.{AreInRegion}
+
+-- the newest bytes are taken off
+unfoldable pub without_newest : ℕ → AbsState → AbsState
+without_newest k s = record s { items = take (length s.items - k) s.items }
+
+-- bytes of any value are put on
+unfoldable pub with_any_bytes : ℕ → AbsState → AbsState
+with_any_bytes k s = record s { items = s.items ++ replicate k any_val }
+
+-- ---- what that promises
+
+-- of each of these states, with its stack set, where SP moves up by as many
+pub record IsSoundTaking (k : ℕ) (s after : AbsState) : Type 0 where
+  pub gives :
+      (region : Region) (entry : MState) (base : ℕ) (x : MState)
+      → MeansParts s entry base x → s.core.stack_set ≡ true → AreInRegion region base (length s.items) → IsRegion region
+      → MeansParts after entry base (record x { processor = with_sp x.processor ((x.processor.sp + k) % 65536) })
+
+-- of each of these states, with its stack set and room for the bytes, where SP moves down by as many
+pub record IsSoundAppending (k : ℕ) (s after : AbsState) : Type 0 where
+  pub gives :
+      (region : Region) (entry : MState) (base : ℕ) (x : MState)
+      → MeansParts s entry base x → s.core.stack_set ≡ true → AreInRegion region base (length s.items + k) → IsRegion region
+      → MeansParts after entry base (record x { processor = with_sp x.processor ((x.processor.sp + (65536 - k)) % 65536) })

@@ -1,0 +1,77 @@
+//! Bytes of the stack, taken off and put on, in abstract states.
+
+ghost use Rattle.std.specs.Prelude.{◌≡◌, ◌+◌, ◌≤◌, ◌++◌, nat_lt, length, replicate, Some, None, IfSome, if◌then◌else◌};
+ghost use Rattle.arrayvec.specs.ArrayVec.{array_vec_len};
+ghost use Rattle.gb_domain.specs.Limits.{item_room};
+ghost use Rattle.gb_vals.specs.Vals.{any_val};
+ghost use Rattle.gb_abs.specs.Bytes.{without_newest, with_any_bytes, IsSoundTaking, IsSoundAppending};
+
+use crate::stack::with_items;
+use arrayvec::ArrayVec;
+use gb_domain::types::{Abs, Rules, Val};
+use gb_vals::vals::any;
+
+#[tactic(auto, unfolding(crate::specs::Bytes::without_newest))]
+fn shortened(state: &Abs, count: u8) -> Option<Abs>
+    ensures { result ≡ (if nat_lt (length state.now.items) count then None else Some (without_newest count state.now)) }
+{
+    let held = state.items();
+    let count = count as usize;
+    if held.len() < count {
+        return None;
+    }
+    let mut items = ArrayVec::new();
+    if items
+        .try_extend_from_slice(&held[..held.len() - count])
+        .is_err()
+    {
+        unreachable!();
+    }
+    Some(with_items(state, items))
+}
+
+/// The newest bytes of the stack are taken off. None where there are fewer.
+#[tactic(auto, using(crate::proofs::ByteLaws::taking_sound))]
+pub fn take_bytes(state: &Abs, count: u8) -> Option<Abs>
+    ensures exact { result ≡ (if nat_lt (length state.now.items) count then None else Some (without_newest count state.now)) }
+    ensures sound { IfSome result (λ after. IsSoundTaking count state.now after) }
+{
+    shortened(state, count)
+}
+
+/// Appends bytes of any value. There must be room.
+#[tactic(auto, using(crate::proofs::ByteLaws::appended_any))]
+fn append_any(items: &mut ArrayVec<Val, 255>, count: u8)
+    requires { array_vec_len items.old + count ≤ 255 }
+    ensures { items.new.items ≡ items.old.items ++ replicate count any_val }
+{
+    if count > 0 {
+        items.push(any());
+        append_any(items, count - 1);
+    }
+}
+
+#[tactic(auto, unfolding(crate::specs::Bytes::with_any_bytes))]
+fn lengthened(rules: Rules, state: &Abs, count: u8) -> Option<Abs>
+    ensures { result ≡ (if nat_lt (item_room rules) (length state.now.items + count) then None else Some (with_any_bytes count state.now)) }
+{
+    let held = state.items();
+    if held.len() + count as usize > rules.item_room() {
+        return None;
+    }
+    let mut items = ArrayVec::new();
+    if items.try_extend_from_slice(held).is_err() {
+        unreachable!();
+    }
+    append_any(&mut items, count);
+    Some(with_items(state, items))
+}
+
+/// Bytes of any value are put on the stack. None where there is no room for them.
+#[tactic(auto, using(crate::proofs::ByteLaws::appending_sound))]
+pub fn append_bytes(rules: Rules, state: &Abs, count: u8) -> Option<Abs>
+    ensures exact { result ≡ (if nat_lt (item_room rules) (length state.now.items + count) then None else Some (with_any_bytes count state.now)) }
+    ensures sound { IfSome result (λ after. IsSoundAppending count state.now after) }
+{
+    lengthened(rules, state, count)
+}

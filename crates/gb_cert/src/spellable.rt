@@ -1,0 +1,274 @@
+//! What a version of the format can't say of states and procedures that are to be written.
+
+ghost use Rattle.std.specs.Prelude.{◌≡◌, ◌||◌, ◌&&◌, true, false, not, nat_lt, OnOk, IfErr};
+ghost use Rattle.std.specs.List.{list_any, list_all};
+ghost use Rattle.gb_domain.specs.RelationRules.{is_a_alone, is_test_byte, is_known, are_unknown, is_test_alone};
+ghost use Rattle.gb_fields.specs.Rules.{usual_base, is_whole};
+ghost use Rattle.gb_states.specs.Rules.{is_traced, are_traced, is_core_traced, is_cell_traced, is_state_traced, may_be_known};
+ghost use Rattle.gb_cert.specs.Written.{exit_of, is_odd, is_half, has_many_items, has_many_cells, is_related, has_return, is_unspellable, state_has, exit_has, returns_with, stands_with, has_half_need, says_base, say_base, rules_in, AreSpellable, IsWriteFault};
+
+use crate::told::{has_place, is_known};
+use crate::writer::{NodePlan, ProcedurePlan, Version, WriteFault};
+use gb_domain::pairs::Pairs;
+use gb_domain::places::{OneByte, Test};
+use gb_domain::relations::Relations;
+use gb_domain::types::{Abs, Cell, Core, Origin, Rules, Val};
+use gb_ops::machine::Region;
+use gb_ops::registers::Registers;
+
+// ---- relations
+
+fn is_a_alone(registers: &Registers<bool>) -> bool
+    ensures { result ≡ is_a_alone registers.now }
+{
+    let others = registers.b
+        || registers.c
+        || registers.d
+        || registers.e
+        || registers.h
+        || registers.l;
+    registers.a && !others
+}
+
+/// Whether there is no place, or A alone, compared with a byte.
+fn is_test_byte(byte: &OneByte) -> bool
+    ensures { result ≡ is_test_byte byte.now.test byte.now }
+{
+    match byte.test {
+        None => !has_place(byte),
+        Some(Test::Compare(_)) => byte.address.is_none() && is_a_alone(&byte.registers),
+        Some(Test::Bits(_)) => false,
+    }
+}
+
+fn are_unknown(pairs: &Pairs) -> bool
+    ensures { result ≡ are_unknown pairs.now }
+{
+    !is_known(&pairs.bc) && !is_known(&pairs.de) && !is_known(&pairs.hl)
+}
+
+/// Whether nothing is known of several parts together but a test of A.
+fn is_test_alone(relations: &Relations) -> bool
+    ensures { result ≡ is_test_alone relations.now }
+{
+    is_test_byte(&relations.byte) && relations.zero.is_none() && are_unknown(&relations.pairs)
+}
+
+fn may_be_known(rules: Rules, relations: &Relations) -> bool
+    ensures { result ≡ may_be_known rules relations.now }
+{
+    match rules {
+        Rules::Simple => is_test_alone(relations),
+        Rules::Extended => true,
+    }
+}
+
+// ---- origins
+
+/// Whether a value is a copy of what there is by these rules.
+fn is_traced(rules: Rules, val: Val) -> bool
+    ensures { result ≡ is_traced rules val }
+{
+    match rules {
+        Rules::Simple => !matches!(
+            val.origin,
+            Some(Origin::ReturnHigh) | Some(Origin::ReturnLow)
+        ),
+        Rules::Extended => true,
+    }
+}
+
+fn are_traced(rules: Rules, registers: &Registers<Val>) -> bool
+    ensures { result ≡ are_traced rules registers.now }
+{
+    is_traced(rules, registers.a)
+        && is_traced(rules, registers.b)
+        && is_traced(rules, registers.c)
+        && is_traced(rules, registers.d)
+        && is_traced(rules, registers.e)
+        && is_traced(rules, registers.h)
+        && is_traced(rules, registers.l)
+}
+
+fn is_core_traced(rules: Rules, core: &Core) -> bool
+    ensures { result ≡ is_core_traced rules core.now }
+{
+    is_traced(rules, core.ie) && are_traced(rules, &core.registers)
+}
+
+fn are_items_traced(rules: Rules, items: &[Val]) -> bool
+    ensures { result ≡ list_all (is_traced rules) items.now }
+{
+    for item in items {
+        if !is_traced(rules, *item) {
+            return false;
+        }
+    }
+    true
+}
+
+fn are_cells_traced(rules: Rules, cells: &[Cell]) -> bool
+    ensures { result ≡ list_all (is_cell_traced rules) cells.now }
+{
+    for cell in cells {
+        if !is_traced(rules, cell.val) {
+            return false;
+        }
+    }
+    true
+}
+
+fn is_state_traced(rules: Rules, state: &Abs) -> bool
+    ensures { result ≡ is_state_traced rules state.now }
+{
+    is_core_traced(rules, state.core())
+        && are_items_traced(rules, state.items())
+        && are_cells_traced(rules, state.cells())
+}
+
+// ---- states
+
+/// Whether so many bytes can't be counted.
+#[tactic(auto, unfolding(gb_fields::specs::Limits::unit))]
+fn is_odd(rules: Rules, bytes: usize) -> bool
+    ensures { result ≡ is_odd rules bytes }
+{
+    match rules {
+        Rules::Simple => bytes % 2 == 1,
+        Rules::Extended => false,
+    }
+}
+
+/// Nothing, where these rules' versions can say the state, or else why they can't.
+fn check_state(rules: Rules, state: &Abs) -> Result<(), WriteFault>
+    ensures spelled { OnOk result (is_unspellable rules state.now ≡ false) }
+    ensures fault { IfErr result (λ fault. state_has rules fault state.now ≡ true) }
+{
+    if is_odd(rules, state.items().len()) {
+        return Err(WriteFault::HalfWord);
+    }
+    if state.items().len() > rules.item_room() {
+        return Err(WriteFault::Items);
+    }
+    if state.cells().len() > rules.cell_room() {
+        return Err(WriteFault::Cells);
+    }
+    if !may_be_known(rules, state.relations()) {
+        return Err(WriteFault::Relations);
+    }
+    if !is_state_traced(rules, state) {
+        return Err(WriteFault::Origins);
+    }
+    Ok(())
+}
+
+/// The same of all nodes' states.
+fn check_nodes(rules: Rules, nodes: &[NodePlan<'_>]) -> Result<(), WriteFault>
+    ensures spelled { OnOk result (list_any (stands_with (is_unspellable rules)) nodes.now ≡ false) }
+    ensures fault { IfErr result (λ fault. list_any (stands_with (state_has rules fault)) nodes.now ≡ true) }
+{
+    for node in nodes {
+        check_state(rules, node.state)?;
+    }
+    Ok(())
+}
+
+/// The same of an exit's state.
+fn check_exit(rules: Rules, exit: Option<&Abs>) -> Result<(), WriteFault>
+    ensures spelled { OnOk result (exit_has (is_unspellable rules) (exit_of exit.entry) ≡ false) }
+    ensures fault { IfErr result (λ fault. exit_has (state_has rules fault) (exit_of exit.entry) ≡ true) }
+{
+    match exit {
+        None => Ok(()),
+        Some(state) => check_state(rules, state),
+    }
+}
+
+/// The same of all exits' states.
+fn check_exits(rules: Rules, procedures: &[ProcedurePlan<'_>]) -> Result<(), WriteFault>
+    ensures spelled { OnOk result (list_any (returns_with (is_unspellable rules)) procedures.now ≡ false) }
+    ensures fault { IfErr result (λ fault. list_any (returns_with (state_has rules fault)) procedures.now ≡ true) }
+{
+    for procedure in procedures {
+        check_exit(rules, procedure.exit)?;
+    }
+    Ok(())
+}
+
+// ---- procedures
+
+fn has_half_need(rules: Rules, procedure: &ProcedurePlan<'_>) -> bool
+    ensures { result ≡ has_half_need rules procedure.now }
+{
+    is_odd(rules, procedure.need as usize)
+}
+
+fn is_one_half_need(rules: Rules, procedures: &[ProcedurePlan<'_>]) -> bool
+    ensures { result ≡ list_any (has_half_need rules) procedures.now }
+{
+    for procedure in procedures {
+        if has_half_need(rules, procedure) {
+            return true;
+        }
+    }
+    false
+}
+
+/// Whether the procedure has another base than versions 1 and 2 mean.
+fn says_base(rules: Rules, is_main: bool, region: Region, procedure: &ProcedurePlan<'_>) -> bool
+    ensures { result ≡ says_base rules is_main region procedure.now }
+{
+    match rules {
+        Rules::Simple => {
+            let usual = if is_main { region.last as u32 + 1 } else { 0 };
+            procedure.base as u32 != usual
+        }
+        Rules::Extended => false,
+    }
+}
+
+fn is_one_base(rules: Rules, region: Region, procedures: &[ProcedurePlan<'_>]) -> bool
+    ensures { result ≡ list_any (says_base rules false region) procedures.now }
+{
+    for procedure in procedures {
+        if says_base(rules, false, region, procedure) {
+            return true;
+        }
+    }
+    false
+}
+
+/// Whether one of them has; the first is main.
+fn say_base(rules: Rules, region: Region, procedures: &[ProcedurePlan<'_>]) -> bool
+    ensures { result ≡ say_base rules region procedures.now }
+{
+    match procedures {
+        [] => false,
+        [main, others @ ..] => {
+            says_base(rules, true, region, main) || is_one_base(rules, region, others)
+        }
+    }
+}
+
+/// Nothing, where the version can say these parts, or else why it can't.
+#[tactic(auto, using(crate::proofs::Refusing::spellable, crate::proofs::Refusing::faults))]
+pub(crate) fn check(
+    version: Version,
+    region: Region,
+    procedures: &[ProcedurePlan<'_>],
+    nodes: &[NodePlan<'_>],
+) -> Result<(), WriteFault>
+    ensures spelled { OnOk result (AreSpellable version region procedures.now nodes.now) }
+    ensures fault { IfErr result (IsWriteFault version region procedures.now nodes.now) }
+{
+    let rules = version.rules();
+    if say_base(rules, region, procedures) {
+        return Err(WriteFault::Base);
+    }
+    if is_one_half_need(rules, procedures) {
+        return Err(WriteFault::HalfWord);
+    }
+    check_exits(rules, procedures)?;
+    check_nodes(rules, nodes)?;
+    Ok(())
+}

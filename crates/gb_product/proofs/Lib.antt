@@ -1,0 +1,3 @@
+pub mod MeaningLaws
+pub mod CoveringLaws
+pub mod SideLaws

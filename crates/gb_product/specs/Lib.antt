@@ -1,0 +1,4 @@
+pub mod Covering
+pub mod Meaning
+pub mod Sides
+pub mod Sound

@@ -1,0 +1,25 @@
+-- Which machine states a whole abstract state means (abstract interpretation: the concretization of a product).
+use Rattle.std.specs.Prelude.{ℕ}
+use Rattle.gb_ops.specs.declared.machine.Region.{Region}
+use Rattle.gb_ops.specs.Play.{MState}
+use Rattle.gb_domain.specs.declared.relations.Relations.{Relations}
+use Rattle.gb_domain.specs.Types.{AbsState}
+use Rattle.gb_abs.specs.Cells.{ArePlaced}
+use Rattle.gb_abs.specs.Meaning.{MeansParts}
+use Rattle.gb_abs.specs.Storage.{peek}
+use Rattle.gb_relations.specs.Meaning.{HoldRelations}
+use Rattle.gb_relations.specs.Sound.{IsByteFree}
+
+-- what is known together holds of a machine state
+abbrev pub AreRelated : Relations → MState → Type 0
+AreRelated r x = HoldRelations r x.processor.registers (peek x.storage) x.processor.flags
+
+-- x is one of the states that abs means, in a procedure that was entered in the state entry, with base the address above its items
+pub record Means (abs : AbsState) (entry : MState) (base : ℕ) (x : MState) : Type 0 where
+  pub parts : MeansParts abs entry base x
+  pub related : AreRelated abs.relations x
+
+-- what a state knows of memory lies in RAM outside the stack region
+pub record IsApart (region : Region) (abs : AbsState) : Type 0 where
+  pub cells : ArePlaced region abs.cells
+  pub byte : IsByteFree region abs.relations.byte.address

@@ -1,0 +1,9 @@
+//! Whole abstract states: each part by itself, and what is known of several parts together (abstract interpretation: a product
+//! of domains). `Means` of the definitions joins both meanings; `covers` decides whether one state stands for all that another
+//! does (`exact`, `sound`), and `sides_of` what a conditional instruction learns from its condition (`exact`, `sound`).
+//!
+//! Read `covering`, then `sides`.
+#![tactic(auto)]
+
+pub mod covering;
+pub mod sides;

@@ -1,0 +1,220 @@
+-- What is known together of the states behind an instruction holds, by the rules of versions 1 and 2.
+use Rattle.std.proofs.Common.{◌≡◌, ℕ, ◌+◌, ◌≤◌, ◌<◌, Bool, true, false, if◌then◌else◌, ◌%◌, List, length, refl, sym, ◌∙◌, ap, subst, arith}
+use Rattle.gb_ops.specs.declared.machine.Kind.{Kind}
+use Rattle.gb_ops.specs.declared.machine.Region.{Region}
+use Rattle.gb_ops.specs.declared.op.Register.{Register}
+use Rattle.gb_ops.specs.declared.op.Pair.{Pair}
+use Rattle.gb_ops.specs.declared.op.Pair.TheVariants as pair
+use Rattle.gb_ops.specs.declared.op.Op.{Op}
+use Rattle.gb_ops.specs.declared.op.Op.TheVariants as op
+use Rattle.gb_ops.specs.declared.op.Row.{Row}
+use Rattle.gb_ops.specs.declared.registers.Registers.{Registers}
+use Rattle.gb_ops.specs.declared.registers.Flags.{Flags}
+use Rattle.gb_ops.specs.Registers.{get}
+use Rattle.gb_ops.specs.Machine.{executed, advanced}
+use Rattle.gb_ops.specs.Play.{MState, within, outside}
+use Rattle.gb_domain.specs.declared.pairs.Bounds.{Bounds}
+use Rattle.gb_domain.specs.declared.relations.Relations.{Relations}
+use Rattle.gb_domain.specs.declared.rules.Rules.{Rules}
+use Rattle.gb_domain.specs.declared.rules.Rules.TheVariants.{Simple}
+use Rattle.gb_domain.specs.declared.setting.Setting.{Setting}
+use Rattle.gb_domain.specs.declared.types.Val.{Val}
+use Rattle.gb_domain.specs.declared.types.Core.{Core}
+use Rattle.gb_domain.specs.declared.types.Range.{Range}
+use Rattle.gb_domain.specs.Types.{AbsState}
+use Rattle.gb_domain.specs.Pairs.{any_bounds}
+use Rattle.gb_domain.specs.Rules.{IsVal, IsCore}
+use Rattle.gb_abs.specs.Located.{sp_halves}
+use Rattle.gb_abs.specs.Operations.{core_settle, core_end, with_core}
+use Rattle.gb_abs.specs.Span.{one}
+use Rattle.gb_abs.specs.Stack.{AreInRegion, pushed, popped}
+use Rattle.gb_abs.specs.Storage.{peek}
+use Rattle.gb_abs.specs.Meaning.{Holds, MeansCore, MeansParts}
+use Rattle.gb_abs_effects.specs.declared.targets.Target.{Target}
+use Rattle.gb_abs_effects.specs.declared.targets.Target.TheVariants as target
+use Rattle.gb_abs_effects.specs.declared.writes.AbsWrite.{AbsWrite}
+use Rattle.gb_abs_effects.specs.declared.writes.AbsWrite.TheVariants as write
+use Rattle.gb_abs_effects.specs.Sound as effects
+use Rattle.gb_abs_effects.specs.Sound.{IsWrite}
+use Rattle.gb_abs_effects.proofs.RangeLaws.{transfer_inhabited}
+use Rattle.gb_abs_memory.specs.Access.{stored_state}
+use Rattle.gb_abs_memory.proofs.AfterStoreLaws.{IsCore-stored_state}
+use Rattle.gb_pairs.specs.Meaning.{AreBytes}
+use Rattle.gb_places.specs.Meaning.{HoldOneByte}
+use Rattle.gb_relations.specs.Meaning.{HoldRelations}
+use Rattle.gb_relations.specs.Compared.{compared_after}
+use Rattle.gb_relations.specs.Transfer.{relations_after}
+use Rattle.gb_relations.specs.Sound as relations
+use Rattle.gb_relations.proofs.ComparedLaws.{HoldOneByte-compared_after}
+use Rattle.gb_relations.proofs.TransferLaws.{HoldPairs-nothing}
+use Rattle.gb_product.specs.Meaning.{AreRelated}
+use Rattle.gb_abs_effects.specs.Accesses.{read_of}
+use Rattle.gb_successors.specs.Behind.{behind, read_word, written, starts, pushed_if_room, with_stack_of, ended, with_relations}
+use Rattle.gb_successors.specs.Refused.{is_unknown, meets_closed, meets_oam_transfer}
+use Rattle.gb_successors.specs.Successors.{taken_parts, related_successor, relations_behind, taken_successor}
+use Rattle.gb_successors.specs.Way.{Successor}
+use Rattle.gb_successors.specs.Sound.{IsAllowed, IsStackFit, LeadsTo, LeadsParts, Leads, Stands}
+use Rattle.gb_successors.proofs.SuccessorLaws.{begun, given, effect, behind_row, left_by, abs_effect, low_of, high_of, is_word, IsWord-sp, state_is, executed_taken, IsTaken, is_write}
+
+-- ---- other things known together
+
+pub MeansParts-related : (r : Relations) (s : AbsState) (entry : MState) (base : ℕ) (x : MState) → MeansParts s entry base x → MeansParts (with_relations r s) entry base x
+MeansParts-related r s entry base x m =
+    record { core = m.core; memory = m.memory; sp = m.sp; stack = m.stack; items = m.items; cells = m.cells }
+
+pub IsAllowed-parts :
+    (rom : List ℕ) (region : Region) (ranges : List Range) (s : AbsState) (base : ℕ) (r : Relations) (t : Successor)
+    → IsAllowed rom region ranges s base (related_successor r t) → IsAllowed rom region ranges s base t
+unfolding meets_closed meets_oam_transfer
+IsAllowed-parts rom region ranges s base r t h =
+    record { stores = h.stores; ram = h.ram; oam_transfer = h.oam_transfer; stack = fit t.target h.stack }
+  where
+    fit : (w : Target) → IsStackFit region w s (related_successor r t) base → IsStackFit region w s t base
+    fit (target.At a) k = k
+    fit (target.Call a) k = k
+    fit target.Return k = record { stack_set = k.stack_set; held = k.held; return_word = k.return_word }
+    fit target.Unknown k = k
+
+pub LeadsTo-related :
+    (region : Region) (w : Target) (r : Relations) (t : Successor) (entry : MState) (base : ℕ) (x y : MState)
+    → LeadsTo region w t entry base x y → LeadsTo region w (related_successor r t) entry base x y
+unfolding pushed
+LeadsTo-related region (target.At a) r t entry base x y h = record { means = MeansParts-related r t.state entry base y h.means; goes = h.goes; room = h.room }
+LeadsTo-related region (target.Call a) r t entry base x y h =
+    record { means = MeansParts-related r _ entry base y h.means; next = h.next; goes = h.goes; stack_set = h.stack_set; placed = h.placed }
+LeadsTo-related region target.Return r t entry base x y h = record { means = MeansParts-related r t.state entry (base + 2) y h.means; goes = h.goes }
+LeadsTo-related region target.Unknown r t entry base x y h = tt
+
+-- ---- registers are bytes
+
+pub AreBytes-core : (c : Core) (entry x : MState) → IsCore c → MeansCore c entry x → AreBytes x.processor.registers
+AreBytes-core c entry x is m =
+    record { each = λ r. let k : Holds (get r c.registers) entry (get r x.processor.registers) = m.registers r in let v = is.registers r in let most = k.most in let hi = v.hi in omega arith }
+
+core_led : (region : Region) (w : Target) (t : Successor) (entry : MState) (base : ℕ) (x y : MState) → is_unknown w ≡ false → LeadsTo region w t entry base x y → MeansCore t.state.core entry y
+unfolding pushed
+core_led region (target.At a) t entry base x y known h = h.means.core
+core_led region (target.Call a) t entry base x y known h = h.means.core
+core_led region target.Return t entry base x y known h = h.means.core
+core_led region target.Unknown t entry base x y known h = cc
+
+IsCore-set : (c : Core) → IsCore c → IsCore (record c { stack_set = true })
+IsCore-set c h = record { ime = h.ime; bound = h.bound; ctl = h.ctl; flags = h.flags; ie = h.ie; registers = h.registers }
+
+IsCore-pushed : (z : Setting) (high low : Val) (s : AbsState) → IsCore s.core → IsCore (pushed_if_room z (record { high = high; low = low }) s).core
+unfolding pushed_if_room pushed
+IsCore-pushed z high low s h = by _
+  where
+    by : (b : Bool) → IsCore (if b then s else pushed (record { high = high; low = low }) s).core
+    by true = h
+    by false = h
+
+IsCore-stacked : (z : Setting) (o : Op) (w : AbsWrite) (s : AbsState) → IsCore s.core → IsCore (with_stack_of z o w s).core
+unfolding with_stack_of popped
+IsCore-stacked z (op.LoadPair pair.Sp n) w s h = IsCore-set s.core h
+IsCore-stacked z (op.Push from) (write.Push high low) s h = IsCore-pushed z high low s h
+IsCore-stacked z (op.Pop to) w s h = h
+IsCore-stacked z o w s h = h
+
+IsCore-written : (z : Setting) (k : Kind) (w : AbsWrite) (s : AbsState) → IsWrite w → IsCore s.core → IsCore (written z k w s).core
+unfolding written
+IsCore-written z k write.Nothing s is h = h
+IsCore-written z k (write.Byte span v) s is h = IsCore-stored_state z k span v s is h
+IsCore-written z k (write.Word a low high) s is h =
+    IsCore-stored_state z k (one (behind a)) high (stored_state z k (one a) low s) is.1 (IsCore-stored_state z k (one a) low s is.0 h)
+IsCore-written z k (write.Push high low) s is h = h
+
+IsCore-ended : (b : Bool) (n : ℕ) (c : Core) → IsCore c → IsCore (core_end b n c)
+unfolding core_end
+IsCore-ended true n c h = record { ime = h.ime; bound = omega arith; ctl = h.ctl; flags = h.flags; ie = h.ie; registers = h.registers }
+IsCore-ended false n c h = record { ime = h.ime; bound = let b = h.bound in omega arith; ctl = h.ctl; flags = h.flags; ie = h.ie; registers = h.registers }
+
+IsCore-taken :
+    (z : Setting) (rom : List ℕ) (region : Region) (ranges : List Range) (row : Row) (a : ℕ) (s : AbsState) (entry : MState) (base : ℕ) (x : MState) (reads : List ℕ) (c : Core)
+    → IsTaken z rom region ranges row a s entry base x reads c → IsCore (taken_parts z rom row (behind_row a row) s c).state.core
+unfolding ended
+IsCore-taken z rom region ranges row a s entry base x reads c k =
+    let w : AbsWrite = (abs_effect z rom row a s c).write in
+    subst (λ (t : AbsState). IsCore t.core) (sym (state_is z rom row a s c))
+    (IsCore-ended (starts w) row.cycles _
+    (IsCore-written z _ w _ (is_write z rom region ranges row a s entry base x reads c k)
+    (IsCore-stacked z row.op w _ (core_of k))))
+  where
+    core_of : IsTaken z rom region ranges row a s entry base x reads c → IsCore (abs_effect z rom row a s c).core
+    core_of k =
+        let word = is_word z rom s c _ k.core.ie k.stands.vals k.stands.items k.stands.cartridge.bytes in
+        (transfer_inhabited row.op (behind_row a row) (sp_halves z s) c (low_of z rom row s c) (high_of z rom row s c) (abs_effect z rom row a s c) refl k.ruled.operands (omega arith) k.core word.low word.high (IsWord-sp z s entry base x k.stands.based k.stands.means.parts)).core
+
+-- ---- taken
+
+has_operands : (o : Op) → effects.HasBytes o → relations.HasBytes o
+has_operands (op.LoadPair to w) h = h
+has_operands (op.LoadImmediate to v) h = h
+has_operands (op.AluImmediate how v) h = h
+has_operands o h = tt
+
+simply :
+    (region : Region) (o : Op) (sp : Bounds) (vals : Registers Val) (low : Val) (r : Relations) (x : Registers ℕ) (memory : ℕ → ℕ) (f : Flags)
+    → HoldOneByte (compared_after o r.byte) x memory f → AreBytes x → HoldRelations (relations_after Simple region o sp vals low r) x memory f
+unfolding relations_after
+simply region o sp vals low r x memory f byte bytes = record { byte = byte; zero = tt; pairs = HoldPairs-nothing x bytes }
+
+pub by_rules :
+    (rules : Rules) (region : Region) (o : Op) (sp : Bounds) (vals : Registers Val) (low : Val) (r : Relations) (x : Registers ℕ) (memory : ℕ → ℕ) (f : Flags)
+    → rules ≡ Simple → HoldOneByte (compared_after o r.byte) x memory f → AreBytes x → HoldRelations (relations_after rules region o sp vals low r) x memory f
+by_rules rules region o sp vals low r x memory f simple byte bytes =
+    subst (λ q. HoldRelations (relations_after q region o sp vals low r) x memory f) (sym simple) (simply region o sp vals low r x memory f byte bytes)
+
+pub related_begun : (row : Row) (x : MState) (r : Relations) → AreRelated r x → AreRelated r (begun row x)
+unfolding advanced
+related_begun row x r h = h
+
+pub related_taken :
+    (z : Setting) (rom : List ℕ) (region : Region) (ranges : List Range) (row : Row) (a : ℕ) (s : AbsState) (entry : MState) (base : ℕ) (x : MState) (reads : List ℕ) (c : Core) (w : Target)
+    → IsTaken z rom region ranges row a s entry base x reads c → is_unknown w ≡ false
+    → LeadsTo region w (taken_parts z rom row (behind_row a row) s c) entry base x (outside (executed (within rom x) row reads))
+    → AreRelated (relations_behind z rom region row.op s c) (outside (executed (within rom x) row reads))
+unfolding relations_behind
+related_taken z rom region ranges row a s entry base x reads c w k known led =
+    let t = taken_parts z rom row (behind_row a row) s c in
+    let e = effect rom row x reads in
+    let y = outside (executed (within rom x) row reads) in
+    let bytes : AreBytes y.processor.registers = AreBytes-core t.state.core entry y (IsCore-taken z rom region ranges row a s entry base x reads c k) (core_led region w t entry base x y known led) in
+    let is : y ≡ left_by rom x e row.cycles = executed_taken z rom region ranges row a s entry base x reads c k in
+    let before : AreRelated s.relations (begun row x) = related_begun row x s.relations k.stands.means.related in
+    let byte : HoldOneByte (compared_after row.op s.relations.byte) e.processor.registers (peek (left_by rom x e row.cycles).storage) e.processor.flags =
+    HoldOneByte-compared_after row.op s.relations.byte (begun row x).processor (peek x.storage) (peek (left_by rom x e row.cycles).storage)
+        (given rom row x reads).low (given rom row x reads).high (has_operands row.op k.ruled.operands) (AreBytes-core c entry (begun row x) k.core k.means) before.byte in
+    let low : Val = (read_word z rom (with_core s c) (read_of row.op c)).low in
+    subst (λ (v : MState). AreRelated (relations_after z.rules region row.op any_bounds c.registers low s.relations) v) (sym is)
+    (by_rules z.rules region row.op any_bounds c.registers low s.relations _ _ _ k.stands.rules byte (subst (λ (v : MState). AreBytes v.processor.registers) is bytes))
+
+pub Leads-taken :
+    (z : Setting) (rom : List ℕ) (region : Region) (ranges : List Range) (row : Row) (a : ℕ) (s : AbsState) (entry : MState) (base : ℕ) (x : MState) (reads : List ℕ) (c : Core)
+    → IsTaken z rom region ranges row a s entry base x reads c
+    → LeadsParts region ranges (taken_parts z rom row (behind_row a row) s c) entry base x (outside (executed (within rom x) row reads))
+    → Leads region ranges (taken_successor z rom region row (behind_row a row) s c) entry base x (outside (executed (within rom x) row reads))
+unfolding taken_successor
+Leads-taken z rom region ranges row a s entry base x reads c k led =
+    let t = taken_parts z rom row (behind_row a row) s c in
+    record {
+      to = LeadsTo-related region t.target (relations_behind z rom region row.op s c) t entry base x _ led.to;
+      kept = led.kept;
+      related = λ known. related_taken z rom region ranges row a s entry base x reads c t.target k known led.to;
+    }
+
+-- ---- memory that stays
+
+pub HoldRelations-same : (r : Relations) (x : Registers ℕ) (memory after : ℕ → ℕ) (f : Flags) → ((b : ℕ) → after b ≡ memory b) → HoldRelations r x memory f → HoldRelations r x after f
+HoldRelations-same r x memory after f same h =
+    record {
+      byte = record {
+        byte = h.byte.byte;
+        small = h.byte.small;
+        registers = h.byte.registers;
+        address = λ a e. same a ∙ h.byte.address a e;
+        test = h.byte.test;
+      };
+      zero = h.zero;
+      pairs = h.pairs;
+    }
