@@ -25,6 +25,9 @@ const REGION: Region = Region {
     last: 0xDFFF,
 };
 
+/// The address above it, which is main's base.
+const BASE: u16 = 0xE000;
+
 /// Any byte.
 const ANY: Val = Val {
     lo: 0,
@@ -96,9 +99,10 @@ fn wide(start: Core, l: Val) -> Core {
 }
 
 /// A procedure that needs no stack, writes nothing and doesn't return.
-fn procedure(entry: u32) -> ProcedurePlan<'static> {
+fn procedure(entry: u32, base: u16) -> ProcedurePlan<'static> {
     ProcedurePlan {
         entry,
+        base,
         need: 0,
         ranges: &[],
         exit: None,
@@ -117,7 +121,13 @@ fn node(procedure: u8, address: u16, state: &Abs) -> NodePlan<'_> {
 
 /// A certificate of main alone, version 1.
 fn main_alone(alloc: Global, entry: u32, nodes: &[NodePlan<'_>]) -> Result<Vec<u8>, WriteFault> {
-    write_certificate(alloc, Version::One, REGION, &[procedure(entry)], nodes)
+    write_certificate(
+        alloc,
+        Version::One,
+        REGION,
+        &[procedure(entry, BASE)],
+        nodes,
+    )
 }
 
 /// Straight-line code, version 1: each address has two or three nodes, all in the same state.
@@ -169,10 +179,10 @@ fn procedures(alloc: Global, start: Core) -> Result<Vec<u8>, WriteFault> {
     });
     let mut procedures = Vec::new(alloc);
     let mut nodes = Vec::new(alloc);
-    procedures.push(procedure(2 * 0x100))?;
+    procedures.push(procedure(2 * 0x100, BASE))?;
     push_mains(&state, &mut nodes)?;
     for number in 1..PROCEDURES {
-        procedures.push(procedure(TWICE + u32::from(number) * ADDRESSES))?;
+        procedures.push(procedure(TWICE + u32::from(number) * ADDRESSES, 0))?;
         push_below(number, &below, &mut nodes)?;
     }
     write_certificate(

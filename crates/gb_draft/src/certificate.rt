@@ -59,20 +59,31 @@ fn procedures<'a>(
     let mut procedures = Vec::new(alloc);
     for number in order {
         if let Some(procedure) = run.procedures.get(*number) {
-            procedures.push(procedure_plan(procedure, places))?;
+            let base = base_of(run, *number);
+            procedures.push(procedure_plan(procedure, base, places))?;
         }
     }
     Ok(procedures)
 }
 
-/// A procedure. What is too large for its field is above the limit that the writer names.
-fn procedure_plan<'a>(procedure: &'a Procedure, places: &[usize]) -> ProcedurePlan<'a> {
+/// The base that versions 1 and 2 mean: main's is the region's end, that of others isn't known.
+fn base_of(run: &Run<'_>, number: usize) -> u16 {
+    if number == 0 {
+        run.configuration.region.last.saturating_add(1)
+    } else {
+        0
+    }
+}
+
+/// A procedure with this base. What is too large for its field is above the limit that the writer names.
+fn procedure_plan<'a>(procedure: &'a Procedure, base: u16, places: &[usize]) -> ProcedurePlan<'a> {
     let entry = match procedure.entry {
         Some(number) => places.get(number).copied().unwrap_or(0),
         None => 0,
     };
     ProcedurePlan {
         entry: u32::try_from(entry).unwrap_or(u32::MAX),
+        base,
         need: u16::try_from(procedure.need).unwrap_or(u16::MAX - 1),
         ranges: procedure.ranges.as_slice(),
         exit: exit_of(procedure),

@@ -3,8 +3,9 @@
 
 use gb_fixpoint::entries::Entered;
 use gb_fixpoint::register_set::REGISTERS;
+use gb_fixpoint::setting::RULES;
 use gb_fixpoint::types::Run;
-use gb_fixpoint::{Abs, CELLS, Core, ImeSet, Val, covers};
+use gb_fixpoint::{Abs, Core, ImeSet, Val, covers};
 use std::alloc::{AllocError, Global};
 use std::collections::{BTreeMap, BTreeSet};
 
@@ -57,7 +58,7 @@ fn core_width(core: &Core) -> usize {
 
 /// How much a state leaves open, memory cells last.
 fn state_width(state: &Abs) -> usize {
-    let unknown = CELLS.saturating_sub(state.cells().len());
+    let unknown = RULES.cell_room().saturating_sub(state.cells().len());
     core_width(state.core())
         .saturating_mul(64)
         .saturating_add(unknown)

@@ -3,7 +3,7 @@
 use gb_cert::{Cert, CertFault};
 use gb_printed::{Outcome, Upgraded, show_bytes, show_cert, upgrade_bytes, verify_bytes};
 use gb_samples::cartridges::{PLAIN, put, small};
-use gb_samples::certificates::{least, least_in_version_2, two_procedures};
+use gb_samples::certificates::{least, least_in_version_2, least_in_version_3, two_procedures};
 use gb_samples::programs::LOOP;
 use gb_text::kept_bytes::KeptBytes;
 use gb_text::sink::{OutFault, Sink};
@@ -26,6 +26,14 @@ procedure 1 entry 1 need 4096 ranges 2 returns yes\n\
 node 0 procedure 0 address 0100 bank 000\n\
 node 1 procedure 1 address 4000 bank 1FF\n";
 
+/// The lines of the least certificate of version 3, with a need of three bytes.
+const THIRD: &[u8] = b"\
+stack DF00..DFFF procedures 1 nodes 3\n\
+procedure 0 entry 0 base E000 need 3 ranges 0 returns no\n\
+node 0 procedure 0 address 0100 bank 000\n\
+node 1 procedure 0 address 0101 bank 000\n\
+node 2 procedure 0 address 0150 bank 000\n";
+
 /// Shows a certificate, by its bytes and as it is read from them.
 fn shows(alloc: Global, bytes: &[u8], lines: &[u8]) -> Result<bool, Fail> {
     let mut out = KeptBytes::new(7, 1_000);
@@ -37,10 +45,13 @@ fn shows(alloc: Global, bytes: &[u8], lines: &[u8]) -> Result<bool, Fail> {
 }
 
 #[test]
-fn lines_of_both_versions(rt: HostRuntime) -> Result<(), Fail> {
+fn lines_of_each_version(rt: HostRuntime) -> Result<(), Fail> {
     assert!(rt; shows(rt.alloc(), &least(), LEAST)?);
     assert!(rt; shows(rt.alloc(), &least_in_version_2(), LEAST)?);
     assert!(rt; shows(rt.alloc(), &two_procedures(), TWO)?);
+    let mut third = least_in_version_3();
+    put(&mut third, 20, &[0x03]);
+    assert!(rt; shows(rt.alloc(), &third, THIRD)?);
     Ok(())
 }
 
@@ -50,12 +61,14 @@ fn upgrades(alloc: Global, bytes: &[u8], whole: &[u8], at_once: usize) -> bool {
     upgrade_bytes(alloc, bytes, &mut out) == Ok(Upgraded::Written) && out.kept() == whole
 }
 
-/// Numbers of nodes take four bytes, and all else stays; a certificate of version 2 comes out as it is.
+/// Numbers of nodes take four bytes, and all else stays; a certificate of version 2 or 3 comes out as it is.
 #[test]
 fn is_written_in_version_2(rt: HostRuntime) {
     let second = least_in_version_2();
+    let third = least_in_version_3();
     assert!(rt; upgrades(rt.alloc(), &least(), &second, 7));
     assert!(rt; upgrades(rt.alloc(), &second, &second, 1_000));
+    assert!(rt; upgrades(rt.alloc(), &third, &third, 1_000));
 }
 
 /// A certificate of two procedures: its front in version 2.

@@ -174,7 +174,7 @@ fn are_versions(first: &Cert<'_>, second: &Cert<'_>, bytes: &[u8; 163]) -> bool 
     first.version() == 1
         && second.version() == 2
         && first.upgraded_head().as_slice() == &bytes[..14]
-        && first.procedure(0).body() == &bytes[18..22]
+        && first.procedure_body(0) == &bytes[18..22]
         && first.node_bytes() == &bytes[22..]
 }
 

@@ -10,11 +10,19 @@ use gb_abs_memory::refusals::{
 };
 use gb_abs_memory::store::{Area, area_of, is_storable, store};
 use gb_abs_memory::windows::ControllerRegister;
+use gb_domain::types::{Rules, Setting};
 use gb_ops::machine::{Kind, Region};
 use gb_samples::cartridges::{PLAIN, SMALLEST, Sizes, put, small};
 use gb_samples::states::{ANY, EITHER, SET, START, entered, from_to};
 use gb_verify::{Abs, Core, Ctl, May, Origin, Range, Rom, Val};
 use std::test::Fail;
+
+/// Main, by the rules of versions 1 and 2.
+const MAIN: Setting = Setting {
+    rules: Rules::Simple,
+    is_main: true,
+    base: 0,
+};
 
 /// MBC3 with 8 KiB of RAM.
 const WITH_RAM: Sizes = [0x12, 0x00, 0x02];
@@ -65,7 +73,7 @@ fn core_with(gate: May, bound: u8) -> Core {
 fn state_with(gate: May, bound: u8) -> Abs {
     let mut state = Abs::new(core_with(gate, bound));
     for (address, value) in [(0xC000, 11), (0xC001, 12), (0xDDFF, 13), (0xFF80, 14)] {
-        state = with_cell(&state, address, from_to(value, value));
+        state = with_cell(Rules::Simple, &state, address, from_to(value, value));
     }
     state
 }
@@ -98,7 +106,8 @@ fn gives(rom: &Rom<'_>, at: Span, val: Val, stays: bool) -> bool {
     } else {
         Err(Reason::OamTransfer)
     };
-    load(rom, &state_with(SET, 0), at) == Ok(val) && load(rom, &state_with(SET, 1), at) == limited
+    load(MAIN, rom, &state_with(SET, 0), at) == Ok(val)
+        && load(MAIN, rom, &state_with(SET, 1), at) == limited
 }
 
 #[test]
@@ -121,8 +130,8 @@ const CLOSED: [(u16, u16); 3] = [(0xA000, 0xA000), (0xBFFF, 0xC000), (0x9FFF, 0x
 /// Whether a load is refused where the gate may be closed, and where there is no RAM.
 fn meets_closed(rom: &Rom<'_>, flat: &Rom<'_>, at: Span) -> bool {
     let closed = Err(Reason::CartridgeRam);
-    load(rom, &state_with(EITHER, 1), at) == closed
-        && load(flat, &state_with(SET, 0), at) == closed
+    load(MAIN, rom, &state_with(EITHER, 1), at) == closed
+        && load(MAIN, flat, &state_with(SET, 0), at) == closed
         && meets_closed_ram(rom, &core_with(EITHER, 0), at)
         && !meets_closed_ram(rom, &core_with(SET, 0), at)
 }
@@ -215,7 +224,7 @@ fn is_refused_so(rom: &Rom<'_>, row: &Refusal) -> bool {
     let ((first, last), (lo, hi), gate, bound, reason) = *row;
     let state = state_with(gate, bound);
     let at = span(first, last);
-    store(rom, REGION, &RANGES, &state, at, &from_to(lo, hi)).err() == reason
+    store(MAIN, rom, REGION, &RANGES, &state, at, &from_to(lo, hi)).err() == reason
 }
 
 #[test]
@@ -284,7 +293,7 @@ const STORES: [(u16, u16, Val, Left); 11] = [
 
 /// Whether a store isn't refused, and leaves this of the state with an open gate.
 fn leaves(rom: &Rom<'_>, at: Span, val: &Val, left: &Left) -> bool {
-    let Ok(stored) = store(rom, REGION, &RANGES, &state_with(SET, 0), at, val) else {
+    let Ok(stored) = store(MAIN, rom, REGION, &RANGES, &state_with(SET, 0), at, val) else {
         return false;
     };
     let (ie, first, second, count, is_kept, starts) = *left;

@@ -1,17 +1,21 @@
 //! Certificates written from plain values.
 
+use gb_abs::bytes::append_bytes;
 use gb_abs::cells::with_cell;
 use gb_abs::stack::push;
 use gb_cert::{
     Cert, NodePlan, NodeRef, ProcedurePlan, ProcedureRef, Version, WriteFault, write_certificate,
 };
-use gb_domain::types::{Abs, Cell, Core, Ctl, Flg, Halves, ImeSet, Origin, Range, Val};
+use gb_domain::pairs::WordPair;
+use gb_domain::relations::Relations;
+use gb_domain::types::{Abs, Cell, Core, Ctl, Flg, Halves, ImeSet, Origin, Range, Rules, Val};
 use gb_ops::machine::Region;
 use gb_ops::op::Register;
 use gb_ops::registers::Registers;
 use gb_samples::cartridges::{PLAIN, small};
 use gb_samples::certificates::{least, least_in_version_2};
 use gb_samples::programs::LOOP;
+use gb_samples::relations::{are_same, compared};
 use gb_samples::states::{ANY, CLEAR, EITHER, SET, copy_of, entered, from_to};
 use gb_verify::Rom;
 use gb_verify::check::core_at_power_up;
@@ -38,7 +42,7 @@ fn full_registers() -> Registers<Val> {
     }
 }
 
-/// A core whose parts all differ from one another: a test, and all origins but H, which a word has.
+/// A core whose parts all differ from one another: all origins but H, which a word has.
 fn full() -> Core {
     Core {
         ime: ImeSet {
@@ -48,7 +52,6 @@ fn full() -> Core {
         },
         bound: 0x51,
         stack_set: true,
-        test: Some(0x77),
         ctl: Ctl {
             bank_lo: 0x0102,
             bank_hi: 0x01F3,
@@ -105,7 +108,8 @@ const CELLS: &[Cell] = &[
     },
 ];
 
-/// A state: whether its core is the one above or a procedure's entry, the words that are pushed, their bytes, and its cells.
+/// A state: whether its core is the one above, with a test, or a procedure's entry, the words that are pushed, their bytes,
+/// and its cells.
 struct State {
     is_full: bool,
     words: &'static [Halves],
@@ -115,6 +119,7 @@ struct State {
 
 struct Procedure {
     entry: u32,
+    base: u16,
     need: u16,
     ranges: &'static [Range],
     exit: Option<State>,
@@ -130,12 +135,14 @@ struct Node {
 const PROCEDURES: &[Procedure] = &[
     Procedure {
         entry: 1,
+        base: 0xE000,
         need: 0x0006,
         ranges: &[],
         exit: None,
     },
     Procedure {
         entry: 2,
+        base: 0x0000,
         need: 0x0246,
         ranges: &[
             Range {
@@ -196,15 +203,21 @@ fn core_of(state: &State) -> Core {
     if state.is_full { full() } else { entered() }
 }
 
+/// What is known of several parts together.
+fn known(state: &State) -> Relations {
+    compared(if state.is_full { Some(0x77) } else { None })
+}
+
 fn made(plain: &State) -> Abs {
     let mut state = Abs::new(core_of(plain));
+    state.set_relations(known(plain));
     for word in plain.words {
-        if let Some(above) = push(&state, *word) {
+        if let Some(above) = push(Rules::Simple, &state, *word) {
             state = above;
         }
     }
     for cell in plain.cells {
-        state = with_cell(&state, cell.address, cell.val);
+        state = with_cell(Rules::Simple, &state, cell.address, cell.val);
     }
     state
 }
@@ -238,6 +251,7 @@ fn procedure_plans(
     for (procedure, exit) in PROCEDURES.iter().zip(exits) {
         plans.push(ProcedurePlan {
             entry: procedure.entry,
+            base: procedure.base,
             need: procedure.need,
             ranges: procedure.ranges,
             exit: exit.as_ref(),
@@ -275,7 +289,10 @@ fn written(alloc: Global, version: Version) -> Result<Vec<u8>, WriteFault> {
 }
 
 fn is_state(state: &Abs, plain: &State) -> bool {
-    *state.core() == core_of(plain) && state.items() == plain.items && state.cells() == plain.cells
+    *state.core() == core_of(plain)
+        && state.items() == plain.items
+        && state.cells() == plain.cells
+        && are_same(state.relations(), &known(plain))
 }
 
 fn is_exit(exit: &Option<Abs>, plain: &Option<State>) -> bool {
@@ -288,6 +305,7 @@ fn is_exit(exit: &Option<Abs>, plain: &Option<State>) -> bool {
 
 fn is_procedure(read: &ProcedureRef<'_>, procedure: &Procedure) -> bool {
     read.entry() == procedure.entry
+        && read.base() == procedure.base
         && read.need() == procedure.need
         && read.ranges().as_slice() == procedure.ranges
         && is_exit(&read.exit(), &procedure.exit)
@@ -317,7 +335,7 @@ fn has_nodes(cert: &Cert<'_>) -> bool {
         && is_node(&cert.node(2), &NODES[2])
 }
 
-const VERSIONS: [(Version, u8); 2] = [(Version::One, 1), (Version::Two, 2)];
+const VERSIONS: [(Version, u8); 3] = [(Version::One, 1), (Version::Two, 2), (Version::Three, 3)];
 
 /// Each value is read as it was written.
 #[test]
@@ -333,7 +351,8 @@ fn what_is_written_is_read(rt: HostRuntime) -> Result<(), Fail> {
     Ok(())
 }
 
-/// Of each thing that has a limit how much there is.
+/// Of each thing that has a limit how much there is: all procedures are equal but for main's base, and all states have items of
+/// any value, cells, A's origin and the pair that is 0 where Z is set.
 #[derive(Clone, Copy)]
 struct Amounts {
     version: Version,
@@ -342,6 +361,11 @@ struct Amounts {
     ranges: usize,
     need: u16,
     entry: u32,
+    base: u16,
+    items: u8,
+    cells: u16,
+    origin: Option<Origin>,
+    zero: Option<WordPair>,
 }
 
 const LEAST: Amounts = Amounts {
@@ -351,10 +375,20 @@ const LEAST: Amounts = Amounts {
     ranges: 0,
     need: 0,
     entry: 0,
+    base: 0xE000,
+    items: 0,
+    cells: 0,
+    origin: None,
+    zero: None,
 };
 
 const LEAST_IN_VERSION_2: Amounts = Amounts {
     version: Version::Two,
+    ..LEAST
+};
+
+const LEAST_IN_VERSION_3: Amounts = Amounts {
+    version: Version::Three,
     ..LEAST
 };
 
@@ -428,6 +462,58 @@ const LIMITS: &[(Amounts, Option<WriteFault>)] = &[
         None,
     ),
     (Amounts { entry: 1, ..LEAST }, Some(WriteFault::Entry)),
+    (
+        Amounts {
+            base: 0xDFFE,
+            ..LEAST
+        },
+        Some(WriteFault::Base),
+    ),
+    (
+        Amounts {
+            items: 32,
+            cells: 32,
+            origin: Some(Origin::Ie),
+            ..LEAST
+        },
+        None,
+    ),
+    (Amounts { items: 1, ..LEAST }, Some(WriteFault::HalfWord)),
+    (Amounts { items: 34, ..LEAST }, Some(WriteFault::Items)),
+    (Amounts { cells: 33, ..LEAST }, Some(WriteFault::Cells)),
+    (
+        Amounts {
+            zero: Some(WordPair::Hl),
+            ..LEAST
+        },
+        Some(WriteFault::Relations),
+    ),
+    (
+        Amounts {
+            origin: Some(Origin::ReturnLow),
+            ..LEAST_IN_VERSION_2
+        },
+        Some(WriteFault::Origins),
+    ),
+    (
+        Amounts {
+            need: 8_191,
+            base: 0xDFFE,
+            items: 255,
+            cells: 64,
+            origin: Some(Origin::ReturnHigh),
+            zero: Some(WordPair::Bc),
+            ..LEAST_IN_VERSION_3
+        },
+        None,
+    ),
+    (
+        Amounts {
+            need: 8_193,
+            ..LEAST_IN_VERSION_3
+        },
+        Some(WriteFault::Need),
+    ),
 ];
 
 /// A node of main at 0100.
@@ -440,20 +526,43 @@ fn main_node(state: &Abs) -> NodePlan<'_> {
     }
 }
 
+/// A state of these amounts.
+fn state_of(amounts: &Amounts) -> Abs {
+    let mut core = entered();
+    core.registers.a.origin = amounts.origin;
+    let plain = Abs::new(core);
+    let mut state = match append_bytes(Rules::Extended, &plain, amounts.items) {
+        Some(state) => state,
+        None => plain,
+    };
+    for i in 0..amounts.cells.min(64) {
+        state = with_cell(Rules::Extended, &state, 0xC000 + i, ANY);
+    }
+    state.set_relations(Relations {
+        zero: amounts.zero,
+        ..Relations::default()
+    });
+    state
+}
+
 /// What stands against so many equal procedures and nodes.
 fn fault_of(alloc: Global, amounts: &Amounts) -> Result<Option<WriteFault>, AllocError> {
     let ranges = vec![in alloc; Range {
         first: 0xC000,
         last: 0xC000
     }; amounts.ranges]?;
-    let state = Abs::new(entered());
+    let state = state_of(amounts);
     let procedure = ProcedurePlan {
         entry: amounts.entry,
+        base: 0,
         need: amounts.need,
         ranges: ranges.as_slice(),
         exit: None,
     };
-    let procedures = vec![in alloc; procedure; amounts.procedures]?;
+    let mut procedures = vec![in alloc; procedure; amounts.procedures]?;
+    if let Some(main) = procedures.first_mut() {
+        main.base = amounts.base;
+    }
     let nodes = vec![in alloc; main_node(&state); amounts.nodes]?;
     let (procedures, nodes) = (procedures.as_slice(), nodes.as_slice());
     match write_certificate(alloc, amounts.version, REGION, procedures, nodes) {
@@ -474,6 +583,7 @@ fn limits_are_named(rt: HostRuntime) -> Result<(), Fail> {
 fn is_least(alloc: Global, version: Version, state: &Abs, expected: &[u8]) -> bool {
     let main = ProcedurePlan {
         entry: 0,
+        base: 0xE000,
         need: 0,
         ranges: &[],
         exit: None,

@@ -1,13 +1,18 @@
 //! The sides of conditional instructions.
 
-use gb_abs_effects::sides::{Sides, sides_of};
+use crate::effects::leaves_test;
+use gb_abs_effects::sides::Sides;
 use gb_abs_effects::transfer::untaken;
 use gb_abs_effects::writes::AbsWrite;
-use gb_domain::types::{Core, Flg};
-use gb_ops::op::{AluOp, Condition, Op, Register};
+use gb_domain::types::{Abs, Core, Flg};
+use gb_ops::op::{AluOp, Condition, Op, Operand, Register};
+use gb_product::sides::sides_of;
+use gb_samples::relations::compared;
 use gb_samples::states::{CLEAR, EITHER, SET, copy_of, entered, with_carry};
-use gb_vals::branch::{Branch, side, test_of_immediate, test_of_itself};
+use gb_vals::branch::side;
 use std::process::Abort;
+
+const A: Operand = Operand::Register(Register::A);
 
 /// An operation, and its test with the byte 7 and with A itself.
 const LEFT: [(AluOp, Option<u8>, Option<u8>); 5] = [
@@ -22,8 +27,11 @@ const LEFT: [(AluOp, Option<u8>, Option<u8>); 5] = [
 #[test]
 fn tests_are_left(rt: HostRuntime) {
     for (i, (op, of_byte, of_itself)) in LEFT.into_iter().enumerate() {
-        assert!(rt; test_of_immediate(op, 7) == of_byte, "row {i}");
-        assert!(rt; test_of_itself(op) == of_itself, "row {i}");
+        assert!(rt;
+            leaves_test(None, Op::AluImmediate(op, 7), of_byte),
+            "row {i}"
+        );
+        assert!(rt; leaves_test(None, Op::Alu(op, A), of_itself), "row {i}");
     }
 }
 
@@ -53,12 +61,28 @@ const ROWS: [Row; 20] = [
     (0xFF, Condition::NotCarry, 0xFF, 0xFF, Some((0xFF, 0xFF))),
 ];
 
+/// A copy of A in these bounds, and any flags.
+fn with_a(lo: u8, hi: u8) -> Core {
+    let mut core = entered();
+    core.registers.a = copy_of(Register::A, lo, hi);
+    core.flags = with_carry(EITHER);
+    core
+}
+
+/// A state with a comparison of A.
+fn tested(core: Core, n: u8) -> Abs {
+    let mut state = Abs::new(core);
+    state.set_relations(compared(Some(n)));
+    state
+}
+
 #[test]
 fn tests_narrow_a(rt: HostRuntime) {
     for (i, (n, condition, lo, hi, want)) in ROWS.into_iter().enumerate() {
-        let a = copy_of(Register::A, lo, hi);
-        let got = side(Some(n), condition, a, with_carry(EITHER));
-        let narrowed = got.map(|branch| branch.a);
+        let core = with_a(lo, hi);
+        let jump = Op::JumpRelativeIf(condition, 5);
+        let taken = sides_of(jump, &tested(core, n), &core).taken;
+        let narrowed = taken.map(|core| core.registers.a);
         let want = want.map(|(lo, hi)| copy_of(Register::A, lo, hi));
         assert!(rt; narrowed == want, "row {i}");
     }
@@ -66,23 +90,11 @@ fn tests_narrow_a(rt: HostRuntime) {
 
 #[test]
 fn a_flag_is_known_on_its_side(rt: HostRuntime) {
-    let a = copy_of(Register::A, 0, 255);
     let flags = with_carry(SET);
-    assert!(rt; side(None, Condition::NotCarry, a, flags) == None);
-    let taken = side(None, Condition::Carry, a, flags);
-    assert!(rt; taken == Some(Branch { a, flags }));
+    assert!(rt; side(Condition::NotCarry, flags) == None);
+    assert!(rt; side(Condition::Carry, flags) == Some(flags));
     let zero = Flg { zero: SET, ..flags };
-    let taken = side(None, Condition::Zero, a, flags);
-    assert!(rt; taken == Some(Branch { a, flags: zero }));
-}
-
-/// A in 0 to 20, compared with 10.
-fn compared() -> Core {
-    let mut core = entered();
-    core.registers.a = copy_of(Register::A, 0, 20);
-    core.flags = with_carry(EITHER);
-    core.test = Some(10);
-    core
+    assert!(rt; side(Condition::Zero, flags) == Some(zero));
 }
 
 /// The core with other bounds of A and other flags.
@@ -93,14 +105,14 @@ fn narrowed(core: Core, lo: u8, hi: u8, flags: Flg) -> Option<Core> {
     Some(narrowed)
 }
 
-/// An instruction's two sides.
+/// An instruction's two sides, where A was compared with 10.
 fn has_sides(rt: &impl Abort, op: Op, core: &Core, taken: Option<Core>, not_taken: Option<Core>) {
-    assert!(rt; sides_of(op, core) == Sides { taken, not_taken });
+    assert!(rt; sides_of(op, &tested(*core, 10), core) == Sides { taken, not_taken });
 }
 
 #[test]
 fn sides_are_narrowed(rt: HostRuntime) {
-    let core = compared();
+    let core = with_a(0, 20);
     let flags = core.flags;
     let zero = narrowed(core, 10, 10, Flg { zero: SET, ..flags });
     let not_zero = narrowed(

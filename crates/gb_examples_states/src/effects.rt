@@ -4,9 +4,13 @@ use gb_abs::span::Span;
 use gb_abs_effects::reads::{AbsRead, read_of};
 use gb_abs_effects::transfer::transfer;
 use gb_abs_effects::writes::{AbsEffect, AbsWrite};
-use gb_domain::types::{Core, Flg, ImeSet, May, Origin, Val};
+use gb_domain::pairs::ANY_BOUNDS;
+use gb_domain::types::{Core, Flg, Halves, ImeSet, May, Origin, Rules, Val};
+use gb_ops::machine::Region;
 use gb_ops::op::{AluOp, Condition, Indirect, Op, Operand, Pair, Register, Shift, StackPair};
-use gb_samples::states::{ANY, CLEAR, EITHER, OFF, SET, from_to, own, with_carry};
+use gb_relations::transfer::relations_after;
+use gb_samples::relations::{are_same, compared};
+use gb_samples::states::{ANY, CLEAR, EITHER, OFF, SET, entered, from_to, own, with_carry};
 use gb_vals::vals::single;
 use std::process::Abort;
 
@@ -17,6 +21,12 @@ const B: Operand = Operand::Register(Register::B);
 /// The address behind each instruction.
 const NEXT: u16 = 0x1234;
 
+/// SP, of which nothing is known.
+const SP: Halves = Halves {
+    high: ANY,
+    low: ANY,
+};
+
 /// Flags of this Z, this H and this carry, N clear.
 fn flags(zero: May, half_carry: May, carry: May) -> Flg {
     Flg {
@@ -24,14 +34,6 @@ fn flags(zero: May, half_carry: May, carry: May) -> Flg {
         subtract: CLEAR,
         half_carry,
         ..with_carry(carry)
-    }
-}
-
-/// A procedure's entry with a test.
-fn entered() -> Core {
-    Core {
-        test: Some(7),
-        ..gb_samples::states::entered()
     }
 }
 
@@ -51,7 +53,7 @@ fn with_hl(h: Val, l: Val) -> Core {
 
 /// What an instruction that reads nothing leaves.
 fn after(op: Op, core: &Core) -> AbsEffect {
-    transfer(op, NEXT, core, ANY, ANY)
+    transfer(op, NEXT, SP, core, ANY, ANY)
 }
 
 /// The instruction writes nothing, and leaves this core.
@@ -173,12 +175,11 @@ fn hl_counts_behind_an_access(rt: HostRuntime) {
         stores(&rt, Indirect::HlIncrement, hl, up);
         stores(&rt, Indirect::HlDecrement, hl, down);
     }
-    // A gets what was read, with its origin, and the test is gone.
+    // A gets what was read, with its origin.
     let load = Op::LoadA(Indirect::HlDecrement);
-    let loaded = transfer(load, NEXT, &with_word(0xC000), own(Register::B), ANY);
+    let loaded = transfer(load, NEXT, SP, &with_word(0xC000), own(Register::B), ANY);
     let mut want = with_word(0xBFFF);
     want.registers.a = own(Register::B);
-    want.test = None;
     assert!(rt; loaded.core == want);
 }
 
@@ -197,7 +198,6 @@ fn summed(core: Core, hl: Core, flags: Flg) -> Core {
     want.registers.h = hl.registers.h;
     want.registers.l = hl.registers.l;
     want.flags = flags;
-    want.test = None;
     want
 }
 
@@ -226,7 +226,6 @@ fn sums_with_sp_are_any(rt: HostRuntime) {
     let core = entered();
     let mut want = core;
     want.flags = flags(CLEAR, EITHER, EITHER);
-    want.test = None;
     leaves(&rt, Op::AddSp(5), &core, want);
     want.registers.h = ANY;
     want.registers.l = ANY;
@@ -279,13 +278,12 @@ fn pushes(rt: HostRuntime) {
     }
 }
 
-/// POP AF makes A 12 and leaves these flags and no test.
+/// POP AF makes A 12 and leaves these flags.
 fn pops_af(rt: &impl Abort, core: &Core, low: Val, flags: Flg) {
     let mut want = *core;
     want.registers.a = single(0x12);
     want.flags = flags;
-    want.test = None;
-    let popped = transfer(Op::Pop(StackPair::Af), NEXT, core, low, single(0x12));
+    let popped = transfer(Op::Pop(StackPair::Af), NEXT, SP, core, low, single(0x12));
     assert!(rt; popped.core == want, "{} to {}", low.lo, low.hi);
 }
 
@@ -298,7 +296,7 @@ fn pops(rt: HostRuntime) {
     want.registers.h = own(Register::D);
     want.registers.l = own(Register::E);
     let pop = Op::Pop(StackPair::Hl);
-    let popped = transfer(pop, NEXT, &core, own(Register::E), own(Register::D));
+    let popped = transfer(pop, NEXT, SP, &core, own(Register::E), own(Register::D));
     assert!(rt; popped.core == want);
     // F1 sets all flags, its low bits dropped; a byte that isn't known gives any flags; F's own byte is F.
     let all_set = Flg {
@@ -314,8 +312,8 @@ fn pops(rt: HostRuntime) {
     pops_af(&rt, &core, own(Register::B), with_carry(EITHER));
 }
 
-/// What the test is after each instruction; 7 before.
-const TESTS: [(Op, Option<u8>); 37] = [
+/// What A's comparison is after each instruction; with 7 before.
+const TESTS: [(Op, Option<u8>); 53] = [
     (Op::AluImmediate(AluOp::Cp, 10), Some(10)),
     (Op::Alu(AluOp::And, A), Some(0)),
     (Op::Alu(AluOp::Or, A), Some(0)),
@@ -327,6 +325,7 @@ const TESTS: [(Op, Option<u8>); 37] = [
     (Op::Load(A, B), None),
     (Op::Load(A, A), None),
     (Op::LoadImmediate(A, 7), None),
+    (Op::LoadA(Indirect::HlDecrement), None),
     (Op::LoadHigh(0x44), None),
     (Op::LoadHighC, None),
     (Op::LoadAbsolute(0xC000), None),
@@ -334,6 +333,12 @@ const TESTS: [(Op, Option<u8>); 37] = [
     (Op::Increment(B), None),
     (Op::Increment(Operand::AtHl), None),
     (Op::AddHl(Pair::Bc), None),
+    (Op::AddHl(Pair::De), None),
+    (Op::AddHl(Pair::Sp), None),
+    (Op::AddSp(5), None),
+    (Op::LoadHlSp(5), None),
+    (Op::Alu(AluOp::Sub, B), None),
+    (Op::DecimalAdjust, None),
     (Op::Bit(7, A), None),
     (Op::Reset(7, A), None),
     (Op::Shift(Shift::Swap, B), None),
@@ -345,9 +350,18 @@ const TESTS: [(Op, Option<u8>); 37] = [
     (Op::LoadImmediate(B, 7), Some(7)),
     (Op::Load(Operand::AtHl, A), Some(7)),
     (Op::Set(7, B), Some(7)),
+    (Op::Load(Operand::Register(Register::D), B), Some(7)),
+    (Op::Load(Operand::AtHl, B), Some(7)),
     (Op::Pop(StackPair::Bc), Some(7)),
+    (Op::Pop(StackPair::Hl), Some(7)),
+    (Op::Push(StackPair::Bc), Some(7)),
     (Op::Push(StackPair::Af), Some(7)),
     (Op::IncrementPair(Pair::Hl), Some(7)),
+    (Op::IncrementPair(Pair::Sp), Some(7)),
+    (Op::DecrementPair(Pair::Bc), Some(7)),
+    (Op::LoadSpHl, Some(7)),
+    (Op::StoreSp(0xC000), Some(7)),
+    (Op::Call(0x4000), Some(7)),
     (Op::StoreA(Indirect::HlIncrement), Some(7)),
     (Op::LoadPair(Pair::Bc, 0x1234), Some(7)),
     (Op::EnableInterrupts, Some(7)),
@@ -355,10 +369,31 @@ const TESTS: [(Op, Option<u8>); 37] = [
     (Op::Halt, Some(7)),
 ];
 
+const REGION: Region = Region {
+    first: 0xDF00,
+    last: 0xDFFF,
+};
+
+/// Whether an instruction behind one comparison of A leaves the other, and nothing else that is known together.
+pub fn leaves_test(before: Option<u8>, op: Op, after: Option<u8>) -> bool {
+    let known = compared(before);
+    let registers = entered().registers;
+    let left = relations_after(
+        Rules::Simple,
+        REGION,
+        op,
+        ANY_BOUNDS,
+        &registers,
+        ANY,
+        &known,
+    );
+    are_same(&left, &compared(after))
+}
+
 #[test]
 fn a_test_is_left_and_lost(rt: HostRuntime) {
     for (i, (op, test)) in TESTS.into_iter().enumerate() {
-        assert!(rt; after(op, &entered()).core.test == test, "row {i}");
+        assert!(rt; leaves_test(Some(7), op, test), "row {i}");
     }
 }
 
@@ -429,13 +464,13 @@ fn changes_bytes(rt: HostRuntime) {
     let counted = transfer(
         Op::Increment(Operand::AtHl),
         NEXT,
+        SP,
         &core,
         from_to(3, 9),
         ANY,
     );
     let mut want = core;
     want.flags = flags(CLEAR, EITHER, EITHER);
-    want.test = None;
     let write = AbsWrite::Byte(at_hl, from_to(4, 10));
     assert!(rt; counted.core == want && counted.write == write);
     // A copy keeps its origin, in registers and in memory.
@@ -458,7 +493,6 @@ fn changes_bytes(rt: HostRuntime) {
         subtract: SET,
         ..flags(CLEAR, SET, SET)
     };
-    want.test = None;
     leaves(&rt, Op::Alu(AluOp::Sub, B), &core, want);
     // DAA of 9A is 00: 66 is added, the carry set.
     core.registers.a = single(0x9A);

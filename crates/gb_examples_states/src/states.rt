@@ -1,12 +1,14 @@
 //! Cells, words and single values of abstract states.
 
 use gb_abs::cells::{with_cell, without_cells};
-use gb_abs::covering::{cell_at, covers, covers_val};
+use gb_abs::covering::{cell_at, covers_val};
 use gb_abs::operations::{end, settle, with_value};
 use gb_abs::span::Span;
 use gb_abs::stack::{pop, push};
-use gb_domain::types::{Abs, Cell, Core, Halves, ImeSet, Val};
+use gb_domain::types::{Abs, Cell, Core, Halves, ImeSet, Rules, Val};
 use gb_ops::op::Register;
+use gb_product::covering::covers;
+use gb_samples::relations::compared;
 use gb_samples::states::{ANY, copy_of, entered, from_to, own};
 
 fn up_to(hi: u8) -> Val {
@@ -24,7 +26,7 @@ fn cell(address: u16, hi: u8) -> Cell {
 fn with_cells_up_to(count: u16) -> Abs {
     let mut state = Abs::new(entered());
     for i in 0..count.min(40) {
-        state = with_cell(&state, 0xC000 + 2 * i, up_to(1));
+        state = with_cell(Rules::Simple, &state, 0xC000 + 2 * i, up_to(1));
     }
     state
 }
@@ -60,14 +62,15 @@ const BEHIND: &[(u16, u8)] = &[(0xC003, 4), (0xC005, 5), (0xFFFE, 8)];
 fn a_cell_is_put_in_order(rt: HostRuntime) {
     let mut state = Abs::new(entered());
     for (address, hi) in UNORDERED {
-        state = with_cell(&state, address, up_to(hi));
+        state = with_cell(Rules::Simple, &state, address, up_to(hi));
     }
     assert!(rt; are_cells(state.cells(), ORDERED));
     assert!(rt; cell_at(0xC003, state.cells()) == up_to(3));
     assert!(rt; cell_at(0xC004, state.cells()) == ANY);
     // The first and one between get other values; the origin of what was stored is kept.
     let val = own(Register::A);
-    let state = with_cell(&with_cell(&state, 0xC000, val), 0xC003, up_to(4));
+    let state = with_cell(Rules::Simple, &state, 0xC000, val);
+    let state = with_cell(Rules::Simple, &state, 0xC003, up_to(4));
     let first = Cell {
         address: 0xC000,
         val,
@@ -85,7 +88,7 @@ fn at_most_32_cells(rt: HostRuntime) {
     for (held, count, hi) in [(31, 32, 9), (32, 32, 255)] {
         let state = with_cells_up_to(held);
         for address in [0xBFFF, 0xC001, 0xFF80] {
-            let more = with_cell(&state, address, up_to(9));
+            let more = with_cell(Rules::Simple, &state, address, up_to(9));
             assert!(rt; more.cells().len() == count);
             assert!(rt; cell_at(address, more.cells()) == up_to(hi));
         }
@@ -93,7 +96,7 @@ fn at_most_32_cells(rt: HostRuntime) {
     // One that is held gets its value, the first and the last of 32 too.
     let full = with_cells_up_to(32);
     for address in [0xC000, 0xC01E, 0xC03E] {
-        let set = with_cell(&full, address, up_to(9));
+        let set = with_cell(Rules::Simple, &full, address, up_to(9));
         assert!(rt; set.cells().len() == 32);
         assert!(rt; cell_at(address, set.cells()) == up_to(9));
     }
@@ -124,15 +127,15 @@ fn cells_are_dropped(rt: HostRuntime) {
 /// Sixteen words, which come back, the youngest first.
 #[test]
 fn at_most_16_words(rt: HostRuntime) {
-    let mut state = with_cell(&Abs::new(entered()), 0xC000, up_to(3));
+    let mut state = with_cell(Rules::Simple, &Abs::new(entered()), 0xC000, up_to(3));
     for i in 0..16 {
-        let Some(more) = push(&state, word(i, 100)) else {
+        let Some(more) = push(Rules::Simple, &state, word(i, 100)) else {
             panic!(rt; "no room for word {i}");
         };
         state = more;
     }
     assert!(rt; state.items().len() == 32);
-    assert!(rt; push(&state, word(16, 100)).is_none());
+    assert!(rt; push(Rules::Simple, &state, word(16, 100)).is_none());
     for i in 0..16 {
         let Some(popped) = pop(&state) else {
             panic!(rt; "no word {i}");
@@ -145,11 +148,10 @@ fn at_most_16_words(rt: HostRuntime) {
     assert!(rt; *state.core() == entered());
 }
 
-/// A register takes one value: its origin stays, and all else, the test and F's origin too.
+/// A register takes one value: its origin stays, and all else, F's origin too.
 #[test]
 fn a_register_takes_one_value(rt: HostRuntime) {
-    let mut core = entered();
-    core.test = Some(7);
+    let core = entered();
     let after = with_value(Register::A, 5, &core);
     let mut expected = core;
     expected.registers.a = copy_of(Register::A, 5, 5);
@@ -197,11 +199,13 @@ fn wider_states_cover_narrower_ones(rt: HostRuntime) {
     let (few, more) = (with_cells_up_to(1), with_cells_up_to(2));
     assert!(rt; covers(&more, &few));
     assert!(rt; !covers(&few, &more));
-    assert!(rt; covers(&few, &with_cell(&few, 0xC000, up_to(2))));
+    assert!(rt; covers(&few, &with_cell(Rules::Simple, &few, 0xC000, up_to(2))));
 }
 
 fn with_test(test: Option<u8>) -> Abs {
-    Abs::new(Core { test, ..entered() })
+    let mut state = Abs::new(entered());
+    state.set_relations(compared(test));
+    state
 }
 
 /// A state with a test stands for those with the same test alone, one without for any.

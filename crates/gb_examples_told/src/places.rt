@@ -6,7 +6,7 @@ use gb_cert_place::field::{Field, Owner};
 use gb_cert_place::place::{FaultPlace, Sought, fault_place};
 use gb_ops::op::Register;
 use gb_samples::cartridges::{put, replace};
-use gb_samples::certificates::least;
+use gb_samples::certificates::{least, least_in_version_3};
 use std::alloc::Global;
 use std::process::Abort;
 use std::test::Fail;
@@ -121,6 +121,55 @@ const CHANGED: [Step; 23] = [
 fn changed_bytes_are_found(rt: HostRuntime) {
     for (i, step) in CHANGED.iter().enumerate() {
         assert!(rt; is_least_at(rt.alloc(), step), "row {i}");
+    }
+}
+
+/// The same of version 3.
+const CHANGED_THIRD: [Step; 10] = [
+    (&[(3, 0x59)], (MAGIC, HEAD, Field::Magic, 0, 4)),
+    (&[(4, 0x02)], (VERSION, HEAD, Field::Version, 4, 5)),
+    (&[(18, 0x02)], (FIELD, MAIN, Field::Base, 18, 20)),
+    // A need of 512 bytes, and a range of main.
+    (&[(21, 0x02)], (REGION, MAIN, Field::Need, 20, 22)),
+    (&[(22, 0x01)], (COUNT, MAIN, Field::RangeCount, 22, 23)),
+    (
+        &[(146, 0x0C)],
+        (
+            FIELD,
+            NODE,
+            Field::ValueOrigin(Owner::Register(Register::A)),
+            146,
+            147,
+        ),
+    ),
+    // An item, of which two bytes are there.
+    (
+        &[(127, 0x01), (165, 0x01)],
+        (
+            CUT_SHORT,
+            NODE,
+            Field::ValueOrigin(Owner::Item(0)),
+            168,
+            168,
+        ),
+    ),
+    // What is there: a part that there isn't, and places that hold one byte, of which there is none.
+    (&[(166, 0x80)], (FIELD, NODE, Field::Told, 166, 167)),
+    (&[(166, 0x01)], (FIELD, NODE, Field::Told, 166, 168)),
+    (&[(167, 0x41)], (COUNT, NODE, Field::CellCount, 167, 168)),
+];
+
+/// Whether the least certificate of version 3 with these bytes replaced has its fault there.
+fn is_third_at(alloc: Global, step: &Step) -> bool {
+    let mut bytes = least_in_version_3();
+    replace(&mut bytes, step.0);
+    is_at(alloc, &bytes, &step.1)
+}
+
+#[test]
+fn changed_bytes_of_version_3_are_found(rt: HostRuntime) {
+    for (i, step) in CHANGED_THIRD.iter().enumerate() {
+        assert!(rt; is_third_at(rt.alloc(), step), "row {i}");
     }
 }
 

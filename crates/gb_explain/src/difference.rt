@@ -1,6 +1,8 @@
 //! A part of a state that another state doesn't stand for.
 
+use crate::together::fmt_relations;
 use gb_abs::{ImeSet, May, Origin, Val};
+use gb_domain::relations::Relations;
 use gb_ops::op::Register;
 use std::fmt;
 
@@ -25,7 +27,10 @@ pub enum Part {
     /// Whether the controller is what it was at entry.
     Controller,
     Stack,
+    /// What the flags' test compares A with.
     Test,
+    /// What is known of several parts together, if it isn't a test of A alone.
+    Together,
     /// How many words are on the stack.
     Words,
     /// The high byte of a word, counted from 1, the oldest first.
@@ -53,6 +58,7 @@ pub enum Known {
     Kept(bool),
     Set(bool),
     Test(Option<u8>),
+    Together(Relations),
 }
 
 /// A part of a state that another doesn't stand for. What is left there is the first state's, what is
@@ -77,6 +83,8 @@ fn origin_text(origin: Option<Origin>) -> &'static str {
         Some(Origin::Register(Register::L)) => "L at entry",
         Some(Origin::F) => "F at entry",
         Some(Origin::Ie) => "IE at entry",
+        Some(Origin::ReturnHigh) => "high byte of the return word",
+        Some(Origin::ReturnLow) => "low byte of the return word",
     }
 }
 
@@ -100,6 +108,7 @@ impl Part {
             Part::Controller => "controller",
             Part::Stack => "stack",
             Part::Test => "test",
+            Part::Together => "known together:",
             Part::Words => "words on the stack",
             Part::HighByte(_) => "high byte of word",
             Part::LowByte(_) => "low byte of word",
@@ -183,6 +192,7 @@ impl fmt::Display for Known {
             Known::Set(is_set) => write!(f, "{}", if is_set { "set" } else { "not set" }),
             Known::Test(None) => write!(f, "none"),
             Known::Test(Some(value)) => write!(f, "{value:02X}"),
+            Known::Together(relations) => fmt_relations(&relations, f),
         }
     }
 }

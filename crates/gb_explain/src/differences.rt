@@ -2,13 +2,17 @@
 
 ghost use Rattle.std.specs.Prelude.{◌≡◌, true};
 ghost use Rattle.gb_abs.specs.Covering as Covering;
+ghost use Rattle.gb_product.specs.Covering.{covers, covers_relations};
 ghost use Rattle.gb_explain.specs.Noted.{IsNoted};
 
 use crate::difference::{Difference, Known, Part};
-use gb_abs::covering::{cell_at, covers_ime, covers_may, covers_origin, covers_test, covers_val};
+use crate::together::{compared, is_test_alone};
+use gb_abs::covering::{cell_at, covers_ime, covers_may, covers_origin, covers_val};
 use gb_abs::{Abs, Cell, Core, Ctl, Flg, May, Val};
+use gb_domain::relations::Relations;
 use gb_ops::op::Register;
 use gb_ops::registers::Registers;
+use gb_product::covering::covers_relations;
 
 /// The parts of a state that another doesn't stand for. It prints a line for each of the first of them, behind an end of
 /// line.
@@ -26,6 +30,16 @@ fn known_vals(s: &Val, t: &Val) -> (Known, Known) {
         (Known::Bytes(s.lo, s.hi), Known::Bytes(t.lo, t.hi))
     } else {
         (Known::Copy(*s), Known::Copy(*t))
+    }
+}
+
+/// What is told of what two states know of several parts together: their tests of A, where that is all.
+fn known_together(s: &Relations, t: &Relations) -> (Part, (Known, Known)) {
+    if is_test_alone(s) && is_test_alone(t) {
+        let tests = (Known::Test(compared(s)), Known::Test(compared(t)));
+        (Part::Test, tests)
+    } else {
+        (Part::Together, (Known::Together(*s), Known::Together(*t)))
     }
 }
 
@@ -170,8 +184,14 @@ impl Differences {
             Part::Stack,
             (Known::Set(s.stack_set), Known::Set(t.stack_set)),
         );
-        let tests = (Known::Test(s.test), Known::Test(t.test));
-        self.note(covers_test(s.test, t.test), Part::Test, tests);
+    }
+
+    /// What is known of several parts together; the registers are those of s.
+    fn note_relations(&mut self, registers: &Registers<Val>, s: &Relations, t: &Relations)
+        ensures { IsNoted self.old.count self.new.count (covers_relations registers.now s.now t.now) }
+    {
+        let (part, known) = known_together(s, t);
+        self.note(covers_relations(registers, s, t), part, known);
     }
 
     /// Bytes of both, from that with a number on.
@@ -202,11 +222,12 @@ impl Differences {
         self.note_cells(s, rest);
     }
 
-    #[tactic(auto, unfolding(gb_abs::specs::Covering::covers))]
+    #[tactic(auto, unfolding(gb_product::specs::Covering::covers, gb_abs::specs::Covering::covers_parts))]
     fn note_each(&mut self, s: &Abs, t: &Abs)
-        ensures { IsNoted self.old.count self.new.count (Covering.covers s.now t.now) }
+        ensures { IsNoted self.old.count self.new.count (covers s.now t.now) }
     {
         self.note_core(s.core(), t.core());
+        self.note_relations(&s.core().registers, s.relations(), t.relations());
         self.note_items(0, s.items(), t.items());
         self.note_cells(s.cells(), t.cells());
     }
@@ -214,7 +235,7 @@ impl Differences {
     /// The parts of s that t doesn't stand for, by the comparisons of `covers`.
     pub fn of(s: &Abs, t: &Abs) -> Differences
         // Where it lists nothing, t stands for s.
-        ensures complete { result.count ≡ 0 → Covering.covers s.now t.now ≡ true }
+        ensures complete { result.count ≡ 0 → covers s.now t.now ≡ true }
     {
         let mut found = Differences::none();
         found.note_each(s, t);

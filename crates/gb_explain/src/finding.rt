@@ -4,11 +4,11 @@ ghost use Rattle.std.specs.Prelude.{◌<◌, length, IfSome};
 
 use crate::Differences;
 use crate::obstacle::{Claim, Finding, Obstacle, Way, Words};
-use gb_abs::covering::covers;
 use gb_abs::reason::Reason;
-use gb_abs::{Abs, ITEMS, Range};
+use gb_abs::{Abs, Range, Rules, Setting};
 use gb_ops::decode::decode;
 use gb_ops::op::Op;
+use gb_product::covering::covers;
 use gb_verify::{
     Cert, NodeRef, Rom, Successor, Target, are_ranges_inside, callee_at, covered_at, enter,
     exit_of, known_bytes, need_of, ranges_of, resume, successors_of,
@@ -19,6 +19,25 @@ fn plain(obstacle: Obstacle) -> Finding {
     Finding {
         obstacle,
         compared: None,
+    }
+}
+
+/// The rules of a certificate's version.
+fn rules_of(cert: &Cert<'_>) -> Rules {
+    Rules::of(cert.version())
+}
+
+/// Where a procedure's states stand.
+fn setting_of(cert: &Cert<'_>, procedure: u8) -> Setting {
+    let base = if procedure < cert.procedures() {
+        cert.procedure(procedure).base()
+    } else {
+        0
+    };
+    Setting {
+        rules: rules_of(cert),
+        is_main: procedure == 0,
+        base,
     }
 }
 
@@ -34,8 +53,12 @@ fn push_finding(cert: &Cert<'_>, procedure: u8, state: &Abs) -> Option<Finding> 
             need: need / 2,
         }));
     }
-    if ITEMS < bytes {
-        return Some(plain(Obstacle::PushOverState { words }));
+    let room = rules_of(cert).item_room();
+    if room < bytes {
+        return Some(plain(Obstacle::PushOverState {
+            words,
+            room: room / 2,
+        }));
     }
     None
 }
@@ -126,7 +149,7 @@ fn uncovered_finding(cert: &Cert<'_>, procedure: u8, successor: &Successor<'_>) 
             let callee = callee_at(cert, successor)?;
             let exit = exit_of(cert, callee)?;
             let ranges = ranges_of(cert, callee);
-            let resumed = resume(ranges.as_slice(), &successor.state(), &exit);
+            let resumed = resume(rules_of(cert), ranges.as_slice(), &successor.state(), &exit);
             let way = Way {
                 behind: Some(callee),
                 address: successor.next,
@@ -276,7 +299,8 @@ pub fn finding_of(
     if let (Reason::Depth, Op::Push(_)) = (reason, row.op) {
         return push_finding(cert, procedure, &state);
     }
-    let ways = successors_of(rom, row, node.address(), &state);
+    let setting = setting_of(cert, procedure);
+    let ways = successors_of(setting, rom, cert.region(), row, node.address(), &state);
     let taken = successor_finding(cert, procedure, reason, &ways.taken);
     if taken.is_some() {
         return taken;

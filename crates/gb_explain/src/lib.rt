@@ -2,8 +2,8 @@
 //! wrong with it, what usually mends that, and, where other nodes or procedures have to do with it, what is in the way.
 //!
 //! Read `refusal`, then `explanation`, and `finding`, which finds what is in the way; `differences` tells the parts of
-//! a state that another state doesn't stand for. All texts stand in `advice`, `obstacle` and `difference`. Of the texts
-//! nothing is promised but by tests.
+//! a state that another state doesn't stand for. All texts stand in `advice`, `obstacle`, `difference` and `together`. Of
+//! the texts nothing is promised but by tests.
 #![tactic(auto)]
 
 mod advice;
@@ -14,6 +14,7 @@ mod explanation;
 mod finding;
 mod obstacle;
 mod refusal;
+mod together;
 
 pub use code::Code;
 pub use difference::{Difference, Known, Part};

@@ -28,6 +28,7 @@ pub enum Obstacle {
     /// PUSH would hold more words than a state can.
     PushOverState {
         words: Words,
+        room: usize,
     },
     /// A call would need more words than the procedure does.
     Call {
@@ -142,8 +143,8 @@ impl fmt::Display for Obstacle {
                 f,
                 "{words} would be held, and procedure {procedure} has {need}"
             ),
-            Obstacle::PushOverState { words } => {
-                write!(f, "{words} would be held, and a state holds 16 at most")
+            Obstacle::PushOverState { words, room } => {
+                write!(f, "{words} would be held, and a state holds {room} at most")
             }
             Obstacle::Call {
                 held,

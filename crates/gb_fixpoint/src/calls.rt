@@ -4,6 +4,7 @@ use crate::cause::Cause;
 use crate::keys::{ControllerKey, KnownRegisters, NodeKey, ProcedureKey};
 use crate::register_set::RegisterSet;
 use crate::run::PROCEDURES;
+use crate::setting::RULES;
 use crate::stop::Stop;
 use crate::tracking::keep_tracked;
 use crate::types::{Call, Procedure, Run};
@@ -141,7 +142,7 @@ impl<'a> Run<'a> {
     fn resumed(&self, callee: usize, caller: &Abs) -> Option<Abs> {
         let called = self.procedures.get(callee)?;
         match &called.exit {
-            Some(exit) => Some(resume(called.ranges.as_slice(), caller, exit)),
+            Some(exit) => Some(resume(RULES, called.ranges.as_slice(), caller, exit)),
             None => None,
         }
     }

@@ -1,6 +1,7 @@
 //! What nodes enter, for who puts procedures in order.
 
 use crate::instruction::decoded;
+use crate::setting::setting_of;
 use crate::stepping::FIRST_VECTOR;
 use crate::tracking::keep_tracked;
 use crate::types::Run;
@@ -23,7 +24,10 @@ impl<'a> Run<'a> {
             return Ok(all);
         };
         if let Ok(row) = decoded(self.rom, &node.state, node.key.address) {
-            let ways = successors_of(self.rom, row, node.key.address, &node.state);
+            let setting = setting_of(node.key.procedure);
+            let region = self.configuration.region;
+            let address = node.key.address;
+            let ways = successors_of(setting, self.rom, region, row, address, &node.state);
             let taken = self.called_by(&ways.taken);
             let not_taken = self.called_by(&ways.not_taken);
             let stays = self.called_by(&ways.stays);

@@ -6,7 +6,7 @@ use crate::types::Run;
 use arrayvec::ArrayVec;
 use gb_ops::op::Register;
 use gb_ops::registers::Registers;
-use gb_verify::{Abs, Cell, Core, Ctl, Flg, May, Origin, Range, Val, covers};
+use gb_verify::{Abs, Cell, Core, Ctl, Flg, May, Origin, Range, Relations, Val, covers};
 
 /// How often an exit grows before it is widened.
 const GROWTHS: u32 = 40;
@@ -71,7 +71,7 @@ fn seen_registers(registers: &Registers<Val>) -> Registers<Val> {
 }
 
 /// The cells in the ranges: the caller's own come back elsewhere.
-fn seen_cells(ranges: &[Range], cells: &[Cell]) -> ArrayVec<Cell, 32> {
+fn seen_cells(ranges: &[Range], cells: &[Cell]) -> ArrayVec<Cell, 64> {
     let mut seen = ArrayVec::new();
     for cell in cells {
         let is_seen = ranges.iter().any(|range| range.first <= cell.address
@@ -93,14 +93,18 @@ fn seen_cells(ranges: &[Range], cells: &[Cell]) -> ArrayVec<Cell, 32> {
 fn seen(ranges: &[Range], exit: &Abs) -> Abs {
     let core = exit.core();
     let seen = Core {
-        test: None,
         ctl: if core.ctl.is_kept { KEPT } else { core.ctl },
         flags: seen_flags(core.flags),
         ie: seen_val(Origin::Ie, core.ie),
         registers: seen_registers(&core.registers),
         ..*core
     };
-    Abs::of_parts(seen, ArrayVec::new(), seen_cells(ranges, exit.cells()))
+    Abs::of_parts(
+        seen,
+        ArrayVec::new(),
+        seen_cells(ranges, exit.cells()),
+        Relations::default(),
+    )
 }
 
 impl<'a> Run<'a> {

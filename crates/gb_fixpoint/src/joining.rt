@@ -2,7 +2,9 @@
 
 use arrayvec::ArrayVec;
 use gb_ops::registers::Registers;
-use gb_verify::{Abs, Cell, Core, Ctl, Flg, ImeSet, May, Origin, Val, any};
+use gb_verify::{
+    Abs, Cell, Core, Ctl, Flg, ImeSet, May, Origin, Relations, Test, Val, any, test_alone,
+};
 
 /// The origin of both, if it is one.
 fn join_origin(a: Option<Origin>, b: Option<Origin>) -> Option<Origin> {
@@ -76,7 +78,6 @@ pub fn join_core(a: &Core, b: &Core) -> Core {
         ime: join_ime(a.ime, b.ime),
         bound: a.bound.max(b.bound),
         stack_set: a.stack_set && b.stack_set,
-        test: if a.test == b.test { a.test } else { None },
         ctl: join_controller(&a.ctl, &b.ctl),
         flags: join_flags(&a.flags, &b.flags),
         ie: join_val(a.ie, b.ie),
@@ -84,8 +85,22 @@ pub fn join_core(a: &Core, b: &Core) -> Core {
     }
 }
 
+/// What the flags' test compares A with, which is all that is known of several parts together.
+fn compared(relations: &Relations) -> Option<u8> {
+    match relations.byte.test {
+        Some(Test::Compare(value)) => Some(value),
+        _ => None,
+    }
+}
+
+/// The test of both, if it is one.
+fn join_relations(a: &Relations, b: &Relations) -> Relations {
+    let test = compared(a);
+    test_alone(if test == compared(b) { test } else { None })
+}
+
 /// The bytes of both, as far as both have them.
-fn join_items(a: &[Val], b: &[Val]) -> ArrayVec<Val, 32> {
+fn join_items(a: &[Val], b: &[Val]) -> ArrayVec<Val, 255> {
     let mut items = ArrayVec::new();
     for (first, second) in a.iter().zip(b) {
         let _ = items.try_push(join_val(*first, *second));
@@ -94,7 +109,7 @@ fn join_items(a: &[Val], b: &[Val]) -> ArrayVec<Val, 32> {
 }
 
 /// The cells of both that say something together. Both are in order of address.
-fn join_cells(a: &[Cell], b: &[Cell]) -> ArrayVec<Cell, 32> {
+fn join_cells(a: &[Cell], b: &[Cell]) -> ArrayVec<Cell, 64> {
     let mut cells = ArrayVec::new();
     let mut rest = b;
     for first in a {
@@ -125,5 +140,6 @@ pub fn join(a: &Abs, b: &Abs) -> Abs {
         join_core(a.core(), b.core()),
         join_items(a.items(), b.items()),
         join_cells(a.cells(), b.cells()),
+        join_relations(a.relations(), b.relations()),
     )
 }

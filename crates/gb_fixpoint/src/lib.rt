@@ -3,6 +3,7 @@
 //! Nothing here is trusted: a certificate that comes out is judged by the checker. Every function is proved safe and
 //! to return.
 //!
+//! States are taken on by the rules of versions 1 and 2 (`setting`).
 //! States: `joining`, `steps` and `ranges` join and widen them, `configuration`, `keys` and `register_set` say how
 //! finely they are told apart, `cause` why a run stops. What is against an instruction in a state is `instruction` and
 //! `refusals`, by the checker's own tests; what is asked of the stack is stated again, told apart more finely. The
@@ -24,6 +25,7 @@ mod records;
 mod refusals;
 pub mod register_set;
 mod run;
+pub mod setting;
 mod stepping;
 mod steps;
 mod stop;
@@ -34,6 +36,6 @@ pub mod types;
 pub use gb_verify::check::check;
 pub use gb_verify::verdict::Verdict;
 pub use gb_verify::{
-    Abs, CELLS, Cell, Cert, Core, Ctl, Flg, ImeSet, May, NodeRef, Range, Rom, Span, Val, covers,
-    is_ram, known_bank, known_bytes,
+    Abs, Cell, Cert, Core, Ctl, Flg, ImeSet, May, NodeRef, Range, Rom, Span, Val, covers, is_ram,
+    known_bank, known_bytes,
 };

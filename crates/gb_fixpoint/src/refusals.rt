@@ -3,11 +3,12 @@
 
 use crate::cause::{Cause, TransferMisuse};
 use crate::register_set::RegisterSet;
+use crate::setting::RULES;
 use gb_ops::machine::Region;
 use gb_ops::op::{Indirect, Op, Operand, Register, Row};
 use gb_verify::{
-    Abs, AbsRead, AbsWrite, Core, ITEMS, Range, Rom, Span, Successors, is_limited,
-    is_stack_limited, lies_in_high_ram, may_come, meets_closed_ram,
+    Abs, AbsRead, AbsWrite, Core, Range, Rom, Span, Successors, is_limited, is_stack_limited,
+    lies_in_high_ram, may_come, meets_closed_ram,
 };
 
 /// All that a procedure could declare: work RAM and high RAM. The region is asked for apart.
@@ -176,7 +177,7 @@ pub fn refusal(
     ways: &Successors<'_>,
 ) -> Option<Refusal> {
     let core = state.core();
-    if matches!(row.op, Op::Push(_)) && state.items().len() + 2 > ITEMS {
+    if matches!(row.op, Op::Push(_)) && state.items().len() + 2 > RULES.item_room() {
         return Some((Cause::PushesTooMany, RegisterSet::empty()));
     }
     if ways.store_outside(rom.kind(), region, &RAM) {

@@ -3,6 +3,7 @@
 use crate::cause::Cause;
 use crate::refusals::refusal;
 use crate::register_set::RegisterSet;
+use crate::setting::setting_of;
 use crate::stop::Stop;
 use crate::tracking::keep_tracked;
 use crate::types::Run;
@@ -19,9 +20,10 @@ impl<'a> Run<'a> {
             return Ok(());
         };
         let address = node.key.address;
+        let setting = setting_of(node.key.procedure);
         let state = node.state.copied();
-        let ways = successors_of(self.rom, row, address, &state);
         let region = self.configuration.region;
+        let ways = successors_of(setting, self.rom, region, row, address, &state);
         if let Some((cause, registers)) = refusal(self.rom, region, &state, address, row, &ways) {
             return Err(Run::failure(number, cause, registers));
         }

@@ -96,7 +96,7 @@ impl Steps {
         }
     }
 
-    fn widen_items(&self, old: &[Val], new: &[Val]) -> ArrayVec<Val, 32> {
+    fn widen_items(&self, old: &[Val], new: &[Val]) -> ArrayVec<Val, 255> {
         let mut items = ArrayVec::new();
         for (before, after) in old.iter().zip(new) {
             let _ = items.try_push(self.widen_val(*before, *after));
@@ -104,7 +104,7 @@ impl Steps {
         items
     }
 
-    fn widen_cells(&self, old: &[Cell], new: &[Cell]) -> ArrayVec<Cell, 32> {
+    fn widen_cells(&self, old: &[Cell], new: &[Cell]) -> ArrayVec<Cell, 64> {
         let mut cells = ArrayVec::new();
         for after in new {
             let before = cell_at(after.address, old);
@@ -126,6 +126,7 @@ impl Steps {
             self.widen_core(old.core(), new.core()),
             self.widen_items(old.items(), new.items()),
             self.widen_cells(old.cells(), new.cells()),
+            *new.relations(),
         )
     }
 }

@@ -4,7 +4,7 @@ use arrayvec::ArrayVec;
 use gb_verify::{Abs, Cell, any};
 
 /// The cells that say something and whose addresses are among these. Both are in order of address.
-fn tracked_cells(cells: &[Cell], tracked: &[u16]) -> ArrayVec<Cell, 32> {
+fn tracked_cells(cells: &[Cell], tracked: &[u16]) -> ArrayVec<Cell, 64> {
     let mut kept = ArrayVec::new();
     for cell in cells {
         if cell.val != any() && tracked.binary_search(&cell.address).is_ok() {

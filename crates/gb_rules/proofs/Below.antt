@@ -2,3 +2,4 @@
 pub use Rattle.gb_abs.proofs as gb_abs_laws
 pub use Rattle.gb_calls.proofs.Below.gb_cert_laws as gb_cert_laws
 pub use Rattle.gb_abs.proofs.Below.gb_vals_laws as gb_vals_laws
+pub use Rattle.gb_product.proofs as gb_product_laws

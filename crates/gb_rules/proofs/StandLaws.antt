@@ -82,23 +82,26 @@ on_unmarked rom cert n entry base x k = record {
   state = k.state;
   passes = k.passes;
   address = k.address;
-  means = record { related = k.means.related; parts = record {
-    core = record {
-      registers = k.means.parts.core.registers;
-      flags = k.means.parts.core.flags;
-      ie = k.means.parts.core.ie;
-      ime = k.means.parts.core.ime;
-      controller = k.means.parts.core.controller;
-      count = k.means.parts.core.count;
-      locked = k.means.parts.core.locked;
-      stopped = k.means.parts.core.stopped;
+  means = record {
+    related = k.means.related;
+    parts = record {
+      core = record {
+        registers = k.means.parts.core.registers;
+        flags = k.means.parts.core.flags;
+        ie = k.means.parts.core.ie;
+        ime = k.means.parts.core.ime;
+        controller = k.means.parts.core.controller;
+        count = k.means.parts.core.count;
+        locked = k.means.parts.core.locked;
+        stopped = k.means.parts.core.stopped;
+      };
+      memory = k.means.parts.memory;
+      sp = k.means.parts.sp;
+      stack = k.means.parts.stack;
+      items = k.means.parts.items;
+      cells = k.means.parts.cells;
     };
-    memory = k.means.parts.memory;
-    sp = k.means.parts.sp;
-    stack = k.means.parts.stack;
-    items = k.means.parts.items;
-    cells = k.means.parts.cells;
-  } };
+  };
   main = k.main;
   return_word = k.return_word;
   room = k.room;

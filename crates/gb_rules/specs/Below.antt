@@ -6,3 +6,5 @@ pub use Rattle.gb_calls.specs as gb_calls
 pub use Rattle.gb_code.specs as gb_code
 pub use Rattle.gb_successors.specs as gb_successors
 pub use Rattle.gb_abs.specs.Below.gb_vals as gb_vals
+pub use Rattle.gb_product.specs as gb_product
+pub use Rattle.gb_calls.specs.Below.gb_cert as gb_cert

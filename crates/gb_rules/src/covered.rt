@@ -58,11 +58,7 @@ fn relations_of(node: &NodeRef<'_>) -> Relations
 }
 
 /// Whether all that is known together of a node's states is known of others, whose registers these are.
-fn is_known_together(
-    registers: &Registers<Val>,
-    relations: &Relations,
-    node: &NodeRef<'_>,
-) -> bool
+fn is_known_together(registers: &Registers<Val>, relations: &Relations, node: &NodeRef<'_>) -> bool
     ensures { result ≡ covers_relations registers.now relations.now node.now.state.relations }
 {
     covers_relations(registers, relations, &relations_of(node))

@@ -55,6 +55,30 @@ pub fn least_in_version_2() -> [u8; 163] {
     bytes
 }
 
+/// The same certificate in version 3: main's base, the region's end, stands behind its entry, and of each node's state nothing
+/// is known together, as a byte says between the numbers of items and of cells. A node takes 48 bytes behind the 24 of head and
+/// main.
+pub fn least_in_version_3() -> [u8; 168] {
+    let mut bytes = [0; 168];
+    let first = least();
+    put(
+        &mut bytes,
+        0,
+        &[
+            0x47, 0x42, 0x42, 0x58, 0x03, 0x00, 0xDF, 0xFF, 0xDF, 0x01, 0x03, 0x00, 0x00, 0x00,
+        ],
+    );
+    put(&mut bytes, 18, &[0x00, 0xE0]);
+    for node in 0..3usize {
+        put(
+            &mut bytes,
+            24 + 48 * node,
+            &first[18 + 47 * node..63 + 47 * node],
+        );
+    }
+    bytes
+}
+
 /// A certificate of two procedures with a node each, the second at 4000 in bank 1FF. Main needs 128 words; the other
 /// needs 4,096, may write C000 to C0FF and FF80, and returns. From byte 20 on, behind its entry, both versions are alike.
 pub fn two_procedures() -> [u8; 168] {

@@ -8,6 +8,7 @@
 pub mod cartridges;
 pub mod certificates;
 pub mod programs;
+pub mod relations;
 pub mod spelled;
 pub mod states;
 pub mod streams;

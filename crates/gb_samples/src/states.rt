@@ -85,7 +85,6 @@ pub fn entered() -> Core {
         ime: OFF,
         bound: 0,
         stack_set: true,
-        test: None,
         ctl: START,
         flags: Flg {
             is_own: true,

@@ -36,6 +36,7 @@ const LENGTH: usize = 18 + 47 * NODES;
 /// Main, which begins at the first node.
 const MAIN: ProcedurePlan<'static> = ProcedurePlan {
     entry: 0,
+    base: 0xE000,
     need: 0,
     ranges: &[],
     exit: None,

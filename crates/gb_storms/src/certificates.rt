@@ -66,14 +66,15 @@ fn agree_on_fault(alloc: Global, bytes: &[u8], fault: CertFault) -> bool {
     is_told && is_placed
 }
 
-/// Whether a certificate's bytes in version 2 are read as so many nodes and procedures, and are their own.
-fn agree_on_upgrade(alloc: Global, bytes: &[u8], nodes: u32, procedures: u8) -> bool {
+/// Whether a certificate's bytes in version 2, or in version 3 as before, are read as the same nodes and procedures, and are
+/// their own.
+fn agree_on_upgrade(alloc: Global, bytes: &[u8], before: &Cert<'_>) -> bool {
     let mut again = sink();
     match Cert::parse(alloc, bytes) {
         Ok(cert) => {
-            cert.version() == 2
-                && cert.nodes() == nodes
-                && cert.procedures() == procedures
+            cert.version() == before.version().max(2)
+                && cert.nodes() == before.nodes()
+                && cert.procedures() == before.procedures()
                 && upgrade_bytes(alloc, bytes, &mut again) == Ok(Upgraded::Written)
                 && again.kept() == bytes
         }
@@ -82,7 +83,7 @@ fn agree_on_upgrade(alloc: Global, bytes: &[u8], nodes: u32, procedures: u8) -> 
 }
 
 /// Whether a certificate is written as it was read, `show` has a line for its region and for each procedure and node, and
-/// version 2 says the same.
+/// the upgraded one says the same.
 fn agree_on_certificate(alloc: Global, bytes: &[u8], cert: &Cert<'_>) -> bool {
     let is_written = match encode(alloc, cert) {
         Ok(written) => written.as_slice() == bytes,
@@ -92,7 +93,7 @@ fn agree_on_certificate(alloc: Global, bytes: &[u8], cert: &Cert<'_>) -> bool {
     let is_shown = show_bytes(alloc, bytes, &mut shown) == Ok(None);
     let lines = shown.kept().iter().filter(|byte| **byte == b'\n').count();
     let is_upgraded = upgrade_bytes(alloc, bytes, &mut upgraded) == Ok(Upgraded::Written)
-        && agree_on_upgrade(alloc, upgraded.kept(), cert.nodes(), cert.procedures());
+        && agree_on_upgrade(alloc, upgraded.kept(), cert);
     let expected = u64::from(cert.nodes()) + u64::from(cert.procedures()) + 1;
     is_written
         && is_shown

@@ -184,7 +184,7 @@ related_taken z rom region ranges row a s entry base x reads c w k known led =
     let before : AreRelated s.relations (begun row x) = related_begun row x s.relations k.stands.means.related in
     let byte : HoldOneByte (compared_after row.op s.relations.byte) e.processor.registers (peek (left_by rom x e row.cycles).storage) e.processor.flags =
     HoldOneByte-compared_after row.op s.relations.byte (begun row x).processor (peek x.storage) (peek (left_by rom x e row.cycles).storage)
-        (given rom row x reads).low (given rom row x reads).high (has_operands row.op k.ruled.operands) (AreBytes-core c entry (begun row x) k.core k.means) before.byte in
+    (given rom row x reads).low (given rom row x reads).high (has_operands row.op k.ruled.operands) (AreBytes-core c entry (begun row x) k.core k.means) before.byte in
     let low : Val = (read_word z rom (with_core s c) (read_of row.op c)).low in
     subst (λ (v : MState). AreRelated (relations_after z.rules region row.op any_bounds c.registers low s.relations) v) (sym is)
     (by_rules z.rules region row.op any_bounds c.registers low s.relations _ _ _ k.stands.rules byte (subst (λ (v : MState). AreBytes v.processor.registers) is bytes))

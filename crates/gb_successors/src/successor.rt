@@ -166,7 +166,14 @@ pub(crate) fn taken_successor<'a>(
 {
     let read = read_of(row.op, &core);
     let word = read_word(setting, rom, state, &core, read);
-    let effect = transfer(row.op, next, sp_halves(setting, state), &core, word.low, word.high);
+    let effect = transfer(
+        row.op,
+        next,
+        sp_halves(setting, state),
+        &core,
+        word.low,
+        word.high,
+    );
     let kind = rom.kind();
     Successor {
         read,

@@ -102,7 +102,13 @@ fn write(setting: Setting, kind: Kind, write: AbsWrite, state: &mut Abs)
         AbsWrite::Byte(span, val) => store_in(setting, kind, span, &val, state),
         AbsWrite::Word(address, low, high) => {
             store_in(setting, kind, Span::one(address), &low, state);
-            store_in(setting, kind, Span::one(address.wrapping_add(1)), &high, state);
+            store_in(
+                setting,
+                kind,
+                Span::one(address.wrapping_add(1)),
+                &high,
+                state,
+            );
         }
         AbsWrite::Nothing | AbsWrite::Push { .. } => {}
     }

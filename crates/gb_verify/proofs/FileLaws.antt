@@ -1,6 +1,6 @@
 -- What is written of a certificate's file: the certificate's text, or the line of a fault.
 use Rattle.std.proofs.Common.{◌≡◌, ℕ, List, Option, Result, Ok, Err, ◌⊎◌, inl, inr, refl, sym, ap, subst}
-use Rattle.std.specs.Result.{OnErr}
+use Rattle.std.specs.Result.{OnOk, OnErr}
 use Rattle.gb_states.specs.Below.gb_fields.declared.fault.CertFault.{CertFault}
 use Rattle.gb_states.specs.Below.gb_fields.declared.fault.CertFault.TheVariants as fault
 use Rattle.gb_domain.specs.Certificate.{Certificate}
@@ -14,6 +14,15 @@ use Rattle.gb_verify.specs.CertificateFile.{text_or_fault, text_of, HasBeginning
 pub on_err : {T E P : Type 0} (r : Result T E) → P → OnErr r P
 on_err (Ok x) p = tt
 on_err (Err e) p = p
+
+-- what follows from that
+pub when_ok : {T E P Q : Type 0} (r : Result T E) → (P → Q) → OnOk r P → OnOk r Q
+when_ok (Ok x) f p = f p
+when_ok (Err e) f p = tt
+
+pub when_err : {T E P Q : Type 0} (r : Result T E) → (P → Q) → OnErr r P → OnErr r Q
+when_err (Ok x) f p = tt
+when_err (Err e) f p = f p
 
 pub text_of-certificate : (text : Certificate → List ℕ) (bytes : List ℕ) (c : Certificate) → read_certificate bytes ≡ Ok c → text c ≡ text_of text bytes
 unfolding text_of

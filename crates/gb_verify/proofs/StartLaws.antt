@@ -19,13 +19,15 @@ use Rattle.gb_domain.specs.Types.{AbsState, ProcedureParts, Node}
 use Rattle.gb_states.specs.Rules.{IsCertificate, is_of, have_entries}
 use Rattle.gb_domain.specs.Certificate.{Certificate}
 use Rattle.gb_rules.specs.Below.gb_abs.Storage.{peek, peek_by}
-use Rattle.gb_rules.specs.Below.gb_abs.Meaning.{Holds, HoldsFlags, MeansCore, Means, IsMemory, origin_value, ime_may_be}
+use Rattle.gb_rules.specs.Below.gb_abs.Meaning.{Holds, HoldsFlags, MeansCore, MeansParts, IsMemory, origin_value, ime_may_be}
 use Rattle.gb_rules.specs.Below.gb_vals.Flags.{known}
 use Rattle.gb_rules.specs.Below.gb_vals.Meaning.{may_be}
 use Rattle.gb_rules.proofs.Below.gb_vals_laws.MeaningLaws.{known-may_be}
-use Rattle.gb_rules.specs.Below.gb_abs.Covering.{covers}
+use Rattle.gb_rules.specs.Below.gb_product.Covering.{covers}
+use Rattle.gb_rules.specs.Below.gb_product.Meaning.{Means}
 use Rattle.gb_rules.specs.Below.gb_abs.Stack.{AreInRegion}
-use Rattle.gb_rules.proofs.Below.gb_abs_laws.CoveringLaws.{Means-covered}
+use Rattle.gb_rules.proofs.Below.gb_product_laws.CoveringLaws.{Means-covered}
+use Rattle.gb_rules.proofs.Below.gb_product_laws.MeaningLaws.{HoldRelations-nothing}
 use Rattle.gb_rules.specs.Procedures.{need_of}
 use Rattle.gb_rules.specs.Safety.{IsMeant}
 use Rattle.gb_rules.proofs.SearchLaws.{Contains-slice_get}
@@ -89,7 +91,6 @@ MeansCore-at_start rom cert s h =
         kept = λ e. refl;
       };
       count = most s.storage.count 0 h.count;
-      test = tt;
       locked = ap (λ p. p.locked) h.processor;
       stopped = ap (λ p. p.stopped) h.processor;
     }
@@ -127,9 +128,9 @@ stack_start last h = let e : last ≡ 0xFFFD = eqb-true last 0xFFFD h in omega a
 small_start : (sp : ℕ) → sp ≡ 0xFFFE → sp < 65536
 small_start sp h = omega arith
 
-Means-start : (rom : List ℕ) (cert : Certificate) (s : MState) → IsStart rom s → Means (state_at_power_up rom cert.region) s (main_base cert) s
+MeansParts-start : (rom : List ℕ) (cert : Certificate) (s : MState) → IsStart rom s → MeansParts (state_at_power_up rom cert.region) s (main_base cert) s
 unfolding core_at_power_up processor_at_power_up
-Means-start rom cert s h =
+MeansParts-start rom cert s h =
     record {
       core = MeansCore-at_start rom cert s h;
       memory = IsMemory-start rom s h;
@@ -137,6 +138,26 @@ Means-start rom cert s h =
       stack = λ e. ap (λ p. p.sp + 0) h.processor ∙ stack_start cert.region.last e;
       items = tt;
       cells = tt;
+    }
+
+byte_start : (x n : ℕ) → x ≡ n → n < 256 → x < 256
+byte_start x n h lt = omega arith
+
+register_start : (rom : List ℕ) (s : MState) (r : Register) → s.processor ≡ processor_at_power_up rom → get r s.processor.registers < 256
+unfolding processor_at_power_up
+register_start rom s A h = byte_start _ 0x01 (ap (λ p. p.registers.a) h) (omega arith)
+register_start rom s B h = byte_start _ 0x00 (ap (λ p. p.registers.b) h) (omega arith)
+register_start rom s C h = byte_start _ 0x13 (ap (λ p. p.registers.c) h) (omega arith)
+register_start rom s D h = byte_start _ 0x00 (ap (λ p. p.registers.d) h) (omega arith)
+register_start rom s E h = byte_start _ 0xD8 (ap (λ p. p.registers.e) h) (omega arith)
+register_start rom s H h = byte_start _ 0x01 (ap (λ p. p.registers.h) h) (omega arith)
+register_start rom s L h = byte_start _ 0x4D (ap (λ p. p.registers.l) h) (omega arith)
+
+Means-start : (rom : List ℕ) (cert : Certificate) (s : MState) → IsStart rom s → Means (state_at_power_up rom cert.region) s (main_base cert) s
+Means-start rom cert s h =
+    record {
+      parts = MeansParts-start rom cert s h;
+      related = HoldRelations-nothing _ _ _ (record { each = λ r. register_start rom s r h.processor });
     }
 
 pc_start : (rom : List ℕ) (s : MState) → IsStart rom s → s.processor.pc ≡ 0x100

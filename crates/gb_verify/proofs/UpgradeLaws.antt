@@ -1,40 +1,111 @@
 -- An upgrade, from its parts.
-use Rattle.std.proofs.Common.{◌≡◌, ℕ, ◌+◌, List, ◌++◌, drop, slice_get, Option, Some, Ok, Err, inl, inr, refl, sym, ◌∙◌, ap, subst}
+use Rattle.std.proofs.Common.{◌≡◌, ℕ, ◌+◌, false, ◌==◌, List, ◌++◌, drop, slice_get, Option, Some, Ok, Err, inl, inr, refl, sym, ◌∙◌, ap, subst, arith}
+use Rattle.std.proofs.lemmas.Bool.Decides.{nat_tests}
 use Rattle.std.specs.List.{flat_map}
 use Rattle.std.proofs.lemmas.List.{drop_more}
 use Rattle.std.proofs.lemmas.Option.{slice_get_within, get_or_from_slice_get}
 use Rattle.gb_states.specs.Below.gb_fields.declared.fault.CertFault.{CertFault}
 use Rattle.gb_states.specs.Below.gb_fields.declared.fault.CertFault.TheVariants as fault
+use Rattle.gb_states.specs.Below.gb_fields.Format.{GivesUnlessMemory}
 use Rattle.gb_domain.specs.Types.{ProcedureParts}
 use Rattle.gb_domain.specs.Certificate.{Certificate}
+use Rattle.gb_domain.specs.Limits.{rules_of}
 use Rattle.gb_states.specs.Reading.{read_certificate}
 use Rattle.gb_states.specs.Spelling as spelled
 use Rattle.gb_states.specs.Spelling.{Spells}
+use Rattle.gb_rules.specs.Below.gb_cert.Places.{upgraded_version}
 use Rattle.gb_rules.proofs.Below.gb_cert_laws.Lending.{upgraded as is_upgraded}
 use Rattle.gb_text.specs.Sink.{Gains}
 use Rattle.gb_text.specs.Text.{GainsBeginning}
+use Rattle.gb_text.proofs.Gained.{gains_both, begins_first, begins_second}
 use Rattle.gb_text.proofs.Remaining.{Remains, remains_less, remains_cut}
 use Rattle.gb_verify.specs.Text.{certificate_text}
 use Rattle.gb_verify.specs.CertificateFile.{text_of, HasBeginning}
-use Rattle.gb_verify.specs.Upgrade.{upgraded_text, written, fault_outcome, GainsUpgrade}
+use Rattle.gb_verify.specs.Upgrade.{upgraded, upgraded_text, written, fault_outcome, GainsUpgrade}
 use Rattle.gb_verify.specs.declared.upgrade.Upgraded.TheVariants as upgrade
 use Rattle.gb_verify.proofs.FileLaws.{text_of-fault, memory_or_other, certificate_written, certificate_begins}
 
 -- ---- procedures, one after another
 
-procedures_left : (ps : List ProcedureParts) (i : ℕ) (p : ProcedureParts) → slice_get ps i ≡ Some p
-    → flat_map (spelled.procedure 2) (drop i ps) ≡ spelled.procedure 2 p ++ flat_map (spelled.procedure 2) (drop (i + 1) ps)
-procedures_left ps i p h =
-    ap (flat_map (spelled.procedure 2)) (drop_more ps i p (slice_get_within ps i p h))
-    ∙ ap (λ q. spelled.procedure 2 q ++ flat_map (spelled.procedure 2) (drop (i + 1) ps)) (get_or_from_slice_get ps i p p h)
+procedures_left : (version : ℕ) (ps : List ProcedureParts) (i : ℕ) (p : ProcedureParts) → slice_get ps i ≡ Some p
+    → flat_map (spelled.procedure version) (drop i ps) ≡ spelled.procedure version p ++ flat_map (spelled.procedure version) (drop (i + 1) ps)
+procedures_left version ps i p h =
+    ap (flat_map (spelled.procedure version)) (drop_more ps i p (slice_get_within ps i p h))
+    ∙ ap (λ q. spelled.procedure version q ++ flat_map (spelled.procedure version) (drop (i + 1) ps)) (get_or_from_slice_get ps i p p h)
 
-pub procedure_taken : (old mid new : Option (List ℕ)) (text : List ℕ) (ps : List ProcedureParts) (i : ℕ) (p : ProcedureParts) → slice_get ps i ≡ Some p
-    → Remains old text mid (flat_map (spelled.procedure 2) (drop i ps)) → Gains mid (spelled.procedure 2 p) new → Remains old text new (flat_map (spelled.procedure 2) (drop (i + 1) ps))
-procedure_taken old mid new text ps i p h r g = remains_less old mid new text _ _ (subst (λ t. Remains old text mid t) (procedures_left ps i p h) r) g
+pub procedure_taken : (version : ℕ) (old mid new : Option (List ℕ)) (text : List ℕ) (ps : List ProcedureParts) (i : ℕ) (p : ProcedureParts) → slice_get ps i ≡ Some p
+    → Remains old text mid (flat_map (spelled.procedure version) (drop i ps)) → Gains mid (spelled.procedure version p) new → Remains old text new (flat_map (spelled.procedure version) (drop (i + 1) ps))
+procedure_taken version old mid new text ps i p h r g = remains_less old mid new text _ _ (subst (λ t. Remains old text mid t) (procedures_left version ps i p h) r) g
 
-pub procedure_cut : (old mid new : Option (List ℕ)) (text : List ℕ) (ps : List ProcedureParts) (i : ℕ) (p : ProcedureParts) → slice_get ps i ≡ Some p
-    → Remains old text mid (flat_map (spelled.procedure 2) (drop i ps)) → GainsBeginning mid (spelled.procedure 2 p) new → GainsBeginning old text new
-procedure_cut old mid new text ps i p h r g = remains_cut old mid new text _ _ (subst (λ t. Remains old text mid t) (procedures_left ps i p h) r) g
+pub procedure_cut : (version : ℕ) (old mid new : Option (List ℕ)) (text : List ℕ) (ps : List ProcedureParts) (i : ℕ) (p : ProcedureParts) → slice_get ps i ≡ Some p
+    → Remains old text mid (flat_map (spelled.procedure version) (drop i ps)) → GainsBeginning mid (spelled.procedure version p) new → GainsBeginning old text new
+procedure_cut version old mid new text ps i p h r g = remains_cut old mid new text _ _ (subst (λ t. Remains old text mid t) (procedures_left version ps i p h) r) g
+
+-- ---- what an upgrade changes: the version, and how numbers of nodes are spelled
+
+upgraded_rules : (version : ℕ) → rules_of (upgraded_version version) ≡ rules_of version
+unfolding upgraded_version rules_of
+upgraded_rules version = grind (arith, nat_tests)
+
+upgraded_is : (version : ℕ) → (upgraded_version version == 1) ≡ false
+unfolding upgraded_version
+upgraded_is version = grind (arith, nat_tests)
+
+-- a procedure in its two parts
+procedure_parts : (version : ℕ) (p : ProcedureParts) (body : List ℕ) → body ≡ spelled.body (rules_of version) p
+    → spelled.node_number 2 p.entry ++ body ≡ spelled.procedure (upgraded_version version) p
+unfolding spelled.procedure spelled.node_number
+procedure_parts version p body h =
+    ap (λ b. spelled.node_number 2 p.entry ++ b) (h ∙ ap (λ rules. spelled.body rules p) (sym (upgraded_rules version)))
+    ∙ ap (λ b. spelled.node_number_by b p.entry ++ spelled.body (rules_of (upgraded_version version)) p) (sym (upgraded_is version))
+
+pub procedure_whole : (version : ℕ) (p : ProcedureParts) (entry body : List ℕ) (old mid new : Option (List ℕ)) → entry ≡ spelled.node_number 2 p.entry → body ≡ spelled.body (rules_of version) p
+    → Gains old entry mid → Gains mid body new → Gains old (spelled.procedure (upgraded_version version) p) new
+procedure_whole version p entry body old mid new e h f g = subst (λ t. Gains old t new) (ap (λ b. b ++ body) e ∙ procedure_parts version p body h) (gains_both old mid new entry body f g)
+
+pub procedure_begun : (version : ℕ) (p : ProcedureParts) (entry body : List ℕ) (old new : Option (List ℕ)) → entry ≡ spelled.node_number 2 p.entry → body ≡ spelled.body (rules_of version) p
+    → GainsBeginning old entry new → GainsBeginning old (spelled.procedure (upgraded_version version) p) new
+procedure_begun version p entry body old new e h f = subst (λ t. GainsBeginning old t new) (ap (λ b. b ++ body) e ∙ procedure_parts version p body h) (begins_first old new entry body f)
+
+pub procedure_entered : (version : ℕ) (p : ProcedureParts) (entry body : List ℕ) (old mid new : Option (List ℕ)) → entry ≡ spelled.node_number 2 p.entry → body ≡ spelled.body (rules_of version) p
+    → Gains old entry mid → GainsBeginning mid body new → GainsBeginning old (spelled.procedure (upgraded_version version) p) new
+procedure_entered version p entry body old mid new e h f g = subst (λ t. GainsBeginning old t new) (ap (λ b. b ++ body) e ∙ procedure_parts version p body h) (begins_second old mid new entry body f g)
+
+-- all procedures of the upgraded certificate
+abbrev procedures_text : Certificate → List ℕ
+procedures_text c = flat_map (spelled.procedure (upgraded_version c.version)) c.procedures
+
+-- all nodes, which an upgrade leaves as they are
+abbrev nodes_text : Certificate → List ℕ
+nodes_text c = flat_map (spelled.node (rules_of c.version)) c.nodes
+
+-- a certificate in its three parts
+certificate_parts : (c : Certificate) (head nodes : List ℕ) → head ≡ spelled.head (upgraded c) → nodes ≡ nodes_text c → head ++ (procedures_text c ++ nodes) ≡ upgraded_text c
+unfolding spelled.spelling
+certificate_parts c head nodes e h =
+    ap (λ b. b ++ (procedures_text c ++ nodes)) e
+    ∙ ap (λ b. spelled.head (upgraded c) ++ (procedures_text c ++ b)) (h ∙ ap (λ rules. flat_map (spelled.node rules) c.nodes) (sym (upgraded_rules c.version)))
+
+pub certificate_whole : (c : Certificate) (head nodes : List ℕ) (old first mid new : Option (List ℕ)) → head ≡ spelled.head (upgraded c) → nodes ≡ nodes_text c
+    → Gains old head first → Gains first (procedures_text c) mid → Gains mid nodes new → Gains old (upgraded_text c) new
+certificate_whole c head nodes old first mid new e h f g i =
+    subst (λ t. Gains old t new) (certificate_parts c head nodes e h) (gains_both old first new head (procedures_text c ++ nodes) f (gains_both first mid new (procedures_text c) nodes g i))
+
+pub certificate_begun : (c : Certificate) (head : List ℕ) (old new : Option (List ℕ)) → head ≡ spelled.head (upgraded c) → GainsBeginning old head new → GainsBeginning old (upgraded_text c) new
+certificate_begun c head old new e f =
+    subst (λ t. GainsBeginning old t new) (certificate_parts c head (nodes_text c) e refl) (begins_first old new head (procedures_text c ++ nodes_text c) f)
+
+pub certificate_headed : (c : Certificate) (head : List ℕ) (old first new : Option (List ℕ)) → head ≡ spelled.head (upgraded c)
+    → Gains old head first → GainsBeginning first (procedures_text c) new → GainsBeginning old (upgraded_text c) new
+certificate_headed c head old first new e f g =
+    subst (λ t. GainsBeginning old t new) (certificate_parts c head (nodes_text c) e refl)
+    (begins_second old first new head (procedures_text c ++ nodes_text c) f (begins_first first new (procedures_text c) (nodes_text c) g))
+
+pub certificate_numbered : (c : Certificate) (head nodes : List ℕ) (old first mid new : Option (List ℕ)) → head ≡ spelled.head (upgraded c) → nodes ≡ nodes_text c
+    → Gains old head first → Gains first (procedures_text c) mid → GainsBeginning mid nodes new → GainsBeginning old (upgraded_text c) new
+certificate_numbered c head nodes old first mid new e h f g i =
+    subst (λ t. GainsBeginning old t new) (certificate_parts c head nodes e h)
+    (begins_second old first new head (procedures_text c ++ nodes) f (begins_second first mid new (procedures_text c) nodes g i))
 
 -- ---- an upgrade
 
@@ -56,6 +127,24 @@ upgrade_gained old new bytes c h g = record {
   };
   gained = g;
 }
+
+-- a version that isn't 1 stays
+kept_version : (version : ℕ) → (version == 1) ≡ false → upgraded_version version ≡ version
+unfolding upgraded_version
+kept_version version h = rw h refl
+
+kept_text : (c : Certificate) → (c.version == 1) ≡ false → upgraded_text c ≡ spelled.spelling c
+kept_text c h =
+    let with : ℕ → Certificate = λ version. record c { version = version } in
+    ap (λ version. spelled.spelling (with version)) (kept_version c.version h)
+
+same_ok : (a b : Certificate) → GivesUnlessMemory {X = Certificate} (λ c. c) (Ok b) (Ok a) → a ≡ b
+same_ok a b h = cc
+
+pub upgrade_same : (old new : Option (List ℕ)) (bytes : List ℕ) (c other : Certificate) → Spells bytes other → GivesUnlessMemory {X = Certificate} (λ d. d) (Ok c) (Ok other) → (other.version == 1) ≡ false → Gains old (upgraded_text c) new
+    → Gains old bytes new
+upgrade_same old new bytes c other s e h g =
+    subst (λ t. Gains old t new) (sym s.is_spelling) (subst (λ t. Gains old t new) (kept_text other h) (subst (λ d. Gains old (upgraded_text d) new) (sym (same_ok other c e)) g))
 
 other_is_unreadable : (f : CertFault) → (f ≡ fault.Memory → ⊥) → fault_outcome f ≡ upgrade.Unreadable
 other_is_unreadable fault.Memory other = absurd (other refl)

@@ -1,7 +1,10 @@
 -- The verdict: step by step over the nodes, and what it says.
-use Rattle.std.proofs.Common.{◌≡◌, ℕ, zero, suc, ◌+◌, ◌≤◌, ◌<◌, Bool, true, false, cond, ◌&&◌, ◌||◌, ◌⊎◌, inl, inr, List, [], ◌∷◌, Option, Some, None, length, drop, slice_get, refl, sym, ◌∙◌, ap, subst, arith}
+use Rattle.std.proofs.Common.{◌≡◌, ℕ, zero, suc, ◌+◌, ◌≤◌, ◌<◌, Bool, true, false, not, ◌==◌, cond, ◌&&◌, ◌||◌, ◌⊎◌, inl, inr, List, [], ◌∷◌, Option, Some, None, length, drop, slice_get, refl, sym, ◌∙◌, ap, subst, arith}
 use Rattle.std.specs.Prelude.{option_and_then}
 use Rattle.std.proofs.lemmas.Option.{slice_get-get_or}
+use Rattle.gb_domain.specs.declared.rules.Rules.{Rules}
+use Rattle.gb_domain.specs.declared.setting.Setting.{Setting}
+use Rattle.gb_domain.specs.Limits.{rules_of}
 use Rattle.gb_domain.specs.Types.{AbsState, ProcedureParts, Node}
 use Rattle.gb_domain.specs.Certificate.{Certificate}
 use Rattle.gb_rules.specs.Below.gb_abs.declared.reason.Reason.{Reason}
@@ -14,11 +17,13 @@ use Rattle.gb_ops.specs.Table.{decoded}
 use Rattle.gb_domain.specs.declared.types.Range.{Range}
 use Rattle.gb_rules.specs.Below.gb_abs_effects.declared.targets.Target.{Target}
 use Rattle.gb_rules.specs.Below.gb_abs_effects.declared.targets.Target.TheVariants as target
-use Rattle.gb_rules.specs.Below.gb_calls.Calls.{entered, is_entry, or_later, entry_from, entry_behind_main, callee_of}
+use Rattle.gb_rules.specs.Below.gb_calls.Calls.{entered, is_entry, or_later, entry_from, entry_behind_main, callee_of, resumed}
 use Rattle.gb_rules.specs.Below.gb_successors.Way.{Successor}
 use Rattle.gb_rules.specs.Below.gb_successors.Successors.{has, any_successor, successors_of}
-use Rattle.gb_rules.specs.Procedures.{ranges_of, need_of, exit_of}
-use Rattle.gb_rules.specs.Rules.{pushes_too_deep, callee_by, callee_at, is_over, calls_too_deep, is_resumed_uncovered, is_back_uncovered, is_uncovered_at, is_uncovered, is_outside_of, is_uncallable_at, is_uncallable, is_unreturnable_at, is_unreturnable, interrupts, handles_too_deep, is_unhandled, lacks_handler, test_row, test_instruction, node_bytes, any_of, grows_too_deep, stores_outside, leads_uncovered, calls_wrongly, returns_wrongly, applies_to_row, applies, reasons, reason_of}
+use Rattle.gb_rules.specs.Covered.{covered_at}
+use Rattle.gb_rules.specs.Procedures.{ranges_of, need_of, exit_of, base_in, setting_of}
+use Rattle.gb_rules.specs.Below.gb_successors.Refused.{meets_oam_transfer}
+use Rattle.gb_rules.specs.Rules.{is_extended, is_unjudged, breaks_stack, is_code_limited, is_dispatch_limited, meets_ram, meets_transfer, leads_anywhere, pushes_too_deep, callee_by, callee_at, is_over, calls_too_deep, is_resumed_uncovered, is_back_uncovered, is_uncovered_at, is_uncovered, is_outside_of, is_uncallable_at, is_uncallable, is_unreturnable_at, is_unreturnable, interrupts, handles_too_deep, is_unhandled, lacks_handler, test_row, test_instruction, node_bytes, any_of, grows_too_deep, stores_outside, leads_uncovered, calls_wrongly, returns_wrongly, applies_to_row, applies, reasons, reason_of}
 use Rattle.gb_verify.specs.declared.verdict.Verdict.TheVariants.{Refused}
 use Rattle.gb_verify.specs.Verdict.{or_interrupt, reason_against, reason_against_at, refusal_or, verdict_from, verdict_of, is_bad_entry, main_entry, IsVerdict, IgnoresVersion}
 
@@ -125,23 +130,24 @@ unfolding calls_too_deep callee_at
 same_depth cert version need t =
     ap (is_over (other cert version) need (length t.state.items)) (same_callee_by cert version t.target t.state) ∙ same_over cert version need (length t.state.items) (callee_by cert t.target t.state)
 
-same_exit : (cert : Certificate) (version procedure back : ℕ) (t : AbsState) (ranges : List Range) (exit : Option AbsState)
+same_exit : (cert : Certificate) (version procedure back : ℕ) (t : AbsState) (ranges : List Range) (exit : Option AbsState) → rules_of version ≡ rules_of cert.version
     → is_resumed_uncovered (other cert version) procedure back t ranges exit ≡ is_resumed_uncovered cert procedure back t ranges exit
-same_exit cert version procedure back t ranges None = refl
-same_exit cert version procedure back t ranges (Some exit) = refl
+same_exit cert version procedure back t ranges None e = refl
+same_exit cert version procedure back t ranges (Some exit) e = ap (λ rules. not (covered_at cert.nodes procedure back (resumed rules ranges t exit))) e
 
-same_back : (cert : Certificate) (version procedure back : ℕ) (t : AbsState) (o : Option ℕ) → is_back_uncovered (other cert version) procedure back t o ≡ is_back_uncovered cert procedure back t o
+same_back : (cert : Certificate) (version procedure back : ℕ) (t : AbsState) (o : Option ℕ) → rules_of version ≡ rules_of cert.version
+    → is_back_uncovered (other cert version) procedure back t o ≡ is_back_uncovered cert procedure back t o
 unfolding ranges_of exit_of
-same_back cert version procedure back t None = refl
-same_back cert version procedure back t (Some q) = same_exit cert version procedure back t (ranges_of cert q) (exit_of cert q)
+same_back cert version procedure back t None e = refl
+same_back cert version procedure back t (Some q) e = same_exit cert version procedure back t (ranges_of cert q) (exit_of cert q) e
 
-same_covering : (cert : Certificate) (version procedure : ℕ) (t : Successor) → is_uncovered (other cert version) procedure t ≡ is_uncovered cert procedure t
+same_covering : (cert : Certificate) (version procedure : ℕ) (t : Successor) → rules_of version ≡ rules_of cert.version → is_uncovered (other cert version) procedure t ≡ is_uncovered cert procedure t
 unfolding is_uncovered
-same_covering cert version procedure t = by t.target
+same_covering cert version procedure t e = by t.target
   where
     by : (w : Target) → is_uncovered_at (other cert version) procedure w t.next t.state ≡ is_uncovered_at cert procedure w t.next t.state
     by (target.At a) = refl
-    by (target.Call a) = ap (is_back_uncovered (other cert version) procedure t.next t.state) (same_callee cert version a t.state) ∙ same_back cert version procedure t.next t.state (callee_of cert a t.state)
+    by (target.Call a) = ap (is_back_uncovered (other cert version) procedure t.next t.state) (same_callee cert version a t.state) ∙ same_back cert version procedure t.next t.state (callee_of cert a t.state) e
     by target.Return = refl
     by target.Unknown = refl
 
@@ -170,12 +176,20 @@ same_return cert version procedure t = by t.target
     by target.Return = refl
     by target.Unknown = refl
 
+same_setting : (cert : Certificate) (version procedure : ℕ) → rules_of version ≡ rules_of cert.version → setting_of (other cert version) procedure ≡ setting_of cert procedure
+unfolding setting_of
+same_setting cert version procedure e =
+    let with : Rules → Setting = λ rules. record { rules = rules; is_main = procedure == 0; base = base_in (slice_get cert.procedures procedure) } in
+    ap with e
+
 -- tests that agree on each successor
-same_any : (test also : Successor → Bool) (rom : List ℕ) (n : Node) (row : Row) → ((t : Successor) → test t ≡ also t) → any_of test rom n row ≡ any_of also rom n row
+same_any : (test also : Successor → Bool) (rom : List ℕ) (cert : Certificate) (version : ℕ) (n : Node) (row : Row) → rules_of version ≡ rules_of cert.version
+    → ((t : Successor) → test t ≡ also t) → any_of test rom (other cert version) n row ≡ any_of also rom cert n row
 unfolding any_of any_successor
-same_any test also rom n row same =
-    let ss = successors_of rom row n.address n.state in
-    rw (has_same ss.taken, has_same ss.not_taken, has_same ss.stays) refl
+same_any test also rom cert version n row e same =
+    let ss = successors_of (setting_of cert n.procedure) rom cert.region row n.address n.state in
+    ap (λ setting. any_successor test (successors_of setting rom cert.region row n.address n.state)) (same_setting cert version n.procedure e)
+    ∙ rw (has_same ss.taken, has_same ss.not_taken, has_same ss.stays) refl
   where
     has_same : (o : Option Successor) → has test o ≡ has also o
     has_same None = refl
@@ -196,23 +210,32 @@ same_handled_depth cert version n = same_interrupts _ _ n interrupts (λ i.
     ap (is_over (other cert version) (need_of cert n.procedure) (length n.state.items)) (same_handler cert version i n.state)
     ∙ same_over cert version (need_of cert n.procedure) (length n.state.items) (handler_of cert i n.state))
 
-same_unhandled : (cert : Certificate) (version : ℕ) (n : Node) (o : Option ℕ) → is_unhandled (other cert version) n o ≡ is_unhandled cert n o
-same_unhandled cert version n o =
-    rw (same_outside cert version n.procedure o, same_back cert version n.procedure n.address (dispatched n.state) o) refl
+same_unhandled : (cert : Certificate) (version : ℕ) (n : Node) (o : Option ℕ) → rules_of version ≡ rules_of cert.version
+    → is_unhandled (other cert version) n o ≡ is_unhandled cert n o
+same_unhandled cert version n o e =
+    rw (same_outside cert version n.procedure o, same_back cert version n.procedure n.address (dispatched n.state) o e) refl
 
-same_lacking : (cert : Certificate) (version : ℕ) (n : Node) → lacks_handler (other cert version) n ≡ lacks_handler cert n
+same_lacking : (cert : Certificate) (version : ℕ) (n : Node) → rules_of version ≡ rules_of cert.version → lacks_handler (other cert version) n ≡ lacks_handler cert n
 unfolding lacks_handler
-same_lacking cert version n = same_interrupts _ _ n interrupts (λ i.
-    ap (is_unhandled (other cert version) n) (same_handler cert version i n.state) ∙ same_unhandled cert version n (handler_of cert i n.state))
+same_lacking cert version n e = same_interrupts _ _ n interrupts (λ i.
+    ap (is_unhandled (other cert version) n) (same_handler cert version i n.state) ∙ same_unhandled cert version n (handler_of cert i n.state) e)
 
-same_row : (rom : List ℕ) (cert : Certificate) (version : ℕ) (n : Node) (row : Row) (r : Reason) → applies_to_row rom (other cert version) n row r ≡ applies_to_row rom cert n row r
-unfolding applies_to_row grows_too_deep stores_outside leads_uncovered calls_wrongly returns_wrongly ranges_of need_of
-same_row rom cert version n row reason.Depth =
-    rw (same_any (calls_too_deep (other cert version) (need_of cert n.procedure)) (calls_too_deep cert (need_of cert n.procedure)) rom n row (same_depth cert version (need_of cert n.procedure)), same_handled_depth cert version n) refl
-same_row rom cert version n row reason.Uncovered = same_any _ _ rom n row (same_covering cert version n.procedure)
-same_row rom cert version n row reason.Callee = same_any _ _ rom n row (same_call cert version n.procedure)
-same_row rom cert version n row reason.Return = same_any _ _ rom n row (same_return cert version n.procedure)
-same_row rom cert version n row r = refl
+same_row : (rom : List ℕ) (cert : Certificate) (version : ℕ) (n : Node) (row : Row) (r : Reason) → rules_of version ≡ rules_of cert.version
+    → applies_to_row rom (other cert version) n row r ≡ applies_to_row rom cert n row r
+unfolding applies_to_row is_unjudged grows_too_deep stores_outside meets_ram meets_transfer leads_anywhere leads_uncovered calls_wrongly returns_wrongly ranges_of need_of
+same_row rom cert version n row reason.Stack e = ap (λ rules. is_extended rules || breaks_stack cert.region n row.op) e
+same_row rom cert version n row reason.Depth e =
+    rw (same_any (calls_too_deep (other cert version) (need_of cert n.procedure)) (calls_too_deep cert (need_of cert n.procedure)) rom cert version n row e (same_depth cert version (need_of cert n.procedure)), same_handled_depth cert version n) refl
+same_row rom cert version n row reason.Store e = same_any _ _ rom cert version n row e (λ t. refl)
+same_row rom cert version n row reason.CartridgeRam e = same_any _ _ rom cert version n row e (λ t. refl)
+same_row rom cert version n row reason.OamTransfer e =
+    let limited : Successor → Bool = λ t. is_code_limited n.state.core n.address row.length || meets_oam_transfer cert.region n.state.core t in
+    ap (λ b. b || is_dispatch_limited cert.region n) (same_any limited limited rom cert version n row e (λ t. refl))
+same_row rom cert version n row reason.JumpHl e = same_any _ _ rom cert version n row e (λ t. refl)
+same_row rom cert version n row reason.Uncovered e = same_any _ _ rom cert version n row e (λ t. same_covering cert version n.procedure t e)
+same_row rom cert version n row reason.Callee e = same_any _ _ rom cert version n row e (same_call cert version n.procedure)
+same_row rom cert version n row reason.Return e = same_any _ _ rom cert version n row e (same_return cert version n.procedure)
+same_row rom cert version n row r e = refl
 
 same_instruction : (test also : Row → Bool) (bytes : Option (List ℕ)) → ((row : Row) → test row ≡ also row) → test_instruction test bytes ≡ test_instruction also bytes
 same_instruction test also None same = refl
@@ -222,31 +245,32 @@ same_instruction test also (Some bytes) same = by (decoded bytes)
     by None = refl
     by (Some row) = same row
 
-same_applies : (rom : List ℕ) (cert : Certificate) (version : ℕ) (n : Node) (r : Reason) → applies rom (other cert version) n r ≡ applies rom cert n r
+same_applies : (rom : List ℕ) (cert : Certificate) (version : ℕ) (n : Node) (r : Reason) → rules_of version ≡ rules_of cert.version
+    → applies rom (other cert version) n r ≡ applies rom cert n r
 unfolding applies
-same_applies rom cert version n reason.Area = refl
-same_applies rom cert version n reason.Bank = refl
-same_applies rom cert version n reason.Unreadable = refl
-same_applies rom cert version n reason.UndefinedOpcode = refl
-same_applies rom cert version n r = same_instruction _ _ (node_bytes rom n) (λ row. same_row rom cert version n row r)
+same_applies rom cert version n reason.Area e = refl
+same_applies rom cert version n reason.Bank e = refl
+same_applies rom cert version n reason.Unreadable e = refl
+same_applies rom cert version n reason.UndefinedOpcode e = refl
+same_applies rom cert version n r e = same_instruction _ _ (node_bytes rom n) (λ row. same_row rom cert version n row r e)
 
 same_find : {X : Type 0} (test also : X → Bool) (xs : List X) → ((x : X) → test x ≡ also x) → find test xs ≡ find also xs
 same_find test also [] same = refl
 same_find test also (x ∷ xs) same = rw (same x, same_find test also xs same) refl
 
-same_reason : (rom : List ℕ) (cert : Certificate) (version : ℕ) (n : Node) → reason_against rom (record cert { version = version }) n ≡ reason_against rom cert n
+same_reason : (rom : List ℕ) (cert : Certificate) (version : ℕ) (n : Node) → rules_of version ≡ rules_of cert.version → reason_against rom (record cert { version = version }) n ≡ reason_against rom cert n
 unfolding reason_against reason_of
-same_reason rom cert version n = rw (same_find (applies rom (other cert version) n) (applies rom cert n) reasons (same_applies rom cert version n), same_lacking cert version n) refl
+same_reason rom cert version n e = rw (same_find (applies rom (other cert version) n) (applies rom cert n) reasons (λ r. same_applies rom cert version n r e), same_lacking cert version n e) refl
 
-same_from : (rom : List ℕ) (cert : Certificate) (version i : ℕ) (xs : List Node) → verdict_from rom (record cert { version = version }) i xs ≡ verdict_from rom cert i xs
-same_from rom cert version i [] = refl
-same_from rom cert version i (n ∷ rest) = rw (same_reason rom cert version n, same_from rom cert version (i + 1) rest) refl
+same_from : (rom : List ℕ) (cert : Certificate) (version i : ℕ) (xs : List Node) → rules_of version ≡ rules_of cert.version → verdict_from rom (record cert { version = version }) i xs ≡ verdict_from rom cert i xs
+same_from rom cert version i [] e = refl
+same_from rom cert version i (n ∷ rest) e = rw (same_reason rom cert version n e, same_from rom cert version (i + 1) rest e) refl
 
 same_entry : (rom : List ℕ) (cert : Certificate) (version : ℕ) → is_bad_entry rom (record cert { version = version }) ≡ is_bad_entry rom cert
 unfolding is_bad_entry
 same_entry rom cert version = refl
 
--- a verdict doesn't look at the version
+-- a verdict looks at nothing of the version but its rules
 pub verdict_of-versions : IgnoresVersion
 unfolding verdict_of
-verdict_of-versions rom cert version = rw (same_entry rom cert version, same_from rom cert version 0 cert.nodes) refl
+verdict_of-versions rom cert version e = rw (same_entry rom cert version, same_from rom cert version 0 cert.nodes e) refl

@@ -1,5 +1,5 @@
 -- Power-up as an abstract state (Power-up sequence).
-use Rattle.std.specs.Prelude.{ℕ, true, false, not, ◌==◌, List, slice_index, Some, None}
+use Rattle.std.specs.Prelude.{ℕ, true, false, not, ◌==◌, List, slice_index, Some}
 use Rattle.gb_ops.specs.declared.op.Register.{Register}
 use Rattle.gb_ops.specs.declared.op.Register.TheVariants.{A, B, C, D, E, H, L}
 use Rattle.gb_ops.specs.declared.machine.Region.{Region}
@@ -21,7 +21,6 @@ core_at_power_up rom region =
       ime = record { off = true; pending = false; on = false };
       bound = 0;
       stack_set = region.last == 0xFFFD;
-      test = None;
       ctl = record { bank_lo = 1; bank_hi = 1; second_lo = 0; second_hi = 0; gate = known false; mode = known false; is_kept = true };
       flags = record { zero = known true; subtract = known false; half_carry = known others; carry = known others; is_own = true };
       ie = record { lo = 0; hi = 0; origin = Some origin.Ie };

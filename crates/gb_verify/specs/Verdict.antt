@@ -1,11 +1,12 @@
 -- When a certificate is right for a cartridge, and the verdict (own rules).
 use Rattle.std.specs.Prelude.{◌≡◌, ℕ, ◌+◌, ◌<◌, Bool, true, false, not, ◌&&◌, ◌||◌, ◌==◌, if◌then◌else◌, List, [], ◌∷◌, length, ◌⊎◌, slice_get, Option, Some, None, option_and_then}
 use Rattle.std.specs.List.{All}
+use Rattle.gb_domain.specs.Limits.{rules_of}
 use Rattle.gb_domain.specs.Types.{ProcedureParts, Node}
 use Rattle.gb_domain.specs.Certificate.{Certificate}
 use Rattle.gb_rules.specs.Below.gb_abs.declared.reason.Reason.{Reason}
 use Rattle.gb_rules.specs.Below.gb_abs.declared.reason.Reason.TheVariants as reason
-use Rattle.gb_rules.specs.Below.gb_abs.Covering.{covers}
+use Rattle.gb_rules.specs.Below.gb_product.Covering.{covers}
 use Rattle.gb_rules.specs.Rules.{reason_of, lacks_handler}
 use Rattle.gb_verify.specs.PowerUp.{state_at_power_up}
 use Rattle.gb_verify.specs.declared.verdict.Verdict.{Verdict}
@@ -85,6 +86,6 @@ unfoldable pub verdict_of : List ℕ → Certificate → Verdict
 verdict_of rom cert =
     if is_bad_entry rom cert then Refused (main_entry cert) reason.Entry else verdict_from rom cert 0 cert.nodes
 
--- Certificates that differ in their versions alone have equal verdicts.
+-- Certificates that differ in their versions alone have equal verdicts, where both versions have the same rules, as 1 and 2 have.
 abbrev pub IgnoresVersion : Type 0
-IgnoresVersion = (rom : List ℕ) (cert : Certificate) (version : ℕ) → verdict_of rom (record cert { version = version }) ≡ verdict_of rom cert
+IgnoresVersion = (rom : List ℕ) (cert : Certificate) (version : ℕ) → rules_of version ≡ rules_of cert.version → verdict_of rom (record cert { version = version }) ≡ verdict_of rom cert

@@ -41,7 +41,6 @@ pub fn core_at_power_up(rom: &Rom<'_>, region: Region) -> Core
         },
         bound: 0,
         stack_set: region.last == 0xFFFD,
-        test: None,
         ctl: Ctl {
             bank_lo: 1,
             bank_hi: 1,
@@ -158,8 +157,8 @@ pub fn check(rom: &Rom<'_>, cert: &Cert<'_>) -> Verdict
     verdict(rom, cert)
 }
 
-/// States that a verdict doesn't look at the version: two certificates that differ in it alone have
-/// equal verdicts.
+/// States that a verdict looks at nothing of the version but its rules: two certificates that differ in it alone, versions 1
+/// and 2, have equal verdicts.
 pub fn verdict_ignores_version()
     ensures { IgnoresVersion }
 {}

@@ -1,6 +1,6 @@
 //! The verdict on a certificate for a cartridge, and the printed line. `check` is the headline: where it
 //! accepts, every run from power-up is safe (`safe`); `verify_bytes` goes from the bytes of two files
-//! to the line on a sink; `upgrade_bytes` writes a certificate in version 2.
+//! to the line on a sink; `upgrade_bytes` writes a certificate of version 1 in version 2.
 //!
 //! Read `check`, with the definitions `Verdict`, `PowerUp` and `Headline`, then `verify`, with
 //! `Text`, and `upgrade`, with `CertificateFile` and `Upgrade`.
@@ -12,8 +12,10 @@ pub mod verdict;
 pub mod verify;
 
 // What lies below, for the crates above.
+pub use gb_domain::places::{OneByte, Test};
+pub use gb_domain::relations::Relations;
 pub use gb_domain::types::{
-    Abs, CELLS, Cell, Core, Ctl, Flg, ITEMS, ImeSet, May, Origin, RANGES, Range, Val,
+    Abs, Cell, Core, Ctl, Flg, ImeSet, May, Origin, RANGES, Range, Rules, Setting, Val,
 };
 pub use gb_rules::covered::covered_at;
 pub use gb_rules::procedures::{callee_at, exit_of, need_of, ranges_of};
@@ -25,5 +27,6 @@ pub use gb_rules::{
     lies_in_high_ram, may_come, meets_closed_ram, resume, successors_of, with_value,
 };
 pub use gb_states::CertFault;
+pub use gb_states::relations::test_alone;
 pub use gb_text::sink::Plain;
 pub use gb_text::{HeaderFault, Rom};

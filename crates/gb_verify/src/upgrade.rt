@@ -1,7 +1,9 @@
-//! A certificate in version 2 of its format.
+//! A certificate of version 1 in version 2 of its format.
 
 ghost use Rattle.std.specs.Prelude.{◌≡◌, false, is_err, IfOk, OnOk, OnErr};
 ghost use Rattle.std.specs.List.{flat_map};
+ghost use Rattle.gb_domain.specs.Limits.{rules_of};
+ghost use Rattle.gb_rules.specs.Below.gb_cert.Places.{upgraded_version};
 ghost use Rattle.gb_states.specs.Spelling as spelled;
 ghost use Rattle.gb_text.specs.Sink.{Gains};
 ghost use Rattle.gb_text.specs.Text.{GainsBeginning};
@@ -17,7 +19,7 @@ use std::alloc::Global;
 /// What was written of a certificate's bytes.
 #[derive(Clone, Copy, PartialEq, Eq)]
 pub enum Upgraded {
-    /// The same certificate in version 2.
+    /// The same certificate, in version 2 if it was of version 1.
     Written,
     /// The line of their first fault: they are no certificate.
     Unreadable,
@@ -25,7 +27,7 @@ pub enum Upgraded {
     NoMemory,
 }
 
-/// A node's number as version 2 spells it, the lowest byte first.
+/// A node's number as versions 2 and 3 spell it, the lowest byte first.
 #[tactic(auto, unfolding(gb_states::specs::Spelling::node_number))]
 fn node_number(number: u32) -> [u8; 4]
     ensures { result ≡ spelled.node_number 2 number }
@@ -40,34 +42,39 @@ fn node_number(number: u32) -> [u8; 4]
     ]
 }
 
-/// Writes a procedure as version 2 spells it.
-#[tactic(auto, using(gb_text::proofs::Gained::gains_both, gb_text::proofs::Gained::begins_first, gb_text::proofs::Gained::begins_second), unfolding(gb_states::specs::Spelling::procedure))]
-fn put_procedure<W: Sink>(procedure: &ProcedureRef<'_>, out: &mut W) -> Result<(), OutFault>
-    requires { W.has_failed out.old ≡ false }
-    ensures whole { OnOk result (Gains (W.contents out.old) (spelled.procedure 2 procedure.now) (W.contents out.new)) }
-    ensures beginning { OnErr result (GainsBeginning (W.contents out.old) (spelled.procedure 2 procedure.now) (W.contents out.new)) }
+/// Writes a procedure as it is spelled where the certificate is upgraded; all but its entry is spelled alike in both.
+fn put_procedure<W: Sink>(
+    cert: &Cert<'_>,
+    procedure: &ProcedureRef<'_>,
+    body: &[u8],
+    out: &mut W,
+) -> Result<(), OutFault>
+    requires works { W.has_failed out.old ≡ false }
+    requires body { body.now ≡ spelled.body (rules_of cert.now.version) procedure.now }
+    ensures whole { OnOk result (Gains (W.contents out.old) (spelled.procedure (upgraded_version cert.now.version) procedure.now) (W.contents out.new)) }
+    ensures beginning { OnErr result (GainsBeginning (W.contents out.old) (spelled.procedure (upgraded_version cert.now.version) procedure.now) (W.contents out.new)) }
     ensures failed { W.has_failed out.new ≡ is_err result }
 {
     put_all(out, &node_number(procedure.entry()))?;
-    put_all(out, procedure.body())
+    put_all(out, body)
 }
 
-/// Writes all procedures as version 2 spells them.
+/// Writes all procedures as they are spelled where the certificate is upgraded.
 #[tactic(auto, using(crate::proofs::UpgradeLaws::procedure_taken))]
 fn put_procedures<W: Sink>(cert: &Cert<'_>, out: &mut W) -> Result<(), OutFault>
     requires { W.has_failed out.old ≡ false }
-    ensures whole { OnOk result (Gains (W.contents out.old) (flat_map (spelled.procedure 2) cert.now.procedures) (W.contents out.new)) }
-    ensures beginning { OnErr result (GainsBeginning (W.contents out.old) (flat_map (spelled.procedure 2) cert.now.procedures) (W.contents out.new)) }
+    ensures whole { OnOk result (Gains (W.contents out.old) (flat_map (spelled.procedure (upgraded_version cert.now.version)) cert.now.procedures) (W.contents out.new)) }
+    ensures beginning { OnErr result (GainsBeginning (W.contents out.old) (flat_map (spelled.procedure (upgraded_version cert.now.version)) cert.now.procedures) (W.contents out.new)) }
     ensures failed { W.has_failed out.new ≡ is_err result }
 {
     for i in 0..cert.procedures() {
-        put_procedure(&cert.procedure(i), out)?;
+        put_procedure(cert, &cert.procedure(i), cert.procedure_body(i), out)?;
     }
     Ok(())
 }
 
-/// Writes a certificate in version 2.
-#[tactic(auto, using(gb_text::proofs::Gained::gains_both, gb_text::proofs::Gained::begins_first, gb_text::proofs::Gained::begins_second), unfolding(gb_states::specs::Spelling::spelling))]
+/// Writes an upgraded certificate.
+#[tactic(auto, using(crate::proofs::UpgradeLaws::certificate_whole, crate::proofs::UpgradeLaws::certificate_begun, crate::proofs::UpgradeLaws::certificate_headed, crate::proofs::UpgradeLaws::certificate_numbered))]
 fn put_upgraded<W: Sink>(cert: &Cert<'_>, out: &mut W) -> Result<(), OutFault>
     requires { W.has_failed out.old ≡ false }
     ensures whole { OnOk result (Gains (W.contents out.old) (upgraded_text cert.now) (W.contents out.new)) }
@@ -89,9 +96,9 @@ fn fault_outcome(fault: CertFault) -> Upgraded
     }
 }
 
-/// Writes the certificate that the bytes spell in version 2: the same procedures, nodes and stack region, with the
-/// numbers of nodes in four bytes. One of version 2 comes out as it is. Where the bytes are no certificate it writes
-/// the line `CERTIFICATE Cn` of their first fault, C9 where memory ran out. It takes the memory that `Cert::parse`
+/// Writes the certificate that the bytes spell, in version 2 if it is of version 1: the same procedures, nodes and stack
+/// region, with the numbers of nodes in four bytes. One of another version comes out as it is. Where the bytes are no
+/// certificate it writes the line `CERTIFICATE Cn` of their first fault, C9 where memory ran out. It takes the memory that `Cert::parse`
 /// takes, and copies nothing.
 ///
 /// # Errors
@@ -100,13 +107,13 @@ fn fault_outcome(fault: CertFault) -> Upgraded
 #[tactic(auto, using(crate::proofs::UpgradeLaws::upgrade_written, crate::proofs::UpgradeLaws::upgrade_gained, crate::proofs::UpgradeLaws::upgrade_begins, crate::proofs::UpgradeLaws::fault_written))]
 pub fn upgrade_bytes<W: Sink>(alloc: Global, cert: &[u8], out: &mut W) -> Result<Upgraded, OutFault>
     requires { W.has_failed out.old ≡ false }
-    // What was written is the certificate in version 2, or the line of the first fault, or where memory ran out its own.
+    // What was written is the upgraded certificate, or the line of the first fault, or where memory ran out its own.
     ensures written { IfOk result (λ outcome. Gains (W.contents out.old) (written outcome cert.now) (W.contents out.new)) }
     // The outcome names its kind.
     ensures outcome { IfOk result (λ outcome. IsOutcome outcome cert.now) }
     // Where a certificate was written, both spell the same but for the version.
     ensures upgraded { IfOk result (λ outcome. IfWritten outcome (GainsUpgrade (W.contents out.old) cert.now (W.contents out.new))) }
-    // One of version 2 comes out as it is.
+    // One that isn't of version 1 comes out as it is.
     ensures same { IfOk result (λ outcome. IfWritten outcome (GainsSame (W.contents out.old) cert.now (W.contents out.new))) }
     // On OutFault what went out is a beginning of it.
     ensures beginning { OnErr result (HasBeginning upgraded_text (W.contents out.old) cert.now (W.contents out.new)) }
