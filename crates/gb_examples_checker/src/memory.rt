@@ -4,16 +4,18 @@ use gb_abs::cells::with_cell;
 use gb_abs::covering::cell_at;
 use gb_abs::reason::Reason;
 use gb_abs::span::Span;
+use gb_abs::stack::push;
 use gb_abs_memory::load::{load, val_at};
 use gb_abs_memory::refusals::{
     is_limited, is_store_limited, meets_closed_ram, store_meets_closed_ram,
 };
 use gb_abs_memory::store::{Area, area_of, is_storable, store};
 use gb_abs_memory::windows::ControllerRegister;
-use gb_domain::types::{Rules, Setting};
+use gb_domain::types::{Halves, Rules, Setting};
 use gb_ops::machine::{Kind, Region};
 use gb_samples::cartridges::{PLAIN, SMALLEST, Sizes, put, small};
-use gb_samples::states::{ANY, EITHER, SET, START, entered, from_to};
+use gb_ops::op::Register;
+use gb_samples::states::{ANY, EITHER, SET, START, copy_of, entered, from_to};
 use gb_verify::{Abs, Core, Ctl, May, Origin, Range, Rom, Val};
 use std::test::Fail;
 
@@ -22,6 +24,13 @@ const MAIN: Setting = Setting {
     rules: Rules::Simple,
     is_main: true,
     base: 0,
+};
+
+/// A procedure above DFF0, by the rules of version 3.
+const ABOVE: Setting = Setting {
+    rules: Rules::Extended,
+    is_main: false,
+    base: 0xDFF0,
 };
 
 /// MBC3 with 8 KiB of RAM.
@@ -52,9 +61,10 @@ fn span(first: u16, last: u16) -> Span {
     Span { first, last }
 }
 
-/// A cartridge with 77 at the start of bank 1.
+/// A cartridge with 30, 10 and 20 (hexadecimal) at 0200, and 77 at the start of bank 1.
 fn cartridge(sizes: Sizes) -> [u8; SMALLEST] {
     let mut bytes = small(sizes, &[]);
+    put(&mut bytes, 0x0200, &[0x30, 0x10, 0x20]);
     put(&mut bytes, 0x4000, &[77]);
     bytes
 }
@@ -121,6 +131,62 @@ fn loads(rt: HostRuntime) -> Result<(), Fail> {
         );
     }
     assert!(rt; val_at(&rom, &state_with(EITHER, 1), 0x4000) == from_to(77, 77));
+    Ok(())
+}
+
+/// The addresses that are read by the rules of version 3, the last of the banks from 1 on that may be shown at 4000, and the
+/// bounds of what is known of the byte. Items are a copy of B from 64 to 65, and 66 to 67.
+const EXTENDED_LOADS: [((u16, u16), u16, (u8, u8)); 14] = [
+    // Tables of at most 256 bytes in one half of ROM, where one bank is shown.
+    ((0x0200, 0x0202), 1, (0x10, 0x30)),
+    ((0x0201, 0x0202), 1, (0x10, 0x20)),
+    ((0x0000, 0x00FF), 1, (0, 0)),
+    ((0x0000, 0x0100), 1, (0, 255)),
+    ((0x3FFF, 0x4000), 1, (0, 255)),
+    ((0x4000, 0x4001), 1, (0, 77)),
+    ((0x4000, 0x4001), 2, (0, 255)),
+    ((0x0200, 0x0202), 2, (0x10, 0x30)),
+    ((0x7FFF, 0x8000), 1, (0, 255)),
+    ((0xC000, 0xC001), 1, (0, 255)),
+    // An item, what lies below them and above the base, and a cell.
+    ((0xDFEE, 0xDFEE), 1, (66, 67)),
+    ((0xDFED, 0xDFED), 1, (0, 255)),
+    ((0xDFF0, 0xDFF0), 1, (0, 255)),
+    ((0xC001, 0xC001), 1, (12, 12)),
+];
+
+/// A state with two items and four cells, that may show banks from 1 on.
+fn stacked(bank_hi: u16) -> Abs {
+    let mut state = state_with(SET, 0);
+    let core = *state.core();
+    state.set_core(Core {
+        ctl: Ctl {
+            bank_hi,
+            ..core.ctl
+        },
+        ..core
+    });
+    let word = Halves {
+        high: copy_of(Register::B, 64, 65),
+        low: from_to(66, 67),
+    };
+    match push(Rules::Extended, &state, word) {
+        Some(pushed) => pushed,
+        None => state,
+    }
+}
+
+#[test]
+fn loads_of_version_3(rt: HostRuntime) -> Result<(), Fail> {
+    let bytes = cartridge(WITH_RAM);
+    let rom = Rom::parse(&bytes)?;
+    for (i, ((first, last), bank_hi, (lo, hi))) in EXTENDED_LOADS.iter().enumerate() {
+        let loaded = load(ABOVE, &rom, &stacked(*bank_hi), span(*first, *last));
+        assert!(rt; loaded == Ok(from_to(*lo, *hi)), "load {i}");
+    }
+    // An item keeps what it is a copy of.
+    let loaded = load(ABOVE, &rom, &stacked(1), Span::one(0xDFEF));
+    assert!(rt; loaded == Ok(copy_of(Register::B, 64, 65)));
     Ok(())
 }
 
@@ -291,9 +357,31 @@ const STORES: [(u16, u16, Val, Left); 11] = [
     (0xFFFF, 0xFFFF, OWN, (OWN, FIRST, SECOND, 4, true, false)),
 ];
 
+/// What C000 and C001 may hold behind a store to one of several addresses, by the rules of version 3.
+const FIRST_OR_OWN: Val = Val { hi: 0xC0, ..FIRST };
+
+const SECOND_OR_OWN: Val = Val { hi: 0xC0, ..SECOND };
+
+/// Of several each may hold the value too.
+const EXTENDED_STORES: [(u16, u16, Val, Left); 3] = [
+    (0xC001, 0xC001, OWN, (IE, FIRST, OWN, 4, true, false)),
+    (
+        0xC001,
+        0xC0FF,
+        OWN,
+        (IE, FIRST, SECOND_OR_OWN, 4, true, false),
+    ),
+    (
+        0xC000,
+        0xC001,
+        OWN,
+        (IE, FIRST_OR_OWN, SECOND_OR_OWN, 4, true, false),
+    ),
+];
+
 /// Whether a store isn't refused, and leaves this of the state with an open gate.
-fn leaves(rom: &Rom<'_>, at: Span, val: &Val, left: &Left) -> bool {
-    let Ok(stored) = store(MAIN, rom, REGION, &RANGES, &state_with(SET, 0), at, val) else {
+fn leaves(setting: Setting, rom: &Rom<'_>, at: Span, val: &Val, left: &Left) -> bool {
+    let Ok(stored) = store(setting, rom, REGION, &RANGES, &state_with(SET, 0), at, val) else {
         return false;
     };
     let (ie, first, second, count, is_kept, starts) = *left;
@@ -311,7 +399,10 @@ fn stores(rt: HostRuntime) -> Result<(), Fail> {
     let bytes = cartridge(WITH_RAM);
     let rom = Rom::parse(&bytes)?;
     for (i, (first, last, val, left)) in STORES.iter().enumerate() {
-        assert!(rt; leaves(&rom, span(*first, *last), val, left), "store {i}");
+        assert!(rt; leaves(MAIN, &rom, span(*first, *last), val, left), "store {i}");
+    }
+    for (i, (first, last, val, left)) in EXTENDED_STORES.iter().enumerate() {
+        assert!(rt; leaves(ABOVE, &rom, span(*first, *last), val, left), "extended store {i}");
     }
     Ok(())
 }

@@ -2,7 +2,8 @@
 //! least bounds that trying each value finds, and each public call once. The functions here promise nothing but to be
 //! safe.
 //!
-//! Read arithmetic.rt first (intervals and flags), then branches.rt, states.rt and effects.rt.
+//! Read arithmetic.rt first (intervals and flags), then branches.rt, states.rt and effects.rt; then, for the rules of version 3,
+//! stacks.rt, facts.rt (states in few words), together.rt and related.rt.
 #![tactic(auto)]
 
 #[cfg(test)]
@@ -12,4 +13,12 @@ mod branches;
 #[cfg(test)]
 mod effects;
 #[cfg(test)]
+mod facts;
+#[cfg(test)]
+mod related;
+#[cfg(test)]
+mod stacks;
+#[cfg(test)]
 mod states;
+#[cfg(test)]
+mod together;

@@ -6,7 +6,8 @@ ghost use Rattle.gb_text.specs.Text.{GainsBeginning};
 ghost use Rattle.gb_printed.specs.Show.{hex_bank, base_text, told_need, stack_text, procedure_text, node_text, numbered, show_text};
 
 use crate::header::yes_or_no;
-use gb_console::{Cert, NodeRef, ProcedureRef, Rules};
+use gb_console::{Cert, NodeRef, ProcedureRef};
+use gb_domain::types::Rules;
 use gb_text::line::Line;
 use gb_text::put::put_all;
 use gb_text::sink::{OutFault, Sink};

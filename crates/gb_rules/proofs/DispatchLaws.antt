@@ -32,13 +32,12 @@ use Rattle.gb_relations.specs.Meaning.{HoldRelations}
 use Rattle.gb_domain.specs.Types.{AbsState, Node}
 use Rattle.gb_domain.specs.Certificate.{Certificate}
 use Rattle.gb_states.specs.Rules.{IsCertificate}
-use Rattle.gb_abs.specs.Below.gb_vals.Vals.{single}
 use Rattle.gb_abs.specs.Below.gb_vals.Bits.{has_bit, may_have_bit}
 use Rattle.gb_abs.proofs.Below.gb_vals_laws.BitLaws.{may_have_bit_sound}
 use Rattle.gb_abs.specs.Cells.{ArePlaced}
 use Rattle.gb_abs.specs.Mark.{IsMarkHarmless}
 use Rattle.gb_product.specs.Meaning.{AreRelated, Means}
-use Rattle.gb_abs.specs.Meaning.{Holds, MeansCore, MeansParts, ime_may_be}
+use Rattle.gb_abs.specs.Meaning.{MeansCore, MeansParts, ime_may_be}
 use Rattle.gb_abs.specs.Operations.{core_end, with_core}
 use Rattle.gb_abs.specs.Stack.{pushed}
 use Rattle.gb_abs.specs.Storage.{peek}

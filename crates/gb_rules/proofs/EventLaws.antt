@@ -20,9 +20,9 @@ use Rattle.gb_ops.specs.Table.{decoded, row_of, row_in, table}
 use Rattle.gb_ops.specs.Effects as Effects
 use Rattle.gb_ops.specs.Memory as Memory
 use Rattle.gb_ops.specs.Faults as Faults
-use Rattle.gb_ops.specs.Memory.{View, Storage, is_free, byte_at, passed}
+use Rattle.gb_ops.specs.Memory.{Storage, is_free, byte_at, passed}
 use Rattle.gb_ops.specs.Machine as Machine
-use Rattle.gb_ops.specs.Machine.{BusState, fetched, length_of, mark_of, run, run_row, executed, happened, is_possible, only, has_halt, has_enabled, is_ime, is_running, is_bytes, halt_stay, halt_bug}
+use Rattle.gb_ops.specs.Machine.{BusState, fetched, length_of, mark_of, run, executed, happened, is_possible, only, has_halt, is_ime, is_running, is_bytes, halt_stay, halt_bug}
 use Rattle.gb_ops.specs.Faults.{no_faults, either_faults, fetch_faults, all_fetch_faults, fetch_addresses, row_faults, run_faults, event_faults, event_places, code_place}
 use Rattle.gb_ops.specs.Play.{MState, within, outside, next, faults, places, faults_where, places_where}
 use Rattle.gb_domain.specs.Types.{AbsState, Node}
@@ -31,7 +31,6 @@ use Rattle.gb_states.specs.Rules.{IsCertificate}
 use Rattle.gb_abs.specs.Mark.{IsMarkHarmless}
 use Rattle.gb_ops.specs.declared.machine.Mapped.{Mapped}
 use Rattle.gb_ops.specs.declared.machine.Mapped.TheVariants as mapped
-use Rattle.gb_ops.specs.declared.registers.Registers.{Registers}
 use Rattle.gb_ops.specs.Registers.{get}
 use Rattle.gb_product.specs.Meaning.{Means}
 use Rattle.gb_abs.specs.Meaning.{Holds, HoldsFlags, HoldsController, ime_may_be, MeansParts}

@@ -1,35 +1,14 @@
 -- Where the machine stands at a node that passes: its successors are sound, one of them is there, and what it leads to is meant.
-use Rattle.std.proofs.Common.{◌≡◌, ℕ, zero, suc, ◌+◌, ◌≤◌, ◌<◌, Bool, true, false, cond, ◌&&◌, ◌||◌, ◌⊎◌, inl, inr, List, [], ◌∷◌, length, Option, Some, None, option_map, refl, sym, ◌∙◌, ap, subst, arith}
-use Rattle.std.proofs.lemmas.Bool.{not-false, and_parts, eqb-true}
-use Rattle.std.proofs.lemmas.Option.{same_Some}
-use Rattle.std.specs.List.{Contains, list_any}
-use Rattle.std.proofs.lemmas.List.Folds.{Any-from_list_any}
-use Rattle.gb_ops.specs.declared.op.Pair.TheVariants as pair
-use Rattle.gb_ops.specs.declared.op.Register.{Register}
-use Rattle.gb_ops.specs.declared.op.Op.{Op}
-use Rattle.gb_ops.specs.declared.op.Op.TheVariants as op
-use Rattle.gb_ops.specs.declared.op.Row.{Row}
-use Rattle.gb_ops.specs.Registers.{get}
+use Rattle.std.proofs.Common.{◌≡◌, ℕ, ◌+◌, ◌≤◌, ◌<◌, false, List, [], length, refl, arith}
+use Rattle.std.specs.List.{Contains}
 use Rattle.gb_ops.specs.Play.{MState}
-use Rattle.gb_domain.specs.declared.types.Core.{Core}
-use Rattle.gb_domain.specs.Types.{AbsState, Node}
+use Rattle.gb_domain.specs.Types.{Node}
 use Rattle.gb_domain.specs.Certificate.{Certificate}
-use Rattle.gb_abs.specs.Covering.{covers_items}
-use Rattle.gb_product.specs.Covering.{covers}
-use Rattle.gb_abs.specs.Mark.{IsMarkHarmless}
 use Rattle.gb_product.specs.Meaning.{Means}
-use Rattle.gb_abs.specs.Meaning.{Holds}
 use Rattle.gb_abs.specs.Stack.{AreInRegion}
-use Rattle.gb_product.proofs.CoveringLaws.{Means-covered}
-use Rattle.gb_successors.specs.Below.gb_abs_effects.declared.targets.Target.{Target}
-use Rattle.gb_successors.specs.Below.gb_abs_effects.declared.targets.Target.TheVariants as target
-use Rattle.gb_successors.specs.Below.gb_abs_effects.Targets.{moves_sp, target_of}
-use Rattle.gb_successors.specs.Below.gb_abs_effects.Pairs.{is_word_known, pair_halves}
-use Rattle.gb_successors.specs.Below.gb_abs_effects.Sound.{HoldsTarget}
 use Rattle.gb_code.specs.Below.gb_abs_memory.Sound.{IsRom}
 use Rattle.gb_code.proofs.CodeLaws.{IsKnown, IsAt as IsAtCode}
 use Rattle.gb_successors.specs.Way.{Successor}
-use Rattle.gb_successors.specs.Refused.{is_unknown}
 use Rattle.gb_successors.specs.Sound.{IsOneOf, Stands, AreSoundSuccessors}
 use Rattle.gb_successors.proofs.WayLaws.{successors_of_sound}
 use Rattle.gb_states.specs.Rules.{IsCertificate}

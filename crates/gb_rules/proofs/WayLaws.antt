@@ -1,5 +1,5 @@
 -- What a successor of a node that passes leads to: a node of the procedure, a callee, or the procedure's exit.
-use Rattle.std.proofs.Common.{◌≡◌, ℕ, zero, suc, ◌+◌, ◌≤◌, ◌<◌, Bool, true, false, cond, not, ◌&&◌, ◌||◌, ◌==◌, nat_lt, inl, inr, List, [], ◌∷◌, length, slice_get, Option, Some, None, refl, sym, ◌∙◌, ap, subst, arith}
+use Rattle.std.proofs.Common.{◌≡◌, ℕ, zero, suc, ◌+◌, ◌≤◌, ◌<◌, Bool, true, false, cond, ◌&&◌, ◌||◌, ◌==◌, nat_lt, inl, inr, List, [], ◌∷◌, length, slice_get, Option, Some, None, refl, sym, ◌∙◌, subst, arith}
 use Rattle.std.proofs.lemmas.Bool.{not-false, and_parts, or_parts, eqb-true}
 use Rattle.std.proofs.lemmas.Bool.Decides.{nat_tests}
 use Rattle.std.proofs.lemmas.Option.{same_Some}
@@ -8,7 +8,6 @@ use Rattle.gb_ops.specs.Play.{MState}
 use Rattle.gb_domain.specs.Types.{AbsState, ProcedureParts, Node}
 use Rattle.gb_domain.specs.Certificate.{Certificate}
 use Rattle.gb_states.specs.Rules.{IsCertificate, is_of, have_entries}
-use Rattle.gb_product.specs.Covering.{covers}
 use Rattle.gb_abs.specs.Mark.{IsMarkHarmless}
 use Rattle.gb_product.specs.Meaning.{AreRelated, Means}
 use Rattle.gb_abs.specs.Stack.{AreInRegion, pushed}
@@ -33,7 +32,7 @@ use Rattle.gb_rules.specs.Rules.{pushes_too_deep, callee_by, callee_at, is_over,
 use Rattle.gb_rules.specs.Safety.{IsMeant, Calls, Returns, Leads}
 use Rattle.gb_rules.proofs.SearchLaws.{Contains-slice_get}
 use Rattle.gb_rules.proofs.CoveringLaws.{found_at}
-use Rattle.gb_rules.proofs.NodeLaws.{Passes, ways_of, not_unknown, not_uncovered, not_uncallable, not_too_deep, not_unreturnable}
+use Rattle.gb_rules.proofs.NodeLaws.{ways_of, not_unknown, not_uncovered, not_uncallable, not_too_deep, not_unreturnable}
 use Rattle.gb_rules.proofs.StandLaws.{OnNode}
 
 not_so : {X : Type 0} → true ≡ false → X

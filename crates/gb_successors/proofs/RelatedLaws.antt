@@ -1,9 +1,7 @@
 -- What is known together of the states behind an instruction holds, by the rules of versions 1 and 2.
-use Rattle.std.proofs.Common.{◌≡◌, ℕ, ◌+◌, ◌≤◌, ◌<◌, Bool, true, false, if◌then◌else◌, ◌%◌, List, length, refl, sym, ◌∙◌, ap, subst, arith}
+use Rattle.std.proofs.Common.{◌≡◌, ℕ, ◌+◌, Bool, true, false, if◌then◌else◌, List, refl, sym, ◌∙◌, subst, arith}
 use Rattle.gb_ops.specs.declared.machine.Kind.{Kind}
 use Rattle.gb_ops.specs.declared.machine.Region.{Region}
-use Rattle.gb_ops.specs.declared.op.Register.{Register}
-use Rattle.gb_ops.specs.declared.op.Pair.{Pair}
 use Rattle.gb_ops.specs.declared.op.Pair.TheVariants as pair
 use Rattle.gb_ops.specs.declared.op.Op.{Op}
 use Rattle.gb_ops.specs.declared.op.Op.TheVariants as op
@@ -23,11 +21,11 @@ use Rattle.gb_domain.specs.declared.types.Core.{Core}
 use Rattle.gb_domain.specs.declared.types.Range.{Range}
 use Rattle.gb_domain.specs.Types.{AbsState}
 use Rattle.gb_domain.specs.Pairs.{any_bounds}
-use Rattle.gb_domain.specs.Rules.{IsVal, IsCore}
+use Rattle.gb_domain.specs.Rules.{IsCore}
 use Rattle.gb_abs.specs.Located.{sp_halves}
-use Rattle.gb_abs.specs.Operations.{core_settle, core_end, with_core}
+use Rattle.gb_abs.specs.Operations.{core_end, with_core}
 use Rattle.gb_abs.specs.Span.{one}
-use Rattle.gb_abs.specs.Stack.{AreInRegion, pushed, popped}
+use Rattle.gb_abs.specs.Stack.{pushed, popped}
 use Rattle.gb_abs.specs.Storage.{peek}
 use Rattle.gb_abs.specs.Meaning.{Holds, MeansCore, MeansParts}
 use Rattle.gb_abs_effects.specs.declared.targets.Target.{Target}
@@ -53,7 +51,7 @@ use Rattle.gb_successors.specs.Behind.{behind, read_word, written, starts, pushe
 use Rattle.gb_successors.specs.Refused.{is_unknown, meets_closed, meets_oam_transfer}
 use Rattle.gb_successors.specs.Successors.{taken_parts, related_successor, relations_behind, taken_successor}
 use Rattle.gb_successors.specs.Way.{Successor}
-use Rattle.gb_successors.specs.Sound.{IsAllowed, IsStackFit, LeadsTo, LeadsParts, Leads, Stands}
+use Rattle.gb_successors.specs.Sound.{IsAllowed, IsStackFit, LeadsTo, LeadsParts, Leads}
 use Rattle.gb_successors.proofs.SuccessorLaws.{begun, given, effect, behind_row, left_by, abs_effect, low_of, high_of, is_word, IsWord-sp, state_is, executed_taken, IsTaken, is_write}
 
 -- ---- other things known together

@@ -23,9 +23,9 @@ use Rattle.gb_rules.specs.Below.gb_successors.Successors.{has, any_successor, su
 use Rattle.gb_rules.specs.Covered.{covered_at}
 use Rattle.gb_rules.specs.Procedures.{ranges_of, need_of, exit_of, base_in, setting_of}
 use Rattle.gb_rules.specs.Below.gb_successors.Refused.{meets_oam_transfer}
-use Rattle.gb_rules.specs.Rules.{is_extended, is_unjudged, breaks_stack, is_code_limited, is_dispatch_limited, meets_ram, meets_transfer, leads_anywhere, pushes_too_deep, callee_by, callee_at, is_over, calls_too_deep, is_resumed_uncovered, is_back_uncovered, is_uncovered_at, is_uncovered, is_outside_of, is_uncallable_at, is_uncallable, is_unreturnable_at, is_unreturnable, interrupts, handles_too_deep, is_unhandled, lacks_handler, test_row, test_instruction, node_bytes, any_of, grows_too_deep, stores_outside, leads_uncovered, calls_wrongly, returns_wrongly, applies_to_row, applies, reasons, reason_of}
+use Rattle.gb_rules.specs.Rules.{is_extended, is_unjudged, breaks_stack, is_code_limited, is_dispatch_limited, meets_ram, meets_transfer, leads_anywhere, callee_by, callee_at, is_over, calls_too_deep, is_resumed_uncovered, is_back_uncovered, is_uncovered_at, is_uncovered, is_outside_of, is_uncallable_at, is_uncallable, is_unreturnable_at, is_unreturnable, interrupts, handles_too_deep, is_unhandled, lacks_handler, test_row, test_instruction, node_bytes, any_of, grows_too_deep, stores_outside, leads_uncovered, calls_wrongly, returns_wrongly, applies_to_row, applies, reasons, reason_of}
 use Rattle.gb_verify.specs.declared.verdict.Verdict.TheVariants.{Refused}
-use Rattle.gb_verify.specs.Verdict.{or_interrupt, reason_against, reason_against_at, refusal_or, verdict_from, verdict_of, is_bad_entry, main_entry, IsVerdict, IgnoresVersion}
+use Rattle.gb_verify.specs.Verdict.{reason_against, reason_against_at, refusal_or, verdict_from, verdict_of, is_bad_entry, main_entry, IsVerdict, IgnoresVersion}
 
 next : {X : Type 0} (xs : List X) (i : ℕ) (x : X) → slice_get xs i ≡ Some x → drop i xs ≡ x ∷ drop (i + 1) xs
 next [] i x h = cc

@@ -1,5 +1,5 @@
 -- When a certificate is right for a cartridge, and the verdict (own rules).
-use Rattle.std.specs.Prelude.{◌≡◌, ℕ, ◌+◌, ◌<◌, Bool, true, false, not, ◌&&◌, ◌||◌, ◌==◌, if◌then◌else◌, List, [], ◌∷◌, length, ◌⊎◌, slice_get, Option, Some, None, option_and_then}
+use Rattle.std.specs.Prelude.{◌≡◌, ℕ, ◌+◌, ◌<◌, Bool, true, false, not, ◌||◌, ◌==◌, if◌then◌else◌, List, [], ◌∷◌, length, ◌⊎◌, slice_get, Option, Some, None, option_and_then}
 use Rattle.std.specs.List.{All}
 use Rattle.gb_domain.specs.Limits.{rules_of}
 use Rattle.gb_domain.specs.Types.{ProcedureParts, Node}

@@ -1,4 +1,4 @@
-use Rattle.std.proofs.Common.{◌≡◌, ◌==◌, length, ◌∙◌, ap}
+use Rattle.std.proofs.Common.{◌==◌, length, ◌∙◌, ap}
 use Rattle.gb_abs.proofs.ListLaws.{covers-no_lists}
 use Rattle.gb_rules.proofs.covered.covers_held.Goals as goal
 

@@ -1,6 +1,5 @@
 use Rattle.std.proofs.Common.{◌≡◌, slice_index_or, ℕ, Bool, false, sym, ◌∙◌, ap, arith}
 use Rattle.gb_domain.specs.declared.types.Val.{Val}
-use Rattle.gb_domain.specs.declared.types.Core.{Core}
 use Rattle.gb_ops.specs.Registers.{get}
 use Rattle.gb_rules.specs.Covered.{with_parts, is_covered_by_one, is_covered_by_values, with_value, count_of}
 use Rattle.gb_rules.proofs.CoveredLaws.{all_from-stopped}

@@ -1,0 +1,120 @@
+//! States by some facts, each in a few words.
+
+use gb_abs::cells::with_cell;
+use gb_domain::pairs::{ANY_BOUNDS, Bounds, Link, Other, PairFacts, Pairs, WordPair};
+use gb_domain::places::Test;
+use gb_domain::relations::Relations;
+use gb_domain::types::{Abs, Core, Rules, Val};
+use gb_ops::op::Register;
+use gb_ops::registers::Registers;
+use gb_pairs::values::Values;
+use gb_samples::states::{ANY, EITHER, entered, from_to, with_carry};
+
+/// A fact of a state. Of what no fact speaks nothing is known.
+#[derive(Clone, Copy)]
+pub enum Fact {
+    /// A register is in these bounds.
+    Byte(Register, u8, u8),
+    /// These registers hold one byte.
+    Same(&'static [Register]),
+    /// The byte at this address of memory is the same.
+    At(u16),
+    /// It is in these bounds.
+    Memory(u8, u8),
+    /// Z is set exactly where the one byte is this one, C exactly where it is below.
+    Compared(u8),
+    /// Z is set exactly where the one byte has none of these bits.
+    Bits(u8),
+    /// Z is set exactly where this pair is 0.
+    Zero(WordPair),
+    /// A pair's own bounds.
+    Word(WordPair, u16, u16),
+    /// A pair, and this factor times the other, are this sum.
+    Link(WordPair, u16, Other, u16),
+}
+
+/// What some facts say.
+#[derive(Clone, Copy)]
+pub struct Known {
+    pub registers: Registers<Val>,
+    pub memory: Val,
+    pub relations: Relations,
+}
+
+fn facts_of(pair: WordPair, pairs: &mut Pairs) -> &mut PairFacts {
+    match pair {
+        WordPair::Bc => &mut pairs.bc,
+        WordPair::De => &mut pairs.de,
+        WordPair::Hl => &mut pairs.hl,
+    }
+}
+
+impl Known {
+    /// What these facts say.
+    pub fn new(facts: &[Fact]) -> Known {
+        let mut known = Known {
+            registers: Registers {
+                a: ANY,
+                b: ANY,
+                c: ANY,
+                d: ANY,
+                e: ANY,
+                h: ANY,
+                l: ANY,
+            },
+            memory: ANY,
+            relations: Relations::default(),
+        };
+        for fact in facts {
+            known.learn(*fact);
+        }
+        known
+    }
+
+    fn learn(&mut self, fact: Fact) {
+        let relations = &mut self.relations;
+        match fact {
+            Fact::Byte(register, lo, hi) => self.registers.set(register, from_to(lo, hi)),
+            Fact::Same(registers) => {
+                for register in registers {
+                    relations.byte.registers.set(*register, true);
+                }
+            }
+            Fact::At(address) => relations.byte.address = Some(address),
+            Fact::Memory(lo, hi) => self.memory = from_to(lo, hi),
+            Fact::Compared(value) => relations.byte.test = Some(Test::Compare(value)),
+            Fact::Bits(mask) => relations.byte.test = Some(Test::Bits(mask)),
+            Fact::Zero(pair) => relations.zero = Some(pair),
+            Fact::Word(pair, first, last) => {
+                facts_of(pair, &mut relations.pairs).bounds = Bounds { first, last };
+            }
+            Fact::Link(pair, factor, other, sum) => {
+                facts_of(pair, &mut relations.pairs).link = Some(Link { other, factor, sum });
+            }
+        }
+    }
+
+    /// The registers and the pairs.
+    pub fn values(&self) -> Values {
+        Values {
+            registers: self.registers,
+            pairs: self.relations.pairs,
+        }
+    }
+
+    /// A state of which this is known.
+    pub fn state(&self) -> Abs {
+        let core = Core {
+            flags: with_carry(EITHER),
+            registers: self.registers,
+            ..entered()
+        };
+        let plain = Abs::new(core);
+        let mut state = match self.relations.byte.address {
+            Some(address) => with_cell(Rules::Extended, &plain, address, self.memory),
+            None => plain,
+        };
+        state.set_relations(self.relations);
+        state
+    }
+}

@@ -1,0 +1,355 @@
+//! What follows from what is known of several parts of a state together: sides of a branch, values that pairs and links leave, and
+//! which states stand for others. An example is a list of steps, which one function plays.
+
+use crate::facts::Fact::{self, At, Bits, Byte, Compared, Link, Memory, Same, Word, Zero};
+use crate::facts::Known;
+use gb_domain::pairs::WordPair::{Bc, De, Hl};
+use gb_domain::pairs::{Bounds, Other};
+use gb_domain::types::Core;
+use gb_ops::op::Register::{A, B, C, D, E, H};
+use gb_ops::op::{Condition, Op, Register};
+use gb_pairs::moved::added;
+use gb_pairs::reduced::reduced;
+use gb_places::sides::{Contents, narrowed};
+use gb_product::covering::covers;
+use gb_product::sides::sides_of;
+use gb_samples::relations::are_pairs_same;
+use std::process::Abort;
+
+/// What is known.
+type Facts = &'static [Fact];
+
+#[derive(Clone, Copy)]
+pub enum Step {
+    /// A condition, what is known before it, and of registers and memory where it is met, if it can be.
+    Meets(Condition, Facts, Option<Facts>),
+    /// What is known, and of registers and pairs once it is reduced, if anything is meant.
+    Reduces(Facts, Option<Facts>),
+    /// What is known before a word in these bounds is added to HL, and the carry, where it is known.
+    Carries(u16, u16, Facts, Option<bool>),
+    /// What is known of one state and of another, and whether that stands for all that the first does.
+    Covers(Facts, Facts, bool),
+}
+
+use Step::{Carries, Covers, Meets, Reduces};
+
+/// Whether this is left of the registers.
+fn has_registers(core: Option<Core>, after: Option<Facts>) -> bool {
+    match (core, after) {
+        (Some(core), Some(after)) => core.registers == Known::new(after).registers,
+        (None, None) => true,
+        _ => false,
+    }
+}
+
+/// Whether this is left of registers and memory.
+fn has_contents(contents: Option<Contents>, after: Option<Facts>) -> bool {
+    match (contents, after) {
+        (Some(contents), Some(after)) => {
+            let known = Known::new(after);
+            contents.registers == known.registers && contents.memory == known.memory
+        }
+        (None, None) => true,
+        _ => false,
+    }
+}
+
+/// Whether a branch leaves this of registers and memory, and a jump that it is the condition of does of registers.
+fn meets(condition: Condition, before: Facts, after: Option<Facts>) -> bool {
+    let known = Known::new(before);
+    let state = known.state();
+    let contents = Contents {
+        registers: known.registers,
+        memory: known.memory,
+    };
+    let sides = sides_of(Op::JumpIf(condition, 0x4000), &state, state.core());
+    has_contents(narrowed(&known.relations.byte, condition, &contents), after)
+        && has_registers(sides.taken, after)
+}
+
+fn reduces(before: Facts, after: Option<Facts>) -> bool {
+    match (reduced(&Known::new(before).values()), after) {
+        (Some(values), Some(after)) => {
+            let known = Known::new(after);
+            values.registers == known.registers
+                && are_pairs_same(&values.pairs, &known.relations.pairs)
+        }
+        (None, None) => true,
+        _ => false,
+    }
+}
+
+/// Whether a step comes out so.
+fn agrees(step: &Step) -> bool {
+    match *step {
+        Meets(condition, before, after) => meets(condition, before, after),
+        Reduces(before, after) => reduces(before, after),
+        Carries(first, last, before, carry) => {
+            let sum = added(Bounds { first, last }, false, &Known::new(before).values());
+            sum.carry == carry
+        }
+        Covers(s, t, is_so) => covers(&Known::new(s).state(), &Known::new(t).state()) == is_so,
+    }
+}
+
+/// Plays steps.
+fn play(rt: &impl Abort, steps: &[Step]) {
+    for (i, step) in steps.iter().enumerate() {
+        assert!(rt; agrees(step), "step {i}");
+    }
+}
+
+const OF_A: Other = Other::Register(A);
+
+const OF_B: Other = Other::Register(B);
+
+const OF_DE: Other = Other::Pair(De);
+
+const OF_HL: Other = Other::Pair(Hl);
+
+const LESS_ONE: u16 = 0xFFFF;
+
+/// A in 0 to 20 and B in 5 to 30, which are one byte, compared with 10.
+const COMPARED: Facts = &[Same(&[A, B]), Compared(10), Byte(A, 0, 20), Byte(B, 5, 30)];
+
+/// B in 3 to 9, of which 4 and 8 have neither bit 0 nor bit 1.
+const LOW_BITS: Facts = &[Same(&[B]), Bits(0x03), Byte(B, 3, 9)];
+
+const MET: &[Step] = &[
+    // Each place gets the bounds that all share.
+    Meets(
+        Condition::Carry,
+        COMPARED,
+        Some(&[Byte(A, 5, 9), Byte(B, 5, 9)]),
+    ),
+    Meets(
+        Condition::NotCarry,
+        COMPARED,
+        Some(&[Byte(A, 10, 20), Byte(B, 10, 20)]),
+    ),
+    Meets(
+        Condition::Zero,
+        COMPARED,
+        Some(&[Byte(A, 10, 10), Byte(B, 10, 10)]),
+    ),
+    Meets(
+        Condition::NotZero,
+        COMPARED,
+        Some(&[Byte(A, 5, 20), Byte(B, 5, 20)]),
+    ),
+    Meets(
+        Condition::NotZero,
+        &[Same(&[A, B]), Compared(5), Byte(A, 0, 20), Byte(B, 5, 30)],
+        Some(&[Byte(A, 6, 20), Byte(B, 6, 20)]),
+    ),
+    // They share none.
+    Meets(
+        Condition::NotZero,
+        &[Same(&[A, B]), Compared(10), Byte(A, 0, 3), Byte(B, 5, 9)],
+        None,
+    ),
+    // The byte at an address too.
+    Meets(
+        Condition::Carry,
+        &[
+            Same(&[D]),
+            At(0xC123),
+            Compared(10),
+            Memory(8, 12),
+            Byte(D, 0, 11),
+        ],
+        Some(&[Memory(8, 9), Byte(D, 8, 9)]),
+    ),
+    Meets(
+        Condition::Zero,
+        &[At(0xC123), Bits(0x80)],
+        Some(&[Memory(0x00, 0x7F)]),
+    ),
+    // Bits: the least and the greatest value that has none of them, or one; they say nothing of the carry.
+    Meets(Condition::Zero, LOW_BITS, Some(&[Byte(B, 4, 8)])),
+    Meets(Condition::NotZero, LOW_BITS, Some(&[Byte(B, 3, 9)])),
+    Meets(Condition::Carry, LOW_BITS, Some(&[Byte(B, 3, 9)])),
+    Meets(
+        Condition::NotZero,
+        &[Same(&[B]), Bits(0x80)],
+        Some(&[Byte(B, 0x80, 0xFF)]),
+    ),
+    Meets(
+        Condition::NotZero,
+        &[Same(&[B]), Bits(0x03), Byte(B, 4, 4)],
+        None,
+    ),
+    Meets(
+        Condition::Zero,
+        &[Same(&[B]), Bits(0x03), Byte(B, 5, 7)],
+        None,
+    ),
+    Meets(Condition::NotZero, &[Same(&[B]), Bits(0x00)], None),
+];
+
+const REDUCED: &[Step] = &[
+    // Bytes by their pair, and a pair by its bytes.
+    Reduces(
+        &[Word(Hl, 0xC0F0, 0xC10F), Word(De, 0x1234, 0x1240)],
+        Some(&[
+            Byte(H, 0xC0, 0xC1),
+            Word(Hl, 0xC0F0, 0xC10F),
+            Byte(D, 0x12, 0x12),
+            Byte(E, 0x34, 0x40),
+            Word(De, 0x1234, 0x1240),
+        ]),
+    ),
+    Reduces(
+        &[Byte(B, 3, 4), Byte(C, 0x10, 0x20)],
+        Some(&[Byte(B, 3, 4), Byte(C, 0x10, 0x20), Word(Bc, 0x0310, 0x0420)]),
+    ),
+    // HL + A = C100 and DE - A = 0200: a pair by a register.
+    Reduces(
+        &[
+            Byte(A, 0x01, 0x10),
+            Link(Hl, 1, OF_A, 0xC100),
+            Link(De, LESS_ONE, OF_A, 0x0200),
+        ],
+        Some(&[
+            Byte(A, 0x01, 0x10),
+            Byte(H, 0xC0, 0xC0),
+            Byte(Register::L, 0xF0, 0xFF),
+            Word(Hl, 0xC0F0, 0xC0FF),
+            Link(Hl, 1, OF_A, 0xC100),
+            Byte(D, 0x02, 0x02),
+            Byte(E, 0x01, 0x10),
+            Word(De, 0x0201, 0x0210),
+            Link(De, LESS_ONE, OF_A, 0x0200),
+        ]),
+    ),
+    // A register by its pair, rounded to what the factor divides: HL + 2 * A = 1000. The second time HL is cut by A.
+    Reduces(
+        &[Word(Hl, 0x0FF1, 0x0FFC), Link(Hl, 2, OF_A, 0x1000)],
+        Some(&[
+            Byte(A, 0x02, 0x07),
+            Byte(H, 0x0F, 0x0F),
+            Byte(Register::L, 0xF2, 0xFC),
+            Word(Hl, 0x0FF2, 0x0FFC),
+            Link(Hl, 2, OF_A, 0x1000),
+        ]),
+    ),
+    // A pair by a pair, which is asked later: BC = HL, and HL - A = 4000.
+    Reduces(
+        &[
+            Byte(A, 0, 5),
+            Link(Bc, LESS_ONE, OF_HL, 0x0000),
+            Link(Hl, LESS_ONE, OF_A, 0x4000),
+        ],
+        Some(&[
+            Byte(A, 0, 5),
+            Byte(B, 0x40, 0x40),
+            Byte(C, 0, 5),
+            Word(Bc, 0x4000, 0x4005),
+            Link(Bc, LESS_ONE, OF_HL, 0x0000),
+            Byte(H, 0x40, 0x40),
+            Byte(Register::L, 0, 5),
+            Word(Hl, 0x4000, 0x4005),
+            Link(Hl, LESS_ONE, OF_A, 0x4000),
+        ]),
+    ),
+    // HL + DE = 0010 goes round for some values of DE, so that nothing is cut.
+    Reduces(
+        &[Word(De, 0x0000, 0x0020), Link(Hl, 1, OF_DE, 0x0010)],
+        Some(&[
+            Byte(D, 0x00, 0x00),
+            Byte(E, 0x00, 0x20),
+            Word(De, 0x0000, 0x0020),
+            Link(Hl, 1, OF_DE, 0x0010),
+        ]),
+    ),
+    // Nothing is meant: by a byte, by a link, and by a multiple that there isn't.
+    Reduces(&[Word(Hl, 0xC000, 0xC0FF), Byte(H, 0xD0, 0xD1)], None),
+    Reduces(
+        &[
+            Word(Bc, 0x0000, 0x00FF),
+            Word(De, 0x0000, 0x00FF),
+            Link(Bc, 1, OF_DE, 0x1000),
+        ],
+        None,
+    ),
+    Reduces(&[Word(Hl, 0x0100, 0x0100), Link(Hl, 4, OF_A, 0x0102)], None),
+];
+
+const CARRIED: &[Step] = &[
+    Carries(0x0000, 0x0FFF, &[Word(Hl, 0x1000, 0x2000)], Some(false)),
+    Carries(0x1000, 0x2000, &[Word(Hl, 0xF000, 0xF100)], Some(true)),
+    Carries(0x0800, 0x1000, &[Word(Hl, 0xF000, 0xF800)], None),
+    // By HL's bytes.
+    Carries(0x1000, 0x1000, &[Byte(H, 0xF0, 0xFF)], Some(true)),
+];
+
+/// A, B and C123 hold one byte, compared with 7, and DE is 0 where Z is set.
+const PLACES: Facts = &[Same(&[A, B]), At(0xC123), Compared(7), Zero(De)];
+
+/// HL + B = C100.
+const LINKED: Facts = &[Link(Hl, 1, OF_B, 0xC100)];
+
+const COVERED: &[Step] = &[
+    // Fewer places and no test stand for more; others don't.
+    Covers(PLACES, PLACES, true),
+    Covers(PLACES, &[Same(&[B]), Compared(7)], true),
+    Covers(PLACES, &[At(0xC123)], true),
+    Covers(PLACES, &[], true),
+    Covers(PLACES, &[Same(&[A, C])], false),
+    Covers(PLACES, &[At(0xC124)], false),
+    Covers(PLACES, &[Same(&[A]), Compared(8)], false),
+    Covers(PLACES, &[Same(&[A]), Bits(7)], false),
+    Covers(PLACES, &[Zero(De)], true),
+    Covers(PLACES, &[Zero(Hl)], false),
+    Covers(&[], &[Zero(De)], false),
+    Covers(&[Same(&[A])], &[Same(&[A]), Compared(7)], false),
+    Covers(&[Same(&[A])], &[Same(&[A]), At(0xC123)], false),
+    // A pair's bounds, its bytes' too.
+    Covers(&[Byte(H, 0xC0, 0xC0)], &[Word(Hl, 0xC000, 0xC0FF)], true),
+    Covers(
+        &[Word(Hl, 0xC000, 0xC0FE)],
+        &[Word(Hl, 0xC000, 0xC0FF)],
+        true,
+    ),
+    Covers(
+        &[Word(Hl, 0xC000, 0xC100)],
+        &[Word(Hl, 0xC000, 0xC0FF)],
+        false,
+    ),
+    Covers(
+        &[Word(Hl, 0xBFFF, 0xC0FF)],
+        &[Word(Hl, 0xC000, 0xC0FF)],
+        false,
+    ),
+    // The same link, or single values that meet it, modulo 65,536.
+    Covers(LINKED, LINKED, true),
+    Covers(LINKED, &[], true),
+    Covers(LINKED, &[Link(Hl, 2, OF_B, 0xC100)], false),
+    Covers(LINKED, &[Link(Hl, 1, OF_B, 0xC101)], false),
+    Covers(LINKED, &[Link(Hl, 1, OF_A, 0xC100)], false),
+    Covers(&[], LINKED, false),
+    Covers(&[Word(Hl, 0xC0FF, 0xC0FF), Byte(B, 1, 1)], LINKED, true),
+    Covers(&[Word(Hl, 0xC0FF, 0xC0FF), Byte(B, 2, 2)], LINKED, false),
+    Covers(&[Word(Hl, 0xC0FF, 0xC0FF), Byte(B, 1, 2)], LINKED, false),
+    Covers(
+        &[Word(Hl, 0xFFFF, 0xFFFF), Word(De, 0x0001, 0x0001)],
+        &[Link(Hl, 2, OF_DE, 0x0001)],
+        true,
+    ),
+];
+
+#[test]
+fn branches_cut_all_places(rt: HostRuntime) {
+    play(&rt, MET);
+}
+
+#[test]
+fn pairs_and_links_cut_values(rt: HostRuntime) {
+    play(&rt, REDUCED);
+    play(&rt, CARRIED);
+}
+
+#[test]
+fn what_is_known_together_is_covered(rt: HostRuntime) {
+    play(&rt, COVERED);
+}
