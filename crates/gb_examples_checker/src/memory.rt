@@ -13,8 +13,8 @@ use gb_abs_memory::store::{Area, area_of, is_storable, store};
 use gb_abs_memory::windows::ControllerRegister;
 use gb_domain::types::{Halves, Rules, Setting};
 use gb_ops::machine::{Kind, Region};
-use gb_samples::cartridges::{PLAIN, SMALLEST, Sizes, put, small};
 use gb_ops::op::Register;
+use gb_samples::cartridges::{PLAIN, SMALLEST, Sizes, put, small};
 use gb_samples::states::{ANY, EITHER, SET, START, copy_of, entered, from_to};
 use gb_verify::{Abs, Core, Ctl, May, Origin, Range, Rom, Val};
 use std::test::Fail;
@@ -399,10 +399,16 @@ fn stores(rt: HostRuntime) -> Result<(), Fail> {
     let bytes = cartridge(WITH_RAM);
     let rom = Rom::parse(&bytes)?;
     for (i, (first, last, val, left)) in STORES.iter().enumerate() {
-        assert!(rt; leaves(MAIN, &rom, span(*first, *last), val, left), "store {i}");
+        assert!(rt;
+            leaves(MAIN, &rom, span(*first, *last), val, left),
+            "store {i}"
+        );
     }
     for (i, (first, last, val, left)) in EXTENDED_STORES.iter().enumerate() {
-        assert!(rt; leaves(ABOVE, &rom, span(*first, *last), val, left), "extended store {i}");
+        assert!(rt;
+            leaves(ABOVE, &rom, span(*first, *last), val, left),
+            "extended store {i}"
+        );
     }
     Ok(())
 }

@@ -308,25 +308,44 @@ fn an_entry_of_another_procedure(rt: HostRuntime) {
     play(&rt, rt.alloc(), &mut bytes, ANOTHER);
 }
 
-/// Whether the least certificate with these bytes replaced has a fault whose place reads so.
-fn has_text(alloc: Global, changes: &[(usize, u8)], text: &str) -> Result<bool, Fail> {
-    let mut bytes = least();
-    replace(&mut bytes, changes);
-    let Sought::Fault(place) = fault_place(alloc, &bytes) else {
+/// Whether bytes have a fault whose place reads so.
+fn has_text(alloc: Global, bytes: &[u8], text: &str) -> Result<bool, Fail> {
+    let Sought::Fault(place) = fault_place(alloc, bytes) else {
         return Ok(false);
     };
     Ok(format!(in alloc; "{place}")?.as_str() == text)
+}
+
+/// Whether the least certificate with these bytes replaced has such a fault.
+fn has_least_text(alloc: Global, changes: &[(usize, u8)], text: &str) -> Result<bool, Fail> {
+    let mut bytes = least();
+    replace(&mut bytes, changes);
+    has_text(alloc, &bytes, text)
+}
+
+/// The same of version 3.
+fn has_third_text(alloc: Global, changes: &[(usize, u8)], text: &str) -> Result<bool, Fail> {
+    let mut bytes = least_in_version_3();
+    replace(&mut bytes, changes);
+    has_text(alloc, &bytes, text)
 }
 
 const IME_SET: &str = "C5 at byte 117 (0x75), node 2, IME set: a field is out of its range";
 
 const GREATEST: &str = "C5 at byte 137 (0x89), node 2, greatest of A: a field is out of its range";
 
+const BASE: &str = "C5 at byte 18 (0x12), procedure 0, base: a field is out of its range";
+
+const KNOWN: &str =
+    "C5 at byte 166 (0xa6), node 2, what is known of several parts together: a field is out of its range";
+
 /// A place as a person reads it.
 #[test]
 fn places_have_a_text(rt: HostRuntime) -> Result<(), Fail> {
-    assert!(rt; has_text(rt.alloc(), &[(117, 0x08)], IME_SET)?);
-    assert!(rt; has_text(rt.alloc(), &[(136, 0x02)], GREATEST)?);
+    assert!(rt; has_least_text(rt.alloc(), &[(117, 0x08)], IME_SET)?);
+    assert!(rt; has_least_text(rt.alloc(), &[(136, 0x02)], GREATEST)?);
+    assert!(rt; has_third_text(rt.alloc(), &[(18, 0x02)], BASE)?);
+    assert!(rt; has_third_text(rt.alloc(), &[(166, 0x80)], KNOWN)?);
     Ok(())
 }
 
