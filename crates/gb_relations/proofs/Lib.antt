@@ -9,3 +9,4 @@ pub mod FreeLaws
 pub mod ZeroLaws
 pub mod PairLaws
 pub mod TransferLaws
+pub mod ReturnLaws

@@ -5,4 +5,5 @@ pub mod Pairs
 pub mod Bytes
 pub mod Compared
 pub mod Transfer
+pub mod Returned
 pub mod Sound

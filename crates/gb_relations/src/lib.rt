@@ -11,5 +11,6 @@ mod bytes;
 pub mod compared;
 mod pairs;
 mod places;
+pub mod returned;
 pub mod transfer;
 mod written;

@@ -20,9 +20,8 @@ use Rattle.gb_domain.specs.declared.types.Val.{Val}
 use Rattle.gb_domain.specs.declared.types.Core.{Core}
 use Rattle.gb_domain.specs.declared.types.Range.{Range}
 use Rattle.gb_domain.specs.Types.{AbsState}
-use Rattle.gb_domain.specs.Pairs.{any_bounds}
 use Rattle.gb_domain.specs.Rules.{IsCore}
-use Rattle.gb_abs.specs.Located.{sp_halves}
+use Rattle.gb_abs.specs.Located.{sp_halves, sp_bounds}
 use Rattle.gb_abs.specs.Operations.{core_end, with_core}
 use Rattle.gb_abs.specs.Span.{one}
 use Rattle.gb_abs.specs.Stack.{pushed, popped}
@@ -184,8 +183,8 @@ related_taken z rom region ranges row a s entry base x reads c w k known led =
     HoldOneByte-compared_after row.op s.relations.byte (begun row x).processor (peek x.storage) (peek (left_by rom x e row.cycles).storage)
     (given rom row x reads).low (given rom row x reads).high (has_operands row.op k.ruled.operands) (AreBytes-core c entry (begun row x) k.core k.means) before.byte in
     let low : Val = (read_word z rom (with_core s c) (read_of row.op c)).low in
-    subst (λ (v : MState). AreRelated (relations_after z.rules region row.op any_bounds c.registers low s.relations) v) (sym is)
-    (by_rules z.rules region row.op any_bounds c.registers low s.relations _ _ _ k.stands.rules byte (subst (λ (v : MState). AreBytes v.processor.registers) is bytes))
+    subst (λ (v : MState). AreRelated (relations_after z.rules region row.op (sp_bounds z s) c.registers low s.relations) v) (sym is)
+    (by_rules z.rules region row.op (sp_bounds z s) c.registers low s.relations _ _ _ k.stands.rules byte (subst (λ (v : MState). AreBytes v.processor.registers) is bytes))
 
 pub Leads-taken :
     (z : Setting) (rom : List ℕ) (region : Region) (ranges : List Range) (row : Row) (a : ℕ) (s : AbsState) (entry : MState) (base : ℕ) (x : MState) (reads : List ℕ) (c : Core)
