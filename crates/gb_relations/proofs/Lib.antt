@@ -10,3 +10,4 @@ pub mod ZeroLaws
 pub mod PairLaws
 pub mod TransferLaws
 pub mod ReturnLaws
+pub mod Below

@@ -7,3 +7,4 @@ pub mod Compared
 pub mod Transfer
 pub mod Returned
 pub mod Sound
+pub mod Below

@@ -14,3 +14,9 @@ mod places;
 pub mod returned;
 pub mod transfer;
 mod written;
+
+// What lies below, for the crates above.
+pub use gb_pairs::covering::covers_pairs;
+pub use gb_pairs::values::Values;
+pub use gb_places::covering::covers_byte;
+pub use gb_places::sides::{Contents, narrowed};

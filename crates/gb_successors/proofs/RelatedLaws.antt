@@ -36,14 +36,14 @@ use Rattle.gb_abs_effects.specs.Sound.{IsWrite}
 use Rattle.gb_abs_effects.proofs.RangeLaws.{transfer_inhabited}
 use Rattle.gb_abs_memory.specs.Access.{stored_state}
 use Rattle.gb_abs_memory.proofs.AfterStoreLaws.{IsCore-stored_state}
-use Rattle.gb_pairs.specs.Meaning.{AreBytes}
-use Rattle.gb_places.specs.Meaning.{HoldOneByte}
-use Rattle.gb_relations.specs.Meaning.{HoldRelations}
-use Rattle.gb_relations.specs.Compared.{compared_after}
-use Rattle.gb_relations.specs.Transfer.{relations_after}
-use Rattle.gb_relations.specs.Sound as relations
-use Rattle.gb_relations.proofs.ComparedLaws.{HoldOneByte-compared_after}
-use Rattle.gb_relations.proofs.TransferLaws.{HoldPairs-nothing}
+use Rattle.gb_product.specs.Below.gb_pairs.Meaning.{AreBytes}
+use Rattle.gb_product.specs.Below.gb_places.Meaning.{HoldOneByte}
+use Rattle.gb_product.specs.Below.gb_relations.Meaning.{HoldRelations}
+use Rattle.gb_product.specs.Below.gb_relations.Compared.{compared_after}
+use Rattle.gb_product.specs.Below.gb_relations.Transfer.{relations_after}
+use Rattle.gb_product.specs.Below.gb_relations.Sound as relations
+use Rattle.gb_product.proofs.Below.gb_relations_laws.ComparedLaws.{HoldOneByte-compared_after}
+use Rattle.gb_product.proofs.Below.gb_relations_laws.TransferLaws.{HoldPairs-nothing}
 use Rattle.gb_product.specs.Meaning.{AreRelated}
 use Rattle.gb_abs_effects.specs.Accesses.{read_of}
 use Rattle.gb_successors.specs.Behind.{behind, read_word, written, starts, pushed_if_room, with_stack_of, ended, with_relations}

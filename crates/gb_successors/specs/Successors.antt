@@ -21,7 +21,7 @@ use Rattle.gb_abs_effects.specs.Transfer.{transfer, only_on}
 use Rattle.gb_successors.specs.Way.{Successor}
 use Rattle.gb_successors.specs.declared.successors.Successors.{Successors}
 use Rattle.gb_product.specs.Sides.{sides_of}
-use Rattle.gb_relations.specs.Transfer.{relations_after}
+use Rattle.gb_product.specs.Below.gb_relations.Transfer.{relations_after}
 use Rattle.gb_successors.specs.Behind.{read_word, written, starts, with_stack_of, ended, with_relations}
 
 -- ---- successors

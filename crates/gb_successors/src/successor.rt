@@ -23,7 +23,7 @@ use gb_abs_memory::store::{Area, area_of, starts_oam_transfer, stored_core};
 use gb_domain::types::{Abs, Core, Halves, ImeSet, Setting};
 use gb_ops::machine::{Kind, Region};
 use gb_ops::op::{Op, Pair, Row};
-use gb_relations::transfer::relations_after;
+use gb_product::relations_after;
 
 /// The word that was pushed last, as far as it is known.
 #[tactic(auto, using(crate::proofs::WordLaws::top_word_is, crate::proofs::WordLaws::no_word_is))]
