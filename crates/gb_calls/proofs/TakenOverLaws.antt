@@ -52,13 +52,16 @@ AreItems-returning (low ∷ []) entry s top e h =
 AreItems-returning (high ∷ low ∷ []) entry s top e h =
     let above : top - 1 ≡ s.processor.sp + 1 = omega arith in
     let at : top - 1 - 1 ≡ s.processor.sp = omega arith in
-    (Holds-own ReturnHigh high entry s _ h.0 (ap (peek s.storage) above), Holds-own ReturnLow low entry s _ h.1.0 (ap (peek s.storage) at), tt)
+    (Holds-own ReturnHigh high entry s _ h.0 (ap (peek s.storage) above), (Holds-own ReturnLow low entry s _ h.1.0 (ap (peek s.storage) at), tt))
 AreItems-returning (v ∷ w ∷ u ∷ rest) entry s top e h =
     (Holds-without_origin v entry s _ h.0, AreItems-returning (w ∷ u ∷ rest) entry s (top - 1) (omega arith) h.1)
 
 -- a list in its two parts
 two_parts : (k : ℕ) (items : List Val) → waiting k items ++ newest k items ≡ items
 two_parts k items = take-append-drop (length items - k) items
+
+parted : (k : ℕ) (items : List Val) (entry : MState) (top : ℕ) (s : Storage) → AreItems items entry top s → AreItems (waiting k items ++ newest k items) entry top s
+parted k items entry top s h = subst (λ (xs : List Val). AreItems xs entry top s) (sym (two_parts k items)) h
 
 waiting-length : (k : ℕ) (items : List Val) → length (waiting k items) ≡ length items - k
 waiting-length k items = length-take-le (length items - k) items (omega arith)
@@ -70,7 +73,7 @@ pub taken_over-items :
     → AreItems (taken_over k state.items) s (base_below k state.items base) s.storage
 unfolding taken_over
 taken_over-items k state entry base s few set m =
-    let whole : AreItems (waiting k state.items ++ newest k state.items) entry base s.storage = subst (λ xs. AreItems xs entry base s.storage) (sym (two_parts k state.items)) m.items in
+    let whole : AreItems (waiting k state.items ++ newest k state.items) entry base s.storage = parted k state.items entry base s.storage m.items in
     let right = AreItems-right (waiting k state.items) (newest k state.items) entry base s.storage whole in
     let newer : AreItems (newest k state.items) entry (base_below k state.items base) s.storage =
     subst (λ n. AreItems (newest k state.items) entry (base - n) s.storage) (waiting-length k state.items) right in
@@ -87,8 +90,8 @@ pub given_back-items :
     → ((b : ℕ) → base_below k items base ≤ b → b < base → peek t b ≡ peek s b)
     → AreItems exit callee (base_below k items base) t → AreItems (given_back_items k items exit) entry base t
 unfolding given_back_items
-given_back-items k items exit entry callee base s t few room same held left =
-    let whole : AreItems (waiting k items ++ newest k items) entry base s = subst (λ xs. AreItems xs entry base s) (sym (two_parts k items)) held in
+given_back-items k items exit entry callee base s t few room held same left =
+    let whole : AreItems (waiting k items ++ newest k items) entry base s = parted k items entry base s held in
     let before : AreItems (waiting k items) entry base s = AreItems-left (waiting k items) (newest k items) entry base s whole in
     let count = waiting-length k items in
     let now : AreItems (waiting k items) entry base t = AreItems-same (waiting k items) entry (base_below k items base) base s t (bounded k items base count room) same before in
