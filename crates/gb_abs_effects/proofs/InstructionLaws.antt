@@ -36,11 +36,11 @@ use Rattle.gb_abs.specs.Operations.{core_set_register}
 use Rattle.gb_abs.proofs.OperationLaws.{MeansCore-set_register}
 use Rattle.gb_domain.specs.declared.types.Halves.{Halves}
 use Rattle.gb_abs_effects.specs.declared.writes.AbsEffect.{AbsEffect}
-use Rattle.gb_abs_effects.specs.Pairs.{any_word, next_word, previous_word, word_sum, word_sum_flags, pair_halves, with_pair, with_indirect}
-use Rattle.gb_abs_effects.specs.Transfer.{quiet, pushes, with_flags, operand_val, store_operand, update_operand, add_hl, enabled, sp_sum_flags}
+use Rattle.gb_abs_effects.specs.Pairs.{next_word, previous_word, word_sum, word_sum_flags, displaced_word, displaced_flags, pair_halves, pair_or_sp, with_pair, with_indirect}
+use Rattle.gb_abs_effects.specs.Transfer.{quiet, pushes, with_flags, operand_val, store_operand, update_operand, add_hl, enabled}
 use Rattle.gb_abs_effects.specs.Sound.{Follows}
 use Rattle.gb_abs_effects.proofs.CoreLaws.{FlagsIn-from, HoldsFlags-written, byte-of, MeansCore-at, MeansCore-flags}
-use Rattle.gb_abs_effects.proofs.PairLaws.{HoldsWord, HoldsWord-any, HoldsWord-next, HoldsWord-previous, HoldsWord-sum, FlagsIn-word_sum_flags, word_sum_flags-written, HoldsWord-pair, pair-small, MeansCore-with_pair}
+use Rattle.gb_abs_effects.proofs.PairLaws.{HoldsWord, HoldsWord-next, HoldsWord-previous, HoldsWord-sum, FlagsIn-word_sum_flags, word_sum_flags-written, HoldsWord-displaced, FlagsIn-displaced, displaced_flags-written, HoldsWord-pair, HoldsWord-pair_or_sp, pair-small, MeansCore-with_pair}
 use Rattle.gb_abs_effects.proofs.OperandLaws.{Holds-operand, operand-byte, Follows-store_operand, Follows-update_operand, Follows-change_operand}
 
 -- ---- parts
@@ -107,44 +107,51 @@ MeansCore-summed s entry x w n f g h flags written m =
     MeansCore-flags (with_pair pair.Hl w s) entry (record x { processor = machine.with_pair x.processor pair.Hl n }) f g (HoldsFlags-written f entry g flags written) (MeansCore-with_pair pair.Hl s entry x w n h m)
 
 pub Follows-add_hl :
-    (which : Pair) (s : Core) (entry x : MState)
-    → x.processor.sp < 65536 → IsCore s → MeansCore s entry x
-    → Follows (add_hl which s) entry x (Effects.effect_of (op.AddHl which) x.processor 0 0)
+    (which : Pair) (halves : Halves) (s : Core) (entry x : MState)
+    → x.processor.sp < 65536 → HoldsWord halves entry x.processor.sp → IsCore s → MeansCore s entry x
+    → Follows (add_hl which halves s) entry x (Effects.effect_of (op.AddHl which) x.processor 0 0)
 unfolding Effects.effect_of
-Follows-add_hl which s entry x sp is m =
+Follows-add_hl which halves s entry x sp is_sp is m =
     let hl = Effects.hl x.processor in
     let n = machine.pair_value x.processor which in
-    let h : HoldsWord (pair_halves pair.Hl s) entry hl = HoldsWord-pair pair.Hl s entry x sp is m in
-    let k : HoldsWord (pair_halves which s) entry n = HoldsWord-pair which s entry x sp is m in
-    let f = word_sum_flags (pair_halves pair.Hl s) (pair_halves which s) s.flags in
-    record { core = MeansCore-summed s entry x (word_sum (pair_halves pair.Hl s) (pair_halves which s)) ((hl + n) % 65536) f (arithmetic.word_sum_flags hl n x.processor.flags) (HoldsWord-sum (pair_halves pair.Hl s) (pair_halves which s) entry hl n h k) (FlagsIn-word_sum_flags (pair_halves pair.Hl s) (pair_halves which s) entry hl n s.flags x.processor.flags h k (FlagsIn-from s.flags entry x.processor.flags m.flags)) (word_sum_flags-written (pair_halves pair.Hl s) (pair_halves which s) s.flags) m; write = tt }
+    let v = pair_halves pair.Hl s in
+    let w = pair_or_sp which halves s in
+    let h : HoldsWord v entry hl = HoldsWord-pair pair.Hl s entry x sp is m in
+    let k : HoldsWord w entry n = HoldsWord-pair_or_sp which halves s entry x sp is_sp is m in
+    let flags = FlagsIn-word_sum_flags v w entry hl n s.flags x.processor.flags h k (FlagsIn-from s.flags entry x.processor.flags m.flags) in
+    record {
+      core = MeansCore-summed s entry x (word_sum v w) ((hl + n) % 65536) (word_sum_flags v w s.flags) (arithmetic.word_sum_flags hl n x.processor.flags) (HoldsWord-sum v w entry hl n h k) flags (word_sum_flags-written v w s.flags) m;
+      write = tt;
+    }
 
 -- ---- sums with SP
 
-FlagsIn-sp_sum : (sp e8 : ℕ) → FlagsIn sp_sum_flags (arithmetic.sp_sum_flags sp e8)
-unfolding arithmetic.sp_sum_flags
-FlagsIn-sp_sum sp e8 =
-    record { zero = refl; subtract = refl; half_carry = either-may_be _; carry = either-may_be _ }
-
 pub Follows-add_sp :
-    (e8 : ℕ) (s : Core) (entry x : MState) → MeansCore s entry x
-    → Follows (quiet (with_flags sp_sum_flags s)) entry x (Effects.effect_of (op.AddSp e8) x.processor 0 0)
+    (e8 : ℕ) (halves : Halves) (s : Core) (entry x : MState) → HoldsWord halves entry x.processor.sp → MeansCore s entry x
+    → Follows (quiet (with_flags (displaced_flags halves e8) s)) entry x (Effects.effect_of (op.AddSp e8) x.processor 0 0)
 unfolding Effects.effect_of
-Follows-add_sp e8 s entry x m =
+Follows-add_sp e8 halves s entry x is_sp m =
     let to = arithmetic.displaced x.processor.sp e8 in
-    record { core = MeansCore-flags s entry (record x { processor = record x.processor { sp = to; pc = x.processor.pc } }) sp_sum_flags (arithmetic.sp_sum_flags x.processor.sp e8) (HoldsFlags-written sp_sum_flags entry (arithmetic.sp_sum_flags x.processor.sp e8) (FlagsIn-sp_sum x.processor.sp e8) refl) (MeansCore-at s entry x to x.processor.pc m); write = tt }
-
-displaced-small : (from e8 : ℕ) → arithmetic.displaced from e8 < 65536
-unfolding arithmetic.displaced
-displaced-small from e8 = omega arith
+    let f = displaced_flags halves e8 in
+    let g = arithmetic.sp_sum_flags x.processor.sp e8 in
+    let held = HoldsFlags-written f entry g (FlagsIn-displaced halves entry x.processor.sp e8 is_sp) (displaced_flags-written halves e8) in
+    record {
+      core = MeansCore-flags s entry (record x { processor = record x.processor { sp = to; pc = x.processor.pc } }) f g held (MeansCore-at s entry x to x.processor.pc m);
+      write = tt;
+    }
 
 pub Follows-load_hl :
-    (e8 : ℕ) (s : Core) (entry x : MState) → MeansCore s entry x
-    → Follows (quiet (with_flags sp_sum_flags (with_pair pair.Hl any_word s))) entry x (Effects.effect_of (op.LoadHlSp e8) x.processor 0 0)
+    (e8 : ℕ) (halves : Halves) (s : Core) (entry x : MState) → HoldsWord halves entry x.processor.sp → MeansCore s entry x
+    → Follows (quiet (with_flags (displaced_flags halves e8) (with_pair pair.Hl (displaced_word halves e8) s))) entry x (Effects.effect_of (op.LoadHlSp e8) x.processor 0 0)
 unfolding Effects.effect_of
-Follows-load_hl e8 s entry x m =
+Follows-load_hl e8 halves s entry x is_sp m =
     let to = arithmetic.displaced x.processor.sp e8 in
-    record { core = MeansCore-summed s entry x any_word to sp_sum_flags (arithmetic.sp_sum_flags x.processor.sp e8) (HoldsWord-any entry to (displaced-small x.processor.sp e8)) (FlagsIn-sp_sum x.processor.sp e8) refl m; write = tt }
+    let summed = HoldsWord-displaced halves entry x.processor.sp e8 is_sp in
+    let flags = FlagsIn-displaced halves entry x.processor.sp e8 is_sp in
+    record {
+      core = MeansCore-summed s entry x (displaced_word halves e8) to (displaced_flags halves e8) (arithmetic.sp_sum_flags x.processor.sp e8) summed flags (displaced_flags-written halves e8) m;
+      write = tt;
+    }
 
 -- ---- interrupts
 

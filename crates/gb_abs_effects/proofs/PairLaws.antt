@@ -24,13 +24,13 @@ use Rattle.gb_domain.specs.Rules.{IsCore}
 use Rattle.gb_vals.specs.Vals.{between, any_val, is_single}
 use Rattle.gb_vals.specs.Flags.{any_flags, with_own, known_flags, own_origin, is_own_origin, flags_val, flags_of_val}
 use Rattle.gb_vals.specs.Meaning.{In, FlagsIn}
-use Rattle.gb_vals.proofs.MeaningLaws.{single-is, In-single, In-any, known-may_be, either-may_be, bit-weight}
+use Rattle.gb_vals.proofs.MeaningLaws.{single-is, In-single, In-any, known-may_be, either-may_be, FlagsIn-known, bit-weight}
 use Rattle.gb_vals.proofs.FlagLaws.{flags_val_sound, flags_of_val_sound}
 use Rattle.gb_abs.specs.Meaning.{Holds, HoldsFlags, MeansCore, origin_value}
 use Rattle.gb_abs.specs.Operations.{core_set_register}
 use Rattle.gb_abs.proofs.OperationLaws.{MeansCore-set_register, register_set}
 use Rattle.gb_domain.specs.declared.types.Halves.{Halves}
-use Rattle.gb_abs_effects.specs.Pairs.{known_word, any_word, is_word_known, least_word, raised, lowered, next_word, previous_word, are_words_known, word_sum, word_sum_flags, sum_flags_any, sum_flags_known, pair_halves, with_pair, stack_pair_halves, with_stack_pair}
+use Rattle.gb_abs_effects.specs.Pairs.{known_word, any_word, is_word_known, least_word, raised, lowered, next_word, previous_word, are_words_known, word_sum, word_sum_flags, sum_flags_any, sum_flags_known, displaced_word, displaced_flags_any, displaced_flags, pair_halves, pair_or_sp, with_pair, stack_pair_halves, with_stack_pair}
 use Rattle.gb_abs_effects.proofs.CoreLaws.{In-from, FlagsIn-from, Holds-computed, byte-of, some-is, MeansCore-at, MeansCore-a}
 
 -- the bytes of a word are what the intervals stand for
@@ -158,6 +158,46 @@ HoldsWord-previous w entry n small h = choose (is_word_known w) (nat_lt 0 w.low.
     choose false false e f =
         HoldsWord-fresh (borrowed w) entry ((n + 65535) % 65536) (In-lowered w.high n small (In-from w.high entry (n / 256) h.high)) (In-any ((n + 65535) % 65536 % 256) (omega arith)) (record { high = lowered-fresh w.high; low = refl })
 
+-- ---- a word and a displacement
+
+displaced-small : (from e8 : ℕ) → arithmetic.displaced from e8 < 65536
+unfolding arithmetic.displaced
+displaced-small from e8 = omega arith
+
+pub HoldsWord-displaced : (w : Halves) (entry : MState) (n e8 : ℕ) → HoldsWord w entry n → HoldsWord (displaced_word w e8) entry (arithmetic.displaced n e8)
+unfolding displaced_word
+HoldsWord-displaced w entry n e8 h = choose (is_word_known w) refl
+  where
+    choose :
+        (b : Bool) → is_word_known w ≡ b
+        → HoldsWord (cond b (known_word (arithmetic.displaced (least_word w) e8)) any_word) entry (arithmetic.displaced n e8)
+    choose true e =
+        subst (λ k. HoldsWord (known_word (arithmetic.displaced k e8)) entry (arithmetic.displaced n e8)) (sym (least_word-is w entry n e h)) (HoldsWord-known entry (arithmetic.displaced n e8))
+    choose false e = HoldsWord-any entry (arithmetic.displaced n e8) (displaced-small n e8)
+
+FlagsIn-displaced_any : (n e8 : ℕ) → FlagsIn displaced_flags_any (arithmetic.sp_sum_flags n e8)
+unfolding arithmetic.sp_sum_flags
+FlagsIn-displaced_any n e8 = record { zero = refl; subtract = refl; half_carry = either-may_be _; carry = either-may_be _ }
+
+pub FlagsIn-displaced : (w : Halves) (entry : MState) (n e8 : ℕ) → HoldsWord w entry n → FlagsIn (displaced_flags w e8) (arithmetic.sp_sum_flags n e8)
+unfolding displaced_flags
+FlagsIn-displaced w entry n e8 h = choose (is_word_known w) refl
+  where
+    choose :
+        (b : Bool) → is_word_known w ≡ b
+        → FlagsIn (cond b (known_flags (arithmetic.sp_sum_flags (least_word w) e8)) displaced_flags_any) (arithmetic.sp_sum_flags n e8)
+    choose true e =
+        subst (λ k. FlagsIn (known_flags (arithmetic.sp_sum_flags k e8)) (arithmetic.sp_sum_flags n e8)) (sym (least_word-is w entry n e h)) (FlagsIn-known (arithmetic.sp_sum_flags n e8))
+    choose false e = FlagsIn-displaced_any n e8
+
+pub displaced_flags-written : (w : Halves) (e8 : ℕ) → (displaced_flags w e8).is_own ≡ false
+unfolding displaced_flags
+displaced_flags-written w e8 = choose (is_word_known w)
+  where
+    choose : (b : Bool) → (cond b (known_flags (arithmetic.sp_sum_flags (least_word w) e8)) displaced_flags_any).is_own ≡ false
+    choose true = refl
+    choose false = refl
+
 -- ---- ADD HL
 
 pub HoldsWord-sum :
@@ -231,6 +271,16 @@ HoldsWord-pair pair.Bc s entry x sp is m = HoldsWord-of s.registers.b s.register
 HoldsWord-pair pair.De s entry x sp is m = HoldsWord-of s.registers.d s.registers.e entry _ _ (m.registers D) (m.registers E) (byte s entry x E is m)
 HoldsWord-pair pair.Hl s entry x sp is m = HoldsWord-of s.registers.h s.registers.l entry _ _ (m.registers H) (m.registers L) (byte s entry x L is m)
 HoldsWord-pair pair.Sp s entry x sp is m = HoldsWord-any entry x.processor.sp sp
+
+pub HoldsWord-pair_or_sp :
+    (which : Pair) (halves : Halves) (s : Core) (entry x : MState)
+    → x.processor.sp < 65536 → HoldsWord halves entry x.processor.sp → IsCore s → MeansCore s entry x
+    → HoldsWord (pair_or_sp which halves s) entry (machine.pair_value x.processor which)
+unfolding pair_or_sp machine.pair_value
+HoldsWord-pair_or_sp pair.Bc halves s entry x sp h is m = HoldsWord-pair pair.Bc s entry x sp is m
+HoldsWord-pair_or_sp pair.De halves s entry x sp h is m = HoldsWord-pair pair.De s entry x sp is m
+HoldsWord-pair_or_sp pair.Hl halves s entry x sp h is m = HoldsWord-pair pair.Hl s entry x sp is m
+HoldsWord-pair_or_sp pair.Sp halves s entry x sp h is m = h
 
 pub pair-small :
     (which : Pair) (s : Core) (entry x : MState)

@@ -30,8 +30,8 @@ use Rattle.gb_vals.proofs.CarryLaws.{set_carry_inhabited, complement_carry_inhab
 use Rattle.gb_abs.specs.Operations.{core_set_register}
 use Rattle.gb_domain.specs.declared.types.Halves.{Halves}
 use Rattle.gb_abs_effects.specs.declared.writes.AbsEffect.{AbsEffect}
-use Rattle.gb_abs_effects.specs.Pairs.{known_word, any_word, is_word_known, least_word, raised, lowered, next_word, previous_word, are_words_known, word_sum, word_sum_flags, sum_flags_any, sum_flags_known, pair_halves, with_pair, with_indirect, stack_pair_halves, with_stack_pair}
-use Rattle.gb_abs_effects.specs.Transfer.{quiet, pushes, add_hl, only_off, only_on, enabled, operand_val, sp_sum_flags, transfer, untaken}
+use Rattle.gb_abs_effects.specs.Pairs.{known_word, any_word, is_word_known, least_word, raised, lowered, next_word, previous_word, are_words_known, word_sum, word_sum_flags, sum_flags_any, sum_flags_known, displaced_word, displaced_flags_any, displaced_flags, pair_halves, pair_or_sp, with_pair, with_indirect, stack_pair_halves, with_stack_pair}
+use Rattle.gb_abs_effects.specs.Transfer.{quiet, pushes, add_hl, only_off, only_on, enabled, operand_val, transfer, untaken}
 use Rattle.gb_abs_effects.specs.Sound.{HasBytes, IsAbsEffect}
 use Rattle.gb_abs.proofs.OperationLaws.{IsCore-set_register}
 use Rattle.gb_abs_effects.proofs.CoreLaws.{IsCore-ime, IsCore-a}
@@ -179,14 +179,27 @@ IsAbsEffect-pushes s w h is = record { core = is; write = (h.high, h.low); at = 
 IsAbsEffect-loaded : (s : Core) (v : Val) → IsVal v → IsCore s → IsAbsEffect (quiet (core_set_register A v s))
 IsAbsEffect-loaded s v h is = IsAbsEffect-quiet (core_set_register A v s) (IsCore-set_register s A v h is)
 
-IsAbsEffect-add_hl : (which : Pair) (s : Core) → IsCore s → IsAbsEffect (add_hl which s)
-IsAbsEffect-add_hl which s is =
+IsAbsEffect-add_hl : (which : Pair) (sp : Halves) (s : Core) → IsCore s → IsAbsEffect (add_hl which sp s)
+IsAbsEffect-add_hl which sp s is =
     let hl = pair_halves pair.Hl s in
-    let w = pair_halves which s in
+    let w = pair_or_sp which sp s in
     IsAbsEffect-flags (with_pair pair.Hl (word_sum hl w) s) (word_sum_flags hl w s.flags) (IsFlg-word_sum_flags hl w s.flags is.flags) (IsCore-with_pair pair.Hl s (word_sum hl w) (IsWord-sum hl w) is)
 
-IsFlg-sp_sum : IsFlg sp_sum_flags
-IsFlg-sp_sum = record { zero = refl; subtract = refl; half_carry = refl; carry = refl }
+IsWord-displaced : (w : Halves) (e8 : ℕ) → IsWord (displaced_word w e8)
+unfolding displaced_word arithmetic.displaced
+IsWord-displaced w e8 = choose (is_word_known w)
+  where
+    choose : (b : Bool) → IsWord (cond b (known_word (arithmetic.displaced (least_word w) e8)) any_word)
+    choose true = IsWord-known _ (omega arith)
+    choose false = IsWord-any
+
+IsFlg-displaced : (w : Halves) (e8 : ℕ) → IsFlg (displaced_flags w e8)
+unfolding displaced_flags
+IsFlg-displaced w e8 = choose (is_word_known w)
+  where
+    choose : (b : Bool) → IsFlg (cond b (known_flags (arithmetic.sp_sum_flags (least_word w) e8)) displaced_flags_any)
+    choose true = let g = arithmetic.sp_sum_flags (least_word w) e8 in IsFlg-from (known_flags g) g (FlagsIn-known g)
+    choose false = record { zero = refl; subtract = refl; half_carry = refl; carry = refl }
 
 IsAbsEffect-transfer :
     (o : Op) (next : ℕ) (sp : Halves) (s : Core) (low high : Val)
@@ -205,7 +218,7 @@ IsAbsEffect-transfer (op.LoadImmediate to v) next sp s low high bytes small is l
 IsAbsEffect-transfer (op.RotateA how) next sp s low high bytes small is l h is_sp =
     IsAbsEffect-update_a s _ (rotate_a_inhabited how s.registers.a s.flags _ refl (is.registers A) is.flags) is
 IsAbsEffect-transfer (op.StoreSp w) next sp s low high bytes small is l h is_sp = record { core = is; write = (is_sp.low, is_sp.high); at = bytes }
-IsAbsEffect-transfer (op.AddHl which) next sp s low high bytes small is l h is_sp = IsAbsEffect-add_hl which s is
+IsAbsEffect-transfer (op.AddHl which) next sp s low high bytes small is l h is_sp = IsAbsEffect-add_hl which sp s is
 IsAbsEffect-transfer op.DecimalAdjust next sp s low high bytes small is l h is_sp =
     IsAbsEffect-update_a s _ (adjust_inhabited s.registers.a s.flags _ refl (is.registers A) is.flags) is
 IsAbsEffect-transfer op.Complement next sp s low high bytes small is l h is_sp =
@@ -228,9 +241,9 @@ IsAbsEffect-transfer op.StoreHighC next sp s low high bytes small is l h is_sp =
 IsAbsEffect-transfer op.LoadHighC next sp s low high bytes small is l h is_sp = IsAbsEffect-loaded s low l is
 IsAbsEffect-transfer (op.StoreAbsolute w) next sp s low high bytes small is l h is_sp = record { core = is; write = is.registers A; at = bytes }
 IsAbsEffect-transfer (op.LoadAbsolute w) next sp s low high bytes small is l h is_sp = IsAbsEffect-loaded s low l is
-IsAbsEffect-transfer (op.AddSp e8) next sp s low high bytes small is l h is_sp = IsAbsEffect-flags s sp_sum_flags IsFlg-sp_sum is
+IsAbsEffect-transfer (op.AddSp e8) next sp s low high bytes small is l h is_sp = IsAbsEffect-flags s (displaced_flags sp e8) (IsFlg-displaced sp e8) is
 IsAbsEffect-transfer (op.LoadHlSp e8) next sp s low high bytes small is l h is_sp =
-    IsAbsEffect-flags (with_pair pair.Hl any_word s) sp_sum_flags IsFlg-sp_sum (IsCore-with_pair pair.Hl s any_word IsWord-any is)
+    IsAbsEffect-flags (with_pair pair.Hl (displaced_word sp e8) s) (displaced_flags sp e8) (IsFlg-displaced sp e8) (IsCore-with_pair pair.Hl s (displaced_word sp e8) (IsWord-displaced sp e8) is)
 IsAbsEffect-transfer op.DisableInterrupts next sp s low high bytes small is l h is_sp = IsAbsEffect-quiet _ (IsCore-ime s only_off refl is)
 IsAbsEffect-transfer op.EnableInterrupts next sp s low high bytes small is l h is_sp = IsAbsEffect-quiet _ (IsCore-ime s (enabled s.ime) (enabled-any s.ime is.ime) is)
 IsAbsEffect-transfer (op.Shift how which) next sp s low high bytes small is l h is_sp =

@@ -94,7 +94,7 @@ Follows-transfer (op.RotateA how) next sp s low high entry x l h bytes is is_low
     Follows-change_a (rotation_result how) s entry x (rotation_of_a how s.registers.a s.flags) (rotate_a_sound how s.registers.a s.flags _ refl (is.registers A).hi) (rotate_a_computed how s.registers.a s.flags _ refl) b.core
 Follows-transfer (op.StoreSp w) next sp s low high entry x l h bytes is is_low going b =
     record { core = b.core; write = (refl, b.sp_low, b.sp_high) }
-Follows-transfer (op.AddHl which) next sp s low high entry x l h bytes is is_low going b = Follows-add_hl which s entry x b.sp is b.core
+Follows-transfer (op.AddHl which) next sp s low high entry x l h bytes is is_low going b = Follows-add_hl which sp s entry x b.sp (record { high = b.sp_high; low = b.sp_low }) is b.core
 Follows-transfer (op.JumpRelative e8) next sp s low high entry x l h bytes is is_low going b = Follows-jump s entry x (arithmetic.displaced x.processor.pc e8) b.core
 Follows-transfer (op.JumpRelativeIf c e8) next sp s low high entry x l h bytes is is_low going b =
     Follows-only_if (is_met c x.processor.flags) (quiet s) entry x _ b.taken (Follows-jump s entry x (arithmetic.displaced x.processor.pc e8) b.core)
@@ -137,8 +137,8 @@ Follows-transfer op.LoadHighC next sp s low high entry x l h bytes is is_low goi
 Follows-transfer (op.StoreAbsolute w) next sp s low high entry x l h bytes is is_low going b =
     record { core = b.core; write = (IsIn-one w, b.core.registers A, a-byte s entry x is b.core) }
 Follows-transfer (op.LoadAbsolute w) next sp s low high entry x l h bytes is is_low going b = Follows-loaded s entry x low l b.low_read b.core
-Follows-transfer (op.AddSp e8) next sp s low high entry x l h bytes is is_low going b = Follows-add_sp e8 s entry x b.core
-Follows-transfer (op.LoadHlSp e8) next sp s low high entry x l h bytes is is_low going b = Follows-load_hl e8 s entry x b.core
+Follows-transfer (op.AddSp e8) next sp s low high entry x l h bytes is is_low going b = Follows-add_sp e8 sp s entry x (record { high = b.sp_high; low = b.sp_low }) b.core
+Follows-transfer (op.LoadHlSp e8) next sp s low high entry x l h bytes is is_low going b = Follows-load_hl e8 sp s entry x (record { high = b.sp_high; low = b.sp_low }) b.core
 Follows-transfer op.LoadSpHl next sp s low high entry x l h bytes is is_low going b = Follows-moved s entry x (Effects.hl x.processor) x.processor.pc b.core
 Follows-transfer op.JumpHl next sp s low high entry x l h bytes is is_low going b = Follows-jump s entry x (Effects.hl x.processor) b.core
 Follows-transfer op.DisableInterrupts next sp s low high entry x l h bytes is is_low going b =

@@ -74,6 +74,18 @@ unfoldable pub word_sum_flags : Halves → Halves → Flg → Flg
 word_sum_flags x y f =
     if are_words_known x y then sum_flags_known (least_word x) (least_word y) f else sum_flags_any f
 
+-- a word and a displacement: known where the word is
+unfoldable pub displaced_word : Halves → ℕ → Halves
+displaced_word w e8 = if is_word_known w then known_word (machine.displaced (least_word w) e8) else any_word
+
+-- Z and N clear, H and C either
+abbrev pub displaced_flags_any : Flg
+displaced_flags_any = record { zero = known false; subtract = known false; half_carry = either; carry = either; is_own = false }
+
+-- the flags of that: of the low byte, known where the word is
+unfoldable pub displaced_flags : Halves → ℕ → Flg
+displaced_flags w e8 = if is_word_known w then known_flags (machine.sp_sum_flags (least_word w) e8) else displaced_flags_any
+
 -- ---- the pairs of a core
 
 -- what a pair holds; of SP a core says nothing
@@ -82,6 +94,11 @@ pair_halves pair.Bc s = record { high = s.registers.b; low = s.registers.c }
 pair_halves pair.De s = record { high = s.registers.d; low = s.registers.e }
 pair_halves pair.Hl s = record { high = s.registers.h; low = s.registers.l }
 pair_halves pair.Sp s = any_word
+
+-- what a pair holds, where SP is known as one
+unfoldable pub pair_or_sp : Pair → Halves → Core → Halves
+pair_or_sp pair.Sp sp s = sp
+pair_or_sp which sp s = pair_halves which s
 
 unfoldable pub with_pair : Pair → Halves → Core → Core
 with_pair pair.Bc w s = record s { registers = record s.registers { b = w.high; c = w.low } }

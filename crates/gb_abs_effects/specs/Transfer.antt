@@ -16,7 +16,6 @@ use Rattle.gb_domain.specs.declared.types.ImeSet.{ImeSet}
 use Rattle.gb_domain.specs.declared.types.Core.{Core}
 use Rattle.gb_vals.specs.declared.outcome.Outcome.{Outcome}
 use Rattle.gb_vals.specs.Vals.{single}
-use Rattle.gb_vals.specs.Flags.{known, either}
 use Rattle.gb_vals.specs.Sums.{increment, decrement}
 use Rattle.gb_vals.specs.Logic.{complement}
 use Rattle.gb_vals.specs.Alu.{alu, alu_itself}
@@ -30,7 +29,7 @@ use Rattle.gb_domain.specs.declared.types.Halves.{Halves}
 use Rattle.gb_abs_effects.specs.declared.writes.AbsWrite.{AbsWrite}
 use Rattle.gb_abs_effects.specs.declared.writes.AbsWrite.TheVariants as write
 use Rattle.gb_abs_effects.specs.declared.writes.AbsEffect.{AbsEffect}
-use Rattle.gb_abs_effects.specs.Pairs.{known_word, any_word, next_word, previous_word, word_sum, word_sum_flags, pair_halves, with_pair, with_indirect, stack_pair_halves, with_stack_pair}
+use Rattle.gb_abs_effects.specs.Pairs.{known_word, next_word, previous_word, word_sum, word_sum_flags, displaced_word, displaced_flags, pair_halves, pair_or_sp, with_pair, with_indirect, stack_pair_halves, with_stack_pair}
 use Rattle.gb_abs_effects.specs.Accesses.{hl_span, indirect_span, high_span}
 
 -- ---- parts
@@ -74,11 +73,11 @@ unfoldable pub apply_alu : AluOp → Operand → Core → Val → AbsEffect
 apply_alu how (operand.Register A) s low = update_a (alu_itself how s.registers.a s.flags) s
 apply_alu how from s low = update_a (alu how s.registers.a (operand_val from s low) s.flags) s
 
--- ADD HL
-abbrev pub add_hl : Pair → Core → AbsEffect
-add_hl which s =
+-- ADD HL; sp has the halves of SP
+abbrev pub add_hl : Pair → Halves → Core → AbsEffect
+add_hl which sp s =
     let hl = pair_halves pair.Hl s in
-    let added = pair_halves which s in
+    let added = pair_or_sp which sp s in
     quiet (with_flags (word_sum_flags hl added s.flags) (with_pair pair.Hl (word_sum hl added) s))
 
 abbrev pub enabled : ImeSet → ImeSet
@@ -89,11 +88,6 @@ only_off = record { off = true; pending = false; on = false }
 
 abbrev pub only_on : ImeSet
 only_on = record { off = false; pending = false; on = true }
-
--- the flags of sums with SP: Z and N clear, H and C either
-abbrev pub sp_sum_flags : Flg
-sp_sum_flags =
-    record { zero = known false; subtract = known false; half_carry = either; carry = either; is_own = false }
 
 -- ---- instructions
 
@@ -111,7 +105,7 @@ transfer (op.Decrement which) next sp s low high = update_operand which (decreme
 transfer (op.LoadImmediate to v) next sp s low high = store_operand to (single v) s
 transfer (op.RotateA how) next sp s low high = update_a (rotation_of_a how s.registers.a s.flags) s
 transfer (op.StoreSp w) next sp s low high = writes s (write.Word w sp.low sp.high)
-transfer (op.AddHl which) next sp s low high = add_hl which s
+transfer (op.AddHl which) next sp s low high = add_hl which sp s
 transfer op.DecimalAdjust next sp s low high = update_a (adjustment_of s.registers.a s.flags) s
 transfer op.Complement next sp s low high = update_a (complement s.registers.a s.flags) s
 transfer op.SetCarry next sp s low high = quiet (with_flags (set_carry s.flags) s)
@@ -132,8 +126,8 @@ transfer op.StoreHighC next sp s low high = writes s (write.Byte (high_span s) s
 transfer op.LoadHighC next sp s low high = quiet (core_set_register A low s)
 transfer (op.StoreAbsolute w) next sp s low high = writes s (write.Byte (one w) s.registers.a)
 transfer (op.LoadAbsolute w) next sp s low high = quiet (core_set_register A low s)
-transfer (op.AddSp e8) next sp s low high = quiet (with_flags sp_sum_flags s)
-transfer (op.LoadHlSp e8) next sp s low high = quiet (with_flags sp_sum_flags (with_pair pair.Hl any_word s))
+transfer (op.AddSp e8) next sp s low high = quiet (with_flags (displaced_flags sp e8) s)
+transfer (op.LoadHlSp e8) next sp s low high = quiet (with_flags (displaced_flags sp e8) (with_pair pair.Hl (displaced_word sp e8) s))
 transfer op.DisableInterrupts next sp s low high = quiet (with_ime only_off s)
 transfer op.EnableInterrupts next sp s low high = quiet (with_ime (enabled s.ime) s)
 transfer (op.Shift how which) next sp s low high = update_operand which (shift_of how (operand_val which s low) s.flags) s

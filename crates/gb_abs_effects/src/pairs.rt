@@ -7,7 +7,7 @@ use gb_domain::types::{Core, Flg, Halves, Val};
 use gb_ops::op::{Indirect, Pair, StackPair};
 use gb_vals::flags::{either, flags_of_val, flags_val, greatest_flags, known, known_flags};
 use gb_vals::vals::{any, between, is_single, single};
-use gb_vals::{arithmetic, word};
+use gb_vals::{arithmetic, displaced, word};
 
 /// A word that is known.
 pub(crate) fn known_word(word: u16) -> Halves
@@ -150,6 +150,36 @@ pub(crate) fn word_sum_flags(left: Halves, right: Halves, flags: Flg) -> Flg
     }
 }
 
+/// A word and a displacement, known where the word is.
+#[tactic(auto, unfolding(crate::specs::Pairs::displaced_word))]
+pub(crate) fn displaced_word(halves: Halves, e8: u8) -> Halves
+    ensures { result ≡ Pairs.displaced_word halves e8 }
+{
+    if is_word_known(halves) {
+        known_word(displaced(least_word(halves), e8))
+    } else {
+        any_word()
+    }
+}
+
+/// The flags of that: Z and N clear; H and C, which are of the low byte, known where the word is.
+#[tactic(auto, unfolding(crate::specs::Pairs::displaced_flags))]
+pub(crate) fn displaced_flags(halves: Halves, e8: u8) -> Flg
+    ensures { result ≡ Pairs.displaced_flags halves e8 }
+{
+    if is_word_known(halves) {
+        known_flags(arithmetic::sp_sum_flags(least_word(halves), e8))
+    } else {
+        Flg {
+            zero: known(false),
+            subtract: known(false),
+            half_carry: either(),
+            carry: either(),
+            is_own: false,
+        }
+    }
+}
+
 /// What a pair of a core holds; SP isn't part of one, so it is any word.
 #[tactic(auto, unfolding(crate::specs::Pairs::pair_halves))]
 pub(crate) fn pair_halves(pair: Pair, core: &Core) -> Halves
@@ -163,6 +193,17 @@ pub(crate) fn pair_halves(pair: Pair, core: &Core) -> Halves
         Pair::Sp => return any_word(),
     };
     Halves { high, low }
+}
+
+/// What a pair holds, where SP is known as one.
+#[tactic(auto, unfolding(crate::specs::Pairs::pair_or_sp))]
+pub(crate) fn pair_or_sp(pair: Pair, sp: Halves, core: &Core) -> Halves
+    ensures { result ≡ Pairs.pair_or_sp pair sp core.now }
+{
+    match pair {
+        Pair::Sp => sp,
+        _ => pair_halves(pair, core),
+    }
 }
 
 /// The core with another word in a pair.

@@ -6,8 +6,8 @@ ghost use Rattle.gb_abs_effects.specs.Transfer as Transfer;
 ghost use Rattle.gb_abs_effects.specs.Sound.{HasBytes, IsSoundTransfer, IsSoundUntaken, IsAbsEffect};
 
 use crate::pairs::{
-    any_word, known_word, next_word, pair_halves, previous_word, stack_pair_halves, with_indirect,
-    with_pair, with_stack_pair, word_sum, word_sum_flags,
+    displaced_flags, displaced_word, known_word, next_word, pair_halves, pair_or_sp, previous_word,
+    stack_pair_halves, with_indirect, with_pair, with_stack_pair, word_sum, word_sum_flags,
 };
 use crate::reads::{high_span, indirect_span};
 use crate::writes::{
@@ -22,7 +22,6 @@ use gb_vals::alu::{alu, alu_itself};
 use gb_vals::bits::{reset_bit, set_bit, test_bit};
 use gb_vals::carry::{complement_carry, set_carry};
 use gb_vals::daa::adjust;
-use gb_vals::flags::{either, known};
 use gb_vals::logic::complement;
 use gb_vals::shifts::{rotate_a, shift};
 use gb_vals::sums::{decrement, increment};
@@ -61,25 +60,12 @@ fn only_on() -> ImeSet
     }
 }
 
-/// The flags of a sum with SP.
-fn sp_sum_flags() -> Flg
-    ensures { result ≡ Transfer.sp_sum_flags }
-{
-    Flg {
-        zero: known(false),
-        subtract: known(false),
-        half_carry: either(),
-        carry: either(),
-        is_own: false,
-    }
-}
-
-/// ADD HL, of a pair of registers.
-fn add_hl(pair: Pair, core: &Core) -> AbsEffect
-    ensures { result ≡ Transfer.add_hl pair core.now }
+/// ADD HL, of a pair of registers or of SP, whose halves are given.
+fn add_hl(pair: Pair, sp: Halves, core: &Core) -> AbsEffect
+    ensures { result ≡ Transfer.add_hl pair sp core.now }
 {
     let hl = pair_halves(Pair::Hl, core);
-    let added = pair_halves(pair, core);
+    let added = pair_or_sp(pair, sp, core);
     let flags = word_sum_flags(hl, added, core.flags);
     quiet(with_flags(flags, &with_pair(Pair::Hl, word_sum(hl, added), core)))
 }
@@ -149,7 +135,7 @@ fn apply(op: Op, next: u16, sp: Halves, core: &Core, low: Val, high: Val) -> Abs
         Op::LoadImmediate(to, value) => store_operand(to, single(value), core),
         Op::RotateA(how) => update_a(rotate_a(how, a, flags), core),
         Op::StoreSp(address) => writes(*core, AbsWrite::Word(address, sp.low, sp.high)),
-        Op::AddHl(pair) => add_hl(pair, core),
+        Op::AddHl(pair) => add_hl(pair, sp, core),
         Op::DecimalAdjust => update_a(adjust(a, flags), core),
         Op::Complement => update_a(complement(a, flags), core),
         Op::SetCarry => quiet(with_flags(set_carry(flags), core)),
@@ -173,10 +159,10 @@ fn apply(op: Op, next: u16, sp: Halves, core: &Core, low: Val, high: Val) -> Abs
         Op::LoadHigh(_) | Op::LoadHighC | Op::LoadAbsolute(_) => {
             quiet(set_register(Register::A, low, core))
         }
-        Op::AddSp(_) => quiet(with_flags(sp_sum_flags(), core)),
-        Op::LoadHlSp(_) => {
-            let sum = with_pair(Pair::Hl, any_word(), core);
-            quiet(with_flags(sp_sum_flags(), &sum))
+        Op::AddSp(e8) => quiet(with_flags(displaced_flags(sp, e8), core)),
+        Op::LoadHlSp(e8) => {
+            let sum = with_pair(Pair::Hl, displaced_word(sp, e8), core);
+            quiet(with_flags(displaced_flags(sp, e8), &sum))
         }
         Op::DisableInterrupts => quiet(with_ime(only_off(), core)),
         Op::EnableInterrupts => quiet(with_ime(enabled(core.ime), core)),

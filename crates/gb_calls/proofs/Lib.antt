@@ -3,4 +3,5 @@ pub mod CalleeLaws
 pub mod RangeLaws
 pub mod CellLaws
 pub mod ResumingLaws
+pub mod TakenOverLaws
 pub mod Below

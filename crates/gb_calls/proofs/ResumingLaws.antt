@@ -25,11 +25,11 @@ use Rattle.gb_domain.specs.Types.{AbsState}
 use Rattle.gb_domain.specs.Limits.{cell_room}
 use Rattle.gb_domain.specs.Places.{no_byte}
 use Rattle.gb_domain.specs.Rules.{IsCore}
-use Rattle.gb_pairs.specs.Meaning.{AreBytes}
-use Rattle.gb_places.specs.Meaning.{HoldOneByte}
-use Rattle.gb_relations.specs.Compared.{only_of_a}
-use Rattle.gb_relations.proofs.ComparedLaws.{HoldOneByte-nothing, HoldOneByte-only_of_a}
-use Rattle.gb_relations.proofs.TransferLaws.{HoldPairs-nothing}
+use Rattle.gb_product.specs.Below.gb_pairs.Meaning.{AreBytes}
+use Rattle.gb_product.specs.Below.gb_places.Meaning.{HoldOneByte}
+use Rattle.gb_product.specs.Below.gb_relations.Compared.{only_of_a}
+use Rattle.gb_product.proofs.Below.gb_relations_laws.ComparedLaws.{HoldOneByte-nothing, HoldOneByte-only_of_a}
+use Rattle.gb_product.proofs.Below.gb_relations_laws.TransferLaws.{HoldPairs-nothing}
 use Rattle.gb_domain.specs.Areas.{IsRegion, meets}
 use Rattle.gb_abs.specs.Span.{one}
 use Rattle.gb_abs.specs.Covering.{covers_origin}

@@ -19,7 +19,7 @@ use Rattle.gb_domain.specs.Certificate.{Certificate}
 use Rattle.gb_abs.specs.Span.{one}
 use Rattle.gb_abs.specs.Covering.{covers_origin}
 use Rattle.gb_abs_memory.specs.Access.{is_range}
-use Rattle.gb_relations.specs.Compared.{only_of_a}
+use Rattle.gb_product.specs.Below.gb_relations.Compared.{only_of_a}
 use Rattle.gb_product.specs.Covering.{covers}
 
 -- ---- values

@@ -1,4 +1,5 @@
 pub mod Calls
 pub mod Interrupts
+pub mod TakenOver
 pub mod Sound
 pub mod Below

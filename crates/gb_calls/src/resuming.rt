@@ -13,7 +13,7 @@ use gb_domain::relations::Relations;
 use gb_domain::types::{Abs, Core, Origin, Range, Rules, Val};
 use gb_ops::op::Register;
 use gb_ops::registers::Registers;
-use gb_relations::compared::only_of_a;
+use gb_product::only_of_a;
 
 /// Whether a value is what this held at entry.
 fn is_own(origin: Origin, val: Val) -> bool

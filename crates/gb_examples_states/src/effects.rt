@@ -240,6 +240,31 @@ fn sums_with_sp_are_any(rt: HostRuntime) {
     );
 }
 
+/// An instruction where SP is DFED, HL before it and after it, H and the carry.
+const WITH_SP: [(Op, u16, u16, May, May); 5] = [
+    (Op::LoadHlSp(0x05), 0x1234, 0xDFF2, SET, CLEAR),
+    (Op::LoadHlSp(0xFE), 0x1234, 0xDFEB, SET, SET),
+    (Op::AddSp(0x12), 0x1234, 0x1234, CLEAR, CLEAR),
+    (Op::AddSp(0x13), 0x1234, 0x1234, SET, SET),
+    (Op::AddHl(Pair::Sp), 0x2013, 0x0000, SET, SET),
+];
+
+/// Where SP is known, its sums and their flags are.
+#[test]
+fn sums_with_known_sp_are_exact(rt: HostRuntime) {
+    let sp = Halves {
+        high: single(0xDF),
+        low: single(0xED),
+    };
+    for (op, before, hl, half_carry, carry) in WITH_SP {
+        let mut core = with_word(before);
+        core.flags.zero = CLEAR;
+        let want = summed(core, with_word(hl), flags(CLEAR, half_carry, carry));
+        let left = transfer(op, NEXT, sp, &core, ANY, ANY);
+        assert!(rt; left.core == want, "{hl}");
+    }
+}
+
 #[test]
 fn pushes(rt: HostRuntime) {
     let mut core = entered();

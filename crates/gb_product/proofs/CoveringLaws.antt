@@ -10,12 +10,12 @@ use Rattle.gb_domain.specs.declared.pairs.WordPair.{WordPair}
 use Rattle.gb_domain.specs.declared.relations.Relations.{Relations}
 use Rattle.gb_domain.specs.declared.types.Val.{Val}
 use Rattle.gb_domain.specs.Types.{AbsState}
-use Rattle.gb_vals.specs.Meaning.{In}
+use Rattle.gb_abs.specs.Below.gb_vals.Meaning.{In}
 use Rattle.gb_abs.proofs.CoveringLaws.{MeansParts-covered}
 use Rattle.gb_abs_effects.proofs.CoreLaws.{In-from}
-use Rattle.gb_pairs.proofs.RegisterLaws.{same_pair}
-use Rattle.gb_pairs.proofs.CoveringLaws.{covers_pairs_sound}
-use Rattle.gb_places.proofs.CoveringLaws.{covers_byte_sound}
+use Rattle.gb_relations.proofs.Below.gb_pairs_laws.RegisterLaws.{same_pair}
+use Rattle.gb_relations.proofs.Below.gb_pairs_laws.CoveringLaws.{covers_pairs_sound}
+use Rattle.gb_relations.proofs.Below.gb_places_laws.CoveringLaws.{covers_byte_sound}
 use Rattle.gb_relations.specs.Meaning.{IsZero, HoldRelations}
 use Rattle.gb_relations.specs.Transfer.{values_of}
 use Rattle.gb_product.specs.Meaning.{Means}

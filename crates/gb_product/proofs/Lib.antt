@@ -1,3 +1,4 @@
 pub mod MeaningLaws
 pub mod CoveringLaws
 pub mod SideLaws
+pub mod Below

@@ -3,7 +3,7 @@ use Rattle.std.proofs.Common.{ℕ}
 use Rattle.gb_ops.specs.declared.registers.Registers.{Registers}
 use Rattle.gb_ops.specs.declared.registers.Flags.{Flags}
 use Rattle.gb_domain.specs.Relations.{no_relations}
-use Rattle.gb_pairs.specs.Meaning.{AreBytes}
+use Rattle.gb_relations.specs.Below.gb_pairs.Meaning.{AreBytes}
 use Rattle.gb_relations.specs.Meaning.{HoldRelations}
 use Rattle.gb_relations.proofs.ComparedLaws.{HoldOneByte-nothing}
 use Rattle.gb_relations.proofs.TransferLaws.{HoldPairs-nothing}

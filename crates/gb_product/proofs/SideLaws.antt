@@ -16,7 +16,7 @@ use Rattle.gb_domain.specs.declared.types.Core.{Core}
 use Rattle.gb_domain.specs.declared.types.Cell.{Cell}
 use Rattle.gb_domain.specs.Rules.{IsVal, IsCore}
 use Rattle.gb_domain.specs.Types.{AbsState}
-use Rattle.gb_vals.specs.Meaning.{In}
+use Rattle.gb_abs.specs.Below.gb_vals.Meaning.{In}
 use Rattle.gb_abs.specs.Meaning.{Holds, MeansCore, IsMemory}
 use Rattle.gb_abs.specs.Covering.{cell_at}
 use Rattle.gb_abs.specs.Storage.{peek}
@@ -26,11 +26,11 @@ use Rattle.gb_abs_effects.specs.Sides as Flags
 use Rattle.gb_abs_effects.specs.Sound.{side_by, IsMeant, AreSides}
 use Rattle.gb_abs_effects.proofs.CoreLaws.{some-is, In-from, MeansCore-changed, IsCore-changed}
 use Rattle.gb_abs_effects.proofs.SideLaws as flag_sides
-use Rattle.gb_places.specs.declared.sides.Contents.{Contents}
-use Rattle.gb_places.specs.Sides.{narrowed}
-use Rattle.gb_places.specs.Meaning.{HoldOneByte}
-use Rattle.gb_places.specs.Sound.{HoldContents, HoldContentsIn, IsCut}
-use Rattle.gb_places.proofs.SideLaws.{narrowed_sound, narrowed_cuts}
+use Rattle.gb_relations.specs.Below.gb_places.declared.sides.Contents.{Contents}
+use Rattle.gb_relations.specs.Below.gb_places.Sides.{narrowed}
+use Rattle.gb_relations.specs.Below.gb_places.Meaning.{HoldOneByte}
+use Rattle.gb_relations.specs.Below.gb_places.Sound.{HoldContents, HoldContentsIn, IsCut}
+use Rattle.gb_relations.proofs.Below.gb_places_laws.SideLaws.{narrowed_sound, narrowed_cuts}
 use Rattle.gb_product.specs.Sides.{memory_of, contents_of, with_contents_if, narrowed_core, narrowed_if, narrowed_by, sides_of}
 use Rattle.gb_product.specs.Sound.{IsKnown, AreSoundSides}
 

@@ -6,9 +6,9 @@ use Rattle.gb_domain.specs.declared.relations.Relations.{Relations}
 use Rattle.gb_domain.specs.declared.types.Val.{Val}
 use Rattle.gb_domain.specs.Types.{AbsState}
 use Rattle.gb_abs.specs.Covering.{covers_parts}
-use Rattle.gb_pairs.specs.Covering.{covers_pairs}
-use Rattle.gb_pairs.specs.Written as Pairs
-use Rattle.gb_places.specs.Covering.{covers_byte}
+use Rattle.gb_relations.specs.Below.gb_pairs.Covering.{covers_pairs}
+use Rattle.gb_relations.specs.Below.gb_pairs.Written as Pairs
+use Rattle.gb_relations.specs.Below.gb_places.Covering.{covers_byte}
 use Rattle.gb_relations.specs.Transfer.{values_of}
 
 abbrev pub is_same_pair : WordPair → WordPair → Bool

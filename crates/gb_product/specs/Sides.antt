@@ -10,8 +10,8 @@ use Rattle.gb_domain.specs.Types.{AbsState, any_val}
 use Rattle.gb_abs.specs.Covering.{cell_at}
 use Rattle.gb_abs_effects.specs.declared.sides.Sides.{Sides}
 use Rattle.gb_abs_effects.specs.Sides as Flags
-use Rattle.gb_places.specs.declared.sides.Contents.{Contents}
-use Rattle.gb_places.specs.Sides.{narrowed}
+use Rattle.gb_relations.specs.Below.gb_places.declared.sides.Contents.{Contents}
+use Rattle.gb_relations.specs.Below.gb_places.Sides.{narrowed}
 
 -- what is known of the byte at the address among the places, if there is one
 abbrev pub memory_of : Option ℕ → List Cell → Val

@@ -9,9 +9,7 @@ use gb_domain::pairs::WordPair;
 use gb_domain::relations::Relations;
 use gb_domain::types::{Abs, Val};
 use gb_ops::registers::Registers;
-use gb_pairs::covering::covers_pairs;
-use gb_pairs::values::Values;
-use gb_places::covering::covers_byte;
+use gb_relations::{Values, covers_byte, covers_pairs};
 
 fn is_same_pair(s: WordPair, t: WordPair) -> bool
     ensures { result ≡ Covering.is_same_pair s t }

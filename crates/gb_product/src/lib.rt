@@ -7,3 +7,7 @@
 
 pub mod covering;
 pub mod sides;
+
+// What lies below, for the crates above.
+pub use gb_relations::compared::only_of_a;
+pub use gb_relations::transfer::relations_after;

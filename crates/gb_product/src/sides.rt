@@ -11,7 +11,7 @@ use gb_abs::covering::cell_at;
 use gb_abs_effects::sides::{Sides, condition_of, opposite};
 use gb_domain::types::{Abs, Cell, Core, Val};
 use gb_ops::op::{Condition, Op};
-use gb_places::sides::{Contents, narrowed};
+use gb_relations::{Contents, narrowed};
 
 /// What is known of the byte at the address among the places, if there is one.
 fn memory_of(address: Option<u16>, cells: &[Cell]) -> Val

@@ -9,3 +9,5 @@ pub mod FreeLaws
 pub mod ZeroLaws
 pub mod PairLaws
 pub mod TransferLaws
+pub mod ReturnLaws
+pub mod Below

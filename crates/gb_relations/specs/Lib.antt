@@ -5,4 +5,6 @@ pub mod Pairs
 pub mod Bytes
 pub mod Compared
 pub mod Transfer
+pub mod Returned
 pub mod Sound
+pub mod Below

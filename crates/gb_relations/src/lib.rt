@@ -11,5 +11,12 @@ mod bytes;
 pub mod compared;
 mod pairs;
 mod places;
+pub mod returned;
 pub mod transfer;
 mod written;
+
+// What lies below, for the crates above.
+pub use gb_pairs::covering::covers_pairs;
+pub use gb_pairs::values::Values;
+pub use gb_places::covering::covers_byte;
+pub use gb_places::sides::{Contents, narrowed};

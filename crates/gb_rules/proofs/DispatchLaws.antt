@@ -28,7 +28,7 @@ use Rattle.gb_domain.specs.Limits.{rules_of}
 use Rattle.gb_domain.specs.Types.{any_val}
 use Rattle.gb_abs.specs.Cells.{IsPlaced}
 use Rattle.gb_abs.proofs.StorageLaws.{placed_in_ram}
-use Rattle.gb_relations.specs.Meaning.{HoldRelations}
+use Rattle.gb_product.specs.Below.gb_relations.Meaning.{HoldRelations}
 use Rattle.gb_domain.specs.Types.{AbsState, Node}
 use Rattle.gb_domain.specs.Certificate.{Certificate}
 use Rattle.gb_states.specs.Rules.{IsCertificate}

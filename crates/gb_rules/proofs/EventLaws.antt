@@ -34,7 +34,7 @@ use Rattle.gb_ops.specs.declared.machine.Mapped.TheVariants as mapped
 use Rattle.gb_ops.specs.Registers.{get}
 use Rattle.gb_product.specs.Meaning.{Means}
 use Rattle.gb_abs.specs.Meaning.{Holds, HoldsFlags, HoldsController, ime_may_be, MeansParts}
-use Rattle.gb_relations.specs.Meaning.{HoldRelations}
+use Rattle.gb_product.specs.Below.gb_relations.Meaning.{HoldRelations}
 use Rattle.gb_successors.proofs.RelatedLaws.{HoldRelations-same}
 use Rattle.gb_abs.specs.Storage.{peek}
 use Rattle.gb_abs.proofs.OperationLaws.{counted}

@@ -33,7 +33,7 @@ use Rattle.gb_abs_effects.specs.Accesses.{hl_span, indirect_span, high_span, ope
 use Rattle.gb_abs_effects.specs.Pairs.{is_word_known, pair_halves, with_pair, with_indirect, with_stack_pair}
 use Rattle.gb_abs_effects.specs.Sides.{with_flags_if, side_of}
 use Rattle.gb_abs_effects.specs.Sides as Flags
-use Rattle.gb_places.specs.declared.sides.Contents.{Contents}
+use Rattle.gb_product.specs.Below.gb_places.declared.sides.Contents.{Contents}
 use Rattle.gb_product.specs.Sides.{with_contents_if, narrowed_core, narrowed_if, narrowed_by, sides_of}
 use Rattle.gb_abs_effects.specs.declared.targets.Target.{Target}
 use Rattle.gb_abs_effects.specs.declared.targets.Target.TheVariants as target

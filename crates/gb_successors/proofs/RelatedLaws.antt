@@ -20,9 +20,8 @@ use Rattle.gb_domain.specs.declared.types.Val.{Val}
 use Rattle.gb_domain.specs.declared.types.Core.{Core}
 use Rattle.gb_domain.specs.declared.types.Range.{Range}
 use Rattle.gb_domain.specs.Types.{AbsState}
-use Rattle.gb_domain.specs.Pairs.{any_bounds}
 use Rattle.gb_domain.specs.Rules.{IsCore}
-use Rattle.gb_abs.specs.Located.{sp_halves}
+use Rattle.gb_abs.specs.Located.{sp_halves, sp_bounds}
 use Rattle.gb_abs.specs.Operations.{core_end, with_core}
 use Rattle.gb_abs.specs.Span.{one}
 use Rattle.gb_abs.specs.Stack.{pushed, popped}
@@ -37,14 +36,14 @@ use Rattle.gb_abs_effects.specs.Sound.{IsWrite}
 use Rattle.gb_abs_effects.proofs.RangeLaws.{transfer_inhabited}
 use Rattle.gb_abs_memory.specs.Access.{stored_state}
 use Rattle.gb_abs_memory.proofs.AfterStoreLaws.{IsCore-stored_state}
-use Rattle.gb_pairs.specs.Meaning.{AreBytes}
-use Rattle.gb_places.specs.Meaning.{HoldOneByte}
-use Rattle.gb_relations.specs.Meaning.{HoldRelations}
-use Rattle.gb_relations.specs.Compared.{compared_after}
-use Rattle.gb_relations.specs.Transfer.{relations_after}
-use Rattle.gb_relations.specs.Sound as relations
-use Rattle.gb_relations.proofs.ComparedLaws.{HoldOneByte-compared_after}
-use Rattle.gb_relations.proofs.TransferLaws.{HoldPairs-nothing}
+use Rattle.gb_product.specs.Below.gb_pairs.Meaning.{AreBytes}
+use Rattle.gb_product.specs.Below.gb_places.Meaning.{HoldOneByte}
+use Rattle.gb_product.specs.Below.gb_relations.Meaning.{HoldRelations}
+use Rattle.gb_product.specs.Below.gb_relations.Compared.{compared_after}
+use Rattle.gb_product.specs.Below.gb_relations.Transfer.{relations_after}
+use Rattle.gb_product.specs.Below.gb_relations.Sound as relations
+use Rattle.gb_product.proofs.Below.gb_relations_laws.ComparedLaws.{HoldOneByte-compared_after}
+use Rattle.gb_product.proofs.Below.gb_relations_laws.TransferLaws.{HoldPairs-nothing}
 use Rattle.gb_product.specs.Meaning.{AreRelated}
 use Rattle.gb_abs_effects.specs.Accesses.{read_of}
 use Rattle.gb_successors.specs.Behind.{behind, read_word, written, starts, pushed_if_room, with_stack_of, ended, with_relations}
@@ -184,8 +183,8 @@ related_taken z rom region ranges row a s entry base x reads c w k known led =
     HoldOneByte-compared_after row.op s.relations.byte (begun row x).processor (peek x.storage) (peek (left_by rom x e row.cycles).storage)
     (given rom row x reads).low (given rom row x reads).high (has_operands row.op k.ruled.operands) (AreBytes-core c entry (begun row x) k.core k.means) before.byte in
     let low : Val = (read_word z rom (with_core s c) (read_of row.op c)).low in
-    subst (λ (v : MState). AreRelated (relations_after z.rules region row.op any_bounds c.registers low s.relations) v) (sym is)
-    (by_rules z.rules region row.op any_bounds c.registers low s.relations _ _ _ k.stands.rules byte (subst (λ (v : MState). AreBytes v.processor.registers) is bytes))
+    subst (λ (v : MState). AreRelated (relations_after z.rules region row.op (sp_bounds z s) c.registers low s.relations) v) (sym is)
+    (by_rules z.rules region row.op (sp_bounds z s) c.registers low s.relations _ _ _ k.stands.rules byte (subst (λ (v : MState). AreBytes v.processor.registers) is bytes))
 
 pub Leads-taken :
     (z : Setting) (rom : List ℕ) (region : Region) (ranges : List Range) (row : Row) (a : ℕ) (s : AbsState) (entry : MState) (base : ℕ) (x : MState) (reads : List ℕ) (c : Core)

@@ -38,12 +38,12 @@ use Rattle.gb_abs_effects.specs.Transfer.{transfer, untaken}
 use Rattle.gb_abs_effects.specs.Sound.{IsMeant, side_by}
 use Rattle.gb_abs_effects.proofs.TransferLaws.{untaken_sound}
 use Rattle.gb_abs_memory.specs.Sound.{view}
-use Rattle.gb_pairs.specs.Meaning.{AreBytes}
-use Rattle.gb_places.specs.Meaning.{HoldOneByte}
-use Rattle.gb_relations.specs.Compared.{comparison_of, writes_a, compared_after}
-use Rattle.gb_relations.specs.Written.{writes_flags}
-use Rattle.gb_relations.specs.Written.{written as written_registers}
-use Rattle.gb_relations.proofs.ComparedLaws.{HoldOneByte-only_of_a}
+use Rattle.gb_product.specs.Below.gb_pairs.Meaning.{AreBytes}
+use Rattle.gb_product.specs.Below.gb_places.Meaning.{HoldOneByte}
+use Rattle.gb_product.specs.Below.gb_relations.Compared.{comparison_of, writes_a, compared_after}
+use Rattle.gb_product.specs.Below.gb_relations.Written.{writes_flags}
+use Rattle.gb_product.specs.Below.gb_relations.Written.{written as written_registers}
+use Rattle.gb_product.proofs.Below.gb_relations_laws.ComparedLaws.{HoldOneByte-only_of_a}
 use Rattle.gb_product.specs.Meaning.{AreRelated}
 use Rattle.gb_product.specs.Sides.{narrowed_by, sides_of}
 use Rattle.gb_product.proofs.SideLaws.{sides_of_sound, sides_of_inhabited}

@@ -8,10 +8,9 @@ use Rattle.gb_ops.specs.Cartridge.{kind_of}
 use Rattle.gb_domain.specs.declared.relations.Relations.{Relations}
 use Rattle.gb_domain.specs.declared.setting.Setting.{Setting}
 use Rattle.gb_domain.specs.declared.types.Core.{Core}
-use Rattle.gb_domain.specs.Pairs.{any_bounds}
 use Rattle.gb_domain.specs.Types.{AbsState}
 use Rattle.gb_abs.specs.Below.gb_vals.Bits.{may_enable}
-use Rattle.gb_abs.specs.Located.{sp_halves}
+use Rattle.gb_abs.specs.Located.{sp_halves, sp_bounds}
 use Rattle.gb_abs.specs.Operations.{core_settle, with_core}
 use Rattle.gb_abs_effects.specs.declared.reads.AbsRead.TheVariants as read
 use Rattle.gb_abs_effects.specs.declared.writes.AbsWrite.TheVariants as write
@@ -22,7 +21,7 @@ use Rattle.gb_abs_effects.specs.Transfer.{transfer, only_on}
 use Rattle.gb_successors.specs.Way.{Successor}
 use Rattle.gb_successors.specs.declared.successors.Successors.{Successors}
 use Rattle.gb_product.specs.Sides.{sides_of}
-use Rattle.gb_relations.specs.Transfer.{relations_after}
+use Rattle.gb_product.specs.Below.gb_relations.Transfer.{relations_after}
 use Rattle.gb_successors.specs.Behind.{read_word, written, starts, with_stack_of, ended, with_relations}
 
 -- ---- successors
@@ -48,7 +47,7 @@ related_successor r t = record t { state = with_relations r t.state }
 -- what is known together behind it
 unfoldable pub relations_behind : Setting → List ℕ → Region → Op → AbsState → Core → Relations
 relations_behind z rom region o s core =
-    relations_after z.rules region o any_bounds core.registers (read_word z rom (with_core s core) (read_of o core)).low s.relations
+    relations_after z.rules region o (sp_bounds z s) core.registers (read_word z rom (with_core s core) (read_of o core)).low s.relations
 
 -- all of it
 unfoldable pub taken_successor : Setting → List ℕ → Region → Row → ℕ → AbsState → Core → Successor

@@ -9,7 +9,7 @@ ghost use Rattle.gb_successors.specs.Words.{word_or_any};
 
 pub use crate::way::{Moved, Successor};
 use gb_abs::any;
-use gb_abs::located::sp_halves;
+use gb_abs::located::{sp_bounds, sp_halves};
 use gb_abs::operations::end;
 use gb_abs::span::Span;
 use gb_abs_effects::pairs::any_word;
@@ -20,11 +20,10 @@ use gb_abs_effects::writes::AbsWrite;
 use gb_abs_memory::Rom;
 use gb_abs_memory::load::loaded_by;
 use gb_abs_memory::store::{Area, area_of, starts_oam_transfer, stored_core};
-use gb_domain::pairs::ANY_BOUNDS;
 use gb_domain::types::{Abs, Core, Halves, ImeSet, Setting};
 use gb_ops::machine::{Kind, Region};
 use gb_ops::op::{Op, Pair, Row};
-use gb_relations::transfer::relations_after;
+use gb_product::relations_after;
 
 /// The word that was pushed last, as far as it is known.
 #[tactic(auto, using(crate::proofs::WordLaws::top_word_is, crate::proofs::WordLaws::no_word_is))]
@@ -185,7 +184,7 @@ pub(crate) fn taken_successor<'a>(
             setting.rules,
             region,
             row.op,
-            ANY_BOUNDS,
+            sp_bounds(setting, state),
             &core.registers,
             word.low,
             state.relations(),

@@ -11,6 +11,7 @@ returns c =
       c.core_behind.ensures,
       taken_state c.args.setting c.kind-kind.result c.args.row.op c.transfer-effect.result.write c.args.row.cycles c.args.state.now c.transfer-effect.result.core c.relations_after.result,
       c.relations_after.ensures.exact,
+      c.sp_bounds.ensures.exact,
       c.relations.ensures,
       c.target_of.ensures.exact,
       c.transfer-effect.ensures.exact,

@@ -1,0 +1,112 @@
+-- Items that change hands stand for the same bytes.
+use Rattle.std.proofs.Common.{◌≡◌, ℕ, zero, suc, ◌+◌, ◌-◌, ◌≤◌, ◌<◌, true, List, [], ◌∷◌, ◌++◌, length, map, take, drop, Option, Some, refl, sym, ◌∙◌, ap, subst, arith, length-drop}
+use Rattle.std.proofs.lemmas.List.{take-append-drop, length-append, length-map, length-take-le}
+use Rattle.std.proofs.lemmas.Option.{same_Some}
+use Rattle.gb_ops.specs.Memory.{Storage}
+use Rattle.gb_ops.specs.Play.{MState}
+use Rattle.gb_domain.specs.declared.types.Origin.{Origin}
+use Rattle.gb_domain.specs.declared.types.Origin.TheVariants.{ReturnHigh, ReturnLow}
+use Rattle.gb_domain.specs.declared.types.Val.{Val}
+use Rattle.gb_domain.specs.Types.{AbsState}
+use Rattle.gb_abs.specs.Meaning.{Holds, AreItems, MeansParts, origin_value}
+use Rattle.gb_abs.specs.Storage.{peek}
+use Rattle.gb_abs.proofs.StorageLaws.{AreItems-same}
+use Rattle.gb_calls.specs.Calls.{own, without_origin}
+use Rattle.gb_calls.specs.TakenOver.{newest, waiting, returning, taken_over, base_below, given_back_items}
+use Rattle.gb_calls.proofs.EnteringLaws.{Holds-without_origin}
+
+-- ---- two lists end to end
+
+AreItems-left : (xs ys : List Val) (entry : MState) (top : ℕ) (s : Storage) → AreItems (xs ++ ys) entry top s → AreItems xs entry top s
+AreItems-left [] ys entry top s h = tt
+AreItems-left (x ∷ xs) ys entry top s h = (h.0, AreItems-left xs ys entry (top - 1) s h.1)
+
+AreItems-right : (xs ys : List Val) (entry : MState) (top : ℕ) (s : Storage) → AreItems (xs ++ ys) entry top s → AreItems ys entry (top - length xs) s
+AreItems-right [] ys entry top s h = let e : top ≡ top - 0 = omega arith in subst (λ n. AreItems ys entry n s) e h
+AreItems-right (x ∷ xs) ys entry top s h =
+    let e : top - 1 - length xs ≡ top - suc (length xs) = omega arith in subst (λ n. AreItems ys entry n s) e (AreItems-right xs ys entry (top - 1) s h.1)
+
+AreItems-both : (xs ys : List Val) (entry : MState) (top : ℕ) (s : Storage) → AreItems xs entry top s → AreItems ys entry (top - length xs) s → AreItems (xs ++ ys) entry top s
+AreItems-both [] ys entry top s h k = let e : top - 0 ≡ top = omega arith in subst (λ n. AreItems ys entry n s) e k
+AreItems-both (x ∷ xs) ys entry top s h k =
+    let e : top - suc (length xs) ≡ top - 1 - length xs = omega arith in
+    (h.0, AreItems-both xs ys entry (top - 1) s h.1 (subst (λ n. AreItems ys entry n s) e k))
+
+-- whatever they are relative to, where they are no copies
+AreItems-without_origins : (items : List Val) (entry other : MState) (top : ℕ) (s : Storage) → AreItems items entry top s → AreItems (map without_origin items) other top s
+AreItems-without_origins [] entry other top s h = tt
+AreItems-without_origins (v ∷ items) entry other top s h =
+    (Holds-without_origin v entry other (peek s (top - 1)) h.0, AreItems-without_origins items entry other (top - 1) s h.1)
+
+-- ---- put on: the callee's items are the caller's newest
+
+Holds-own : (o : Origin) (v : Val) (entry other : MState) (n : ℕ) → Holds v entry n → n ≡ origin_value o other → Holds (own o v) other n
+Holds-own o v entry other n h e =
+    record { least = h.least; most = h.most; origin = λ q is. let same : o ≡ q = same_Some _ _ is in e ∙ ap (λ p. origin_value p other) same }
+
+-- the last two are the bytes at SP
+AreItems-returning : (items : List Val) (entry s : MState) (top : ℕ) → s.processor.sp + length items ≡ top → AreItems items entry top s.storage → AreItems (returning items) s top s.storage
+AreItems-returning [] entry s top e h = tt
+AreItems-returning (low ∷ []) entry s top e h =
+    let at : top - 1 ≡ s.processor.sp = omega arith in (Holds-own ReturnLow low entry s _ h.0 (ap (peek s.storage) at), tt)
+AreItems-returning (high ∷ low ∷ []) entry s top e h =
+    let above : top - 1 ≡ s.processor.sp + 1 = omega arith in
+    let at : top - 1 - 1 ≡ s.processor.sp = omega arith in
+    (Holds-own ReturnHigh high entry s _ h.0 (ap (peek s.storage) above), (Holds-own ReturnLow low entry s _ h.1.0 (ap (peek s.storage) at), tt))
+AreItems-returning (v ∷ w ∷ u ∷ rest) entry s top e h =
+    (Holds-without_origin v entry s _ h.0, AreItems-returning (w ∷ u ∷ rest) entry s (top - 1) (omega arith) h.1)
+
+-- a list in its two parts
+two_parts : (k : ℕ) (items : List Val) → waiting k items ++ newest k items ≡ items
+two_parts k items = take-append-drop (length items - k) items
+
+parted : (k : ℕ) (items : List Val) (entry : MState) (top : ℕ) (s : Storage) → AreItems items entry top s → AreItems (waiting k items ++ newest k items) entry top s
+parted k items entry top s h = subst (λ (xs : List Val). AreItems xs entry top s) (sym (two_parts k items)) h
+
+waiting-length : (k : ℕ) (items : List Val) → length (waiting k items) ≡ length items - k
+waiting-length k items = length-take-le (length items - k) items (omega arith)
+
+-- what a caller's state means as its callee is entered, the callee's base and items mean too
+pub taken_over-items :
+    (k : ℕ) (state : AbsState) (entry : MState) (base : ℕ) (s : MState)
+    → k ≤ length state.items → state.core.stack_set ≡ true → MeansParts state entry base s
+    → AreItems (taken_over k state.items) s (base_below k state.items base) s.storage
+unfolding taken_over
+taken_over-items k state entry base s few set m =
+    let whole : AreItems (waiting k state.items ++ newest k state.items) entry base s.storage = parted k state.items entry base s.storage m.items in
+    let right = AreItems-right (waiting k state.items) (newest k state.items) entry base s.storage whole in
+    let newer : AreItems (newest k state.items) entry (base_below k state.items base) s.storage =
+    subst (λ n. AreItems (newest k state.items) entry (base - n) s.storage) (waiting-length k state.items) right in
+    AreItems-returning (newest k state.items) entry s _ (pointer k state.items s.processor.sp base few (m.stack set)) newer
+  where
+    pointer : (k : ℕ) (items : List Val) (sp base : ℕ) → k ≤ length items → sp + length items ≡ base → sp + length (newest k items) ≡ base_below k items base
+    pointer k items sp base few e = let n = length-drop (length items - k) items in omega arith
+
+-- ---- taken off: nobody has written at or above the callee's base, so the caller's waiting items stand
+
+pub given_back-items :
+    (k : ℕ) (items exit : List Val) (entry callee : MState) (base : ℕ) (s t : Storage)
+    → k ≤ length items → length items ≤ base → AreItems items entry base s
+    → ((b : ℕ) → base_below k items base ≤ b → b < base → peek t b ≡ peek s b)
+    → AreItems exit callee (base_below k items base) t → AreItems (given_back_items k items exit) entry base t
+unfolding given_back_items
+given_back-items k items exit entry callee base s t few room held same left =
+    let whole : AreItems (waiting k items ++ newest k items) entry base s = parted k items entry base s held in
+    let before : AreItems (waiting k items) entry base s = AreItems-left (waiting k items) (newest k items) entry base s whole in
+    let count = waiting-length k items in
+    let now : AreItems (waiting k items) entry base t = AreItems-same (waiting k items) entry (base_below k items base) base s t (bounded k items base count room) same before in
+    let exits : AreItems (map without_origin exit) entry (base_below k items base) t = AreItems-without_origins exit callee entry (base_below k items base) t left in
+    AreItems-both (waiting k items) (map without_origin exit) entry base t now (subst (λ n. AreItems (map without_origin exit) entry (base - n) t) (sym count) exits)
+  where
+    bounded : (k : ℕ) (items : List Val) (base : ℕ) → length (waiting k items) ≡ length items - k → length items ≤ base → base_below k items base + length (waiting k items) ≤ base
+    bounded k items base count room = omega arith
+
+-- SP as the caller goes on: base less what it holds then
+pub given_back-pointer : (k : ℕ) (items exit : List Val) (base sp : ℕ) → k ≤ length items → length items ≤ base → sp + length exit ≡ base_below k items base
+    → sp + length (given_back_items k items exit) ≡ base
+unfolding given_back_items
+given_back-pointer k items exit base sp few room e =
+    let count = waiting-length k items in
+    let all = length-append (waiting k items) (map without_origin exit) in
+    let exits = length-map exit without_origin in
+    omega arith
