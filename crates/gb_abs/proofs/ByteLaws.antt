@@ -1,6 +1,6 @@
--- Bytes of the stack, taken off and put on: what the machine's stack holds then.
+-- Bytes of the stack, taken off and put on, and what is held of them where SP is set: what the machine's stack holds then.
 use Rattle.std.proofs.Common.{◌≡◌, ℕ, zero, suc, ◌+◌, ◌-◌, ◌%◌, ◌≤◌, ◌<◌, Bool, true, false, nat_lt, cond, List, [], ◌∷◌, ◌++◌, length, take, replicate, Option, Some, None, refl, sym, ap, subst, arith, length-append, length-take-le}
-use Rattle.std.proofs.lemmas.List.{length-replicate}
+use Rattle.std.proofs.lemmas.List.{length-replicate, length-take}
 use Rattle.std.specs.Prelude.{IfSome}
 use Rattle.std.proofs.lemmas.Bool.Decides.{nat_tests}
 use Rattle.gb_ops.specs.declared.machine.Region.{Region}
@@ -8,12 +8,13 @@ use Rattle.gb_ops.specs.Effects.{with_sp}
 use Rattle.gb_ops.specs.Memory.{Storage}
 use Rattle.gb_ops.specs.Play.{MState}
 use Rattle.gb_domain.specs.declared.types.Val.{Val}
+use Rattle.gb_domain.specs.declared.types.Core.{Core}
 use Rattle.gb_domain.specs.Types.{AbsState}
 use Rattle.gb_domain.specs.Areas.{IsRegion}
 use Rattle.gb_vals.specs.Vals.{any_val}
-use Rattle.gb_abs.specs.Meaning.{AreItems, MeansParts, IsMemory}
+use Rattle.gb_abs.specs.Meaning.{AreItems, MeansCore, MeansParts, IsMemory}
 use Rattle.gb_abs.specs.Stack.{AreInRegion}
-use Rattle.gb_abs.specs.Bytes.{without_newest, with_any_bytes, IsSoundTaking, IsSoundAppending}
+use Rattle.gb_abs.specs.Bytes.{without_newest, with_any_bytes, resized, IsSoundTaking, IsSoundAppending, IsSoundResizing}
 use Rattle.gb_abs.proofs.CoveringLaws.{Holds-any}
 use Rattle.gb_abs.proofs.StackLaws.{MeansCore-sp}
 
@@ -26,6 +27,13 @@ replicate-next (suc c) h = let e : suc c - 1 ≡ c = omega arith in rw e refl
 pub appended_any : (xs : List Val) (c : ℕ) → 0 < c → (xs ++ any_val ∷ []) ++ replicate (c - 1) any_val ≡ xs ++ replicate c any_val
 appended_any [] c h = replicate-next c h
 appended_any (x ∷ xs) c h = ap (λ ys. x ∷ ys) (appended_any xs c h)
+
+length-taken : (n : ℕ) (xs : List Val) → n - length (take n xs) ≡ n - length xs
+length-taken n xs = let kept = length-take n xs in grind (arith, nat_tests)
+
+pub resized_items :
+    (n : ℕ) (xs : List Val) → take n xs ++ replicate (n - length (take n xs)) any_val ≡ take n xs ++ replicate (n - length xs) any_val
+resized_items n xs = ap (λ c. take n xs ++ replicate c any_val) (length-taken n xs)
 
 -- ---- items
 
@@ -89,6 +97,45 @@ MeansParts-with_any_bytes k s region entry base x m set room r =
       cells = m.cells;
     }
 
+MeansCore-set : (core : Core) (entry x : MState) → MeansCore core entry x → MeansCore (record core { stack_set = true }) entry x
+MeansCore-set core entry x m =
+    record {
+      registers = m.registers;
+      flags = m.flags;
+      ie = m.ie;
+      ime = m.ime;
+      controller = m.controller;
+      count = m.count;
+      locked = m.locked;
+      stopped = m.stopped;
+    }
+
+length-resized : (n : ℕ) (items : List Val) → length (take n items ++ replicate (n - length items) any_val) ≡ n
+length-resized n items =
+    let whole = length-append (take n items) (replicate (n - length items) any_val) in
+    let more = length-replicate (n - length items) any_val in
+    let kept = length-take n items in
+    grind (arith, nat_tests)
+
+MeansParts-resized :
+    (n : ℕ) (s : AbsState) (region : Region) (entry : MState) (base : ℕ) (x : MState)
+    → MeansParts s entry base x → AreInRegion region base n → IsRegion region
+    → MeansParts (resized n s) entry base (record x { processor = with_sp x.processor (base - n) })
+unfolding resized
+MeansParts-resized n s region entry base x m room r =
+    let first = room.first in
+    let last = room.last in
+    let end = region_end region r in
+    let whole = length-resized n s.items in
+    record {
+      core = MeansCore-set s.core entry _ (MeansCore-sp s.core entry x (base - n) m.core);
+      memory = m.memory;
+      sp = omega arith;
+      stack = λ e. omega arith;
+      items = AreItems-behind (take n s.items) (n - length s.items) entry base x.storage m.memory (AreItems-take n s.items entry base x.storage m.items);
+      cells = m.cells;
+    }
+
 pub taking_sound :
     (k : ℕ) (s : AbsState) (o : Option AbsState) → o ≡ cond (nat_lt (length s.items) k) None (Some (without_newest k s)) → IfSome o (λ after. IsSoundTaking k s after)
 taking_sound k s o e = subst (λ r. IfSome r (λ after. IsSoundTaking k s after)) (sym e) (choose (nat_lt (length s.items) k) refl)
@@ -106,3 +153,11 @@ appending_sound k room s o e = subst (λ r. IfSome r (λ after. IsSoundAppending
     choose : (b : Bool) → IfSome (cond b None (Some (with_any_bytes k s))) (λ after. IsSoundAppending k s after)
     choose true = tt
     choose false = record { gives = λ region entry base x m set inside r. MeansParts-with_any_bytes k s region entry base x m set inside r }
+
+pub resizing_sound :
+    (n room : ℕ) (s : AbsState) (o : Option AbsState) → o ≡ cond (nat_lt room n) None (Some (resized n s)) → IfSome o (λ after. IsSoundResizing n s after)
+resizing_sound n room s o e = subst (λ r. IfSome r (λ after. IsSoundResizing n s after)) (sym e) (choose (nat_lt room n))
+  where
+    choose : (b : Bool) → IfSome (cond b None (Some (resized n s))) (λ after. IsSoundResizing n s after)
+    choose true = tt
+    choose false = record { gives = λ region entry base x m inside r. MeansParts-resized n s region entry base x m inside r }

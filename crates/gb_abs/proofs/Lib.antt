@@ -7,4 +7,5 @@ pub mod OperationLaws
 pub mod LocatedLaws
 pub mod ByteLaws
 pub mod WideningLaws
+pub mod OriginLaws
 pub mod Below

@@ -1,4 +1,4 @@
--- Bytes of the stack, taken off and put on (own; CPU instruction set: stack manipulation instructions).
+-- Bytes of the stack, taken off and put on, and what is held of them where SP is set (own; CPU instruction set: stack manipulation instructions).
 use Rattle.std.specs.Prelude.{◌≡◌, ℕ, ◌+◌, ◌-◌, ◌%◌, true, ◌++◌, length, take, replicate}
 use Rattle.gb_ops.specs.declared.machine.Region.{Region}
 use Rattle.gb_ops.specs.Effects.{with_sp}
@@ -17,6 +17,14 @@ without_newest k s = record s { items = take (length s.items - k) s.items }
 unfoldable pub with_any_bytes : ℕ → AbsState → AbsState
 with_any_bytes k s = record s { items = s.items ++ replicate k any_val }
 
+-- the stack is set so that it holds n bytes: the oldest n stay, and bytes of any value are behind them where there are fewer
+unfoldable pub resized : ℕ → AbsState → AbsState
+resized n s =
+    record s {
+      core = record s.core { stack_set = true };
+      items = take n s.items ++ replicate (n - length s.items) any_val;
+    }
+
 -- ---- what that promises
 
 -- of each of these states, with its stack set, where SP moves up by as many
@@ -32,3 +40,10 @@ pub record IsSoundAppending (k : ℕ) (s after : AbsState) : Type 0 where
       (region : Region) (entry : MState) (base : ℕ) (x : MState)
       → MeansParts s entry base x → s.core.stack_set ≡ true → AreInRegion region base (length s.items + k) → IsRegion region
       → MeansParts after entry base (record x { processor = with_sp x.processor ((x.processor.sp + (65536 - k)) % 65536) })
+
+-- of each of these states, its stack set or not, where SP is set to as many bytes below the base
+pub record IsSoundResizing (n : ℕ) (s after : AbsState) : Type 0 where
+  pub gives :
+      (region : Region) (entry : MState) (base : ℕ) (x : MState)
+      → MeansParts s entry base x → AreInRegion region base n → IsRegion region
+      → MeansParts after entry base (record x { processor = with_sp x.processor (base - n) })

@@ -5,6 +5,7 @@ pub mod Located
 pub mod Mark
 pub mod Meaning
 pub mod Operations
+pub mod Origins
 pub mod Poked
 pub mod Reason
 pub mod Sound

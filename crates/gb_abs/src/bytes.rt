@@ -1,14 +1,14 @@
-//! Bytes of the stack, taken off and put on, in abstract states.
+//! Bytes of the stack, taken off and put on, and what is held of them where SP is set, in abstract states.
 
-ghost use Rattle.std.specs.Prelude.{◌≡◌, ◌+◌, ◌≤◌, ◌++◌, nat_lt, length, replicate, Some, None, IfSome, if◌then◌else◌};
+ghost use Rattle.std.specs.Prelude.{◌≡◌, ◌+◌, ◌≤◌, ◌++◌, nat_lt, length, take, replicate, Some, None, IfSome, if◌then◌else◌};
 ghost use Rattle.arrayvec.specs.ArrayVec.{array_vec_len};
 ghost use Rattle.gb_domain.specs.Limits.{item_room};
 ghost use Rattle.gb_vals.specs.Vals.{any_val};
-ghost use Rattle.gb_abs.specs.Bytes.{without_newest, with_any_bytes, IsSoundTaking, IsSoundAppending};
+ghost use Rattle.gb_abs.specs.Bytes.{without_newest, with_any_bytes, resized, IsSoundTaking, IsSoundAppending, IsSoundResizing};
 
 use crate::stack::with_items;
 use arrayvec::ArrayVec;
-use gb_domain::types::{Abs, Rules, Val};
+use gb_domain::types::{Abs, Core, Rules, Val};
 use gb_vals::vals::any;
 
 #[tactic(auto, unfolding(crate::specs::Bytes::without_newest))]
@@ -74,4 +74,47 @@ pub fn append_bytes(rules: Rules, state: &Abs, count: u8) -> Option<Abs>
     ensures sound { IfSome result (λ after. IsSoundAppending count state.now after) }
 {
     lengthened(rules, state, count)
+}
+
+/// The oldest bytes, as many as there are up to a count.
+#[tactic(auto, using(std::proofs::lemmas::List::take_all))]
+fn oldest(items: &[Val], count: usize) -> &[Val]
+    ensures { result.now ≡ take count items.now }
+{
+    if items.len() <= count {
+        items
+    } else {
+        &items[..count]
+    }
+}
+
+#[tactic(auto, using(crate::proofs::ByteLaws::resized_items), unfolding(crate::specs::Bytes::resized))]
+fn set_to(rules: Rules, state: &Abs, count: usize) -> Option<Abs>
+    ensures { result ≡ (if nat_lt (item_room rules) count then None else Some (resized count state.now)) }
+{
+    if count > rules.item_room() {
+        return None;
+    }
+    let held = oldest(state.items(), count);
+    let mut items = ArrayVec::new();
+    if items.try_extend_from_slice(held).is_err() {
+        unreachable!();
+    }
+    append_any(&mut items, (count - held.len()) as u8);
+    let mut after = with_items(state, items);
+    after.set_core(Core {
+        stack_set: true,
+        ..*state.core()
+    });
+    Some(after)
+}
+
+/// SP is set to as many bytes below the base of the procedure's stack: of those that the state holds the oldest stay, and where
+/// there are fewer, bytes of any value are put on. None where there is no room for them.
+#[tactic(auto, using(crate::proofs::ByteLaws::resizing_sound))]
+pub fn resize(rules: Rules, state: &Abs, count: usize) -> Option<Abs>
+    ensures exact { result ≡ (if nat_lt (item_room rules) count then None else Some (resized count state.now)) }
+    ensures sound { IfSome result (λ after. IsSoundResizing count state.now after) }
+{
+    set_to(rules, state, count)
 }

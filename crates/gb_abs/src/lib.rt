@@ -6,8 +6,8 @@
 //!
 //! The meaning leaves the HALT mark open; `Mark` says where it does no harm.
 //!
-//! Read `covering`, then `operations`, `cells` and `stack`. `span`, `storage` and `reason` are words
-//! of the crates above: the addresses of an access, RAM, and why a node is refused.
+//! Read `covering`, then `operations`, `cells` and `stack`. `span`, `storage`, `origins` and `reason` are words
+//! of the crates above: the addresses of an access, RAM, values that are copies or no copies, and why a node is refused.
 #![tactic(auto)]
 
 pub mod bytes;
@@ -15,6 +15,7 @@ pub mod cells;
 pub mod covering;
 pub mod located;
 pub mod operations;
+pub mod origins;
 pub mod reason;
 pub mod span;
 pub mod stack;

@@ -146,6 +146,7 @@ pub record IsSoundUntaken (s : Core) (t : AbsEffect) : Type 0 where
 abbrev pub HoldsTarget : Target → ℕ → Type 0
 HoldsTarget (target.At a) pc = pc ≡ a
 HoldsTarget (target.Call a) pc = pc ≡ a
+HoldsTarget (target.Main a) pc = pc ≡ a
 HoldsTarget _ pc = Unit {0}
 
 -- where the instruction is taken, PC being behind it, the machine goes on there
@@ -159,6 +160,7 @@ pub record IsSoundTarget (o : Op) (next : ℕ) (s : Core) (t : Target) : Type 0 
 abbrev pub IsTargetAt : Target → Type 0
 IsTargetAt (target.At a) = a < 65536
 IsTargetAt (target.Call a) = a < 65536
+IsTargetAt (target.Main a) = a < 65536
 IsTargetAt _ = Unit {0}
 
 -- ---- ranges

@@ -30,14 +30,14 @@ pub fn any_word() -> Halves
 }
 
 /// Whether a word is known.
-pub(crate) fn is_word_known(halves: Halves) -> bool
+pub fn is_word_known(halves: Halves) -> bool
     ensures { result ≡ Pairs.is_word_known halves }
 {
     is_single(halves.high) && is_single(halves.low)
 }
 
 /// The least bytes of a word.
-pub(crate) fn least_word(halves: Halves) -> u16
+pub fn least_word(halves: Halves) -> u16
     ensures { result ≡ Pairs.least_word halves }
 {
     word(halves.high.lo, halves.low.lo)
@@ -182,7 +182,7 @@ pub(crate) fn displaced_flags(halves: Halves, e8: u8) -> Flg
 
 /// What a pair of a core holds; SP isn't part of one, so it is any word.
 #[tactic(auto, unfolding(crate::specs::Pairs::pair_halves))]
-pub(crate) fn pair_halves(pair: Pair, core: &Core) -> Halves
+pub fn pair_halves(pair: Pair, core: &Core) -> Halves
     ensures { result ≡ Pairs.pair_halves pair core.now }
 {
     let registers = core.registers;

@@ -41,7 +41,7 @@ pub fn condition_of(op: Op) -> Option<Condition>
 
 /// The core where a condition is met, if that is possible.
 #[tactic(auto, unfolding(crate::specs::Sides::side_of))]
-fn side_of(condition: Condition, core: &Core) -> Option<Core>
+pub fn side_of(condition: Condition, core: &Core) -> Option<Core>
     ensures { result ≡ Branching.side_of condition core.now }
 {
     let flags = side(condition, core.flags)?;

@@ -21,6 +21,10 @@ pub enum Target {
     Return,
     /// Somewhere: JP HL, where HL isn't known.
     Unknown,
+    /// At this address in procedure 0, with all frames that waited gone: SP was set to an address of its stack.
+    Main(u16),
+    /// Somewhere: a word from the stack that isn't known.
+    Lost,
 }
 
 /// The address in a pair of registers, where it is known.
@@ -36,6 +40,7 @@ fn word_target(halves: Halves) -> Target
 
 /// Where an instruction that is taken goes on (CPU instruction set: jumps and subroutines). The address
 /// behind it is given. What returns, and JP HL where HL isn't known, may go on anywhere.
+/// It never answers `Main` or `Lost`, which depend on the stack too.
 #[tactic(auto, using(crate::proofs::TargetLaws::target_of_sound, crate::proofs::TargetLaws::target_of_at))]
 pub fn target_of(op: Op, next: u16, core: &Core) -> Target
     ensures exact { result ≡ Targets.target_of op next core.now }

@@ -40,57 +40,57 @@ record IsWritten (before after : Core) (P : Ctl → Type 0) (Q : Val → Type 0)
   is : after ≡ record before { ctl = ctl; ie = ie }
 
 IsWritten-stored_in :
-    (z : Setting) (o : Option Area) (k : Kind) (span : Span) (v : Val) (s : AbsState) (P : Ctl → Type 0) (Q : Val → Type 0)
+    (z : Setting) (region : Region) (o : Option Area) (k : Kind) (span : Span) (v : Val) (s : AbsState) (P : Ctl → Type 0) (Q : Val → Type 0)
     → P s.core.ctl → ((r : ControllerRegister) → o ≡ Some (area.Controller (Some r)) → P (ctl_after k r v s.core.ctl)) → Q s.core.ie → Q v
-    → IsWritten s.core (stored_in z o k span v s).core P Q
+    → IsWritten s.core (stored_in z region o k span v s).core P Q
 unfolding ram_stored
-IsWritten-stored_in z None k span v s P Q p r q h = record { ctl = s.core.ctl; ie = s.core.ie; registers = p; enable = q; is = refl }
-IsWritten-stored_in z (Some (area.Controller None)) k span v s P Q p r q h = record { ctl = s.core.ctl; ie = s.core.ie; registers = p; enable = q; is = refl }
-IsWritten-stored_in z (Some (area.Controller (Some which))) k span v s P Q p r q h =
+IsWritten-stored_in z region None k span v s P Q p r q h = record { ctl = s.core.ctl; ie = s.core.ie; registers = p; enable = q; is = refl }
+IsWritten-stored_in z region (Some (area.Controller None)) k span v s P Q p r q h = record { ctl = s.core.ctl; ie = s.core.ie; registers = p; enable = q; is = refl }
+IsWritten-stored_in z region (Some (area.Controller (Some which))) k span v s P Q p r q h =
     record { ctl = ctl_after k which v s.core.ctl; ie = s.core.ie; registers = r which refl; enable = q; is = refl }
-IsWritten-stored_in z (Some area.Hardware) k span v s P Q p r q h = record { ctl = s.core.ctl; ie = s.core.ie; registers = p; enable = q; is = refl }
-IsWritten-stored_in z (Some area.Ram) k span v s P Q p r q h = record { ctl = s.core.ctl; ie = s.core.ie; registers = p; enable = q; is = refl }
-IsWritten-stored_in z (Some area.InterruptEnable) k span v s P Q p r q h = record { ctl = s.core.ctl; ie = v; registers = p; enable = h; is = refl }
+IsWritten-stored_in z region (Some area.Hardware) k span v s P Q p r q h = record { ctl = s.core.ctl; ie = s.core.ie; registers = p; enable = q; is = refl }
+IsWritten-stored_in z region (Some area.Ram) k span v s P Q p r q h = record { ctl = s.core.ctl; ie = s.core.ie; registers = p; enable = q; is = refl }
+IsWritten-stored_in z region (Some area.InterruptEnable) k span v s P Q p r q h = record { ctl = s.core.ctl; ie = v; registers = p; enable = h; is = refl }
 
 IsWritten-stored_state :
-    (z : Setting) (k : Kind) (span : Span) (v : Val) (s : AbsState) (P : Ctl → Type 0) (Q : Val → Type 0)
+    (z : Setting) (region : Region) (k : Kind) (span : Span) (v : Val) (s : AbsState) (P : Ctl → Type 0) (Q : Val → Type 0)
     → P s.core.ctl → ((r : ControllerRegister) → area_of k span ≡ Some (area.Controller (Some r)) → P (ctl_after k r v s.core.ctl)) → Q s.core.ie → Q v
-    → IsWritten s.core (stored_state z k span v s).core P Q
+    → IsWritten s.core (stored_state z region k span v s).core P Q
 unfolding stored_state
-IsWritten-stored_state z k span v s P Q p r q h = IsWritten-stored_in z (area_of k span) k span v s P Q p r q h
+IsWritten-stored_state z region k span v s P Q p r q h = IsWritten-stored_in z region (area_of k span) k span v s P Q p r q h
 
 -- nothing to be said
 abbrev Any : {X : Type 0} → X → Type 0
 Any x = Unit {0}
 
 -- the core's parts are such after the store
-pub IsCore-stored_state : (z : Setting) (k : Kind) (span : Span) (v : Val) (s : AbsState) → IsVal v → IsCore s.core → IsCore (stored_state z k span v s).core
-IsCore-stored_state z k span v s h c =
-    let w = IsWritten-stored_state z k span v s IsCtl IsVal c.ctl (λ r e. ctl_after-valid k r v s.core.ctl h c.ctl) c.ie h in
+pub IsCore-stored_state : (z : Setting) (region : Region) (k : Kind) (span : Span) (v : Val) (s : AbsState) → IsVal v → IsCore s.core → IsCore (stored_state z region k span v s).core
+IsCore-stored_state z region k span v s h c =
+    let w = IsWritten-stored_state z region k span v s IsCtl IsVal c.ctl (λ r e. ctl_after-valid k r v s.core.ctl h c.ctl) c.ie h in
     subst IsCore (sym w.is)
     (record { ime = c.ime; bound = c.bound; ctl = w.registers; flags = c.flags; ie = w.enable; registers = c.registers })
 
-pub IsVal-stored_ie : (z : Setting) (k : Kind) (span : Span) (v : Val) (s : AbsState) → IsVal v → IsVal s.core.ie → IsVal (stored_state z k span v s).core.ie
-IsVal-stored_ie z k span v s h ie =
-    let w = IsWritten-stored_state z k span v s (λ c. Any c) IsVal tt (λ r e. tt) ie h in
+pub IsVal-stored_ie : (z : Setting) (region : Region) (k : Kind) (span : Span) (v : Val) (s : AbsState) → IsVal v → IsVal s.core.ie → IsVal (stored_state z region k span v s).core.ie
+IsVal-stored_ie z region k span v s h ie =
+    let w = IsWritten-stored_state z region k span v s (λ c. Any c) IsVal tt (λ r e. tt) ie h in
     subst (λ (c : Core). IsVal c.ie) (sym w.is) w.enable
 
 -- ---- a second store
 
-stored_state-bound : (z : Setting) (k : Kind) (span : Span) (v : Val) (s : AbsState) → (stored_state z k span v s).core.bound ≡ s.core.bound
-stored_state-bound z k span v s =
-    let w = IsWritten-stored_state z k span v s (λ c. Any c) (λ ie. Any ie) tt (λ r e. tt) tt tt in
+stored_state-bound : (z : Setting) (region : Region) (k : Kind) (span : Span) (v : Val) (s : AbsState) → (stored_state z region k span v s).core.bound ≡ s.core.bound
+stored_state-bound z region k span v s =
+    let w = IsWritten-stored_state z region k span v s (λ c. Any c) (λ ie. Any ie) tt (λ r e. tt) tt tt in
     ap (λ (c : Core). c.bound) w.is
 
-pub is_limited-stored : (z : Setting) (k : Kind) (span other : Span) (v : Val) (s : AbsState) → is_limited (stored_state z k span v s).core other ≡ is_limited s.core other
+pub is_limited-stored : (z : Setting) (region : Region) (k : Kind) (span other : Span) (v : Val) (s : AbsState) → is_limited (stored_state z region k span v s).core other ≡ is_limited s.core other
 unfolding is_limited
-is_limited-stored z k span other v s = rw (stored_state-bound z k span v s) refl
+is_limited-stored z region k span other v s = rw (stored_state-bound z region k span v s) refl
 
 -- no store changes whether an OAM transfer limits another one
 pub is_store_limited-stored :
-    (z : Setting) (k : Kind) (span other : Span) (v : Val) (s : AbsState) → is_store_limited (stored_state z k span v s).core other ≡ is_store_limited s.core other
+    (z : Setting) (region : Region) (k : Kind) (span other : Span) (v : Val) (s : AbsState) → is_store_limited (stored_state z region k span v s).core other ≡ is_store_limited s.core other
 unfolding is_store_limited
-is_store_limited-stored z k span other v s = rw (is_limited-stored z k span other v s) refl
+is_store_limited-stored z region k span other v s = rw (is_limited-stored z region k span other v s) refl
 
 -- the gate's window ends at 1FFF
 gate-low : (k : Kind) → AllByRecursion (λ (w : Window). w.register ≡ Some register.Gate → w.last ≤ 0x1FFF) (windows k)
@@ -138,11 +138,11 @@ gate-other k register.Mode v c n = refl
 
 -- a store leaves the gate, or lies below 2000
 gate-stored :
-    (z : Setting) (k : Kind) (span : Span) (v : Val) (s : AbsState) (a : ℕ) → IsIn span a
-    → ((stored_state z k span v s).core.ctl.gate ≡ s.core.ctl.gate) ⊎ (a < 0x2000)
-gate-stored z k span v s a i =
+    (z : Setting) (region : Region) (k : Kind) (span : Span) (v : Val) (s : AbsState) (a : ℕ) → IsIn span a
+    → ((stored_state z region k span v s).core.ctl.gate ≡ s.core.ctl.gate) ⊎ (a < 0x2000)
+gate-stored z region k span v s a i =
     let w =
-    IsWritten-stored_state z k span v s (λ c. (c.gate ≡ s.core.ctl.gate) ⊎ (a < 0x2000)) (λ ie. Any ie) (inl refl)
+    IsWritten-stored_state z region k span v s (λ c. (c.gate ≡ s.core.ctl.gate) ⊎ (a < 0x2000)) (λ ie. Any ie) (inl refl)
     (λ r e. written r (λ g. gate-below k span a i (e ∙ ap (λ q. Some (area.Controller (Some q))) g))) tt tt in
     subst (λ (c : Core). (c.ctl.gate ≡ s.core.ctl.gate) ⊎ (a < 0x2000)) (sym w.is) w.registers
   where
@@ -173,30 +173,30 @@ met-low rom closed a v low =
 
 -- a store to one address leaves the test of a store to the next one
 pub store_meets_closed_ram-stored :
-    (z : Setting) (rom : List ℕ) (k : Kind) (a : ℕ) (v : Val) (s : AbsState) (w : Val)
-    → store_meets_closed_ram rom (stored_state z k (one a) v s).core (one ((a + 1) % 65536)) w ≡ store_meets_closed_ram rom s.core (one ((a + 1) % 65536)) w
-store_meets_closed_ram-stored z rom k a v s w =
-    met-is rom (stored_state z k (one a) v s).core (one ((a + 1) % 65536)) w
-    ∙ choose (gate-stored z k (one a) v s a (record { first = omega arith; last = omega arith }))
+    (z : Setting) (rom : List ℕ) (region : Region) (k : Kind) (a : ℕ) (v : Val) (s : AbsState) (w : Val)
+    → store_meets_closed_ram rom (stored_state z region k (one a) v s).core (one ((a + 1) % 65536)) w ≡ store_meets_closed_ram rom s.core (one ((a + 1) % 65536)) w
+store_meets_closed_ram-stored z rom region k a v s w =
+    met-is rom (stored_state z region k (one a) v s).core (one ((a + 1) % 65536)) w
+    ∙ choose (gate-stored z region k (one a) v s a (record { first = omega arith; last = omega arith }))
     ∙ sym (met-is rom s.core (one ((a + 1) % 65536)) w)
   where
     choose :
-        ((stored_state z k (one a) v s).core.ctl.gate ≡ s.core.ctl.gate) ⊎ (a < 0x2000)
-        → met_by rom (stored_state z k (one a) v s).core.ctl.gate.clear (one ((a + 1) % 65536)) w ≡ met_by rom s.core.ctl.gate.clear (one ((a + 1) % 65536)) w
+        ((stored_state z region k (one a) v s).core.ctl.gate ≡ s.core.ctl.gate) ⊎ (a < 0x2000)
+        → met_by rom (stored_state z region k (one a) v s).core.ctl.gate.clear (one ((a + 1) % 65536)) w ≡ met_by rom s.core.ctl.gate.clear (one ((a + 1) % 65536)) w
     choose (inl same) = ap (λ g. met_by rom g.clear (one ((a + 1) % 65536)) w) same
     choose (inr low) = met-low rom _ a w low ∙ sym (met-low rom _ a w low)
 
 -- a second store, to the next address, by its tests before the first
 pub IsSoundStore-next :
     (z : Setting) (rom : List ℕ) (region : Region) (ranges : List Range) (s : AbsState) (a : ℕ) (v w : Val)
-    → is_storable (kind_of rom) region ranges (one ((a + 1) % 65536)) ≡ true
+    → is_storable z (kind_of rom) region ranges (one ((a + 1) % 65536)) ≡ true
     → store_meets_closed_ram rom s.core (one ((a + 1) % 65536)) w ≡ false → is_store_limited s.core (one ((a + 1) % 65536)) ≡ false
-    → IsSoundStore rom region ranges (stored_state z (kind_of rom) (one a) v s) (one ((a + 1) % 65536)) w
+    → IsSoundStore z rom region ranges (stored_state z region (kind_of rom) (one a) v s) (one ((a + 1) % 65536)) w
     (record {
-      state = stored_state z (kind_of rom) (one ((a + 1) % 65536)) w (stored_state z (kind_of rom) (one a) v s);
+      state = stored_state z region (kind_of rom) (one ((a + 1) % 65536)) w (stored_state z region (kind_of rom) (one a) v s);
       starts = starts_oam_transfer (one ((a + 1) % 65536));
     })
 IsSoundStore-next z rom region ranges s a v w storable ram limited =
-    IsSoundStore-stored_state z rom region ranges (stored_state z (kind_of rom) (one a) v s) (one ((a + 1) % 65536)) w storable
-    (store_meets_closed_ram-stored z rom (kind_of rom) a v s w ∙ ram)
-    (is_store_limited-stored z (kind_of rom) (one a) (one ((a + 1) % 65536)) v s ∙ limited)
+    IsSoundStore-stored_state z rom region ranges (stored_state z region (kind_of rom) (one a) v s) (one ((a + 1) % 65536)) w storable
+    (store_meets_closed_ram-stored z rom region (kind_of rom) a v s w ∙ ram)
+    (is_store_limited-stored z region (kind_of rom) (one a) (one ((a + 1) % 65536)) v s ∙ limited)

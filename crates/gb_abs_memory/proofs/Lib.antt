@@ -3,5 +3,7 @@ pub mod CutLaws
 pub mod WindowLaws
 pub mod ControllerLaws
 pub mod ShownLaws
+pub mod ItemLaws
+pub mod RamLaws
 pub mod LoadLaws
 pub mod StoreLaws

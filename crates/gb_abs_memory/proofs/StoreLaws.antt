@@ -1,5 +1,5 @@
 -- A store that isn't refused has no fault, and leaves what the state after it means.
-use Rattle.std.proofs.Common.{◌≡◌, ℕ, ◌-◌, ◌<◌, ◌≤◌, Bool, true, false, ◌&&◌, ◌||◌, ◌==◌, nat_le, if◌then◌else◌, List, [], ◌∷◌, length, Option, Some, None, Ok, refl, sym, ◌∙◌, ap, subst, arith, ◌⊎◌, inl, inr}
+use Rattle.std.proofs.Common.{◌≡◌, ℕ, ◌-◌, ◌<◌, ◌≤◌, Bool, true, false, not, ◌&&◌, ◌||◌, ◌==◌, nat_le, nat_lt, if◌then◌else◌, List, [], ◌∷◌, length, Option, Some, None, Ok, refl, sym, ◌∙◌, ap, subst, arith, ◌⊎◌, inl, inr}
 use Rattle.std.proofs.lemmas.Bool.{not-false, not-true, or_parts}
 use Rattle.std.specs.List.{AllByRecursion, list_any}
 use Rattle.std.specs.Result.{IfOk}
@@ -24,19 +24,16 @@ use Rattle.gb_domain.specs.Types.{AbsState}
 use Rattle.gb_domain.specs.declared.setting.Setting.{Setting}
 use Rattle.gb_domain.specs.declared.rules.Rules.{Rules}
 use Rattle.gb_domain.specs.declared.rules.Rules.TheVariants.{Simple, Extended}
-use Rattle.gb_domain.specs.Limits.{cell_room}
-use Rattle.gb_abs.proofs.WideningLaws.{ArePlaced-widened, MeansParts-widened_cells}
-use Rattle.gb_domain.specs.Areas.{IsRegion, is_area, meets}
+use Rattle.gb_domain.specs.Settings.{known_base, IsBase}
+use Rattle.gb_domain.specs.Areas.{IsRegion, meets}
 use Rattle.gb_abs.specs.declared.span.Span.{Span}
-use Rattle.gb_abs.specs.Span.{IsIn, one, is_one, is_inside, may_meet}
+use Rattle.gb_abs.specs.Span.{IsIn, one, is_inside, may_meet}
 use Rattle.gb_abs.specs.Storage.{is_ram, peek}
 use Rattle.gb_abs.specs.Operations.{with_core}
-use Rattle.gb_abs.specs.Cells.{IsPlaced, ArePlaced, with_cell, without_cells, widened_cells}
+use Rattle.gb_abs.specs.Cells.{ArePlaced}
 use Rattle.gb_abs.specs.Stack.{AreInRegion}
-use Rattle.gb_abs.specs.Poked.{IsPoked}
 use Rattle.gb_abs.specs.Meaning.{Holds, HoldsController, MeansCore, AreItems, MeansParts, IsMemory}
-use Rattle.gb_abs.proofs.CellLaws.{ArePlaced-with_cell, ArePlaced-without_cells}
-use Rattle.gb_abs.proofs.StorageLaws.{wrote-poked, wrote_ram-starting, wrote_ram-rom, MeansParts-with_cell, MeansParts-without_cells}
+use Rattle.gb_abs.proofs.StorageLaws.{region_in_ram, wrote-poked, wrote_ram-starting, wrote_ram-rom}
 use Rattle.gb_abs_memory.specs.declared.windows.ControllerRegister.{ControllerRegister}
 use Rattle.gb_abs_memory.specs.declared.windows.ControllerRegister.TheVariants as register
 use Rattle.gb_abs_memory.specs.declared.windows.Window.{Window}
@@ -44,11 +41,14 @@ use Rattle.gb_abs_memory.specs.declared.store.Area.{Area}
 use Rattle.gb_abs_memory.specs.declared.store.Area.TheVariants as area
 use Rattle.gb_abs_memory.specs.declared.store.Stored.{Stored}
 use Rattle.gb_abs_memory.specs.Windows.{InCtl, windows, window_of, ctl_after}
-use Rattle.gb_abs_memory.specs.Access.{may_be_closed, meets_closed_ram, may_copy_closed_ram, store_meets_closed_ram, is_limited, may_start_oam_transfer, is_store_limited, area_by, area_of, is_range, is_allowed, is_storable, store_reason, ram_stored, stored_in, stored_state, starts_oam_transfer, several_stored, store}
-use Rattle.gb_abs_memory.specs.Sound.{view, IsStored, IsSoundStore, IsInRanges}
+use Rattle.gb_abs_memory.specs.Access.{may_be_closed, meets_closed_ram, may_copy_closed_ram, store_meets_closed_ram, is_limited, may_start_oam_transfer, is_store_limited, area_by, area_of, is_range, is_below_base, is_ram_allowed, is_allowed, is_storable, store_reason, ram_stored, stored_in, stored_state, starts_oam_transfer, store}
+use Rattle.gb_abs_memory.specs.Sound.{view, IsStored, IsSoundStore}
+use Rattle.gb_abs_memory.specs.Kept.{keeps, keeps_by, IsKept}
+use Rattle.gb_abs_memory.proofs.ItemLaws.{items_stored-simple, length-items_stored}
+use Rattle.gb_abs_memory.proofs.RamLaws.{AtRam, ArePlaced-ram_stored, MeansParts-ram_stored}
 use Rattle.gb_abs_memory.proofs.WindowLaws.{after_window}
 use Rattle.gb_abs_memory.proofs.ControllerLaws.{IsInWindow, IsInWindow-window_of, window-sound, window-nothing}
-use Rattle.gb_abs_memory.proofs.LoadLaws.{both_false, one_address, within_ctl, rom_at, ram-open, not_limited, taken, not_refused, if_ok}
+use Rattle.gb_abs_memory.proofs.LoadLaws.{both_false, within_ctl, rom_at, ram-open, not_limited, taken, not_refused, if_ok}
 
 -- ---- no fault
 
@@ -206,8 +206,13 @@ window_holds k w a n v c entry old (Some r) at e h m byte =
 
 -- ---- one store
 
+-- what the procedure keeps isn't stored to, and in the stack region what lies outside its ranges lies below its base
+pub record IsLawful (z : Setting) (region : Region) (ranges : List Range) (base a : ℕ) : Type 0 where
+  pub spared : IsKept z region ranges base a → ⊥
+  pub held : keeps z ≡ true → meets region a a ≡ true → list_any (is_range (one a)) ranges ≡ false → a < base
+
 -- a byte is stored to one of the addresses, in one of the states, and nothing is against it
-pub record AtStore (rom : List ℕ) (region : Region) (ranges : List Range) (s : AbsState) (span : Span) (v : Val) (entry : MState) (base : ℕ) (x : MState) (starting : Bool) (a n : ℕ) : Type 0 where
+pub record AtStore (z : Setting) (rom : List ℕ) (region : Region) (ranges : List Range) (s : AbsState) (span : Span) (v : Val) (entry : MState) (base : ℕ) (x : MState) (starting : Bool) (a n : ℕ) : Type 0 where
   pub means : MeansParts s entry base x
   pub placed : ArePlaced region s.cells
   pub room : AreInRegion region base (length s.items)
@@ -219,23 +224,26 @@ pub record AtStore (rom : List ℕ) (region : Region) (ranges : List Range) (s :
   pub faults : write_faults (view rom x starting) a n ≡ no_faults
   pub free : is_closed x.storage a ≡ false
   pub seen : may_start_oam_transfer span ≡ false
-  pub inside : is_ram a ≡ true → IsInRanges region ranges a
+  pub lawful : IsLawful z region ranges base a
+  pub base_is : IsBase z base
 
 -- what is left, given as another view
 stored_as :
-    (m m' : View) (a n : ℕ) (region : Region) (ranges : List Range) (s : AbsState) (entry : MState) (base : ℕ) (x : MState) (o : Stored) → wrote m a n ≡ m' → write_faults m a n ≡ no_faults
+    (z : Setting) (m m' : View) (a n : ℕ) (region : Region) (ranges : List Range) (s : AbsState) (entry : MState) (base : ℕ) (x : MState) (o : Stored) → wrote m a n ≡ m' → write_faults m a n ≡ no_faults
     → MeansParts o.state entry base (record x { storage = m'.storage }) → m'.starting ≡ (m.starting || o.starts) → m'.rom ≡ m.rom → o.state.items ≡ s.items
-    → ArePlaced region o.state.cells → ((b : ℕ) → peek m'.storage b ≡ peek x.storage b) → (is_ram a ≡ true → IsInRanges region ranges a)
-    → IsStored m a n region ranges s entry base x o
-stored_as m m' a n region ranges s entry base x o e faults means starting rom items placed bytes inside =
+    → ArePlaced region o.state.cells → ((b : ℕ) → peek m'.storage b ≡ peek x.storage b) → IsLawful z region ranges base a
+    → IsStored z m a n region ranges s entry base x o
+stored_as z m m' a n region ranges s entry base x o e faults means starting rom items placed bytes lawful =
     record {
       means = subst (λ (w : View). MeansParts o.state entry base (record x { storage = w.storage })) (sym e) means;
       faults = faults;
       starting = ap (λ (w : View). w.starting) e ∙ starting;
       rom = ap (λ (w : View). w.rom) e ∙ rom;
       others = λ b ram other. ap (λ (w : View). peek w.storage b) e ∙ bytes b;
-      inside = inside;
-      items = items;
+      spared = lawful.spared;
+      held = lawful.held;
+      count = ap length items;
+      items = λ simple. items;
       placed = placed;
     }
 
@@ -273,18 +281,18 @@ window_below k w a at =
     let high = at.last in
     omega arith
 
-window_state : (z : Setting) (k : Kind) (o : Option ControllerRegister) (span : Span) (v : Val) (s : AbsState)
-    → with_core s (record s.core { ctl = after_window k o v s.core.ctl }) ≡ stored_in z (Some (area.Controller o)) k span v s
-window_state z k None span v s = refl
-window_state z k (Some r) span v s = refl
+window_state : (z : Setting) (region : Region) (k : Kind) (o : Option ControllerRegister) (span : Span) (v : Val) (s : AbsState)
+    → with_core s (record s.core { ctl = after_window k o v s.core.ctl }) ≡ stored_in z region (Some (area.Controller o)) k span v s
+window_state z region k None span v s = refl
+window_state z region k (Some r) span v s = refl
 
 below_not : (a : ℕ) → a < 0x8000 → (a == 0xFF46) ≡ false
 below_not a h = grind (arith, nat_tests)
 
 stored_window :
     (z : Setting) (rom : List ℕ) (region : Region) (ranges : List Range) (s : AbsState) (span : Span) (v : Val) (entry : MState) (base : ℕ) (x : MState) (starting : Bool) (a n : ℕ) (w : Window)
-    → AtStore rom region ranges s span v entry base x starting a n → window_of (kind_of rom) span ≡ Some w
-    → IsStored (view rom x starting) a n region ranges s entry base x (record { state = stored_in z (Some (area.Controller w.register)) (kind_of rom) span v s; starts = starts_oam_transfer span })
+    → AtStore z rom region ranges s span v entry base x starting a n → window_of (kind_of rom) span ≡ Some w
+    → IsStored z (view rom x starting) a n region ranges s entry base x (record { state = stored_in z region (Some (area.Controller w.register)) (kind_of rom) span v s; starts = starts_oam_transfer span })
 unfolding banks_after
 stored_window z rom region ranges s span v entry base x starting a n w h e =
     let at = IsInWindow-window_of (kind_of rom) span w a e h.at in
@@ -294,10 +302,10 @@ stored_window z rom region ranges s span v entry base x starting a n w h e =
     let ctl = after_window (kind_of rom) w.register v s.core.ctl in
     let holds = window_holds (kind_of rom) w a n v s.core.ctl entry x.storage.banks w.register at refl m.core.controller h.holds h.byte in
     let core = controller_core s.core ctl entry x banks m.core holds in
-    subst (λ (t : AbsState). IsStored (view rom x starting) a n region ranges s entry base x (record { state = t; starts = starts_oam_transfer span })) (window_state z (kind_of rom) w.register span v s)
-    (stored_as (view rom x starting) (wrote_by mapped.Rom (view rom x starting) a n) a n region ranges s entry base x _ (written_at (view rom x starting) a n mapped.Rom h.free (rom_at a low)) h.faults
+    subst (λ (t : AbsState). IsStored z (view rom x starting) a n region ranges s entry base x (record { state = t; starts = starts_oam_transfer span })) (window_state z region (kind_of rom) w.register span v s)
+    (stored_as z (view rom x starting) (wrote_by mapped.Rom (view rom x starting) a n) a n region ranges s entry base x _ (written_at (view rom x starting) a n mapped.Rom h.free (rom_at a low)) h.faults
     (MeansParts-others s (record s.core { ctl = ctl }) entry base x banks x.storage.ie m refl core) (starts_not starting span a h.at (below_not a low)) refl refl h.placed
-    (λ b. same_bytes x.storage banks x.storage.ie b) h.inside)
+    (λ b. same_bytes x.storage banks x.storage.ie b) h.lawful)
 
 -- ---- in hardware
 
@@ -343,19 +351,19 @@ starts_here span a i h seen =
     grind (arith, nat_tests)
 
 stored_hardware :
-    (rom : List ℕ) (region : Region) (ranges : List Range) (s : AbsState) (span : Span) (v : Val) (entry : MState) (base : ℕ) (x : MState) (starting : Bool) (a n : ℕ)
-    → AtStore rom region ranges s span v entry base x starting a n → is_hardware span ≡ true
-    → IsStored (view rom x starting) a n region ranges s entry base x (record { state = s; starts = starts_oam_transfer span })
-stored_hardware rom region ranges s span v entry base x starting a n h inside = choose (a == 0xFF46) refl
+    (z : Setting) (rom : List ℕ) (region : Region) (ranges : List Range) (s : AbsState) (span : Span) (v : Val) (entry : MState) (base : ℕ) (x : MState) (starting : Bool) (a n : ℕ)
+    → AtStore z rom region ranges s span v entry base x starting a n → is_hardware span ≡ true
+    → IsStored z (view rom x starting) a n region ranges s entry base x (record { state = s; starts = starts_oam_transfer span })
+stored_hardware z rom region ranges s span v entry base x starting a n h inside = choose (a == 0xFF46) refl
   where
-    choose : (b : Bool) → (a == 0xFF46) ≡ b → IsStored (view rom x starting) a n region ranges s entry base x (record { state = s; starts = starts_oam_transfer span })
+    choose : (b : Bool) → (a == 0xFF46) ≡ b → IsStored z (view rom x starting) a n region ranges s entry base x (record { state = s; starts = starts_oam_transfer span })
     choose true e =
-        stored_as (view rom x starting) (view rom x true) a n region ranges s entry base x _ (written_at (view rom x starting) a n mapped.Transfer h.free (oam_transfer_at a e)) h.faults h.means
-        (or_true starting ∙ ap (λ b. starting || b) (sym (starts_here span a h.at e h.seen))) refl refl h.placed (λ b. refl) h.inside
+        stored_as z (view rom x starting) (view rom x true) a n region ranges s entry base x _ (written_at (view rom x starting) a n mapped.Transfer h.free (oam_transfer_at a e)) h.faults h.means
+        (or_true starting ∙ ap (λ b. starting || b) (sym (starts_here span a h.at e h.seen))) refl refl h.placed (λ b. refl) h.lawful
     choose false e =
-        stored_as (view rom x starting) (view rom x starting) a n region ranges s entry base x _
+        stored_as z (view rom x starting) (view rom x starting) a n region ranges s entry base x _
         (written_at (view rom x starting) a n (mapped_at a) h.free refl ∙ hardware_idle a (hardware_in span a h.at inside) e (view rom x starting) a n) h.faults h.means
-        (starts_not starting span a h.at e) refl refl h.placed (λ b. refl) h.inside
+        (starts_not starting span a h.at e) refl refl h.placed (λ b. refl) h.lawful
 
 -- ---- in RAM
 
@@ -371,9 +379,6 @@ ram_in span a i h =
 ram_not : (a : ℕ) → is_ram a ≡ true → (a == 0xFF46) ≡ false
 ram_not a h = grind (arith, nat_tests)
 
-ram_area : (a : ℕ) → is_ram a ≡ true → is_area a a ≡ true
-ram_area a h = grind (arith, nat_tests)
-
 apart_at : (region : Region) (span : Span) (a : ℕ) → IsIn span a → meets region span.first span.last ≡ false → meets region a a ≡ false
 apart_at region span a i h =
     let low = i.first in
@@ -382,54 +387,26 @@ apart_at region span a i h =
 
 stored_ram :
     (z : Setting) (rom : List ℕ) (region : Region) (ranges : List Range) (s : AbsState) (span : Span) (v : Val) (entry : MState) (base : ℕ) (x : MState) (starting : Bool) (a n : ℕ)
-    → AtStore rom region ranges s span v entry base x starting a n → is_ram_span span ≡ true → meets region span.first span.last ≡ false
-    → IsStored (view rom x starting) a n region ranges s entry base x (record { state = ram_stored z span v s; starts = starts_oam_transfer span })
+    → AtStore z rom region ranges s span v entry base x starting a n → is_ram_span span ≡ true → (z.rules ≡ Simple → meets region span.first span.last ≡ false)
+    → IsStored z (view rom x starting) a n region ranges s entry base x (record { state = ram_stored z region span v s; starts = starts_oam_transfer span })
 unfolding ram_stored
-stored_ram z rom region ranges s span v entry base x starting a n h inside apart = choose (is_one span) (λ e. one_address span a e h.at)
-  where
-    ram : is_ram a ≡ true
-    ram = ram_in span a h.at inside
-
-    place : IsPlaced region (record { address = a; val = v })
-    place = record { area = ram_area a ram; apart = apart_at region span a h.at apart }
-
-    poked : IsPoked a n x.storage (wrote (view rom x starting) a n).storage
-    poked = wrote-poked (view rom x starting) a n h.means.memory ram h.byte h.free
-
-    stored : (cells : List Cell) → MeansParts (record s { cells = cells }) entry base (record x { storage = (wrote (view rom x starting) a n).storage }) → ArePlaced region cells
-        → IsStored (view rom x starting) a n region ranges s entry base x (record { state = record s { cells = cells }; starts = starts_oam_transfer span })
-    stored cells m placed = record {
-      means = m;
+stored_ram z rom region ranges s span v entry base x starting a n h inside simple =
+    let ram = ram_in span a h.at inside in
+    let poked = wrote-poked (view rom x starting) a n h.means.memory ram h.byte h.free in
+    let at : AtRam z region s span v entry base x (wrote (view rom x starting) a n).storage a n =
+    record { base_is = h.base_is; means = h.means; placed = h.placed; room = h.room; is_region = h.is_region; at = h.at; ram = ram; holds = h.holds; poked = poked; simple = simple } in
+    record {
+      means = MeansParts-ram_stored z region s span v entry base x _ a n at;
       faults = h.faults;
       starting = wrote_ram-starting (view rom x starting) a n ram h.free ∙ starts_not starting span a h.at (ram_not a ram);
       rom = wrote_ram-rom (view rom x starting) a n ram h.free;
       others = poked.others;
-      inside = h.inside;
-      items = refl;
-      placed = placed;
+      spared = h.lawful.spared;
+      held = h.lawful.held;
+      count = length-items_stored z region span v s.core s.items;
+      items = λ e. items_stored-simple z region span v s.core s.items e;
+      placed = ArePlaced-ram_stored z region s span v entry base x _ a n at;
     }
-
-    several : (rules : Rules)
-        → IsStored (view rom x starting) a n region ranges s entry base x
-        (record { state = record s { cells = several_stored rules span v s.cells }; starts = starts_oam_transfer span })
-    several Simple =
-        stored (without_cells span.first span.last s.cells)
-        (MeansParts-without_cells region s entry base x _ a n span.first span.last h.means poked h.at.first h.at.last apart h.placed h.room h.is_region)
-        (ArePlaced-without_cells region span.first span.last s.cells h.placed)
-    several Extended =
-        stored (widened_cells span.first span.last v s.cells)
-        (MeansParts-widened_cells region s entry base x _ a n span.first span.last v h.means poked h.holds h.at.first h.at.last place.apart h.placed h.room h.is_region)
-        (ArePlaced-widened region span.first span.last v s.cells h.placed)
-
-    choose : (one : Bool) → (one ≡ true → span.first ≡ a)
-        → IsStored (view rom x starting) a n region ranges s entry base x
-        (record { state = record s { cells = if one then with_cell (cell_room z.rules) (record { address = span.first; val = v }) s.cells else several_stored z.rules span v s.cells }; starts = starts_oam_transfer span })
-    choose true e =
-        subst (λ b. IsStored (view rom x starting) a n region ranges s entry base x (record { state = record s { cells = with_cell (cell_room z.rules) (record { address = b; val = v }) s.cells }; starts = starts_oam_transfer span })) (sym (e refl))
-        (stored (with_cell (cell_room z.rules) (record { address = a; val = v }) s.cells)
-        (MeansParts-with_cell region (cell_room z.rules) s entry base x _ a n v h.means poked h.holds place h.placed h.room h.is_region)
-        (ArePlaced-with_cell region (cell_room z.rules) (record { address = a; val = v }) s.cells place h.placed))
-    choose false e = several z.rules
 
 -- ---- at IE
 
@@ -460,22 +437,25 @@ ie_core core v entry x n m h =
     }
 
 stored_ie :
-    (rom : List ℕ) (region : Region) (ranges : List Range) (s : AbsState) (span : Span) (v : Val) (entry : MState) (base : ℕ) (x : MState) (starting : Bool) (a n : ℕ)
-    → AtStore rom region ranges s span v entry base x starting a n → is_inside 0xFFFF 0xFFFF span ≡ true
-    → IsStored (view rom x starting) a n region ranges s entry base x (record { state = with_core s (record s.core { ie = v }); starts = starts_oam_transfer span })
-stored_ie rom region ranges s span v entry base x starting a n h inside =
+    (z : Setting) (rom : List ℕ) (region : Region) (ranges : List Range) (s : AbsState) (span : Span) (v : Val) (entry : MState) (base : ℕ) (x : MState) (starting : Bool) (a n : ℕ)
+    → AtStore z rom region ranges s span v entry base x starting a n → is_inside 0xFFFF 0xFFFF span ≡ true
+    → IsStored z (view rom x starting) a n region ranges s entry base x (record { state = with_core s (record s.core { ie = v }); starts = starts_oam_transfer span })
+stored_ie z rom region ranges s span v entry base x starting a n h inside =
     let here = ie_only span a h.at inside in
     let m = h.means in
-    stored_as (view rom x starting) (wrote_by mapped.InterruptEnable (view rom x starting) a n) a n region ranges s entry base x _
+    stored_as z (view rom x starting) (wrote_by mapped.InterruptEnable (view rom x starting) a n) a n region ranges s entry base x _
     (written_at (view rom x starting) a n mapped.InterruptEnable h.free (ie_mapped a here)) h.faults
     (MeansParts-others s (record s.core { ie = v }) entry base x x.storage.banks n m refl (ie_core s.core v entry x n m.core h.holds)) (starts_not starting span a h.at (ie_not a here)) refl refl
-    h.placed (λ b. same_bytes x.storage x.storage.banks n b) h.inside
+    h.placed (λ b. same_bytes x.storage x.storage.banks n b) h.lawful
 
 -- ---- each area
 
 -- the state and the start that a store in an area leaves
-abbrev leaves : Setting → Option Area → Kind → Span → Val → AbsState → Stored
-leaves z o k span v s = record { state = stored_in z o k span v s; starts = starts_oam_transfer span }
+abbrev leaves : Setting → Region → Option Area → Kind → Span → Val → AbsState → Stored
+leaves z region o k span v s = record { state = stored_in z region o k span v s; starts = starts_oam_transfer span }
+
+not_so : {X : Type 0} → true ≡ false → X
+not_so h = absurd cc
 
 first_true : (a b : Bool) → (a && b) ≡ true → a ≡ true
 first_true true b h = refl
@@ -485,25 +465,30 @@ second_true : (a b : Bool) → (a && b) ≡ true → b ≡ true
 second_true true b h = h
 second_true false b h = absurd (let bad : false ≡ true = h in cc)
 
+-- by the rules of versions 1 and 2 no store meets the stack region
+apart_simple : (z : Setting) (region : Region) (ranges : List Range) (span : Span) → z.rules ≡ Simple → is_ram_allowed z.rules z region ranges span ≡ true
+    → meets region span.first span.last ≡ false
+apart_simple z region ranges span e allowed = not-true _ (first_true _ _ (subst (λ rules. is_ram_allowed rules z region ranges span ≡ true) e allowed))
+
 stored_above :
     (z : Setting) (rom : List ℕ) (region : Region) (ranges : List Range) (s : AbsState) (span : Span) (v : Val) (entry : MState) (base : ℕ) (x : MState) (starting : Bool) (a n : ℕ)
-    → AtStore rom region ranges s span v entry base x starting a n → is_allowed (area_by None span) region ranges span ≡ true
-    → IsStored (view rom x starting) a n region ranges s entry base x (leaves z (area_by None span) (kind_of rom) span v s)
+    → AtStore z rom region ranges s span v entry base x starting a n → is_allowed z (area_by None span) region ranges span ≡ true
+    → IsStored z (view rom x starting) a n region ranges s entry base x (leaves z region (area_by None span) (kind_of rom) span v s)
 stored_above z rom region ranges s span v entry base x starting a n h = choose (is_hardware span) (is_ram_span span) (is_inside 0xFFFF 0xFFFF span) (λ e. e) (λ e. e) (λ e. e)
   where
     choose : (hardware ram ie : Bool) → (hardware ≡ true → is_hardware span ≡ true) → (ram ≡ true → is_ram_span span ≡ true) → (ie ≡ true → is_inside 0xFFFF 0xFFFF span ≡ true)
-        → is_allowed (if hardware then Some area.Hardware else if ram then Some area.Ram else if ie then Some area.InterruptEnable else None) region ranges span ≡ true
-        → IsStored (view rom x starting) a n region ranges s entry base x
-        (leaves z (if hardware then Some area.Hardware else if ram then Some area.Ram else if ie then Some area.InterruptEnable else None) (kind_of rom) span v s)
-    choose true ram ie p q r allowed = stored_hardware rom region ranges s span v entry base x starting a n h (p refl)
-    choose false true ie p q r allowed = stored_ram z rom region ranges s span v entry base x starting a n h (q refl) (not-true _ (first_true _ _ allowed))
-    choose false false true p q r allowed = stored_ie rom region ranges s span v entry base x starting a n h (r refl)
+        → is_allowed z (if hardware then Some area.Hardware else if ram then Some area.Ram else if ie then Some area.InterruptEnable else None) region ranges span ≡ true
+        → IsStored z (view rom x starting) a n region ranges s entry base x
+        (leaves z region (if hardware then Some area.Hardware else if ram then Some area.Ram else if ie then Some area.InterruptEnable else None) (kind_of rom) span v s)
+    choose true ram ie p q r allowed = stored_hardware z rom region ranges s span v entry base x starting a n h (p refl)
+    choose false true ie p q r allowed = stored_ram z rom region ranges s span v entry base x starting a n h (q refl) (λ e. apart_simple z region ranges span e allowed)
+    choose false false true p q r allowed = stored_ie z rom region ranges s span v entry base x starting a n h (r refl)
     choose false false false p q r allowed = absurd (let bad : false ≡ true = allowed in cc)
 
 stored_by :
     (z : Setting) (rom : List ℕ) (region : Region) (ranges : List Range) (s : AbsState) (span : Span) (v : Val) (entry : MState) (base : ℕ) (x : MState) (starting : Bool) (a n : ℕ) (o : Option Window)
-    → AtStore rom region ranges s span v entry base x starting a n → window_of (kind_of rom) span ≡ o → is_allowed (area_by o span) region ranges span ≡ true
-    → IsStored (view rom x starting) a n region ranges s entry base x (leaves z (area_by o span) (kind_of rom) span v s)
+    → AtStore z rom region ranges s span v entry base x starting a n → window_of (kind_of rom) span ≡ o → is_allowed z (area_by o span) region ranges span ≡ true
+    → IsStored z (view rom x starting) a n region ranges s entry base x (leaves z region (area_by o span) (kind_of rom) span v s)
 stored_by z rom region ranges s span v entry base x starting a n None h e allowed = stored_above z rom region ranges s span v entry base x starting a n h allowed
 stored_by z rom region ranges s span v entry base x starting a n (Some w) h e allowed = stored_window z rom region ranges s span v entry base x starting a n w h e
 
@@ -528,32 +513,98 @@ ram_contra a h (inl e) = grind (arith, nat_tests)
 ram_contra a h (inr (inl e)) = grind (arith, nat_tests)
 ram_contra a h (inr (inr e)) = grind (arith, nat_tests)
 
-pub IsInRanges-storable : (k : Kind) (region : Region) (ranges : List Range) (span : Span) (a : ℕ) → is_storable k region ranges span ≡ true → IsIn span a → is_ram a ≡ true → IsInRanges region ranges a
-unfolding is_storable area_of
-IsInRanges-storable k region ranges span a h i ram = by_window (window_of k span) refl h
-  where
-    by_area : (hardware inside ie : Bool) → (hardware ≡ true → is_hardware span ≡ true) → (ie ≡ true → is_inside 0xFFFF 0xFFFF span ≡ true)
-        → is_allowed (if hardware then Some area.Hardware else if inside then Some area.Ram else if ie then Some area.InterruptEnable else None) region ranges span ≡ true
-        → IsInRanges region ranges a
-    by_area true inside ie p r allowed = absurd (ram_contra a ram (inl (hardware_in span a i (p refl))))
-    by_area false true ie p r allowed =
-        let free = not-true _ (first_true _ _ allowed) in
-        record { inside = in_range ranges span a i (second_true _ _ allowed); apart = apart_at region span a i free }
-    by_area false false true p r allowed = absurd (ram_contra a ram (inr (inl (ie_only span a i (r refl)))))
-    by_area false false false p r allowed = absurd (let bad : false ≡ true = allowed in cc)
+not_ram : (b : Bool) → (b ≡ true → ⊥) → b ≡ false
+not_ram true f = absurd (f refl)
+not_ram false f = refl
 
-    by_window : (o : Option Window) → window_of k span ≡ o → is_allowed (area_by o span) region ranges span ≡ true → IsInRanges region ranges a
-    by_window (Some w) e allowed = absurd (ram_contra a ram (inr (inr (window_below k w a (IsInWindow-window_of k span w a e i)))))
+either : {X : Type 0} (b c : Bool) → (b ≡ true → X) → (c ≡ true → X) → (b || c) ≡ true → X
+either true c f g h = f refl
+either false c f g h = g h
+
+above_not : (base a : ℕ) → base ≤ a → a < base → ⊥
+above_not base a above below = omega arith
+
+main_keeps_nothing : (z : Setting) → z.rules ≡ Extended → z.is_main ≡ true → keeps z ≡ true → ⊥
+main_keeps_nothing z e main keeping = not_so (sym keeping ∙ ap (λ rules. keeps_by rules z.is_main) e ∙ ap not main)
+
+in_ram : (region : Region) (a : ℕ) → IsRegion region → meets region a a ≡ true → is_ram a ≡ true
+in_ram region a r met =
+    let first : region.first ≤ a = grind (arith, nat_tests) in
+    let last : a ≤ region.last = grind (arith, nat_tests) in
+    region_in_ram region a r first last
+
+below_known : (base last a b : ℕ) → nat_lt last b ≡ true → a ≤ last → b ≡ base → a < base
+below_known base last a b h high same = grind (arith, nat_tests)
+
+-- a store to RAM that is allowed changes nothing that the procedure keeps
+IsLawful-ram : (z : Setting) (region : Region) (ranges : List Range) (span : Span) (base a : ℕ) → IsBase z base → IsIn span a → is_ram_allowed z.rules z region ranges span ≡ true
+    → IsLawful z region ranges base a
+IsLawful-ram z region ranges span base a right i allowed = by_rules z.rules refl allowed
+  where
+    in_ranges : list_any (is_range span) ranges ≡ true → IsLawful z region ranges base a
+    in_ranges e =
+        let here = in_range ranges span a i e in
+        record { spared = λ k. not_so (sym here ∙ k.outside); held = λ keeping met out. absurd (not_so (sym here ∙ out)) }
+
+    below : (o : Option ℕ) → known_base z ≡ o → is_below_base o region span ≡ true → a < base
+    below None e h = absurd (let bad : false ≡ true = h in cc)
+    below (Some b) e h = below_known base span.last a b (second_true (is_inside region.first region.last span) (nat_lt span.last b) h) i.last (right b e)
+
+    in_region : (o : Option ℕ) → is_below_base o region span ≡ true → meets region a a ≡ true
+    in_region None h = absurd (let bad : false ≡ true = h in cc)
+    in_region (Some b) h =
+        let low = i.first in
+        let high = i.last in
+        let inside : is_inside region.first region.last span ≡ true = first_true (is_inside region.first region.last span) (nat_lt span.last b) h in
+        grind (arith, nat_tests)
+
+    in_stack : is_below_base (known_base z) region span ≡ true → IsLawful z region ranges base a
+    in_stack h =
+        let lower = below (known_base z) refl h in
+        record { spared = λ k. above_not base a (k.above (in_region (known_base z) h)) lower; held = λ keeping met out. lower }
+
+    by_procedure : (is_main : Bool) → z.rules ≡ Extended → z.is_main ≡ is_main → (is_main || list_any (is_range span) ranges || is_below_base (known_base z) region span) ≡ true
+        → IsLawful z region ranges base a
+    by_procedure true e main h = record { spared = λ k. main_keeps_nothing z e main k.procedure; held = λ keeping met out. absurd (main_keeps_nothing z e main keeping) }
+    by_procedure false e main h = either _ _ in_ranges in_stack h
+
+    by_rules : (rules : Rules) → z.rules ≡ rules → is_ram_allowed rules z region ranges span ≡ true → IsLawful z region ranges base a
+    by_rules Simple e h = in_ranges (second_true _ _ h)
+    by_rules Extended e h = by_procedure z.is_main e refl h
+
+-- outside RAM a procedure keeps nothing
+IsLawful-outside : (z : Setting) (region : Region) (ranges : List Range) (base a : ℕ) → IsRegion region → is_ram a ≡ false → IsLawful z region ranges base a
+IsLawful-outside z region ranges base a r out =
+    record { spared = λ k. not_so (sym k.ram ∙ out); held = λ keeping met outside. absurd (not_so (sym (in_ram region a r met) ∙ out)) }
+
+pub IsLawful-storable : (z : Setting) (k : Kind) (region : Region) (ranges : List Range) (span : Span) (base a : ℕ) → IsBase z base → IsRegion region
+    → is_storable z k region ranges span ≡ true → IsIn span a → IsLawful z region ranges base a
+unfolding is_storable area_of
+IsLawful-storable z k region ranges span base a right r h i = by_window (window_of k span) refl h
+  where
+    outside : (is_ram a ≡ true → ⊥) → IsLawful z region ranges base a
+    outside f = IsLawful-outside z region ranges base a r (not_ram (is_ram a) f)
+
+    by_area : (hardware inside ie : Bool) → (hardware ≡ true → is_hardware span ≡ true) → (ie ≡ true → is_inside 0xFFFF 0xFFFF span ≡ true)
+        → is_allowed z (if hardware then Some area.Hardware else if inside then Some area.Ram else if ie then Some area.InterruptEnable else None) region ranges span ≡ true
+        → IsLawful z region ranges base a
+    by_area true inside ie p q allowed = outside (λ ram. ram_contra a ram (inl (hardware_in span a i (p refl))))
+    by_area false true ie p q allowed = IsLawful-ram z region ranges span base a right i allowed
+    by_area false false true p q allowed = outside (λ ram. ram_contra a ram (inr (inl (ie_only span a i (q refl)))))
+    by_area false false false p q allowed = absurd (not_so (sym allowed))
+
+    by_window : (o : Option Window) → window_of k span ≡ o → is_allowed z (area_by o span) region ranges span ≡ true → IsLawful z region ranges base a
+    by_window (Some w) e allowed = outside (λ ram. ram_contra a ram (inr (inr (window_below k w a (IsInWindow-window_of k span w a e i)))))
     by_window None e allowed = by_area (is_hardware span) (is_ram_span span) (is_inside 0xFFFF 0xFFFF span) (λ e. e) (λ e. e) allowed
 
 -- a store, by its tests
 pub IsSoundStore-stored_state :
-    (z : Setting) (rom : List ℕ) (region : Region) (ranges : List Range) (s : AbsState) (span : Span) (v : Val) → is_storable (kind_of rom) region ranges span ≡ true
+    (z : Setting) (rom : List ℕ) (region : Region) (ranges : List Range) (s : AbsState) (span : Span) (v : Val) → is_storable z (kind_of rom) region ranges span ≡ true
     → store_meets_closed_ram rom s.core span v ≡ false → is_store_limited s.core span ≡ false
-    → IsSoundStore rom region ranges s span v (record { state = stored_state z (kind_of rom) span v s; starts = starts_oam_transfer span })
+    → IsSoundStore z rom region ranges s span v (record { state = stored_state z region (kind_of rom) span v s; starts = starts_oam_transfer span })
 unfolding is_storable area_of stored_state is_store_limited
 IsSoundStore-stored_state z rom region ranges s span v storable ram limited = record {
-  gives = λ entry base x starting a n m placed room region_is i lt k byte.
+  gives = λ entry base x starting a n right m placed room region_is i lt k byte.
       let both = or_parts _ _ limited in
       stored_by z rom region ranges s span v entry base x starting a n (window_of (kind_of rom) span)
       (record {
@@ -568,17 +619,18 @@ IsSoundStore-stored_state z rom region ranges s span v storable ram limited = re
         faults = write-faultless rom s.core entry x starting span v a n ram both.0 m.core i k;
         free = not_limited s.core entry x span a m.core i both.0;
         seen = both.1;
-        inside = IsInRanges-storable (kind_of rom) region ranges span a storable i;
+        lawful = IsLawful-storable z (kind_of rom) region ranges span base a right region_is storable i;
+        base_is = right;
       })
       refl storable;
 }
 
 -- what a store leaves is what a bus shows of the state after it
 pub stored-view :
-    (rom : List ℕ) (region : Region) (ranges : List Range) (s : AbsState) (entry : MState) (base : ℕ) (x : MState) (starting : Bool) (a n : ℕ) (o : Stored)
-    → IsStored (view rom x starting) a n region ranges s entry base x o
+    (z : Setting) (rom : List ℕ) (region : Region) (ranges : List Range) (s : AbsState) (entry : MState) (base : ℕ) (x : MState) (starting : Bool) (a n : ℕ) (o : Stored)
+    → IsStored z (view rom x starting) a n region ranges s entry base x o
     → wrote (view rom x starting) a n ≡ view rom (record x { storage = (wrote (view rom x starting) a n).storage }) (starting || o.starts)
-stored-view rom region ranges s entry base x starting a n o h = same (wrote (view rom x starting) a n) h.rom h.starting
+stored-view z rom region ranges s entry base x starting a n o h = same (wrote (view rom x starting) a n) h.rom h.starting
   where
     same : (m : View) → m.rom ≡ rom → m.starting ≡ (starting || o.starts) → m ≡ view rom (record x { storage = m.storage }) (starting || o.starts)
     same m p q = ap (λ (r : List ℕ). record m { rom = r }) p ∙ ap (λ b. record m { rom = rom; starting = b }) q
@@ -586,19 +638,19 @@ stored-view rom region ranges s entry base x starting a n o h = same (wrote (vie
 -- a store, by its answer
 pub IsSoundStore-store :
     (z : Setting) (rom : List ℕ) (region : Region) (ranges : List Range) (s : AbsState) (span : Span) (v : Val) (o : Stored) → store z rom region ranges s span v ≡ Ok o
-    → IsSoundStore rom region ranges s span v o
+    → IsSoundStore z rom region ranges s span v o
 unfolding store store_reason
 IsSoundStore-store z rom region ranges s span v o h =
     let t = taken _ _ o h in
     let storable = not_refused _ _ _ t.0 in
     let ram = not_refused _ _ _ storable.1 in
     let limited = not_refused _ _ _ ram.1 in
-    subst (IsSoundStore rom region ranges s span v) t.1 (IsSoundStore-stored_state z rom region ranges s span v (not-false _ storable.0) ram.0 limited.0)
+    subst (IsSoundStore z rom region ranges s span v) t.1 (IsSoundStore-stored_state z rom region ranges s span v (not-false _ storable.0) ram.0 limited.0)
 
 pub store_sound :
     (z : Setting) (rom : List ℕ) (region : Region) (ranges : List Range) (s : AbsState) (span : Span) (v : Val)
-    → IfOk (store z rom region ranges s span v) (λ o. IsSoundStore rom region ranges s span v o)
+    → IfOk (store z rom region ranges s span v) (λ o. IsSoundStore z rom region ranges s span v o)
 store_sound z rom region ranges s span v =
-    if_ok (store z rom region ranges s span v) (λ o. IsSoundStore rom region ranges s span v o) (λ o h. IsSoundStore-store z rom region ranges s span v o h)
+    if_ok (store z rom region ranges s span v) (λ o. IsSoundStore z rom region ranges s span v o) (λ o h. IsSoundStore-store z rom region ranges s span v o h)
 
 pub ruleset store_laws = (store_sound)

@@ -16,6 +16,7 @@ use Rattle.gb_domain.specs.declared.rules.Rules.{Rules}
 use Rattle.gb_domain.specs.declared.rules.Rules.TheVariants.{Simple, Extended}
 use Rattle.gb_domain.specs.Limits.{cell_room}
 use Rattle.gb_domain.specs.Areas.{meets}
+use Rattle.gb_domain.specs.Settings.{known_base}
 use Rattle.gb_abs.specs.Below.gb_vals.Vals.{any_val, single}
 use Rattle.gb_abs.specs.declared.reason.Reason.{Reason}
 use Rattle.gb_abs.specs.declared.reason.Reason.TheVariants as reason
@@ -32,6 +33,7 @@ use Rattle.gb_abs_memory.specs.declared.store.Area.TheVariants as area
 use Rattle.gb_abs_memory.specs.declared.store.Stored.{Stored}
 use Rattle.gb_abs_memory.specs.Windows.{window_of, ctl_after}
 use Rattle.gb_abs_memory.specs.Shown.{known_bank}
+use Rattle.gb_abs_memory.specs.Items.{items_stored}
 
 -- ---- what is refused
 
@@ -146,22 +148,39 @@ area_of k span = area_by (window_of k span) span
 abbrev pub is_range : Span → Range → Bool
 is_range span r = is_inside r.first r.last span
 
--- RAM is stored to outside the stack region, inside one of the procedure's ranges
-abbrev pub is_allowed : Option Area → Region → List Range → Span → Bool
-is_allowed None region ranges span = false
-is_allowed (Some area.Ram) region ranges span = not (meets region span.first span.last) && list_any (is_range span) ranges
-is_allowed _ region ranges span = true
+-- all of them lie in the stack region, below a base that is known
+abbrev pub is_below_base : Option ℕ → Region → Span → Bool
+is_below_base None region span = false
+is_below_base (Some base) region span = is_inside region.first region.last span && nat_lt span.last base
 
-unfoldable pub is_storable : Kind → Region → List Range → Span → Bool
-is_storable k region ranges span = is_allowed (area_of k span) region ranges span
+-- RAM is stored to outside the stack region, inside one of the procedure's ranges; by the rules of version 3 main may store
+-- anywhere, and another procedure inside one of its ranges, or in the stack region below its base
+abbrev pub is_ram_allowed : Rules → Setting → Region → List Range → Span → Bool
+is_ram_allowed Simple z region ranges span = not (meets region span.first span.last) && list_any (is_range span) ranges
+is_ram_allowed Extended z region ranges span = z.is_main || list_any (is_range span) ranges || is_below_base (known_base z) region span
+
+abbrev pub is_allowed : Setting → Option Area → Region → List Range → Span → Bool
+is_allowed z None region ranges span = false
+is_allowed z (Some area.Ram) region ranges span = is_ram_allowed z.rules z region ranges span
+is_allowed z _ region ranges span = true
+
+unfoldable pub is_storable : Setting → Kind → Region → List Range → Span → Bool
+is_storable z k region ranges span = is_allowed z (area_of k span) region ranges span
 
 -- the lowest reason against a store
-unfoldable pub store_reason : List ℕ → Region → List Range → Core → Span → Val → Option Reason
-store_reason rom region ranges core span v =
-    if not (is_storable (kind_of rom) region ranges span) then Some reason.Store
+unfoldable pub store_reason : Setting → List ℕ → Region → List Range → Core → Span → Val → Option Reason
+store_reason z rom region ranges core span v =
+    if not (is_storable z (kind_of rom) region ranges span) then Some reason.Store
     else if store_meets_closed_ram rom core span v then Some reason.CartridgeRam
     else if is_store_limited core span then Some reason.OamTransfer
     else None
+
+-- the cell at one address of RAM gets the value; by the rules of version 3, which let the stack region be stored to, a byte there
+-- gets no cell
+abbrev pub one_stored : Rules → Region → Span → Val → List Cell → List Cell
+one_stored Simple region span v cells = with_cell (cell_room Simple) (record { address = span.first; val = v }) cells
+one_stored Extended region span v cells =
+    if meets region span.first span.last then cells else with_cell (cell_room Extended) (record { address = span.first; val = v }) cells
 
 -- the cells at several addresses: by the rules of versions 1 and 2 nothing is known of them any more, by those of version 3 they
 -- may hold the value too
@@ -169,22 +188,26 @@ abbrev pub several_stored : Rules → Span → Val → List Cell → List Cell
 several_stored Simple span v cells = without_cells span.first span.last cells
 several_stored Extended span v cells = widened_cells span.first span.last v cells
 
--- one address gets the value
-unfoldable pub ram_stored : Setting → Span → Val → AbsState → AbsState
-ram_stored z span v s =
+abbrev pub cells_stored : Rules → Region → Span → Val → List Cell → List Cell
+cells_stored rules region span v cells = if is_one span then one_stored rules region span v cells else several_stored rules span v cells
+
+-- of a store to RAM that may meet items and cells both effects count
+unfoldable pub ram_stored : Setting → Region → Span → Val → AbsState → AbsState
+ram_stored z region span v s =
     record s {
-      cells = if is_one span then with_cell (cell_room z.rules) (record { address = span.first; val = v }) s.cells else several_stored z.rules span v s.cells;
+      items = items_stored z region span v s.core s.items;
+      cells = cells_stored z.rules region span v s.cells;
     }
 
-abbrev pub stored_in : Setting → Option Area → Kind → Span → Val → AbsState → AbsState
-stored_in z (Some (area.Controller (Some r))) k span v s = with_core s (record s.core { ctl = ctl_after k r v s.core.ctl })
-stored_in z (Some area.Ram) k span v s = ram_stored z span v s
-stored_in z (Some area.InterruptEnable) k span v s = with_core s (record s.core { ie = v })
-stored_in z _ k span v s = s
+abbrev pub stored_in : Setting → Region → Option Area → Kind → Span → Val → AbsState → AbsState
+stored_in z region (Some (area.Controller (Some r))) k span v s = with_core s (record s.core { ctl = ctl_after k r v s.core.ctl })
+stored_in z region (Some area.Ram) k span v s = ram_stored z region span v s
+stored_in z region (Some area.InterruptEnable) k span v s = with_core s (record s.core { ie = v })
+stored_in z region _ k span v s = s
 
 -- the state after a store
-unfoldable pub stored_state : Setting → Kind → Span → Val → AbsState → AbsState
-stored_state z k span v s = stored_in z (area_of k span) k span v s
+unfoldable pub stored_state : Setting → Region → Kind → Span → Val → AbsState → AbsState
+stored_state z region k span v s = stored_in z region (area_of k span) k span v s
 
 -- what a store makes of the core
 abbrev pub stored_core_in : Option Area → Kind → Span → Val → Core → Core
@@ -201,5 +224,5 @@ starts_oam_transfer span = is_one span && (span.first == 0xFF46)
 
 unfoldable pub store : Setting → List ℕ → Region → List Range → AbsState → Span → Val → Result Stored Reason
 store z rom region ranges s span v =
-    refused_or (store_reason rom region ranges s.core span v)
-    (record { state = stored_state z (kind_of rom) span v s; starts = starts_oam_transfer span })
+    refused_or (store_reason z rom region ranges s.core span v)
+    (record { state = stored_state z region (kind_of rom) span v s; starts = starts_oam_transfer span })

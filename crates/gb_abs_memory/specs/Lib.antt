@@ -1,3 +1,4 @@
+pub mod Items
 pub mod Access
 pub mod Kept
 pub mod Shown

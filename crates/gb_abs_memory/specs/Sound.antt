@@ -15,6 +15,7 @@ use Rattle.gb_domain.specs.Areas.{IsRegion, meets}
 use Rattle.gb_domain.specs.Rules.{IsVal}
 use Rattle.gb_domain.specs.Settings.{IsBase}
 use Rattle.gb_domain.specs.declared.setting.Setting.{Setting}
+use Rattle.gb_domain.specs.declared.rules.Rules.TheVariants.{Simple}
 use Rattle.gb_abs.specs.declared.span.Span.{Span}
 use Rattle.gb_abs.specs.Span.{IsIn, one}
 use Rattle.gb_abs.specs.Cells.{ArePlaced}
@@ -23,6 +24,7 @@ use Rattle.gb_abs.specs.Storage.{is_ram, peek}
 use Rattle.gb_abs.specs.Meaning.{Holds, MeansParts}
 use Rattle.gb_abs_memory.specs.declared.store.Stored.{Stored}
 use Rattle.gb_abs_memory.specs.Access.{is_range}
+use Rattle.gb_abs_memory.specs.Kept.{keeps, IsKept}
 
 -- a number of banks that a cartridge may have: 2 to 512
 pub record IsSize (banks : ℕ) : Type 0 where
@@ -55,27 +57,24 @@ pub record IsSoundLoad (z : Setting) (rom : List ℕ) (s : AbsState) (span : Spa
       → IsBase z base → IsRom rom → MeansParts s entry base x → IsVal s.core.ie → IsIn span a → a < 65536 → slice_index free 0 ≤ 255
       → IsLoaded (view rom x starting) a free v entry
 
--- an address lies in one of the ranges, outside the stack region
-pub record IsInRanges (region : Region) (ranges : List Range) (a : ℕ) : Type 0 where
-  pub inside : list_any (is_range (one a)) ranges ≡ true
-  pub apart : meets region a a ≡ false
-
--- a byte is stored without a fault: what is left is meant, the other bytes of RAM, the items and the places of
--- cells are kept, and an OAM transfer starts exactly where it is said; a byte of RAM that is stored to lies in one of
--- the procedure's ranges
-pub record IsStored (m : View) (a n : ℕ) (region : Region) (ranges : List Range) (s : AbsState) (entry : MState) (base : ℕ) (x : MState) (o : Stored) : Type 0 where
+-- a byte is stored without a fault: what is left is meant, with as many items, the other bytes of RAM and the places of cells
+-- are kept, and an OAM transfer starts exactly where it is said; what the procedure keeps isn't stored to, and a byte of the stack
+-- region outside its ranges lies below its base; by the rules of versions 1 and 2 the items stay
+pub record IsStored (z : Setting) (m : View) (a n : ℕ) (region : Region) (ranges : List Range) (s : AbsState) (entry : MState) (base : ℕ) (x : MState) (o : Stored) : Type 0 where
   pub means : MeansParts o.state entry base (record x { storage = (wrote m a n).storage })
   pub faults : write_faults m a n ≡ no_faults
   pub starting : (wrote m a n).starting ≡ (m.starting || o.starts)
   pub rom : (wrote m a n).rom ≡ m.rom
   pub others : (b : ℕ) → is_ram b ≡ true → (b == a) ≡ false → peek (wrote m a n).storage b ≡ peek x.storage b
-  pub inside : is_ram a ≡ true → IsInRanges region ranges a
-  pub items : o.state.items ≡ s.items
+  pub spared : IsKept z region ranges base a → ⊥
+  pub held : keeps z ≡ true → meets region a a ≡ true → list_any (is_range (one a)) ranges ≡ false → a < base
+  pub count : length o.state.items ≡ length s.items
+  pub items : z.rules ≡ Simple → o.state.items ≡ s.items
   pub placed : ArePlaced region o.state.cells
 
--- of each of these states, to each of these addresses, each byte that v stands for
-pub record IsSoundStore (rom : List ℕ) (region : Region) (ranges : List Range) (s : AbsState) (span : Span) (v : Val) (o : Stored) : Type 0 where
+-- of each of these states, of a procedure whose base is what is said, to each of these addresses, each byte that v stands for
+pub record IsSoundStore (z : Setting) (rom : List ℕ) (region : Region) (ranges : List Range) (s : AbsState) (span : Span) (v : Val) (o : Stored) : Type 0 where
   pub gives : (entry : MState) (base : ℕ) (x : MState) (starting : Bool) (a n : ℕ)
-      → MeansParts s entry base x → ArePlaced region s.cells → AreInRegion region base (length s.items) → IsRegion region
+      → IsBase z base → MeansParts s entry base x → ArePlaced region s.cells → AreInRegion region base (length s.items) → IsRegion region
       → IsIn span a → a < 65536 → Holds v entry n → n ≤ 255
-      → IsStored (view rom x starting) a n region ranges s entry base x o
+      → IsStored z (view rom x starting) a n region ranges s entry base x o

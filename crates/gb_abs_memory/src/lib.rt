@@ -4,10 +4,11 @@
 //! a store, with the least bounds, and `known_bank` the ROM bank that is shown whatever the registers
 //! are (`sound`, `complete`).
 //!
-//! Read `windows` and `shown` (controllers), `refusals` (what refuses an access), then `load` and
-//! `store`.
+//! Read `windows` and `shown` (controllers), `refusals` (what refuses an access), then `load`, `items`
+//! (bytes of the stack that a store meets) and `store`.
 #![tactic(auto)]
 
+mod items;
 pub mod load;
 pub mod refusals;
 pub mod shown;

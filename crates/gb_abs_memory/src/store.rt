@@ -2,9 +2,11 @@
 
 ghost use Rattle.std.specs.Prelude.{◌≡◌, None, IfOk};
 ghost use Rattle.std.specs.List.{list_any};
+ghost use Rattle.gb_domain.specs.Settings.{known_base};
 ghost use Rattle.gb_abs_memory.specs.Access as Access;
 ghost use Rattle.gb_abs_memory.specs.Sound.{IsSoundStore};
 
+use crate::items::store_to_items;
 use crate::refusals::{is_store_limited, store_meets_closed_ram};
 use crate::windows::{ControllerRegister, ctl_after, window_of};
 use gb_abs::cells::{widened_cells, with_cell, without_cells};
@@ -71,17 +73,46 @@ fn is_in_a_range(ranges: &[Range], span: Span) -> bool
         .any(|range| span.is_inside(range.first, range.last))
 }
 
-/// Whether all of these addresses lie in one area that may be stored to: RAM outside the stack
-/// region, and there inside one of the procedure's ranges.
+/// Whether all of these addresses lie in the stack region, below the procedure's base, which is known.
+fn is_below_base(setting: Setting, region: Region, span: Span) -> bool
+    ensures { result ≡ Access.is_below_base (known_base setting) region span }
+{
+    match setting.known_base() {
+        Some(base) => span.is_inside(region.first, region.last) && span.last < base,
+        None => false,
+    }
+}
+
+/// Whether RAM may be stored to at these addresses: outside the stack region, inside one of the procedure's ranges; by the
+/// rules of version 3 in main anywhere, and in another procedure inside one of its ranges, or in the stack region below its
+/// base.
+fn is_ram_storable(setting: Setting, region: Region, ranges: &[Range], span: Span) -> bool
+    ensures { result ≡ Access.is_ram_allowed setting.rules setting region ranges.now span }
+{
+    match setting.rules {
+        Rules::Simple => {
+            !span.may_meet(region.first, region.last) && is_in_a_range(ranges, span)
+        }
+        Rules::Extended => {
+            setting.is_main || is_in_a_range(ranges, span) || is_below_base(setting, region, span)
+        }
+    }
+}
+
+/// Whether all of these addresses lie in one area that may be stored to, RAM where the procedure may.
 #[tactic(auto, unfolding(crate::specs::Access::is_storable))]
-pub fn is_storable(kind: Kind, region: Region, ranges: &[Range], span: Span) -> bool
-    ensures { result ≡ Access.is_storable kind region ranges.now span }
+pub fn is_storable(
+    setting: Setting,
+    kind: Kind,
+    region: Region,
+    ranges: &[Range],
+    span: Span,
+) -> bool
+    ensures { result ≡ Access.is_storable setting kind region ranges.now span }
 {
     match area_of(kind, span) {
         None => false,
-        Some(Area::Ram) => {
-            !span.may_meet(region.first, region.last) && is_in_a_range(ranges, span)
-        }
+        Some(Area::Ram) => is_ram_storable(setting, region, ranges, span),
         Some(Area::Controller(_) | Area::Hardware | Area::InterruptEnable) => true,
     }
 }
@@ -89,6 +120,7 @@ pub fn is_storable(kind: Kind, region: Region, ranges: &[Range], span: Span) -> 
 /// The lowest reason against a store.
 #[tactic(auto, unfolding(crate::specs::Access::store_reason))]
 fn store_reason(
+    setting: Setting,
     rom: &Rom<'_>,
     region: Region,
     ranges: &[Range],
@@ -96,9 +128,9 @@ fn store_reason(
     span: Span,
     val: &Val,
 ) -> Option<Reason>
-    ensures { result ≡ Access.store_reason rom.now region ranges.now core.now span val.now }
+    ensures { result ≡ Access.store_reason setting rom.now region ranges.now core.now span val.now }
 {
-    if !is_storable(rom.kind(), region, ranges, span) {
+    if !is_storable(setting, rom.kind(), region, ranges, span) {
         Some(Reason::Store)
     } else if store_meets_closed_ram(rom, core, span, val) {
         Some(Reason::CartridgeRam)
@@ -109,27 +141,45 @@ fn store_reason(
     }
 }
 
-/// The state after a store to one of several addresses of RAM: nothing is known of them any more, or, by the rules of
-/// version 3, they may hold the value too.
-fn several_stored(rules: Rules, span: Span, val: &Val, state: &Abs) -> Abs
-    ensures { result ≡ record state.now { cells = Access.several_stored rules span val.now state.now.cells } }
+/// The state whose cell at one address of RAM gets a value. By the rules of version 3, which let the stack region be
+/// stored to, a byte there gets no cell.
+fn one_stored(setting: Setting, region: Region, span: Span, val: &Val, state: &Abs) -> Abs
+    ensures { result ≡ record state.now { cells = Access.one_stored setting.rules region span val.now state.now.cells } }
 {
-    match rules {
+    match setting.rules {
+        Rules::Simple => with_cell(setting.rules, state, span.first, *val),
+        Rules::Extended => {
+            if span.may_meet(region.first, region.last) {
+                state.copied()
+            } else {
+                with_cell(setting.rules, state, span.first, *val)
+            }
+        }
+    }
+}
+
+/// The state after a store to one of several addresses of RAM: nothing is known of their cells any more, or, by the rules of
+/// version 3, they may hold the value too.
+fn several_stored(setting: Setting, span: Span, val: &Val, state: &Abs) -> Abs
+    ensures { result ≡ record state.now { cells = Access.several_stored setting.rules span val.now state.now.cells } }
+{
+    match setting.rules {
         Rules::Simple => without_cells(state, span.first, span.last),
         Rules::Extended => widened_cells(state, span.first, span.last, *val),
     }
 }
 
-/// The state after a store to RAM: one address gets the value.
+/// A store to RAM changes cells and items.
 #[tactic(auto, unfolding(crate::specs::Access::ram_stored))]
-fn ram_stored(setting: Setting, span: Span, val: &Val, state: &Abs) -> Abs
-    ensures { result ≡ Access.ram_stored setting span val.now state.now }
+fn store_to_ram(setting: Setting, region: Region, span: Span, val: &Val, state: &mut Abs)
+    ensures { state.new ≡ Access.ram_stored setting region span val.now state.old }
 {
-    if span.is_one() {
-        with_cell(setting.rules, state, span.first, *val)
+    *state = if span.is_one() {
+        one_stored(setting, region, span, val, state)
     } else {
-        several_stored(setting.rules, span, val, state)
-    }
+        several_stored(setting, span, val, state)
+    };
+    store_to_items(setting, region, span, val, state);
 }
 
 /// A store changes the core.
@@ -150,8 +200,15 @@ pub fn stored_core(kind: Kind, span: Span, val: &Val, core: &Core) -> Core
 /// A store in the area that all of these addresses lie in changes the state. What is against the store
 /// is asked apart: `is_storable`, and what refuses it.
 #[tactic(auto, unfolding(crate::specs::Access::stored_state))]
-pub fn store_in(setting: Setting, kind: Kind, span: Span, val: &Val, state: &mut Abs)
-    ensures { state.new ≡ Access.stored_state setting kind span val.now state.old }
+pub fn store_in(
+    setting: Setting,
+    region: Region,
+    kind: Kind,
+    span: Span,
+    val: &Val,
+    state: &mut Abs,
+)
+    ensures { state.new ≡ Access.stored_state setting region kind span val.now state.old }
 {
     match area_of(kind, span) {
         Some(Area::Controller(Some(register))) => {
@@ -159,7 +216,7 @@ pub fn store_in(setting: Setting, kind: Kind, span: Span, val: &Val, state: &mut
             let ctl = ctl_after(kind, register, val, &core.ctl);
             state.set_core(Core { ctl, ..core });
         }
-        Some(Area::Ram) => *state = ram_stored(setting, span, val, state),
+        Some(Area::Ram) => store_to_ram(setting, region, span, val, state),
         Some(Area::InterruptEnable) => {
             state.set_core(Core {
                 ie: *val,
@@ -171,11 +228,18 @@ pub fn store_in(setting: Setting, kind: Kind, span: Span, val: &Val, state: &mut
 }
 
 /// The state after such a store.
-pub fn stored_state(setting: Setting, kind: Kind, span: Span, val: &Val, state: &Abs) -> Abs
-    ensures { result ≡ Access.stored_state setting kind span val.now state.now }
+pub fn stored_state(
+    setting: Setting,
+    region: Region,
+    kind: Kind,
+    span: Span,
+    val: &Val,
+    state: &Abs,
+) -> Abs
+    ensures { result ≡ Access.stored_state setting region kind span val.now state.now }
 {
     let mut after = state.copied();
-    store_in(setting, kind, span, val, &mut after);
+    store_in(setting, region, kind, span, val, &mut after);
     after
 }
 
@@ -199,10 +263,10 @@ fn stored_or_reason(
 ) -> Result<Stored, Reason>
     ensures { result ≡ Access.store setting rom.now region ranges.now state.now span val.now }
 {
-    match store_reason(rom, region, ranges, state.core(), span, val) {
+    match store_reason(setting, rom, region, ranges, state.core(), span, val) {
         Some(reason) => Err(reason),
         None => Ok(Stored {
-            state: stored_state(setting, rom.kind(), span, val, state),
+            state: stored_state(setting, region, rom.kind(), span, val, state),
             starts: starts_oam_transfer(span),
         }),
     }
@@ -225,7 +289,7 @@ pub fn store(
     val: &Val,
 ) -> Result<Stored, Reason>
     ensures exact { result ≡ Access.store setting rom.now region ranges.now state.now span val.now }
-    ensures sound { IfOk result (λ o. IsSoundStore rom.now region ranges.now state.now span val.now o) }
+    ensures sound { IfOk result (λ o. IsSoundStore setting rom.now region ranges.now state.now span val.now o) }
 {
     stored_or_reason(setting, rom, region, ranges, state, span, val)
 }

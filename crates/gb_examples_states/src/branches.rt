@@ -1,12 +1,11 @@
 //! The sides of conditional instructions.
 
 use crate::effects::leaves_test;
-use gb_abs_effects::sides::Sides;
 use gb_abs_effects::transfer::untaken;
 use gb_abs_effects::writes::AbsWrite;
-use gb_domain::types::{Abs, Core, Flg};
+use gb_domain::types::{Core, Flg};
 use gb_ops::op::{AluOp, Condition, Op, Operand, Register};
-use gb_product::sides::sides_of;
+use gb_product::sides::{sides_of, taken_side};
 use gb_samples::relations::compared;
 use gb_samples::states::{CLEAR, EITHER, SET, copy_of, entered, with_carry};
 use gb_vals::branch::side;
@@ -69,20 +68,13 @@ fn with_a(lo: u8, hi: u8) -> Core {
     core
 }
 
-/// A state with a comparison of A.
-fn tested(core: Core, n: u8) -> Abs {
-    let mut state = Abs::new(core);
-    state.set_relations(compared(Some(n)));
-    state
-}
-
 #[test]
 fn tests_narrow_a(rt: HostRuntime) {
     for (i, (n, condition, lo, hi, want)) in ROWS.into_iter().enumerate() {
         let core = with_a(lo, hi);
         let jump = Op::JumpRelativeIf(condition, 5);
-        let taken = sides_of(jump, &tested(core, n), &core).taken;
-        let narrowed = taken.map(|core| core.registers.a);
+        let taken = taken_side(jump, &[], &core, &compared(Some(n)));
+        let narrowed = taken.map(|side| side.core.registers.a);
         let want = want.map(|(lo, hi)| copy_of(Register::A, lo, hi));
         assert!(rt; narrowed == want, "row {i}");
     }
@@ -107,7 +99,9 @@ fn narrowed(core: Core, lo: u8, hi: u8, flags: Flg) -> Option<Core> {
 
 /// An instruction's two sides, where A was compared with 10.
 fn has_sides(rt: &impl Abort, op: Op, core: &Core, taken: Option<Core>, not_taken: Option<Core>) {
-    assert!(rt; sides_of(op, &tested(*core, 10), core) == Sides { taken, not_taken });
+    let sides = sides_of(op, &[], core, &compared(Some(10)));
+    assert!(rt; sides.taken.map(|side| side.core) == taken);
+    assert!(rt; sides.not_taken.map(|side| side.core) == not_taken);
 }
 
 #[test]

@@ -4,16 +4,20 @@
 use crate::facts::Fact::{self, At, Bits, Byte, Compared, Link, Memory, Same, Word, Zero};
 use crate::facts::Known;
 use gb_domain::pairs::WordPair::{Bc, De, Hl};
-use gb_domain::pairs::{Bounds, Other};
-use gb_domain::types::Core;
+use gb_domain::pairs::{ANY_BOUNDS, Bounds, Other};
+use gb_domain::types::{Cell, Rules};
 use gb_ops::op::Register::{A, B, C, D, E, H};
-use gb_ops::op::{Condition, Op, Register};
+use gb_ops::op::{Condition, Indirect, Op, Operand, Pair, Register};
 use gb_pairs::moved::added;
 use gb_pairs::reduced::reduced;
 use gb_places::sides::{Contents, narrowed};
 use gb_product::covering::covers;
-use gb_product::sides::sides_of;
+use gb_product::parts::Branch;
+use gb_product::reduced::reduced_branch;
+use gb_product::sides::{not_taken_side, taken_side};
+use gb_relations::pointers::{known_carry, pointer_bounds};
 use gb_samples::relations::are_pairs_same;
+use gb_samples::states::ANY;
 use std::process::Abort;
 
 /// What is known.
@@ -23,6 +27,10 @@ type Facts = &'static [Fact];
 pub enum Step {
     /// A condition, what is known before it, and of registers and memory where it is met, if it can be.
     Meets(Condition, Facts, Option<Facts>),
+    /// What is known before a jump on this condition, and once it isn't taken and that is reduced, if it can be.
+    Passes(Condition, Facts, Option<Facts>),
+    /// An instruction, what is known before it, and the bounds of the address that it takes from a pair.
+    Points(Op, Facts, Option<(u16, u16)>),
     /// What is known, and of registers and pairs once it is reduced, if anything is meant.
     Reduces(Facts, Option<Facts>),
     /// What is known before a word in these bounds is added to HL, and the carry, where it is known.
@@ -31,12 +39,29 @@ pub enum Step {
     Covers(Facts, Facts, bool),
 }
 
-use Step::{Carries, Covers, Meets, Reduces};
+use Step::{Carries, Covers, Meets, Passes, Points, Reduces};
 
-/// Whether this is left of the registers.
-fn has_registers(core: Option<Core>, after: Option<Facts>) -> bool {
-    match (core, after) {
-        (Some(core), Some(after)) => core.registers == Known::new(after).registers,
+/// The cell that says this of memory, where it says something.
+fn told_cell(known: &Known) -> Option<Cell> {
+    let address = known.relations.byte.address?;
+    if known.memory == ANY {
+        None
+    } else {
+        Some(Cell {
+            address,
+            val: known.memory,
+        })
+    }
+}
+
+/// Whether a side leaves this of registers and memory, of which the places are.
+fn has_side(side: Option<Branch>, before: Facts, after: Option<Facts>) -> bool {
+    match (side, after) {
+        (Some(side), Some(after)) => {
+            let mut known = Known::new(after);
+            known.relations.byte.address = Known::new(before).relations.byte.address;
+            side.core.registers == known.registers && side.cell == told_cell(&known)
+        }
         (None, None) => true,
         _ => false,
     }
@@ -62,9 +87,59 @@ fn meets(condition: Condition, before: Facts, after: Option<Facts>) -> bool {
         registers: known.registers,
         memory: known.memory,
     };
-    let sides = sides_of(Op::JumpIf(condition, 0x4000), &state, state.core());
+    let jump = Op::JumpIf(condition, 0x4000);
+    let side = taken_side(jump, state.cells(), state.core(), state.relations());
     has_contents(narrowed(&known.relations.byte, condition, &contents), after)
-        && has_registers(sides.taken, after)
+        && has_side(side, before, after)
+}
+
+/// What a jump that isn't taken leaves, reduced.
+fn passed(condition: Condition, before: Facts) -> Option<Branch> {
+    let state = Known::new(before).state();
+    let jump = Op::JumpRelativeIf(condition, 5);
+    let side = not_taken_side(jump, state.cells(), state.core(), state.relations())?;
+    reduced_branch(Rules::Extended, side)
+}
+
+/// Whether a jump that isn't taken leaves this of registers and pairs.
+fn passes(condition: Condition, before: Facts, after: Option<Facts>) -> bool {
+    match (passed(condition, before), after) {
+        (Some(side), Some(after)) => {
+            let known = Known::new(after);
+            side.core.registers == known.registers
+                && are_pairs_same(&side.relations.pairs, &known.relations.pairs)
+        }
+        (None, None) => true,
+        _ => false,
+    }
+}
+
+/// The carry of ADD HL,DE, by version 3.
+fn carry_of_de(known: &Known) -> Option<bool> {
+    known_carry(
+        Rules::Extended,
+        Op::AddHl(Pair::De),
+        ANY_BOUNDS,
+        &known.registers,
+        &known.relations.pairs,
+    )
+}
+
+/// Whether a word in these bounds is added to HL with this carry; DE is such a word too.
+fn carries(first: u16, last: u16, before: Facts, carry: Option<bool>) -> bool {
+    let mut known = Known::new(before);
+    let sum = added(Bounds { first, last }, false, &known.values());
+    known.relations.pairs.de.bounds = Bounds { first, last };
+    sum.carry == carry && carry_of_de(&known) == carry
+}
+
+/// Whether an instruction takes an address within these bounds from a pair; by versions 1 and 2 none is taken.
+fn points(op: Op, before: Facts, within: Option<(u16, u16)>) -> bool {
+    let known = Known::new(before);
+    let (registers, pairs) = (&known.registers, &known.relations.pairs);
+    let bounds = pointer_bounds(Rules::Extended, op, registers, pairs);
+    bounds.map(|found| (found.first, found.last)) == within
+        && pointer_bounds(Rules::Simple, op, registers, pairs).is_none()
 }
 
 fn reduces(before: Facts, after: Option<Facts>) -> bool {
@@ -83,11 +158,10 @@ fn reduces(before: Facts, after: Option<Facts>) -> bool {
 fn agrees(step: &Step) -> bool {
     match *step {
         Meets(condition, before, after) => meets(condition, before, after),
+        Passes(condition, before, after) => passes(condition, before, after),
+        Points(op, before, within) => points(op, before, within),
         Reduces(before, after) => reduces(before, after),
-        Carries(first, last, before, carry) => {
-            let sum = added(Bounds { first, last }, false, &Known::new(before).values());
-            sum.carry == carry
-        }
+        Carries(first, last, before, carry) => carries(first, last, before, carry),
         Covers(s, t, is_so) => covers(&Known::new(s).state(), &Known::new(t).state()) == is_so,
     }
 }
@@ -283,6 +357,90 @@ const CARRIED: &[Step] = &[
     Carries(0x1000, 0x1000, &[Byte(H, 0xF0, 0xFF)], Some(true)),
 ];
 
+/// DE counts down while Z says whether it is 0.
+const COUNTED: Facts = &[
+    Zero(De),
+    Word(De, 0x0000, 0x0010),
+    Link(Hl, 1, OF_DE, 0xC010),
+];
+
+const FOUND: &[Step] = &[
+    // DE isn't 0 where NZ is met, and 0 where it isn't; HL + DE = C010 goes along.
+    Passes(
+        Condition::Zero,
+        COUNTED,
+        Some(&[
+            Byte(D, 0x00, 0x00),
+            Byte(E, 0x01, 0x10),
+            Word(De, 0x0001, 0x0010),
+            Byte(H, 0xC0, 0xC0),
+            Byte(Register::L, 0x00, 0x0F),
+            Word(Hl, 0xC000, 0xC00F),
+            Link(Hl, 1, OF_DE, 0xC010),
+        ]),
+    ),
+    Passes(
+        Condition::NotZero,
+        COUNTED,
+        Some(&[
+            Byte(D, 0x00, 0x00),
+            Byte(E, 0x00, 0x00),
+            Word(De, 0x0000, 0x0000),
+            Byte(H, 0xC0, 0xC0),
+            Byte(Register::L, 0x10, 0x10),
+            Word(Hl, 0xC010, 0xC010),
+            Link(Hl, 1, OF_DE, 0xC010),
+        ]),
+    ),
+    // It can't be 0, and it can't be another.
+    Passes(
+        Condition::NotZero,
+        &[Zero(De), Word(De, 0x0100, 0x0200)],
+        None,
+    ),
+    Passes(Condition::Zero, &[Zero(De), Word(De, 0x0000, 0x0000)], None),
+    // C says nothing of it.
+    Passes(
+        Condition::Carry,
+        &[Zero(De), Word(De, 0x0000, 0x0001)],
+        Some(&[
+            Byte(D, 0x00, 0x00),
+            Byte(E, 0x00, 0x01),
+            Word(De, 0x0000, 0x0001),
+        ]),
+    ),
+];
+
+/// HL in C0F0 to C110, and BC by its bytes.
+const POINTING: Facts = &[
+    Word(Hl, 0xC0F0, 0xC110),
+    Byte(B, 0xC2, 0xC3),
+    Byte(C, 0x10, 0x20),
+];
+
+const POINTED: &[Step] = &[
+    Points(
+        Op::Load(Operand::Register(A), Operand::AtHl),
+        POINTING,
+        Some((0xC0F0, 0xC110)),
+    ),
+    Points(
+        Op::StoreA(Indirect::HlIncrement),
+        POINTING,
+        Some((0xC0F0, 0xC110)),
+    ),
+    Points(Op::LoadA(Indirect::Bc), POINTING, Some((0xC210, 0xC320))),
+    Points(Op::LoadA(Indirect::De), POINTING, Some((0x0000, 0xFFFF))),
+    Points(Op::JumpHl, POINTING, Some((0xC0F0, 0xC110))),
+    Points(Op::LoadSpHl, POINTING, Some((0xC0F0, 0xC110))),
+    Points(Op::LoadAbsolute(0xC000), POINTING, None),
+    Points(
+        Op::Load(Operand::Register(A), Operand::Register(B)),
+        POINTING,
+        None,
+    ),
+];
+
 /// A, B and C123 hold one byte, compared with 7, and DE is 0 where Z is set.
 const PLACES: Facts = &[Same(&[A, B]), At(0xC123), Compared(7), Zero(De)];
 
@@ -347,6 +505,16 @@ fn branches_cut_all_places(rt: HostRuntime) {
 fn pairs_and_links_cut_values(rt: HostRuntime) {
     play(&rt, REDUCED);
     play(&rt, CARRIED);
+}
+
+#[test]
+fn branches_know_whether_a_pair_is_zero(rt: HostRuntime) {
+    play(&rt, FOUND);
+}
+
+#[test]
+fn pairs_bound_addresses(rt: HostRuntime) {
+    play(&rt, POINTED);
 }
 
 #[test]

@@ -1,6 +1,6 @@
 //! Bytes of the stack, where they stand, and cells, by the rules of version 3.
 
-use gb_abs::bytes::{append_bytes, take_bytes};
+use gb_abs::bytes::{append_bytes, resize, take_bytes};
 use gb_abs::cells::{widened_cells, with_cell};
 use gb_abs::covering::cell_at;
 use gb_abs::located::{item_at, sp_bounds, sp_halves};
@@ -21,6 +21,8 @@ enum Done {
     /// Bytes of any value.
     Appends(u8),
     Takes(u8),
+    /// SP is set so that as many are held.
+    Sets(usize),
 }
 
 fn up_to(hi: u8) -> Val {
@@ -48,6 +50,7 @@ fn behind(done: Done, state: &Abs) -> Option<Abs> {
         }
         Done::Appends(count) => append_bytes(Rules::Extended, state, count),
         Done::Takes(count) => take_bytes(state, count),
+        Done::Sets(count) => resize(Rules::Extended, state, count),
     }
 }
 
@@ -73,7 +76,10 @@ const STACKED: &[(Done, &[u8])] = &[
     (Done::Appends(0), &[1, 2]),
     (Done::Takes(1), &[1]),
     (Done::Appends(2), &[1, 255, 255]),
-    (Done::Takes(3), &[]),
+    (Done::Sets(2), &[1, 255]),
+    (Done::Sets(4), &[1, 255, 255, 255]),
+    (Done::Takes(4), &[]),
+    (Done::Sets(0), &[]),
 ];
 
 /// Words and single bytes share the stack.
@@ -97,6 +103,8 @@ const FILLED: &[(u8, Done, Option<usize>)] = &[
     (251, Done::Appends(5), None),
     (255, Done::Appends(0), Some(255)),
     (255, Done::Takes(255), Some(0)),
+    (3, Done::Sets(255), Some(255)),
+    (3, Done::Sets(256), None),
     (4, Done::Takes(5), None),
     (2, Done::Pops(255, 255), Some(0)),
     (1, Done::Pops(255, 255), None),

@@ -15,7 +15,7 @@ use Rattle.gb_domain.specs.Pairs.{facts_of}
 use Rattle.gb_vals.specs.Logic.{smaller, larger}
 use Rattle.gb_pairs.specs.declared.values.Values.{Values}
 use Rattle.gb_pairs.specs.Bounds.{cut, is_empty, high_of, low_of, box, bounds_of}
-use Rattle.gb_pairs.specs.Reduced.{size, pairs_at, cut_by_other, others_at, cut_val, with_register, with_bounds, with_register_if, with_bounds_if, cut_other, cut_other_if, high_bounds, low_bounds, with_bytes_if, settled, reduced_by_link, reduced_within, reduced_pair, reduced_once, reduced}
+use Rattle.gb_pairs.specs.Reduced.{size, pairs_at, cut_by_other, others_at, cut_val, with_register, with_bounds, with_register_if, with_bounds_if, cut_other, cut_other_if, high_bounds, low_bounds, with_bytes_if, settled, reduced_by_link, reduced_within, reduced_pair, reduced_once, reduced, restricted}
 use Rattle.gb_pairs.specs.Sound.{IsCut}
 use Rattle.gb_pairs.proofs.RegisterLaws.{each_set, each_facts}
 
@@ -56,25 +56,33 @@ IsPart-bounds_of p v = IsPart-cut_right (box (get (high_of p) v.registers) (get 
 record IsPartVal (y v : Val) : Type 0 where
   least : v.lo ≤ y.lo
   most : y.hi ≤ v.hi
+  order : y.lo ≤ y.hi
   origin : y.origin ≡ v.origin
 
 IfSome-cut_val : (v : Val) (d : Bounds) → IfSome (cut_val v d) (λ y. IsPartVal y v)
 unfolding cut_val
-IfSome-cut_val v d = choose (nat_lt (smaller v.hi d.last) (larger v.lo d.first))
+IfSome-cut_val v d = choose (nat_lt (smaller v.hi d.last) (larger v.lo d.first)) refl
   where
     choose :
-        (b : Bool)
+        (b : Bool) → nat_lt (smaller v.hi d.last) (larger v.lo d.first) ≡ b
         → IfSome (cond b None (Some (record v { lo = larger v.lo d.first; hi = smaller v.hi d.last }))) (λ y. IsPartVal y v)
-    choose true = tt
-    choose false = record { least = grind (arith, nat_tests); most = grind (arith, nat_tests); origin = refl }
+    choose true e = tt
+    choose false e =
+        record {
+          least = grind (arith, nat_tests);
+          most = grind (arith, nat_tests);
+          order = grind (arith, nat_tests);
+          origin = refl;
+        }
 
 -- ---- on values of all registers
 
-IsCut-itself : (v : Values) → IsCut v v
+pub IsCut-itself : (v : Values) → IsCut v v
 IsCut-itself v =
     record {
       least = λ r. omega arith;
       most = λ r. omega arith;
+      order = λ r e. e;
       origin = λ r. refl;
       first = λ p. omega arith;
       last = λ p. omega arith;
@@ -86,6 +94,7 @@ IsCut-trans u v w h k =
     record {
       least = λ r. let a = h.least r in let b = k.least r in omega arith;
       most = λ r. let a = h.most r in let b = k.most r in omega arith;
+      order = λ r e. k.order r (h.order r e);
       origin = λ r. k.origin r ∙ h.origin r;
       first = λ p. let a = h.first p in let b = k.first p in omega arith;
       last = λ p. let a = h.last p in let b = k.last p in omega arith;
@@ -100,6 +109,7 @@ IsCut-with_register u v r y h k =
     record {
       least = each_set (λ q z. (get q u.registers).lo ≤ z.lo) r y v.registers least h.least;
       most = each_set (λ q z. z.hi ≤ (get q u.registers).hi) r y v.registers most h.most;
+      order = each_set (λ q z. (get q u.registers).lo ≤ (get q u.registers).hi → z.lo ≤ z.hi) r y v.registers (λ e. k.order) h.order;
       origin = each_set (λ q z. z.origin ≡ (get q u.registers).origin) r y v.registers (k.origin ∙ h.origin r) h.origin;
       first = h.first;
       last = h.last;
@@ -112,6 +122,7 @@ IsCut-with_bounds u v p b h k =
     record {
       least = h.least;
       most = h.most;
+      order = h.order;
       origin = h.origin;
       first = each_facts (λ q f. (facts_of q u.pairs).bounds.first ≤ f.bounds.first) p _ v.pairs k.first h.first;
       last = each_facts (λ q f. f.bounds.last ≤ (facts_of q u.pairs).bounds.last) p _ v.pairs k.last h.last;
@@ -222,3 +233,10 @@ reduced_once_cuts v = then_cuts _ v _ (reduced_by_two_cuts v) (reduced_pair_cuts
 pub reduced_cuts : (v : Values) (o : Option Values) → o ≡ reduced v → IfSome o (IsCut v)
 unfolding reduced
 reduced_cuts v o e = subst (λ r. IfSome r (IsCut v)) (sym e) (then_cuts _ v _ (reduced_once_cuts v) reduced_once_cuts)
+
+pub restricted_cuts : (p : WordPair) (within : Bounds) (v : Values) (o : Option Values) → o ≡ restricted p within v → IfSome o (IsCut v)
+unfolding restricted
+restricted_cuts p within v o e =
+    subst (λ r. IfSome r (IsCut v)) (sym e)
+    (with_bounds_if_cuts v v p _ (IsCut-itself v)
+    (IsPart-trans _ (bounds_of p v) _ (IsPart-cut_left (bounds_of p v) within) (IsPart-bounds_of p v)))

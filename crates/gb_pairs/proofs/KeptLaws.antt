@@ -18,9 +18,9 @@ use Rattle.gb_pairs.specs.declared.moved.HlSum.{HlSum}
 use Rattle.gb_pairs.specs.Bounds.{is_one, bounds_of}
 use Rattle.gb_pairs.specs.Written.{is_half, is_same_pair, reads, link_without, facts_without, without_register}
 use Rattle.gb_pairs.specs.Moved.{moved_link, by_if, bounds_up, bounds_down, reads_half, reads_pair, link_of_step, facts_of_step, stepped, incremented, decremented, link_of_byte, weight, facts_of_byte_up, facts_of_byte_down, byte_incremented, byte_decremented, carry_of, sums, without_hl, added}
-use Rattle.gb_pairs.specs.Reduced.{reduced}
+use Rattle.gb_pairs.specs.Reduced.{reduced, restricted}
 use Rattle.gb_pairs.specs.Sound.{IsCut}
-use Rattle.gb_pairs.proofs.CutLaws.{IsPart-bounds_of, reduced_cuts}
+use Rattle.gb_pairs.proofs.CutLaws.{IsPart-bounds_of, reduced_cuts, restricted_cuts}
 
 pub bounds_of_below : (p : WordPair) (v : Values) → ArePairs v.pairs → (bounds_of p v).last < 65536
 bounds_of_below p v h =
@@ -191,3 +191,8 @@ cut_kept v (Some w) h k = ArePairs-cut v w h k
 
 pub reduced_kept : (v : Values) (o : Option Values) → o ≡ reduced v → ArePairs v.pairs → IfSome o (λ w. ArePairs w.pairs)
 reduced_kept v o e = cut_kept v o (reduced_cuts v o e)
+
+pub restricted_kept :
+    (p : WordPair) (within : Bounds) (v : Values) (o : Option Values)
+    → o ≡ restricted p within v → ArePairs v.pairs → IfSome o (λ w. ArePairs w.pairs)
+restricted_kept p within v o e = cut_kept v o (restricted_cuts p within v o e)

@@ -20,8 +20,8 @@ use Rattle.gb_vals.specs.Meaning.{In}
 use Rattle.gb_pairs.specs.declared.values.Values.{Values}
 use Rattle.gb_pairs.specs.Bounds.{is_empty, high_of, low_of, bounds_of, bounds_of_other}
 use Rattle.gb_pairs.specs.Meaning.{word_of, other_of, IsLinked, HoldsPair, AreBytes, Holds}
-use Rattle.gb_pairs.specs.Reduced.{cut_by_other, others_at, cut_val, with_register, with_bounds, with_register_if, with_bounds_if, cut_other, cut_other_if, high_bounds, low_bounds, with_bytes_if, settled, reduced_by_link, reduced_within, reduced_pair, reduced_once, reduced}
-use Rattle.gb_pairs.specs.Sound.{Within, HoldsIn, IsSoundByLink, IsSoundReducing, IsCut}
+use Rattle.gb_pairs.specs.Reduced.{cut_by_other, others_at, cut_val, with_register, with_bounds, with_register_if, with_bounds_if, cut_other, cut_other_if, high_bounds, low_bounds, with_bytes_if, settled, reduced_by_link, reduced_within, reduced_pair, reduced_once, reduced, restricted}
+use Rattle.gb_pairs.specs.Sound.{Within, HoldsIn, IsSoundByLink, IsSoundReducing, IsSoundRestriction, IsCut}
 use Rattle.gb_pairs.proofs.RegisterLaws.{each_set, each_facts}
 use Rattle.gb_pairs.proofs.BoundsLaws.{Within-cut, Within-bounds_of, Within-bounds_of_other, word_of-is, word_below, other_below}
 use Rattle.gb_pairs.proofs.CutLaws.{reduced_pair_cuts, reduced_by_two_cuts, reduced_once_cuts}
@@ -208,6 +208,17 @@ reduced_sound v o e pairs = subst (λ r. IsSoundReducing v r) (sym e) (record { 
     gives x bytes h =
         HoldsIn-then_cut _ v _ x pairs (HoldsIn-reduced_once v x bytes pairs h) (reduced_once_cuts v)
         (λ w k m. HoldsIn-reduced_once w x bytes k m)
+
+-- ---- a pair within bounds
+
+pub restricted_sound :
+    (p : WordPair) (within : Bounds) (v : Values) (o : Option Values) → o ≡ restricted p within v → IsSoundRestriction p within v o
+unfolding restricted
+restricted_sound p within v o e =
+    subst (λ r. IsSoundRestriction p within v r) (sym e)
+    (record {
+      gives = λ x k h. HoldsIn-with_bounds_if p _ v x (Within-cut (bounds_of p v) within _ (Within-bounds_of p v x h) k) h;
+    })
 
 -- ---- the clauses of functions
 

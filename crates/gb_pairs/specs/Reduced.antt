@@ -153,3 +153,9 @@ reduced_once v = option_and_then (reduced_pair pair.Hl) (option_and_then (reduce
 -- the same values, cut: none where they stand for nothing
 unfoldable pub reduced : Values → Option Values
 reduced v = option_and_then reduced_once (reduced_once v)
+
+-- ---- a pair within bounds
+
+-- the same values, where the pair lies within bounds too, and what is left becomes its own: none where nothing is
+unfoldable pub restricted : WordPair → Bounds → Values → Option Values
+restricted p within v = with_bounds_if p (cut (bounds_of p v) within) v

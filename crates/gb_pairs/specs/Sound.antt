@@ -41,10 +41,15 @@ pub record IsSoundByLink (p : WordPair) (l : Link) (o b : Bounds) (v : Values) (
       (x : Registers ℕ) → AreBytes x → Within o (other_of l.other x) → Within b (word_of p x) → IsLinked (Some l) p x → Holds v x
       → HoldsIn r x
 
--- each value and each pair's own bounds are cut or stay; origins and links stay
+-- no registers are lost whose pair lies within the bounds
+pub record IsSoundRestriction (p : WordPair) (within : Bounds) (v : Values) (o : Option Values) : Type 0 where
+  pub gives : (x : Registers ℕ) → Within within (word_of p x) → Holds v x → HoldsIn o x
+
+-- each value and each pair's own bounds are cut or stay, a value's in order; origins and links stay
 pub record IsCut (v w : Values) : Type 0 where
   pub least : (r : Register) → (get r v.registers).lo ≤ (get r w.registers).lo
   pub most : (r : Register) → (get r w.registers).hi ≤ (get r v.registers).hi
+  pub order : (r : Register) → (get r v.registers).lo ≤ (get r v.registers).hi → (get r w.registers).lo ≤ (get r w.registers).hi
   pub origin : (r : Register) → (get r w.registers).origin ≡ (get r v.registers).origin
   pub first : (p : WordPair) → (facts_of p v.pairs).bounds.first ≤ (facts_of p w.pairs).bounds.first
   pub last : (p : WordPair) → (facts_of p w.pairs).bounds.last ≤ (facts_of p v.pairs).bounds.last

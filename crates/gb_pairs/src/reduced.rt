@@ -2,8 +2,8 @@
 
 ghost use Rattle.std.specs.Prelude.{◌≡◌, ◌*◌, IfSome};
 ghost use Rattle.gb_domain.specs.Pairs.{ArePairs};
-ghost use Rattle.gb_pairs.specs.Reduced.{is_rising, size, pair_at, pairs_at, cut_by_other, multiple_at, multiples_at, others_at, cut_val, with_facts, with_bounds, with_bounds_if, cut_other, high_bounds, low_bounds, settled, reduced_by_link, reduced_pair, reduced_once, reduced};
-ghost use Rattle.gb_pairs.specs.Sound.{IsSoundByLink, IsSoundReducing, IsCut};
+ghost use Rattle.gb_pairs.specs.Reduced.{is_rising, size, pair_at, pairs_at, cut_by_other, multiple_at, multiples_at, others_at, cut_val, with_facts, with_bounds, with_bounds_if, cut_other, high_bounds, low_bounds, settled, reduced_by_link, reduced_pair, reduced_once, reduced, restricted};
+ghost use Rattle.gb_pairs.specs.Sound.{IsSoundByLink, IsSoundReducing, IsSoundRestriction, IsCut};
 
 use crate::bounds::{bounds_of, bounds_of_other, cut, facts_of, high_of, is_empty, low_of};
 use crate::values::Values;
@@ -287,4 +287,28 @@ pub fn reduced(values: &Values) -> Option<Values>
     ensures kept { ArePairs values.now.pairs → IfSome result (λ w. ArePairs w.pairs) }
 {
     reduced_once(&reduced_once(values)?)
+}
+
+#[tactic(auto, unfolding(crate::specs::Reduced::restricted))]
+fn within_bounds(pair: WordPair, within: Bounds, values: &Values) -> Option<Values>
+    ensures { result ≡ restricted pair within values.now }
+{
+    let left = cut(bounds_of(pair, values), within);
+    if is_empty(left) {
+        return None;
+    }
+    let mut restricted = *values;
+    set_bounds(pair, left, &mut restricted);
+    Some(restricted)
+}
+
+/// The same values, where a pair lies within bounds too: what is left of its bounds becomes its own. None where nothing is.
+#[tactic(auto, using(crate::proofs::ReducedLaws::restricted_sound, crate::proofs::CutLaws::restricted_cuts, crate::proofs::KeptLaws::restricted_kept))]
+pub fn restricted(pair: WordPair, within: Bounds, values: &Values) -> Option<Values>
+    ensures exact { result ≡ restricted pair within values.now }
+    ensures sound { IsSoundRestriction pair within values.now result }
+    ensures cuts { IfSome result (IsCut values.now) }
+    ensures kept { ArePairs values.now.pairs → IfSome result (λ w. ArePairs w.pairs) }
+{
+    within_bounds(pair, within, values)
 }

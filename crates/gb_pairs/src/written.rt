@@ -52,7 +52,8 @@ fn pair_number(pair: WordPair) -> u8
     }
 }
 
-pub(crate) fn is_same_pair(x: WordPair, y: WordPair) -> bool
+/// Whether two pairs are one.
+pub fn is_same_pair(x: WordPair, y: WordPair) -> bool
     ensures { result ≡ is_same_pair x y }
 {
     pair_number(x) == pair_number(y)

@@ -1,141 +1,464 @@
 -- The side by the machine's own condition is possible, and means what the core means.
-use Rattle.std.proofs.Common.{◌≡◌, ℕ, ◌<◌, Bool, true, false, List, Option, Some, None, refl, sym, ◌∙◌, subst, ap, arith}
+use Rattle.std.proofs.Common.{◌≡◌, ℕ, ◌≤◌, ◌<◌, Bool, true, false, not, ◌==◌, ◌&&◌, cond, nat_le, List, [], ◌∷◌, Option, Some, None, refl, sym, ◌∙◌, subst, arith}
 use Rattle.std.specs.Prelude.{IfSome}
 use Rattle.std.specs.List.{AllByRecursion}
-use Rattle.gb_ops.specs.declared.op.Register.{Register}
+use Rattle.std.proofs.lemmas.Bool.{and_parts, eqb-true, not-true}
+use Rattle.std.proofs.lemmas.Bool.Decides.{nat_tests}
 use Rattle.gb_ops.specs.declared.op.Condition.{Condition}
+use Rattle.gb_ops.specs.declared.op.Condition.TheVariants as condition
 use Rattle.gb_ops.specs.declared.op.Op.{Op}
+use Rattle.gb_ops.specs.declared.machine.Region.{Region}
 use Rattle.gb_ops.specs.declared.registers.Registers.{Registers}
+use Rattle.gb_ops.specs.declared.registers.Flags.{Flags}
 use Rattle.gb_ops.specs.Registers.{get}
 use Rattle.gb_ops.specs.Flags.{is_met}
 use Rattle.gb_ops.specs.Effects.{effect_of}
 use Rattle.gb_ops.specs.Play.{MState}
+use Rattle.gb_domain.specs.declared.pairs.WordPair.{WordPair}
 use Rattle.gb_domain.specs.declared.places.OneByte.{OneByte}
+use Rattle.gb_domain.specs.declared.relations.Relations.{Relations}
 use Rattle.gb_domain.specs.declared.types.Val.{Val}
+use Rattle.gb_domain.specs.declared.types.Flg.{Flg}
 use Rattle.gb_domain.specs.declared.types.Core.{Core}
 use Rattle.gb_domain.specs.declared.types.Cell.{Cell}
+use Rattle.gb_domain.specs.Pairs.{ArePairs}
 use Rattle.gb_domain.specs.Rules.{IsVal, IsCore}
-use Rattle.gb_domain.specs.Types.{AbsState}
 use Rattle.gb_abs.specs.Below.gb_vals.Meaning.{In}
+use Rattle.gb_abs.specs.Below.gb_vals.Tests.{side, IsKept}
+use Rattle.gb_abs.proofs.Below.gb_vals_laws.BranchLaws.{side_kept}
+use Rattle.gb_product.specs.Meaning.{AreRelated}
 use Rattle.gb_abs.specs.Meaning.{Holds, MeansCore, IsMemory}
 use Rattle.gb_abs.specs.Covering.{cell_at}
 use Rattle.gb_abs.specs.Storage.{peek}
 use Rattle.gb_abs.proofs.CoveringLaws.{Holds-cell}
-use Rattle.gb_abs_effects.specs.declared.sides.Sides.{Sides}
 use Rattle.gb_abs_effects.specs.Sides as Flags
-use Rattle.gb_abs_effects.specs.Sound.{side_by, IsMeant, AreSides}
-use Rattle.gb_abs_effects.proofs.CoreLaws.{some-is, In-from, MeansCore-changed, IsCore-changed}
+use Rattle.gb_abs_effects.specs.Sound.{side_by, IsMeant}
+use Rattle.gb_abs_effects.proofs.CoreLaws.{some-is, In-from}
 use Rattle.gb_abs_effects.proofs.SideLaws as flag_sides
+use Rattle.gb_relations.specs.Below.gb_pairs.declared.values.Values.{Values}
+use Rattle.gb_relations.specs.Below.gb_pairs.Meaning.{word_of}
+use Rattle.gb_relations.specs.Below.gb_pairs.Meaning as pairs
+use Rattle.gb_relations.specs.Below.gb_pairs.Reduced.{restricted}
+use Rattle.gb_relations.specs.Below.gb_pairs.Sound.{HoldsIn}
+use Rattle.gb_relations.specs.Below.gb_pairs.Sound as pair_sound
+use Rattle.gb_relations.proofs.Below.gb_pairs_laws.CutLaws.{restricted_cuts, IsCut-itself}
+use Rattle.gb_relations.proofs.Below.gb_pairs_laws.KeptLaws.{ArePairs-cut}
+use Rattle.gb_relations.proofs.Below.gb_pairs_laws.ReducedLaws.{restricted_sound}
 use Rattle.gb_relations.specs.Below.gb_places.declared.sides.Contents.{Contents}
-use Rattle.gb_relations.specs.Below.gb_places.Sides.{narrowed}
-use Rattle.gb_relations.specs.Below.gb_places.Meaning.{HoldOneByte}
-use Rattle.gb_relations.specs.Below.gb_places.Sound.{HoldContents, HoldContentsIn, IsCut}
+use Rattle.gb_relations.specs.Below.gb_places.Sound.{HoldContents, HoldContentsIn, IsCutVal, IsCut}
 use Rattle.gb_relations.proofs.Below.gb_places_laws.SideLaws.{narrowed_sound, narrowed_cuts}
-use Rattle.gb_product.specs.Sides.{memory_of, contents_of, with_contents_if, narrowed_core, narrowed_if, narrowed_by, sides_of}
-use Rattle.gb_product.specs.Sound.{IsKnown, AreSoundSides}
+use Rattle.gb_relations.specs.Meaning.{IsZero}
+use Rattle.gb_relations.specs.Places.{is_ram, is_free}
+use Rattle.gb_relations.specs.Sound.{IsByteFree}
+use Rattle.gb_abs.specs.Cells.{IsPlaced}
+use Rattle.gb_relations.specs.Transfer.{values_of}
+use Rattle.gb_product.specs.declared.parts.Branch.{Branch}
+use Rattle.gb_product.specs.declared.parts.Branches.{Branches}
+use Rattle.gb_product.specs.Sides.{memory_of, contents_of, is_any, known_cell, without_others, with_values_if, with_contents_if, narrowed_side, side_where, taken_side, opposite_of, not_taken_side, sides_of}
+use Rattle.gb_product.specs.Sound.{IsKnown, HoldsCell, IsMeantBranch, IsSoundSide, AreSoundSides, IsCutCore, IsSideOf, AreSidesOf}
+use Rattle.gb_product.proofs.CutLaws.{AreCut, AreCut-trans, IsCutCore-registers, IsCutCore-flags, IsCutCore-itself, IsCutCore-trans, IsCore-cut, IsCutTogether-pairs}
+use Rattle.gb_product.proofs.MeaningLaws.{MeansCore-cut, AreRelated-cut, AreWords, AreWords-pairs, are_words}
+use Rattle.gb_product.proofs.ReducedLaws.{AreCut-values}
 
--- ---- a side
+-- ---- a pair of which Z says whether it is 0
 
-in_memory :
+HoldsIn-restricted :
+    (p : WordPair) (first last : ℕ) (v : Values) (x : Registers ℕ)
+    → first ≤ word_of p x → word_of p x ≤ last → pairs.Holds v x → HoldsIn (restricted p (record { first = first; last = last }) v) x
+HoldsIn-restricted p first last v x least most h = (restricted_sound p _ v _ refl).gives x (record { least = least; most = most }) h
+
+is_zero : (w : ℕ) (b : Bool) → b ≡ true → b ≡ (w == 0) → w ≤ 0
+is_zero w b h e = let z : w ≡ 0 = eqb-true w 0 (sym e ∙ h) in omega arith
+
+is_above_zero : (w : ℕ) (b : Bool) → not b ≡ true → b ≡ (w == 0) → 1 ≤ w
+is_above_zero w b h e = grind (arith, nat_tests)
+
+HoldsIn-without_others :
+    (z : Option WordPair) (k : Condition) (v : Values) (x : Registers ℕ) (f : Flags)
+    → AreWords v.pairs → is_met k f ≡ true → IsZero z x f → pairs.Holds v x → HoldsIn (without_others z k v) x
+unfolding is_met
+HoldsIn-without_others None k v x f are met zero h = h
+HoldsIn-without_others (Some p) condition.Zero v x f are met zero h =
+    HoldsIn-restricted p 0 0 v x (omega arith) (is_zero (word_of p x) f.zero met zero) h
+HoldsIn-without_others (Some p) condition.NotZero v x f are met zero h =
+    let below = are.each p in
+    let last = (h.pairs.each p).last in
+    HoldsIn-restricted p 1 0xFFFF v x (is_above_zero (word_of p x) f.zero met zero) (omega arith) h
+HoldsIn-without_others (Some p) condition.Carry v x f are met zero h = h
+HoldsIn-without_others (Some p) condition.NotCarry v x f are met zero h = h
+
+without_others_cuts : (z : Option WordPair) (k : Condition) (v : Values) → IfSome (without_others z k v) (pair_sound.IsCut v)
+without_others_cuts None k v = IsCut-itself v
+without_others_cuts (Some p) condition.Zero v = restricted_cuts p _ v _ refl
+without_others_cuts (Some p) condition.NotZero v = restricted_cuts p _ v _ refl
+without_others_cuts (Some p) condition.Carry v = IsCut-itself v
+without_others_cuts (Some p) condition.NotCarry v = IsCut-itself v
+
+-- ---- the byte in memory
+
+held_in_memory :
     (address : Option ℕ) (cells : List Cell) (entry x : MState) (a : ℕ) → IsMemory x.storage
-    → AllByRecursion (λ c. Holds c.val entry (peek x.storage c.address)) cells → address ≡ Some a → In (memory_of address cells) (peek x.storage a)
-in_memory None cells entry x a memory h e = cc
-in_memory (Some b) cells entry x a memory h e =
-    subst (λ c. In (cell_at b cells) (peek x.storage c)) (some-is b a e)
-    (In-from (cell_at b cells) entry (peek x.storage b) (Holds-cell cells b entry x.storage memory h))
+    → AllByRecursion (λ c. Holds c.val entry (peek x.storage c.address)) cells → address ≡ Some a
+    → Holds (memory_of address cells) entry (peek x.storage a)
+held_in_memory None cells entry x a memory h e = cc
+held_in_memory (Some b) cells entry x a memory h e =
+    subst (λ c. Holds (cell_at b cells) entry (peek x.storage c)) (some-is b a e) (Holds-cell cells b entry x.storage memory h)
 
-IsMeant-with_contents :
-    (b : OneByte) (core : Core) (entry x : MState) (c : Contents) (o : Option Contents)
-    → c.registers ≡ core.registers → HoldContentsIn b o x.processor.registers (peek x.storage) → IfSome o (IsCut b c) → MeansCore core entry x
-    → IsMeant (with_contents_if core o) entry x
-IsMeant-with_contents b core entry x c None same in_o cut m = in_o
-IsMeant-with_contents b core entry x c (Some left) same in_o cut m =
-    MeansCore-changed core entry x left.registers core.flags core.ime x.processor (λ r. held r) m.flags m.ime m.locked m.stopped m
+Holds-cut : (old new : Val) (entry : MState) (n : ℕ) → IsCutVal old new → In new n → Holds old entry n → Holds new entry n
+Holds-cut old new entry n cut in_new h =
+    record { least = in_new.least; most = in_new.most; origin = λ o e. h.origin o (sym cut.origin ∙ e) }
+
+known_cell_holds :
+    (address : Option ℕ) (v : Val) (entry x : MState)
+    → ((a : ℕ) → address ≡ Some a → Holds v entry (peek x.storage a)) → IfSome (known_cell address v) (λ c. HoldsCell entry x c)
+known_cell_holds None v entry x h = tt
+known_cell_holds (Some a) v entry x h = choose (is_any v)
   where
-    held : (r : Register) → Holds (get r left.registers) entry (get r x.processor.registers)
-    held r =
-        let old : Holds (get r core.registers) entry (get r x.processor.registers) = m.registers r in
-        let kept : (get r left.registers).origin ≡ (get r core.registers).origin = (cut.registers r).origin ∙ ap (λ (rs : Registers Val). (get r rs).origin) same in
-        let bounds = in_o.0 r in
-        record { least = bounds.least; most = bounds.most; origin = λ o e. old.origin o (sym kept ∙ e) }
+    choose : (b : Bool) → IfSome (cond b None (Some (record { address = a; val = v }))) (λ c. HoldsCell entry x c)
+    choose true = tt
+    choose false = h a refl
 
-IsMeant-narrowed_core :
-    (k : Condition) (s : AbsState) (core : Core) (entry x : MState)
-    → is_met k x.processor.flags ≡ true → IsKnown s entry x → MeansCore core entry x → IsMeant (narrowed_core k s core) entry x
-unfolding narrowed_core
-IsMeant-narrowed_core k s core entry x met known m =
-    let b = s.relations.byte in
-    let c = contents_of b core s.cells in
-    let holds : HoldContents b c x.processor.registers (peek x.storage) = (
-      λ r. In-from (get r core.registers) entry (get r x.processor.registers) (m.registers r),
-      λ a e. in_memory b.address s.cells entry x a known.memory known.cells e,
+known_cell_at : (address : Option ℕ) (v : Val) → IfSome (known_cell address v) (λ c. address ≡ Some c.address)
+known_cell_at None v = tt
+known_cell_at (Some a) v = choose (is_any v)
+  where
+    choose : (b : Bool) → IfSome (cond b None (Some (record { address = a; val = v }))) (λ (c : Cell). Some a ≡ Some c.address)
+    choose true = tt
+    choose false = refl
+
+known_cell_val : (address : Option ℕ) (v : Val) → IsVal v → IfSome (known_cell address v) (λ c. IsVal c.val)
+known_cell_val None v h = tt
+known_cell_val (Some a) v h = choose (is_any v)
+  where
+    choose : (b : Bool) → IfSome (cond b None (Some (record { address = a; val = v }))) (λ (c : Cell). IsVal c.val)
+    choose true = tt
+    choose false = h
+
+IsVal-any : IsVal (record { lo = 0; hi = 255; origin = None })
+IsVal-any = record { order = omega arith; hi = omega arith }
+
+IsVal-cell_at : (a : ℕ) (cells : List Cell) → AllByRecursion (λ c. IsVal c.val) cells → IsVal (cell_at a cells)
+IsVal-cell_at a [] h = IsVal-any
+IsVal-cell_at a (c ∷ rest) h = choose (c.address == a) (IsVal-cell_at a rest h.1)
+  where
+    choose : (b : Bool) → IsVal (cell_at a rest) → IsVal (cond b c.val (cell_at a rest))
+    choose true k = h.0
+    choose false k = k
+
+IsVal-memory_of : (address : Option ℕ) (cells : List Cell) → AllByRecursion (λ c. IsVal c.val) cells → IsVal (memory_of address cells)
+IsVal-memory_of None cells h = IsVal-any
+IsVal-memory_of (Some a) cells h = IsVal-cell_at a cells h
+
+IsVal-cut : (old new : Val) → IsCutVal old new → IsVal old → IsVal new
+IsVal-cut old new cut is =
+    let most = cut.most in
+    let hi = is.hi in
+    record { order = cut.order is.order; hi = omega arith }
+
+-- ---- a side where a condition is met
+
+AreCut-contents : (b : OneByte) (c left : Contents) → IsCut b c left → AreCut c.registers left.registers
+AreCut-contents b c left h =
+    record {
+      least = λ r. (h.registers r).least;
+      most = λ r. (h.registers r).most;
+      order = λ r. (h.registers r).order;
+      origin = λ r. (h.registers r).origin;
+    }
+
+IsMeantBranch-with_values :
+    (core : Core) (r : Relations) (vals : Registers Val) (cell : Option Cell) (o : Option Values) (entry x : MState)
+    → HoldsIn o x.processor.registers → AreCut core.registers vals → IfSome o (pair_sound.IsCut (values_of vals r.pairs))
+    → MeansCore core entry x → AreRelated r x → IfSome cell (λ c. HoldsCell entry x c)
+    → IsMeantBranch (with_values_if core r cell o) entry x
+IsMeantBranch-with_values core r vals cell None entry x holds byte cut m n held = holds
+IsMeantBranch-with_values core r vals cell (Some v) entry x holds byte cut m n held =
+    record {
+      core = MeansCore-cut core v.registers entry x holds.registers (AreCut-trans core.registers vals v.registers byte (AreCut-values _ v cut)).origin m;
+      related = AreRelated-cut r v.pairs x holds.pairs n;
+      cell = held;
+    }
+
+IsMeantBranch-with_contents :
+    (k : Condition) (cells : List Cell) (core : Core) (r : Relations) (o : Option Contents) (entry x : MState)
+    → AreWords r.pairs → is_met k x.processor.flags ≡ true → IsKnown cells r entry x → MeansCore core entry x
+    → HoldContentsIn r.byte o x.processor.registers (peek x.storage) → IfSome o (IsCut r.byte (contents_of r.byte core cells))
+    → IsMeantBranch (with_contents_if k core r o) entry x
+IsMeantBranch-with_contents k cells core r None entry x are met known m in_o cut = in_o
+IsMeantBranch-with_contents k cells core r (Some left) entry x are met known m in_o cut =
+    let v = values_of left.registers r.pairs in
+    IsMeantBranch-with_values core r left.registers (known_cell r.byte.address left.memory) (without_others r.zero k v) entry x
+    (HoldsIn-without_others r.zero k v x.processor.registers x.processor.flags are met known.related.zero
+    (record { registers = in_o.0; pairs = known.related.pairs }))
+    (AreCut-contents r.byte (contents_of r.byte core cells) left cut)
+    (without_others_cuts r.zero k v) m known.related
+    (known_cell_holds r.byte.address left.memory entry x
+    (λ a e. Holds-cut _ left.memory entry _ cut.memory (in_o.1 a e) (held_in_memory r.byte.address cells entry x a known.memory known.cells e)))
+
+IsMeantBranch-narrowed_side :
+    (k : Condition) (cells : List Cell) (r : Relations) (core : Core) (entry x : MState)
+    → AreWords r.pairs → is_met k x.processor.flags ≡ true → IsKnown cells r entry x → MeansCore core entry x
+    → IsMeantBranch (narrowed_side k cells r core) entry x
+unfolding narrowed_side
+IsMeantBranch-narrowed_side k cells r core entry x are met known m =
+    let c = contents_of r.byte core cells in
+    let holds : HoldContents r.byte c x.processor.registers (peek x.storage) = (
+      λ q. In-from (get q core.registers) entry (get q x.processor.registers) (m.registers q),
+      λ a e. In-from _ entry _ (held_in_memory r.byte.address cells entry x a known.memory known.cells e),
     ) in
-    IsMeant-with_contents b core entry x c (narrowed b k c) refl
-    ((narrowed_sound b k c (narrowed b k c) refl).gives x.processor.registers (peek x.storage) x.processor.flags holds known.related.byte met)
-    (narrowed_cuts b k c (narrowed b k c) refl) m
+    IsMeantBranch-with_contents k cells core r _ entry x are met known m
+    ((narrowed_sound r.byte k c _ refl).gives x.processor.registers (peek x.storage) x.processor.flags holds known.related.byte met)
+    (narrowed_cuts r.byte k c _ refl)
 
-IsMeant-narrowed_if :
-    (k : Condition) (s : AbsState) (o : Option Core) (entry x : MState)
-    → is_met k x.processor.flags ≡ true → IsKnown s entry x → IsMeant o entry x → IsMeant (narrowed_if k s o) entry x
-IsMeant-narrowed_if k s None entry x met known m = m
-IsMeant-narrowed_if k s (Some core) entry x met known m = IsMeant-narrowed_core k s core entry x met known m
+-- the condition is met, if there is one
+IsMetIf : Option Condition → Flags → Type 0
+IsMetIf None f = Unit {0}
+IsMetIf (Some k) f = is_met k f ≡ true
 
--- ---- both
+IsMeantBranch-side_where :
+    (k : Option Condition) (cells : List Cell) (r : Relations) (o : Option Core) (entry x : MState)
+    → AreWords r.pairs → IsMetIf k x.processor.flags → IsKnown cells r entry x → IsMeant o entry x
+    → IsMeantBranch (side_where k cells r o) entry x
+unfolding IsMetIf
+IsMeantBranch-side_where None cells r None entry x are met known m = m
+IsMeantBranch-side_where (Some k) cells r None entry x are met known m = m
+IsMeantBranch-side_where None cells r (Some core) entry x are met known m = record { core = m; related = known.related; cell = tt }
+IsMeantBranch-side_where (Some k) cells r (Some core) entry x are met known m = IsMeantBranch-narrowed_side k cells r core entry x are met known m
 
-IsMeant-conditional :
-    (k : Condition) (s : AbsState) (sides : Sides) (entry x : MState) (b : Bool)
-    → is_met k x.processor.flags ≡ b → IsKnown s entry x → IsMeant (side_by b sides) entry x → IsMeant (side_by b (narrowed_by (Some k) s sides)) entry x
-IsMeant-conditional k s sides entry x true met known m = IsMeant-narrowed_if k s sides.taken entry x met known m
-IsMeant-conditional k s sides entry x false met known m =
-    IsMeant-narrowed_if (Flags.opposite k) s sides.not_taken entry x (flag_sides.met-opposite k x.processor.flags met) known m
+-- ---- the sides of an instruction
 
-IsMeant-sides_of :
-    (o : Op) (s : AbsState) (core : Core) (entry x : MState) (l h : ℕ)
-    → IsKnown s entry x → MeansCore core entry x → IsMeant (side_by (effect_of o x.processor l h).is_taken (sides_of o s core)) entry x
-unfolding sides_of
-IsMeant-sides_of o s core entry x l h known m = choose (Flags.condition_of o) refl
+flags_meant :
+    (o : Op) (core : Core) (entry x : MState) (l h : ℕ) (b : Bool)
+    → MeansCore core entry x → (effect_of o x.processor l h).is_taken ≡ b → IsMeant (side_by b (Flags.sides_of o core)) entry x
+flags_meant o core entry x l h b m e =
+    subst (λ t. IsMeant (side_by t (Flags.sides_of o core)) entry x) e ((flag_sides.sides_of_sound o core _ refl).gives entry x l h m)
+
+met_where_taken : (o : Op) (x : MState) (l h : ℕ) → (effect_of o x.processor l h).is_taken ≡ true → IsMetIf (Flags.condition_of o) x.processor.flags
+unfolding IsMetIf
+met_where_taken o x l h e = choose (Flags.condition_of o) refl
   where
-    flags : IsMeant (side_by (effect_of o x.processor l h).is_taken (Flags.sides_of o core)) entry x
-    flags = (flag_sides.sides_of_sound o core (Flags.sides_of o core) refl).gives entry x l h m
+    choose : (k : Option Condition) → Flags.condition_of o ≡ k → IsMetIf k x.processor.flags
+    choose None f = tt
+    choose (Some k) f = sym (flag_sides.is_taken-with o k x.processor l h f) ∙ e
 
-    choose : (k : Option Condition) → Flags.condition_of o ≡ k → IsMeant (side_by (effect_of o x.processor l h).is_taken (narrowed_by k s (Flags.sides_of o core))) entry x
-    choose None e = flags
-    choose (Some k) e =
-        IsMeant-conditional k s (Flags.sides_of o core) entry x (effect_of o x.processor l h).is_taken (sym (flag_sides.is_taken-with o k x.processor l h e)) known flags
-
-pub sides_of_sound : (o : Op) (s : AbsState) (core : Core) (sides : Sides) → sides ≡ sides_of o s core → AreSoundSides o s core sides
-sides_of_sound o s core sides e =
-    subst (λ k. AreSoundSides o s core k) (sym e) (record { gives = λ entry x l h known m. IsMeant-sides_of o s core entry x l h known m })
-
--- ---- its ranges
-
-IsCore-with_contents :
-    (b : OneByte) (core : Core) (c : Contents) (o : Option Contents) → c.registers ≡ core.registers → IfSome o (IsCut b c) → IsCore core → IfSome (with_contents_if core o) IsCore
-IsCore-with_contents b core c None same cut is = tt
-IsCore-with_contents b core c (Some left) same cut is = IsCore-changed core left.registers core.flags core.ime (λ r. val r) is.flags is.ime is
+met_where_not_taken :
+    (o : Op) (x : MState) (l h : ℕ) → (effect_of o x.processor l h).is_taken ≡ false → IsMetIf (opposite_of (Flags.condition_of o)) x.processor.flags
+unfolding IsMetIf
+met_where_not_taken o x l h e = choose (Flags.condition_of o) refl
   where
-    val : (r : Register) → IsVal (get r left.registers)
-    val r =
-        let old : IsVal (get r c.registers) = subst (λ (rs : Registers Val). IsVal (get r rs)) (sym same) (is.registers r) in
-        let k = cut.registers r in
-        let most = k.most in
-        let hi = old.hi in
-        record { order = k.order old.order; hi = omega arith }
+    choose : (k : Option Condition) → Flags.condition_of o ≡ k → IsMetIf (opposite_of k) x.processor.flags
+    choose None f = tt
+    choose (Some k) f = flag_sides.met-opposite k x.processor.flags (sym (flag_sides.is_taken-with o k x.processor l h f) ∙ e)
 
-IsCore-narrowed_if : (k : Condition) (s : AbsState) (o : Option Core) → IfSome o IsCore → IfSome (narrowed_if k s o) IsCore
-unfolding narrowed_core
-IsCore-narrowed_if k s None is = tt
-IsCore-narrowed_if k s (Some core) is =
-    let c = contents_of s.relations.byte core s.cells in
-    IsCore-with_contents s.relations.byte core c (narrowed s.relations.byte k c) refl (narrowed_cuts s.relations.byte k c (narrowed s.relations.byte k c) refl) is
+IsSoundSide-taken : (o : Op) (cells : List Cell) (core : Core) (r : Relations) → AreWords r.pairs → IsSoundSide true o cells core r (taken_side o cells core r)
+unfolding taken_side
+IsSoundSide-taken o cells core r are =
+    record {
+      gives = λ entry x l h known m e.
+          IsMeantBranch-side_where (Flags.condition_of o) cells r _ entry x are (met_where_taken o x l h e) known (flags_meant o core entry x l h true m e);
+    }
 
-AreSides-narrowed_by : (k : Option Condition) (s : AbsState) (sides : Sides) → AreSides sides → AreSides (narrowed_by k s sides)
-AreSides-narrowed_by None s sides is = is
-AreSides-narrowed_by (Some k) s sides is =
-    record { taken = IsCore-narrowed_if k s sides.taken is.taken; not_taken = IsCore-narrowed_if (Flags.opposite k) s sides.not_taken is.not_taken }
+IsSoundSide-not_taken : (o : Op) (cells : List Cell) (core : Core) (r : Relations) → AreWords r.pairs → IsSoundSide false o cells core r (not_taken_side o cells core r)
+unfolding not_taken_side
+IsSoundSide-not_taken o cells core r are =
+    record {
+      gives = λ entry x l h known m e.
+          IsMeantBranch-side_where (opposite_of (Flags.condition_of o)) cells r _ entry x are (met_where_not_taken o x l h e) known
+          (flags_meant o core entry x l h false m e);
+    }
 
-pub sides_of_inhabited : (o : Op) (s : AbsState) (core : Core) (sides : Sides) → sides ≡ sides_of o s core → IsCore core → AreSides sides
+AreSoundSides-sides_of : (o : Op) (cells : List Cell) (core : Core) (r : Relations) → AreWords r.pairs → AreSoundSides o cells core r (sides_of o cells core r)
 unfolding sides_of
-sides_of_inhabited o s core sides e is =
-    subst (λ k. AreSides k) (sym e)
-    (AreSides-narrowed_by (Flags.condition_of o) s (Flags.sides_of o core) (flag_sides.sides_of_inhabited o core (Flags.sides_of o core) refl is))
+AreSoundSides-sides_of o cells core r are = record { taken = IsSoundSide-taken o cells core r are; not_taken = IsSoundSide-not_taken o cells core r are }
+
+pub taken_side_sound :
+    (o : Op) (cells : List Cell) (core : Core) (r : Relations) (side : Option Branch)
+    → side ≡ taken_side o cells core r → ArePairs r.pairs → IsSoundSide true o cells core r side
+taken_side_sound o cells core r side e are =
+    subst (λ s. IsSoundSide true o cells core r s) (sym e) (IsSoundSide-taken o cells core r (AreWords-pairs r.pairs are))
+
+pub not_taken_side_sound :
+    (o : Op) (cells : List Cell) (core : Core) (r : Relations) (side : Option Branch)
+    → side ≡ not_taken_side o cells core r → ArePairs r.pairs → IsSoundSide false o cells core r side
+not_taken_side_sound o cells core r side e are =
+    subst (λ s. IsSoundSide false o cells core r s) (sym e) (IsSoundSide-not_taken o cells core r (AreWords-pairs r.pairs are))
+
+pub sides_of_sound :
+    (o : Op) (cells : List Cell) (core : Core) (r : Relations) (sides : Branches)
+    → sides ≡ sides_of o cells core r → ArePairs r.pairs → AreSoundSides o cells core r sides
+sides_of_sound o cells core r sides e are =
+    subst (λ s. AreSoundSides o cells core r s) (sym e) (AreSoundSides-sides_of o cells core r (AreWords-pairs r.pairs are))
+
+-- where no side is possible, no machine state is meant
+pub no_side :
+    (o : Op) (cells : List Cell) (core : Core) (r : Relations) (entry x : MState)
+    → ArePairs r.pairs → taken_side o cells core r ≡ None → not_taken_side o cells core r ≡ None
+    → IsKnown cells r entry x → MeansCore core entry x → ⊥
+no_side o cells core r entry x are e f known m = choose (effect_of o x.processor 0 0).is_taken refl
+  where
+    choose : (b : Bool) → (effect_of o x.processor 0 0).is_taken ≡ b → ⊥
+    choose true is = (taken_side_sound o cells core r None (sym e) are).gives entry x 0 0 known m is
+    choose false is = (not_taken_side_sound o cells core r None (sym f) are).gives entry x 0 0 known m is
+
+-- the clauses of functions, whose types say that bounds are words
+pub taken_side_sound_of_words :
+    (o : Op) (cells : List Cell) (core : Core) (r : Relations) (side : Option Branch)
+    → side ≡ taken_side o cells core r → r.pairs.bc.bounds.last < 65536 → r.pairs.de.bounds.last < 65536 → r.pairs.hl.bounds.last < 65536
+    → IsSoundSide true o cells core r side
+taken_side_sound_of_words o cells core r side e bc de hl =
+    subst (λ s. IsSoundSide true o cells core r s) (sym e) (IsSoundSide-taken o cells core r (are_words r.pairs bc de hl))
+
+pub not_taken_side_sound_of_words :
+    (o : Op) (cells : List Cell) (core : Core) (r : Relations) (side : Option Branch)
+    → side ≡ not_taken_side o cells core r → r.pairs.bc.bounds.last < 65536 → r.pairs.de.bounds.last < 65536
+    → r.pairs.hl.bounds.last < 65536 → IsSoundSide false o cells core r side
+not_taken_side_sound_of_words o cells core r side e bc de hl =
+    subst (λ s. IsSoundSide false o cells core r s) (sym e) (IsSoundSide-not_taken o cells core r (are_words r.pairs bc de hl))
+
+pub sides_of_sound_of_words :
+    (o : Op) (cells : List Cell) (core : Core) (r : Relations) (sides : Branches)
+    → sides ≡ sides_of o cells core r → r.pairs.bc.bounds.last < 65536 → r.pairs.de.bounds.last < 65536
+    → r.pairs.hl.bounds.last < 65536 → AreSoundSides o cells core r sides
+sides_of_sound_of_words o cells core r sides e bc de hl =
+    subst (λ s. AreSoundSides o cells core r s) (sym e) (AreSoundSides-sides_of o cells core r (are_words r.pairs bc de hl))
+
+-- ---- what is cut
+
+IsSideOf-with_values :
+    (cells : List Cell) (core : Core) (r : Relations) (left : Contents) (o : Option Values)
+    → IsCut r.byte (contents_of r.byte core cells) left → IfSome o (pair_sound.IsCut (values_of left.registers r.pairs))
+    → IfSome (with_values_if core r (known_cell r.byte.address left.memory) o) (IsSideOf cells core r)
+IsSideOf-with_values cells core r left None byte cut = tt
+IsSideOf-with_values cells core r left (Some v) byte cut =
+    let registers : AreCut core.registers v.registers =
+    AreCut-trans core.registers left.registers v.registers (AreCut-contents r.byte (contents_of r.byte core cells) left byte)
+    (AreCut-values (values_of left.registers r.pairs) v cut) in
+    record {
+      core = IsCutCore-registers core v.registers registers;
+      relations = IsCutTogether-pairs r v.pairs (ArePairs-cut (values_of left.registers r.pairs) v cut);
+      inhabited = IsCore-cut core v.registers registers;
+      address = known_cell_at r.byte.address left.memory;
+      val = λ h. known_cell_val r.byte.address left.memory (IsVal-cut _ left.memory byte.memory (IsVal-memory_of r.byte.address cells h));
+    }
+
+IsSideOf-with_contents :
+    (k : Condition) (cells : List Cell) (core : Core) (r : Relations) (o : Option Contents)
+    → IfSome o (IsCut r.byte (contents_of r.byte core cells)) → IfSome (with_contents_if k core r o) (IsSideOf cells core r)
+IsSideOf-with_contents k cells core r None cut = tt
+IsSideOf-with_contents k cells core r (Some left) cut =
+    IsSideOf-with_values cells core r left _ cut (without_others_cuts r.zero k (values_of left.registers r.pairs))
+
+IsSideOf-narrowed_side : (k : Condition) (cells : List Cell) (r : Relations) (core : Core) → IfSome (narrowed_side k cells r core) (IsSideOf cells core r)
+unfolding narrowed_side
+IsSideOf-narrowed_side k cells r core = IsSideOf-with_contents k cells core r _ (narrowed_cuts r.byte k (contents_of r.byte core cells) _ refl)
+
+-- a core that the flags cut, and what its ranges are
+record IsByFlags (s t : Core) : Type 0 where
+  core : IsCutCore s t
+  inhabited : IsCore s → IsCore t
+
+IsSideOf-by_flags : (cells : List Cell) (s t : Core) (r : Relations) (o : Option Branch) → IsByFlags s t → IfSome o (IsSideOf cells t r) → IfSome o (IsSideOf cells s r)
+IsSideOf-by_flags cells s t r None h k = tt
+IsSideOf-by_flags cells s t r (Some b) h k =
+    record {
+      core = IsCutCore-trans s t b.core h.core k.core;
+      relations = k.relations;
+      inhabited = λ is. k.inhabited (h.inhabited is);
+      address = k.address;
+      val = k.val;
+    }
+
+IsSideOf-side_where :
+    (k : Option Condition) (cells : List Cell) (core : Core) (r : Relations) (o : Option Core)
+    → IfSome o (IsByFlags core) → IfSome (side_where k cells r o) (IsSideOf cells core r)
+IsSideOf-side_where None cells core r None h = tt
+IsSideOf-side_where (Some k) cells core r None h = tt
+IsSideOf-side_where None cells core r (Some t) h =
+    record {
+      core = h.core;
+      relations = IsCutTogether-pairs r r.pairs (λ are. are);
+      inhabited = h.inhabited;
+      address = tt;
+      val = λ are. tt;
+    }
+IsSideOf-side_where (Some k) cells core r (Some t) h = IsSideOf-by_flags cells core t r _ h (IsSideOf-narrowed_side k cells r t)
+
+IsByFlags-both : (core : Core) (o : Option Core) → IfSome o (IsCutCore core) → (IsCore core → IfSome o IsCore) → IfSome o (IsByFlags core)
+IsByFlags-both core None h k = tt
+IsByFlags-both core (Some t) h k = record { core = h; inhabited = k }
+
+IsCutCore-with_flags_if : (core : Core) (f : Option Flg) → IsKept core.flags f → IfSome (Flags.with_flags_if core f) (IsCutCore core)
+IsCutCore-with_flags_if core None h = tt
+IsCutCore-with_flags_if core (Some f) h = IsCutCore-flags core f h
+
+IsCutCore-side_of : (k : Condition) (core : Core) → IfSome (Flags.side_of k core) (IsCutCore core)
+unfolding Flags.side_of
+IsCutCore-side_of k core = IsCutCore-with_flags_if core (side k core.flags) (side_kept k core.flags _ refl)
+
+IsCutCore-taken : (o : Op) (core : Core) → IfSome (Flags.sides_of o core).taken (IsCutCore core)
+unfolding Flags.sides_of
+IsCutCore-taken o core = choose (Flags.condition_of o)
+  where
+    choose : (k : Option Condition) → IfSome (Flags.sides_by k core).taken (IsCutCore core)
+    choose None = IsCutCore-itself core
+    choose (Some k) = IsCutCore-side_of k core
+
+IsCutCore-not_taken : (o : Op) (core : Core) → IfSome (Flags.sides_of o core).not_taken (IsCutCore core)
+unfolding Flags.sides_of
+IsCutCore-not_taken o core = choose (Flags.condition_of o)
+  where
+    choose : (k : Option Condition) → IfSome (Flags.sides_by k core).not_taken (IsCutCore core)
+    choose None = tt
+    choose (Some k) = IsCutCore-side_of (Flags.opposite k) core
+
+IsSideOf-taken : (o : Op) (cells : List Cell) (core : Core) (r : Relations) → IfSome (taken_side o cells core r) (IsSideOf cells core r)
+unfolding taken_side
+IsSideOf-taken o cells core r =
+    IsSideOf-side_where (Flags.condition_of o) cells core r _
+    (IsByFlags-both core _ (IsCutCore-taken o core) (λ is. (flag_sides.sides_of_inhabited o core _ refl is).taken))
+
+IsSideOf-not_taken : (o : Op) (cells : List Cell) (core : Core) (r : Relations) → IfSome (not_taken_side o cells core r) (IsSideOf cells core r)
+unfolding not_taken_side
+IsSideOf-not_taken o cells core r =
+    IsSideOf-side_where (opposite_of (Flags.condition_of o)) cells core r _
+    (IsByFlags-both core _ (IsCutCore-not_taken o core) (λ is. (flag_sides.sides_of_inhabited o core _ refl is).not_taken))
+
+pub taken_side_cuts :
+    (o : Op) (cells : List Cell) (core : Core) (r : Relations) (side : Option Branch)
+    → side ≡ taken_side o cells core r → IfSome side (IsSideOf cells core r)
+taken_side_cuts o cells core r side e = subst (λ s. IfSome s (IsSideOf cells core r)) (sym e) (IsSideOf-taken o cells core r)
+
+pub not_taken_side_cuts :
+    (o : Op) (cells : List Cell) (core : Core) (r : Relations) (side : Option Branch)
+    → side ≡ not_taken_side o cells core r → IfSome side (IsSideOf cells core r)
+not_taken_side_cuts o cells core r side e = subst (λ s. IfSome s (IsSideOf cells core r)) (sym e) (IsSideOf-not_taken o cells core r)
+
+pub sides_of_cuts :
+    (o : Op) (cells : List Cell) (core : Core) (r : Relations) (sides : Branches)
+    → sides ≡ sides_of o cells core r → AreSidesOf cells core r sides
+unfolding sides_of
+sides_of_cuts o cells core r sides e =
+    subst (λ s. AreSidesOf cells core r s) (sym e)
+    (record { taken = IsSideOf-taken o cells core r; not_taken = IsSideOf-not_taken o cells core r })
+
+-- ---- where a side's cell lies
+
+IsPlaced-free : (region : Region) (c : Cell) → is_free region c.address ≡ true → IsPlaced region c
+IsPlaced-free region c h =
+    let parts = and_parts _ _ h in
+    record { area = itself c.address (is_ram c.address) parts.0; apart = not-true _ parts.1 }
+  where
+    itself : (a : ℕ) (b : Bool) → b ≡ true → (nat_le a a && b) ≡ true
+    itself a b h = grind (arith, nat_tests)
+
+IsPlaced-if :
+    (region : Region) (address : Option ℕ) (cell : Option Cell)
+    → IsByteFree region address → IfSome cell (λ c. address ≡ Some c.address) → IfSome cell (IsPlaced region)
+IsPlaced-if region address None h e = tt
+IsPlaced-if region address (Some c) h e = IsPlaced-free region c (subst (λ a. IsByteFree region a) e h)
+
+-- in RAM outside the region, as the address among the places does
+pub side_placed :
+    (region : Region) (cells : List Cell) (core : Core) (r : Relations) (b : Branch)
+    → IsByteFree region r.byte.address → IsSideOf cells core r b → IfSome b.cell (IsPlaced region)
+side_placed region cells core r b h is = IsPlaced-if region r.byte.address b.cell h is.address

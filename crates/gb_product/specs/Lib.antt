@@ -1,5 +1,6 @@
 pub mod Covering
 pub mod Meaning
+pub mod Reduced
 pub mod Sides
 pub mod Sound
 pub mod Below

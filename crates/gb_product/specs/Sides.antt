@@ -1,17 +1,27 @@
--- The sides of an instruction, by its flag and by what the flags say of a byte (abstract interpretation: branch refinement; own).
-use Rattle.std.specs.Prelude.{ℕ, List, Option, Some, None}
+-- The sides of an instruction: its flag is known, the places of a byte that the flags speak of are narrowed, and so is a pair of
+-- which Z says whether it is 0 (abstract interpretation: branch refinement; own).
+use Rattle.std.specs.Prelude.{ℕ, Bool, ◌&&◌, ◌==◌, if◌then◌else◌, List, Option, Some, None}
 use Rattle.gb_ops.specs.declared.op.Condition.{Condition}
+use Rattle.gb_ops.specs.declared.op.Condition.TheVariants as condition
 use Rattle.gb_ops.specs.declared.op.Op.{Op}
+use Rattle.gb_domain.specs.declared.pairs.WordPair.{WordPair}
 use Rattle.gb_domain.specs.declared.places.OneByte.{OneByte}
+use Rattle.gb_domain.specs.declared.relations.Relations.{Relations}
 use Rattle.gb_domain.specs.declared.types.Val.{Val}
 use Rattle.gb_domain.specs.declared.types.Core.{Core}
 use Rattle.gb_domain.specs.declared.types.Cell.{Cell}
-use Rattle.gb_domain.specs.Types.{AbsState, any_val}
+use Rattle.gb_domain.specs.Types.{any_val}
 use Rattle.gb_abs.specs.Covering.{cell_at}
-use Rattle.gb_abs_effects.specs.declared.sides.Sides.{Sides}
 use Rattle.gb_abs_effects.specs.Sides as Flags
+use Rattle.gb_relations.specs.Below.gb_pairs.declared.values.Values.{Values}
+use Rattle.gb_relations.specs.Below.gb_pairs.Reduced.{restricted}
 use Rattle.gb_relations.specs.Below.gb_places.declared.sides.Contents.{Contents}
 use Rattle.gb_relations.specs.Below.gb_places.Sides.{narrowed}
+use Rattle.gb_relations.specs.Transfer.{values_of}
+use Rattle.gb_product.specs.declared.parts.Branch.{Branch}
+use Rattle.gb_product.specs.declared.parts.Branches.{Branches}
+
+-- ---- the byte in memory
 
 -- what is known of the byte at the address among the places, if there is one
 abbrev pub memory_of : Option ℕ → List Cell → Val
@@ -21,22 +31,58 @@ memory_of (Some a) cells = cell_at a cells
 abbrev pub contents_of : OneByte → Core → List Cell → Contents
 contents_of b core cells = record { registers = core.registers; memory = memory_of b.address cells }
 
-abbrev pub with_contents_if : Core → Option Contents → Option Core
-with_contents_if core None = None
-with_contents_if core (Some c) = Some (record core { registers = c.registers })
+-- each byte lies in the bounds
+abbrev pub is_any : Val → Bool
+is_any v = (v.lo == 0) && (v.hi == 255)
 
--- the core where a condition is met, by what the flags say of a byte, if that is possible
-unfoldable pub narrowed_core : Condition → AbsState → Core → Option Core
-narrowed_core k s core = with_contents_if core (narrowed s.relations.byte k (contents_of s.relations.byte core s.cells))
+-- the address among the places with its value, where that says something
+abbrev pub known_cell : Option ℕ → Val → Option Cell
+known_cell None v = None
+known_cell (Some a) v = if is_any v then None else Some (record { address = a; val = v })
 
-abbrev pub narrowed_if : Condition → AbsState → Option Core → Option Core
-narrowed_if k s None = None
-narrowed_if k s (Some core) = narrowed_core k s core
+-- ---- a pair of which Z says whether it is 0
 
-abbrev pub narrowed_by : Option Condition → AbsState → Sides → Sides
-narrowed_by None s sides = sides
-narrowed_by (Some k) s sides = record { taken = narrowed_if k s sides.taken; not_taken = narrowed_if (Flags.opposite k) s sides.not_taken }
+-- what a condition leaves of such a pair; C and NC say nothing of it
+abbrev pub without_others : Option WordPair → Condition → Values → Option Values
+without_others None k v = Some v
+without_others (Some p) condition.Zero v = restricted p (record { first = 0; last = 0 }) v
+without_others (Some p) condition.NotZero v = restricted p (record { first = 1; last = 0xFFFF }) v
+without_others (Some p) _ v = Some v
 
--- the possible sides of an instruction, from a state with this core
-unfoldable pub sides_of : Op → AbsState → Core → Sides
-sides_of o s core = narrowed_by (Flags.condition_of o) s (Flags.sides_of o core)
+-- ---- a side
+
+abbrev pub with_values_if : Core → Relations → Option Cell → Option Values → Option Branch
+with_values_if core r cell None = None
+with_values_if core r cell (Some v) =
+    Some (record { core = record core { registers = v.registers }; relations = record r { pairs = v.pairs }; cell = cell })
+
+abbrev pub with_contents_if : Condition → Core → Relations → Option Contents → Option Branch
+with_contents_if k core r None = None
+with_contents_if k core r (Some c) =
+    with_values_if core r (known_cell r.byte.address c.memory) (without_others r.zero k (values_of c.registers r.pairs))
+
+-- the side where a condition is met, by what the flags say of a byte and of a pair, if that is possible
+unfoldable pub narrowed_side : Condition → List Cell → Relations → Core → Option Branch
+narrowed_side k cells r core = with_contents_if k core r (narrowed r.byte k (contents_of r.byte core cells))
+
+-- the side of a core that the flags leave; without a condition as it stands
+abbrev pub side_where : Option Condition → List Cell → Relations → Option Core → Option Branch
+side_where k cells r None = None
+side_where None cells r (Some core) = Some (record { core = core; relations = r; cell = None })
+side_where (Some k) cells r (Some core) = narrowed_side k cells r core
+
+-- where the instruction is taken, if that is possible
+unfoldable pub taken_side : Op → List Cell → Core → Relations → Option Branch
+taken_side o cells core r = side_where (Flags.condition_of o) cells r (Flags.sides_of o core).taken
+
+abbrev pub opposite_of : Option Condition → Option Condition
+opposite_of None = None
+opposite_of (Some k) = Some (Flags.opposite k)
+
+-- where it isn't taken, if that is possible
+unfoldable pub not_taken_side : Op → List Cell → Core → Relations → Option Branch
+not_taken_side o cells core r = side_where (opposite_of (Flags.condition_of o)) cells r (Flags.sides_of o core).not_taken
+
+-- the possible sides of an instruction; one without a condition has the taken side alone
+unfoldable pub sides_of : Op → List Cell → Core → Relations → Branches
+sides_of o cells core r = record { taken = taken_side o cells core r; not_taken = not_taken_side o cells core r }

@@ -1,29 +1,128 @@
 -- What operations on whole states promise of the machine (abstract interpretation: soundness; own).
-use Rattle.std.specs.Prelude.{ℕ}
+use Rattle.std.specs.Prelude.{◌≡◌, ℕ, ◌≤◌, Bool, true, false, List, Option, Some, None, IfSome}
 use Rattle.std.specs.List.{AllByRecursion}
 use Rattle.gb_ops.specs.declared.op.Op.{Op}
+use Rattle.gb_ops.specs.declared.op.Register.{Register}
 use Rattle.gb_ops.specs.Effects as Effects
 use Rattle.gb_ops.specs.Play.{MState}
+use Rattle.gb_ops.specs.Registers.{get}
+use Rattle.gb_domain.specs.declared.relations.Relations.{Relations}
+use Rattle.gb_domain.specs.declared.types.Cell.{Cell}
 use Rattle.gb_domain.specs.declared.types.Core.{Core}
+use Rattle.gb_domain.specs.Pairs.{ArePairs}
+use Rattle.gb_domain.specs.Rules.{IsVal, IsCore}
 use Rattle.gb_domain.specs.Types.{AbsState}
 use Rattle.gb_abs.specs.Meaning.{Holds, MeansCore, IsMemory}
 use Rattle.gb_abs.specs.Storage.{peek}
-use Rattle.gb_abs_effects.specs.declared.sides.Sides.{Sides}
-use Rattle.gb_abs_effects.specs.Sound.{side_by, IsMeant}
+use Rattle.gb_relations.specs.Below.gb_pairs.Meaning.{AreBytes}
+use Rattle.gb_product.specs.declared.parts.Branch.{Branch}
+use Rattle.gb_product.specs.declared.parts.Branches.{Branches}
+use Rattle.gb_product.specs.declared.parts.Product.{Product}
 use Rattle.gb_product.specs.Meaning.{Means, AreRelated}
 
 -- t means each machine state that s means
 pub record IsPartOf (s t : AbsState) : Type 0 where
   pub gives : (entry : MState) (base : ℕ) (x : MState) → Means s entry base x → Means t entry base x
 
--- a state's cells and what is known together hold of x
-pub record IsKnown (s : AbsState) (entry x : MState) : Type 0 where
-  pub memory : IsMemory x.storage
-  pub cells : AllByRecursion (λ c. Holds c.val entry (peek x.storage c.address)) s.cells
-  pub related : AreRelated s.relations x
+-- ---- what is cut
 
--- the side by the machine's own condition means each state that the core means, where s is known
-pub record AreSoundSides (o : Op) (s : AbsState) (core : Core) (sides : Sides) : Type 0 where
+-- registers are cut or stay, in order; what each and the flags are copies of stays, and all else but the flags
+pub record IsCutCore (s t : Core) : Type 0 where
+  pub least : (r : Register) → (get r s.registers).lo ≤ (get r t.registers).lo
+  pub most : (r : Register) → (get r t.registers).hi ≤ (get r s.registers).hi
+  pub order : (r : Register) → (get r s.registers).lo ≤ (get r s.registers).hi → (get r t.registers).lo ≤ (get r t.registers).hi
+  pub origin : (r : Register) → (get r t.registers).origin ≡ (get r s.registers).origin
+  pub own : t.flags.is_own ≡ s.flags.is_own
+  pub ime : t.ime ≡ s.ime
+  pub bound : t.bound ≡ s.bound
+  pub stack_set : t.stack_set ≡ s.stack_set
+  pub ctl : t.ctl ≡ s.ctl
+  pub ie : t.ie ≡ s.ie
+
+-- of what is known together pairs alone change
+pub record IsCutTogether (s t : Relations) : Type 0 where
+  pub byte : t.byte ≡ s.byte
+  pub zero : t.zero ≡ s.zero
+  pub pairs : ArePairs s.pairs → ArePairs t.pairs
+
+-- ---- reducing
+
+-- x is one of the states that both parts mean
+pub record MeansProduct (p : Product) (entry x : MState) : Type 0 where
+  pub core : MeansCore p.core entry x
+  pub related : AreRelated p.relations x
+
+abbrev pub IsMeantProduct : Option Product → MState → MState → Type 0
+IsMeantProduct None entry x = ⊥
+IsMeantProduct (Some p) entry x = MeansProduct p entry x
+
+-- no machine state is lost
+pub record IsSoundReducing (core : Core) (r : Relations) (o : Option Product) : Type 0 where
+  pub gives :
+      (entry x : MState)
+      → AreBytes x.processor.registers → MeansCore core entry x → AreRelated r x → IsMeantProduct o entry x
+
+-- nothing but bounds changes
+pub record IsReduced (s : Core) (r : Relations) (p : Product) : Type 0 where
+  pub core : IsCutCore s p.core
+  pub flags : p.core.flags ≡ s.flags
+  pub relations : IsCutTogether r p.relations
+  pub inhabited : IsCore s → IsCore p.core
+
+-- the same of a side, whose cell stays
+pub record IsReducedBranch (s b : Branch) : Type 0 where
+  pub core : IsCutCore s.core b.core
+  pub flags : b.core.flags ≡ s.core.flags
+  pub relations : IsCutTogether s.relations b.relations
+  pub inhabited : IsCore s.core → IsCore b.core
+  pub cell : b.cell ≡ s.cell
+
+-- ---- sides
+
+-- what is said of a cell's byte holds of x
+abbrev pub HoldsCell : MState → MState → Cell → Type 0
+HoldsCell entry x c = Holds c.val entry (peek x.storage c.address)
+
+-- a state's cells and what is known together hold of x
+pub record IsKnown (known : List Cell) (r : Relations) (entry x : MState) : Type 0 where
+  pub memory : IsMemory x.storage
+  pub cells : AllByRecursion (λ c. HoldsCell entry x c) known
+  pub related : AreRelated r x
+
+-- x is one of the states that a side means
+pub record MeansBranch (b : Branch) (entry x : MState) : Type 0 where
+  pub core : MeansCore b.core entry x
+  pub related : AreRelated b.relations x
+  pub cell : IfSome b.cell (λ c. HoldsCell entry x c)
+
+-- the side is possible, and means x
+abbrev pub IsMeantBranch : Option Branch → MState → MState → Type 0
+IsMeantBranch None entry x = ⊥
+IsMeantBranch (Some b) entry x = MeansBranch b entry x
+
+-- a side that is reduced loses no machine state
+pub record IsSoundBranch (b : Branch) (o : Option Branch) : Type 0 where
+  pub gives : (entry x : MState) → AreBytes x.processor.registers → MeansBranch b entry x → IsMeantBranch o entry x
+
+-- the side where an instruction is taken, or where it isn't, means each state of the core in which the machine goes there
+pub record IsSoundSide (is_taken : Bool) (o : Op) (known : List Cell) (core : Core) (r : Relations) (side : Option Branch) : Type 0 where
   pub gives :
       (entry x : MState) (l h : ℕ)
-      → IsKnown s entry x → MeansCore core entry x → IsMeant (side_by (Effects.effect_of o x.processor l h).is_taken sides) entry x
+      → IsKnown known r entry x → MeansCore core entry x → (Effects.effect_of o x.processor l h).is_taken ≡ is_taken
+      → IsMeantBranch side entry x
+
+pub record AreSoundSides (o : Op) (known : List Cell) (core : Core) (r : Relations) (sides : Branches) : Type 0 where
+  pub taken : IsSoundSide true o known core r sides.taken
+  pub not_taken : IsSoundSide false o known core r sides.not_taken
+
+-- registers and pairs are cut, and the cell, if there is one, is that of the address among the places
+pub record IsSideOf (known : List Cell) (s : Core) (r : Relations) (b : Branch) : Type 0 where
+  pub core : IsCutCore s b.core
+  pub relations : IsCutTogether r b.relations
+  pub inhabited : IsCore s → IsCore b.core
+  pub address : IfSome b.cell (λ c. r.byte.address ≡ Some c.address)
+  pub val : AllByRecursion (λ c. IsVal c.val) known → IfSome b.cell (λ c. IsVal c.val)
+
+pub record AreSidesOf (known : List Cell) (s : Core) (r : Relations) (sides : Branches) : Type 0 where
+  pub taken : IfSome sides.taken (IsSideOf known s r)
+  pub not_taken : IfSome sides.not_taken (IsSideOf known s r)

@@ -1,24 +1,17 @@
 //! Whether one whole abstract state stands for all that another one does.
 
-ghost use Rattle.std.specs.Prelude.{◌≡◌, true};
+ghost use Rattle.std.specs.Prelude.{◌≡◌, ◌<◌, true, not};
+ghost use Rattle.gb_domain.specs.RelationRules.{is_known, are_unknown};
 ghost use Rattle.gb_product.specs.Covering as Covering;
 ghost use Rattle.gb_product.specs.Sound.{IsPartOf};
 
+use crate::parts::holds_words;
 use gb_abs::covering::covers_parts;
-use gb_domain::pairs::WordPair;
+use gb_domain::pairs::{PairFacts, Pairs, WordPair};
 use gb_domain::relations::Relations;
 use gb_domain::types::{Abs, Val};
 use gb_ops::registers::Registers;
-use gb_relations::{Values, covers_byte, covers_pairs};
-
-fn is_same_pair(s: WordPair, t: WordPair) -> bool
-    ensures { result ≡ Covering.is_same_pair s t }
-{
-    matches!(
-        (s, t),
-        (WordPair::Bc, WordPair::Bc) | (WordPair::De, WordPair::De) | (WordPair::Hl, WordPair::Hl)
-    )
-}
+use gb_relations::{Values, covers_byte, covers_pairs, has_place, is_same_pair};
 
 fn covers_zero(s: Option<WordPair>, t: Option<WordPair>) -> bool
     ensures { result ≡ Covering.covers_zero s t }
@@ -30,9 +23,31 @@ fn covers_zero(s: Option<WordPair>, t: Option<WordPair>) -> bool
     }
 }
 
-/// Whether all that is known together of t is known of s, whose registers these are.
+/// Whether nothing is known of a pair beside its bytes.
+fn is_unknown(facts: PairFacts) -> bool
+    ensures { result ≡ not (is_known facts) }
+{
+    facts.link.is_none() && facts.bounds.first == 0 && facts.bounds.last == 0xFFFF
+}
+
+fn are_unknown(pairs: Pairs) -> bool
+    ensures { result ≡ are_unknown pairs }
+{
+    is_unknown(pairs.bc) && is_unknown(pairs.de) && is_unknown(pairs.hl)
+}
+
+/// Whether nothing is known together.
+fn is_nothing(relations: &Relations) -> bool
+    ensures { result ≡ Covering.is_nothing relations.now }
+{
+    !has_place(&relations.byte)
+        && relations.byte.test.is_none()
+        && relations.zero.is_none()
+        && are_unknown(relations.pairs)
+}
+
 #[tactic(auto, unfolding(crate::specs::Covering::covers_relations))]
-pub fn covers_relations(registers: &Registers<Val>, s: &Relations, t: &Relations) -> bool
+fn covers_each(registers: &Registers<Val>, s: &Relations, t: &Relations) -> bool
     ensures { result ≡ Covering.covers_relations registers.now s.now t.now }
 {
     covers_byte(&s.byte, &t.byte)
@@ -44,6 +59,15 @@ pub fn covers_relations(registers: &Registers<Val>, s: &Relations, t: &Relations
             },
             &t.pairs,
         )
+}
+
+/// Whether all that is known together of t is known of s, whose registers these are.
+#[tactic(auto, using(crate::proofs::NothingLaws::nothing_covered))]
+pub fn covers_relations(registers: &Registers<Val>, s: &Relations, t: &Relations) -> bool
+    ensures { result ≡ Covering.covers_relations registers.now s.now t.now }
+{
+    holds_words(s.pairs);
+    is_nothing(t) || covers_each(registers, s, t)
 }
 
 #[tactic(auto, unfolding(crate::specs::Covering::covers))]

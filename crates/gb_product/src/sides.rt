@@ -1,17 +1,18 @@
 //! What a conditional instruction learns from its condition.
 
-ghost use Rattle.std.specs.Prelude.{◌≡◌};
-ghost use Rattle.gb_domain.specs.Rules.{IsCore};
-ghost use Rattle.gb_abs_effects.specs.Sound.{AreSides};
+ghost use Rattle.std.specs.Prelude.{◌≡◌, true, false, IfSome};
 ghost use Rattle.gb_product.specs.Sides as Branching;
-ghost use Rattle.gb_product.specs.Sound.{AreSoundSides};
+ghost use Rattle.gb_product.specs.Sound.{IsSoundSide, IsSideOf, AreSoundSides, AreSidesOf};
 
+use crate::parts::{Branch, Branches, holds_words};
 use gb_abs::any;
 use gb_abs::covering::cell_at;
-use gb_abs_effects::sides::{Sides, condition_of, opposite};
-use gb_domain::types::{Abs, Cell, Core, Val};
+use gb_abs_effects::sides::{condition_of, opposite};
+use gb_domain::pairs::{Bounds, WordPair};
+use gb_domain::relations::Relations;
+use gb_domain::types::{Cell, Core, Val};
 use gb_ops::op::{Condition, Op};
-use gb_relations::{Contents, narrowed};
+use gb_relations::{Contents, Values, narrowed, restricted};
 
 /// What is known of the byte at the address among the places, if there is one.
 fn memory_of(address: Option<u16>, cells: &[Cell]) -> Val
@@ -23,51 +24,161 @@ fn memory_of(address: Option<u16>, cells: &[Cell]) -> Val
     }
 }
 
-/// The core where a condition is met, by what the flags say of a byte.
-#[tactic(auto, unfolding(crate::specs::Sides::narrowed_core))]
-fn narrowed_core(condition: Condition, state: &Abs, core: Core) -> Option<Core>
-    ensures { result ≡ Branching.narrowed_core condition state.now core }
+/// The address among the places with its value, where that isn't any byte.
+fn known_cell(address: Option<u16>, val: Val) -> Option<Cell>
+    ensures { result ≡ Branching.known_cell address val }
 {
-    let byte = &state.relations().byte;
-    let contents = Contents {
-        registers: core.registers,
-        memory: memory_of(byte.address, state.cells()),
+    let address = address?;
+    if val.lo == 0 && val.hi == 255 {
+        return None;
+    }
+    Some(Cell { address, val })
+}
+
+/// What a condition leaves where Z says whether a pair is 0.
+fn without_others(zero: Option<WordPair>, condition: Condition, values: &Values) -> Option<Values>
+    ensures { result ≡ Branching.without_others zero condition values.now }
+{
+    let Some(pair) = zero else {
+        return Some(*values);
     };
-    let left = narrowed(byte, condition, &contents)?;
-    Some(Core {
-        registers: left.registers,
-        ..core
-    })
-}
-
-fn narrowed_if(condition: Condition, state: &Abs, core: Option<Core>) -> Option<Core>
-    ensures { result ≡ Branching.narrowed_if condition state.now core }
-{
-    narrowed_core(condition, state, core?)
-}
-
-#[tactic(auto, unfolding(crate::specs::Sides::sides_of))]
-fn both_sides(op: Op, state: &Abs, core: &Core) -> Sides
-    ensures { result ≡ Branching.sides_of op state.now core.now }
-{
-    let sides = gb_abs_effects::sides::sides_of(op, core);
-    match condition_of(op) {
-        None => sides,
-        Some(condition) => Sides {
-            taken: narrowed_if(condition, state, sides.taken),
-            not_taken: narrowed_if(opposite(condition), state, sides.not_taken),
-        },
+    match condition {
+        Condition::Zero => restricted(pair, Bounds { first: 0, last: 0 }, values),
+        Condition::NotZero => restricted(
+            pair,
+            Bounds {
+                first: 1,
+                last: 0xFFFF,
+            },
+            values,
+        ),
+        Condition::Carry | Condition::NotCarry => Some(*values),
     }
 }
 
-/// The possible sides of an instruction from a state with this core: the condition's flag is known, and the places of a byte
-/// that the flags speak of are narrowed to what the condition leaves; all else is as it was. An instruction without a condition
-/// has the taken side alone. The side of the machine's own condition is possible, and means the machine's state.
-#[tactic(auto, using(crate::proofs::SideLaws::sides_of_sound, crate::proofs::SideLaws::sides_of_inhabited))]
-pub fn sides_of(op: Op, state: &Abs, core: &Core) -> Sides
-    ensures exact { result ≡ Branching.sides_of op state.now core.now }
-    ensures sound { AreSoundSides op state.now core.now result }
-    ensures inhabited { IsCore core.now → AreSides result }
+/// The side where a condition is met, by what the flags say of a byte and of a pair.
+#[tactic(auto, unfolding(crate::specs::Sides::narrowed_side))]
+fn narrowed_side(
+    condition: Condition,
+    cells: &[Cell],
+    relations: &Relations,
+    core: Core,
+) -> Option<Branch>
+    ensures { result ≡ Branching.narrowed_side condition cells.now relations.now core }
 {
-    both_sides(op, state, core)
+    let byte = &relations.byte;
+    let contents = Contents {
+        registers: core.registers,
+        memory: memory_of(byte.address, cells),
+    };
+    let left = narrowed(byte, condition, &contents)?;
+    let values = Values {
+        registers: left.registers,
+        pairs: relations.pairs,
+    };
+    let values = without_others(relations.zero, condition, &values)?;
+    Some(Branch {
+        core: Core {
+            registers: values.registers,
+            ..core
+        },
+        relations: Relations {
+            pairs: values.pairs,
+            ..*relations
+        },
+        cell: known_cell(byte.address, left.memory),
+    })
+}
+
+/// The side of a core that the flags leave; without a condition as it stands.
+fn side_where(
+    condition: Option<Condition>,
+    cells: &[Cell],
+    relations: &Relations,
+    core: Option<Core>,
+) -> Option<Branch>
+    ensures { result ≡ Branching.side_where condition cells.now relations.now core }
+{
+    let core = core?;
+    match condition {
+        None => Some(Branch {
+            core,
+            relations: *relations,
+            cell: None,
+        }),
+        Some(condition) => narrowed_side(condition, cells, relations, core),
+    }
+}
+
+fn opposite_of(condition: Option<Condition>) -> Option<Condition>
+    ensures { result ≡ Branching.opposite_of condition }
+{
+    Some(opposite(condition?))
+}
+
+#[tactic(auto, unfolding(crate::specs::Sides::taken_side))]
+fn where_taken(op: Op, cells: &[Cell], core: &Core, relations: &Relations) -> Option<Branch>
+    ensures { result ≡ Branching.taken_side op cells.now core.now relations.now }
+{
+    let flags = gb_abs_effects::sides::sides_of(op, core);
+    side_where(condition_of(op), cells, relations, flags.taken)
+}
+
+#[tactic(auto, unfolding(crate::specs::Sides::not_taken_side))]
+fn where_not_taken(op: Op, cells: &[Cell], core: &Core, relations: &Relations) -> Option<Branch>
+    ensures { result ≡ Branching.not_taken_side op cells.now core.now relations.now }
+{
+    let flags = gb_abs_effects::sides::sides_of(op, core);
+    side_where(
+        opposite_of(condition_of(op)),
+        cells,
+        relations,
+        flags.not_taken,
+    )
+}
+
+#[tactic(auto, unfolding(crate::specs::Sides::sides_of, crate::specs::Sides::taken_side, crate::specs::Sides::not_taken_side))]
+fn both_sides(op: Op, cells: &[Cell], core: &Core, relations: &Relations) -> Branches
+    ensures { result ≡ Branching.sides_of op cells.now core.now relations.now }
+{
+    let flags = gb_abs_effects::sides::sides_of(op, core);
+    let condition = condition_of(op);
+    Branches {
+        taken: side_where(condition, cells, relations, flags.taken),
+        not_taken: side_where(opposite_of(condition), cells, relations, flags.not_taken),
+    }
+}
+
+/// The side where an instruction is taken, from a state with this core, these cells and relations: its condition's flag is
+/// known, the places of a byte that the flags speak of are narrowed to what the condition leaves, and so is a pair of which Z
+/// says whether it is 0. Where nothing is left the side isn't possible. An instruction without a condition leaves all as it is.
+#[tactic(auto, using(crate::proofs::SideLaws::taken_side_sound_of_words, crate::proofs::SideLaws::taken_side_cuts))]
+pub fn taken_side(op: Op, cells: &[Cell], core: &Core, relations: &Relations) -> Option<Branch>
+    ensures exact { result ≡ Branching.taken_side op cells.now core.now relations.now }
+    ensures sound { IsSoundSide true op cells.now core.now relations.now result }
+    ensures kept { IfSome result (IsSideOf cells.now core.now relations.now) }
+{
+    holds_words(relations.pairs);
+    where_taken(op, cells, core, relations)
+}
+
+/// The side where an instruction isn't taken; one without a condition has none.
+#[tactic(auto, using(crate::proofs::SideLaws::not_taken_side_sound_of_words, crate::proofs::SideLaws::not_taken_side_cuts))]
+pub fn not_taken_side(op: Op, cells: &[Cell], core: &Core, relations: &Relations) -> Option<Branch>
+    ensures exact { result ≡ Branching.not_taken_side op cells.now core.now relations.now }
+    ensures sound { IsSoundSide false op cells.now core.now relations.now result }
+    ensures kept { IfSome result (IsSideOf cells.now core.now relations.now) }
+{
+    holds_words(relations.pairs);
+    where_not_taken(op, cells, core, relations)
+}
+
+/// Both sides of an instruction. That of the machine's own condition is possible, and means the machine's state.
+pub fn sides_of(op: Op, cells: &[Cell], core: &Core, relations: &Relations) -> Branches
+    ensures exact { result ≡ Branching.sides_of op cells.now core.now relations.now }
+    ensures sound { AreSoundSides op cells.now core.now relations.now result }
+    ensures kept { AreSidesOf cells.now core.now relations.now result }
+{
+    holds_words(relations.pairs);
+    both_sides(op, cells, core, relations)
 }

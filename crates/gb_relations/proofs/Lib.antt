@@ -9,5 +9,6 @@ pub mod FreeLaws
 pub mod ZeroLaws
 pub mod PairLaws
 pub mod TransferLaws
+pub mod PointerLaws
 pub mod ReturnLaws
 pub mod Below

@@ -93,13 +93,13 @@ HoldPairs-indirect indirect.HlDecrement v p bytes h = HoldPairs-decremented pair
 pub record AreWords (s : Pairs) : Type 0 where
   pub each : (p : WordPair) → (facts_of p s).bounds.last < 65536
 
-bounds-below : (p : WordPair) (v : Values) → AreWords v.pairs → (bounds_of p v).last < 65536
+pub bounds-below : (p : WordPair) (v : Values) → AreWords v.pairs → (bounds_of p v).last < 65536
 bounds-below p v h =
     let own = h.each p in
     let part = (IsPart-bounds_of p v).last in
     omega arith
 
-Within-addend :
+pub Within-addend :
     (which : Pair) (sp : Bounds) (v : Values) (p : Processor)
     → sp.first ≤ p.sp → p.sp ≤ sp.last → Holds v p.registers → Within (addend which sp v) (pair_value p which)
 unfolding pair_value
@@ -108,7 +108,7 @@ Within-addend pair.De sp v p low high h = (bounds_of_sound words.De v _ refl).gi
 Within-addend pair.Hl sp v p low high h = (bounds_of_sound words.Hl v _ refl).gives p.registers h
 Within-addend pair.Sp sp v p low high h = record { least = low; most = high }
 
-addend-below : (which : Pair) (sp : Bounds) (v : Values) → sp.last < 65536 → AreWords v.pairs → (addend which sp v).last < 65536
+pub addend-below : (which : Pair) (sp : Bounds) (v : Values) → sp.last < 65536 → AreWords v.pairs → (addend which sp v).last < 65536
 addend-below pair.Bc sp v small h = bounds-below words.Bc v h
 addend-below pair.De sp v small h = bounds-below words.De v h
 addend-below pair.Hl sp v small h = bounds-below words.Hl v h

@@ -26,7 +26,7 @@ use Rattle.gb_relations.proofs.ComparedLaws.{HoldOneByte-compared_after, compare
 use Rattle.gb_relations.proofs.ZeroLaws.{IsZero-zero_after}
 use Rattle.gb_relations.proofs.PairLaws.{AreWords, HoldPairs-pairs_after, pairs_after-kept}
 
-are_words : (s : Pairs) → s.bc.bounds.last < 65536 → s.de.bounds.last < 65536 → s.hl.bounds.last < 65536 → AreWords s
+pub are_words : (s : Pairs) → s.bc.bounds.last < 65536 → s.de.bounds.last < 65536 → s.hl.bounds.last < 65536 → AreWords s
 are_words s b d h = record { each = each }
   where
     each : (p : WordPair) → (facts_of p s).bounds.last < 65536

@@ -5,6 +5,7 @@ pub mod Pairs
 pub mod Bytes
 pub mod Compared
 pub mod Transfer
+pub mod Pointers
 pub mod Returned
 pub mod Sound
 pub mod Below

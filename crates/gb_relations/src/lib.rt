@@ -4,19 +4,23 @@
 //!
 //! Read `transfer`, whose `relations_after` is what its definition says and holds behind every effect of the instruction. It
 //! stands on `compared` (by the rules of versions 1 and 2), and on `written`, the registers that are overwritten, on `places`, where a byte is stored or read, and on `bytes` and
-//! `pairs`, what is left of each part.
+//! `pairs`, what is left of each part. `pointers` says where an instruction reads or writes by a pair, and the carry of ADD HL.
 #![tactic(auto)]
 
 mod bytes;
 pub mod compared;
 mod pairs;
 mod places;
+pub mod pointers;
 pub mod returned;
 pub mod transfer;
 mod written;
 
 // What lies below, for the crates above.
 pub use gb_pairs::covering::covers_pairs;
+pub use gb_pairs::reduced::{reduced, restricted};
 pub use gb_pairs::values::Values;
+pub use gb_pairs::written::is_same_pair;
 pub use gb_places::covering::covers_byte;
+pub use gb_places::places::has_place;
 pub use gb_places::sides::{Contents, narrowed};

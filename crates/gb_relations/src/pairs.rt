@@ -67,7 +67,7 @@ fn after_indirect(indirect: Indirect, values: &Values) -> Pairs
 }
 
 /// What ADD HL adds, where SP has these bounds.
-fn addend(pair: Pair, sp: Bounds, values: &Values) -> Bounds
+pub(crate) fn addend(pair: Pair, sp: Bounds, values: &Values) -> Bounds
     ensures { result ≡ addend pair sp values.now }
 {
     match pair {
@@ -78,7 +78,7 @@ fn addend(pair: Pair, sp: Bounds, values: &Values) -> Bounds
     }
 }
 
-fn is_hl(pair: Pair) -> bool
+pub(crate) fn is_hl(pair: Pair) -> bool
     ensures { result ≡ is_hl pair }
 {
     matches!(pair, Pair::Hl)

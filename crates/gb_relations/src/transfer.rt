@@ -98,7 +98,7 @@ fn holds_bytes(op: Op)
 {}
 
 /// The bounds of pairs are words.
-fn holds_words(pairs: Pairs)
+pub(crate) fn holds_words(pairs: Pairs)
     ensures bc { pairs.bc.bounds.last < 65536 }
     ensures de { pairs.de.bounds.last < 65536 }
     ensures hl { pairs.hl.bounds.last < 65536 }

@@ -1,0 +1,77 @@
+-- What is no copy holds relative to one entry as to any other; what an origin holds in a state is its own there.
+use Rattle.std.proofs.Common.{◌≡◌, ℕ, ◌-◌, List, [], ◌∷◌, map, Some, refl, sym, subst}
+use Rattle.gb_ops.specs.declared.op.Register.{Register}
+use Rattle.gb_ops.specs.declared.op.Register.TheVariants.{A, B, C, D, E, H, L}
+use Rattle.gb_ops.specs.declared.registers.Registers.{Registers}
+use Rattle.gb_ops.specs.Registers.{get}
+use Rattle.gb_ops.specs.Memory.{Storage}
+use Rattle.gb_ops.specs.Play.{MState}
+use Rattle.gb_domain.specs.declared.types.Origin.{Origin}
+use Rattle.gb_domain.specs.declared.types.Val.{Val}
+use Rattle.gb_domain.specs.declared.types.Cell.{Cell}
+use Rattle.gb_domain.specs.declared.types.Core.{Core}
+use Rattle.gb_abs.specs.Meaning.{origin_value, Holds, AreItems, MeansCore}
+use Rattle.gb_abs.specs.Origins.{own, without_origin, cell_without_origin, registers_without_origins, core_without_origins}
+use Rattle.gb_abs.specs.Storage.{peek}
+use Rattle.gb_abs.proofs.CoveringLaws.{AreCells}
+
+same_Some : (o p : Origin) → Some o ≡ Some p → o ≡ p
+same_Some o p h = cc
+
+pub Holds-own : (o : Origin) (v : Val) (entry other : MState) (n : ℕ) → Holds v entry n → n ≡ origin_value o other → Holds (own o v) other n
+Holds-own o v entry other n h e =
+    record { least = h.least; most = h.most; origin = λ q is. subst (λ p. n ≡ origin_value p other) (same_Some o q is) e }
+
+-- of what is no copy, the state at entry doesn't matter
+pub Holds-without_origin : (v : Val) (entry other : MState) (n : ℕ) → Holds v entry n → Holds (without_origin v) other n
+Holds-without_origin v entry other n h = record { least = h.least; most = h.most; origin = λ o e. cc }
+
+pub AreItems-without_origins :
+    (items : List Val) (entry other : MState) (top : ℕ) (s : Storage) → AreItems items entry top s → AreItems (map without_origin items) other top s
+AreItems-without_origins [] entry other top s h = tt
+AreItems-without_origins (v ∷ items) entry other top s h =
+    (Holds-without_origin v entry other (peek s (top - 1)) h.0, AreItems-without_origins items entry other (top - 1) s h.1)
+
+pub AreCells-without_origins :
+    (cells : List Cell) (entry other : MState) (s : Storage) → AreCells cells entry s → AreCells (map cell_without_origin cells) other s
+AreCells-without_origins [] entry other s h = tt
+AreCells-without_origins (c ∷ cells) entry other s h =
+    (Holds-without_origin c.val entry other (peek s c.address) h.0, AreCells-without_origins cells entry other s h.1)
+
+register-without_origin : (s : Registers Val) (r : Register) → get r (registers_without_origins s) ≡ without_origin (get r s)
+register-without_origin s A = refl
+register-without_origin s B = refl
+register-without_origin s C = refl
+register-without_origin s D = refl
+register-without_origin s E = refl
+register-without_origin s H = refl
+register-without_origin s L = refl
+
+pub MeansCore-without_origins : (s : Core) (entry other x : MState) → MeansCore s entry x → MeansCore (core_without_origins s) other x
+unfolding core_without_origins
+MeansCore-without_origins s entry other x m =
+    record {
+      registers = λ r. subst (λ v. Holds v other (get r x.processor.registers)) (sym (register-without_origin s.registers r))
+          (Holds-without_origin (get r s.registers) entry other (get r x.processor.registers) (m.registers r));
+      flags = record {
+        zero = m.flags.zero;
+        subtract = m.flags.subtract;
+        half_carry = m.flags.half_carry;
+        carry = m.flags.carry;
+        own = λ e. absurd (cc);
+      };
+      ie = Holds-without_origin s.ie entry other x.storage.ie m.ie;
+      ime = m.ime;
+      controller = record {
+        bank_least = m.controller.bank_least;
+        bank_most = m.controller.bank_most;
+        second_least = m.controller.second_least;
+        second_most = m.controller.second_most;
+        gate = m.controller.gate;
+        mode = m.controller.mode;
+        kept = λ e. absurd (cc);
+      };
+      count = m.count;
+      locked = m.locked;
+      stopped = m.stopped;
+    }

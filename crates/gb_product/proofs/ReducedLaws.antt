@@ -1,0 +1,120 @@
+-- Reducing a core and what is known together loses no machine state, and cuts nothing but bounds.
+use Rattle.std.proofs.Common.{◌≡◌, Option, Some, None, refl, sym, subst}
+use Rattle.std.specs.Prelude.{IfSome}
+use Rattle.gb_ops.specs.Registers.{get}
+use Rattle.gb_ops.specs.Play.{MState}
+use Rattle.gb_domain.specs.declared.relations.Relations.{Relations}
+use Rattle.gb_domain.specs.declared.rules.Rules.{Rules}
+use Rattle.gb_domain.specs.declared.rules.Rules.TheVariants.{Simple, Extended}
+use Rattle.gb_domain.specs.declared.types.Core.{Core}
+use Rattle.gb_domain.specs.Pairs.{ArePairs}
+use Rattle.gb_abs.specs.Meaning.{MeansCore}
+use Rattle.gb_abs_effects.proofs.CoreLaws.{In-from}
+use Rattle.gb_relations.specs.Below.gb_pairs.declared.values.Values.{Values}
+use Rattle.gb_relations.specs.Below.gb_pairs.Meaning.{Holds}
+use Rattle.gb_relations.specs.Below.gb_pairs.Reduced as Pairs
+use Rattle.gb_relations.specs.Below.gb_pairs.Sound.{HoldsIn, IsCut}
+use Rattle.gb_relations.specs.Below.gb_pairs.Sound as pairs
+use Rattle.gb_relations.proofs.Below.gb_pairs_laws.CutLaws as pair_cuts
+use Rattle.gb_relations.proofs.Below.gb_pairs_laws.KeptLaws.{ArePairs-cut}
+use Rattle.gb_relations.proofs.Below.gb_pairs_laws.ReducedLaws as pair_laws
+use Rattle.gb_relations.specs.Transfer.{values_of}
+use Rattle.gb_product.specs.declared.parts.Branch.{Branch}
+use Rattle.gb_product.specs.declared.parts.Product.{Product}
+use Rattle.gb_product.specs.Meaning.{AreRelated}
+use Rattle.gb_product.specs.Reduced.{product_of, with_values_if, with_cell_if, reduced, reduced_branch}
+use Rattle.gb_product.specs.Sound.{IsReduced, IsReducedBranch, IsMeantProduct, IsMeantBranch, MeansBranch, IsSoundReducing, IsSoundBranch}
+use Rattle.gb_product.proofs.CutLaws.{AreCut, IsCutCore-registers, IsCutCore-itself, IsCore-cut, IsCutTogether-pairs}
+use Rattle.gb_product.proofs.MeaningLaws.{MeansCore-cut, AreRelated-cut}
+
+-- ---- what is meant
+
+pub Holds-values : (core : Core) (r : Relations) (entry x : MState) → MeansCore core entry x → AreRelated r x → Holds (values_of core.registers r.pairs) x.processor.registers
+Holds-values core r entry x m n =
+    record { registers = λ q. In-from (get q core.registers) entry (get q x.processor.registers) (m.registers q); pairs = n.pairs }
+
+IsMeantProduct-with_values :
+    (core : Core) (r : Relations) (o : Option Values) (entry x : MState)
+    → HoldsIn o x.processor.registers → IfSome o (IsCut (values_of core.registers r.pairs)) → MeansCore core entry x → AreRelated r x
+    → IsMeantProduct (with_values_if core r o) entry x
+IsMeantProduct-with_values core r None entry x holds cut m n = holds
+IsMeantProduct-with_values core r (Some v) entry x holds cut m n =
+    record {
+      core = MeansCore-cut core v.registers entry x holds.registers cut.origin m;
+      related = AreRelated-cut r v.pairs x holds.pairs n;
+    }
+
+pub same_sound : (core : Core) (r : Relations) → IsSoundReducing core r (Some (product_of core r))
+same_sound core r = record { gives = λ entry x bytes m n. record { core = m; related = n } }
+
+-- by what the reduced values are
+pub with_values_sound :
+    (core : Core) (r : Relations) (o : Option Values) (p : Option Product)
+    → p ≡ with_values_if core r o → o ≡ Pairs.reduced (values_of core.registers r.pairs)
+    → pairs.IsSoundReducing (values_of core.registers r.pairs) o → IsSoundReducing core r p
+with_values_sound core r o p e f h =
+    subst (λ q. IsSoundReducing core r q) (sym e)
+    (record {
+      gives = λ entry x bytes m n.
+          IsMeantProduct-with_values core r o entry x (h.gives x.processor.registers bytes (Holds-values core r entry x m n))
+          (pair_cuts.reduced_cuts _ o f) m n;
+    })
+
+pub reduced_sound : (rules : Rules) (core : Core) (r : Relations) (o : Option Product) → o ≡ reduced rules core r → ArePairs r.pairs → IsSoundReducing core r o
+unfolding reduced
+reduced_sound Simple core r o e are = subst (λ p. IsSoundReducing core r p) (sym e) (same_sound core r)
+reduced_sound Extended core r o e are = with_values_sound core r _ o e refl (pair_laws.reduced_sound (values_of core.registers r.pairs) _ refl are)
+
+IsMeantBranch-with_cell :
+    (b : Branch) (o : Option Product) (entry x : MState) → IsMeantProduct o entry x → MeansBranch b entry x → IsMeantBranch (with_cell_if b.cell o) entry x
+IsMeantBranch-with_cell b None entry x holds m = holds
+IsMeantBranch-with_cell b (Some p) entry x holds m = record { core = holds.core; related = holds.related; cell = m.cell }
+
+pub with_cell_sound : (b : Branch) (o : Option Product) (r : Option Branch) → r ≡ with_cell_if b.cell o → IsSoundReducing b.core b.relations o → IsSoundBranch b r
+with_cell_sound b o r e h =
+    subst (λ s. IsSoundBranch b s) (sym e)
+    (record { gives = λ entry x bytes m. IsMeantBranch-with_cell b o entry x (h.gives entry x bytes m.core m.related) m })
+
+pub reduced_branch_sound : (rules : Rules) (b : Branch) (o : Option Branch) → o ≡ reduced_branch rules b → ArePairs b.relations.pairs → IsSoundBranch b o
+unfolding reduced_branch
+reduced_branch_sound rules b o e are = with_cell_sound b _ o e (reduced_sound rules b.core b.relations _ refl are)
+
+-- ---- what is cut
+
+pub AreCut-values : (v w : Values) → IsCut v w → AreCut v.registers w.registers
+AreCut-values v w h = record { least = h.least; most = h.most; order = h.order; origin = h.origin }
+
+IsReduced-with_values :
+    (core : Core) (r : Relations) (o : Option Values) → IfSome o (IsCut (values_of core.registers r.pairs)) → IfSome (with_values_if core r o) (IsReduced core r)
+IsReduced-with_values core r None cut = tt
+IsReduced-with_values core r (Some v) cut =
+    let registers = AreCut-values (values_of core.registers r.pairs) v cut in
+    record {
+      core = IsCutCore-registers core v.registers registers;
+      flags = refl;
+      relations = IsCutTogether-pairs r v.pairs (ArePairs-cut _ v cut);
+      inhabited = IsCore-cut core v.registers registers;
+    }
+
+IsReduced-itself : (core : Core) (r : Relations) → IsReduced core r (product_of core r)
+IsReduced-itself core r =
+    record { core = IsCutCore-itself core; flags = refl; relations = IsCutTogether-pairs r r.pairs (λ h. h); inhabited = λ h. h }
+
+IfSome-reduced : (rules : Rules) (core : Core) (r : Relations) → IfSome (reduced rules core r) (IsReduced core r)
+unfolding reduced
+IfSome-reduced Simple core r = IsReduced-itself core r
+IfSome-reduced Extended core r = IsReduced-with_values core r _ (pair_cuts.reduced_cuts (values_of core.registers r.pairs) _ refl)
+
+pub reduced_cuts : (rules : Rules) (core : Core) (r : Relations) (o : Option Product) → o ≡ reduced rules core r → IfSome o (IsReduced core r)
+reduced_cuts rules core r o e = subst (λ p. IfSome p (IsReduced core r)) (sym e) (IfSome-reduced rules core r)
+
+IsReducedBranch-with_cell :
+    (b : Branch) (o : Option Product) → IfSome o (IsReduced b.core b.relations) → IfSome (with_cell_if b.cell o) (IsReducedBranch b)
+IsReducedBranch-with_cell b None h = tt
+IsReducedBranch-with_cell b (Some p) h =
+    record { core = h.core; flags = h.flags; relations = h.relations; inhabited = h.inhabited; cell = refl }
+
+pub reduced_branch_cuts : (rules : Rules) (b : Branch) (o : Option Branch) → o ≡ reduced_branch rules b → IfSome o (IsReducedBranch b)
+unfolding reduced_branch
+reduced_branch_cuts rules b o e =
+    subst (λ p. IfSome p (IsReducedBranch b)) (sym e) (IsReducedBranch-with_cell b _ (IfSome-reduced rules b.core b.relations))

@@ -1,0 +1,127 @@
+//! What pairs tell of an instruction beside themselves: the addresses of the byte that it reads or writes by a pair, and the
+//! carry of ADD HL.
+
+ghost use Rattle.std.specs.Prelude.{◌≡◌};
+ghost use Rattle.gb_relations.specs.Pointers as Pointers;
+ghost use Rattle.gb_relations.specs.Pointers.{IsSoundPointer, IsSoundCarry};
+
+use crate::pairs::{addend, is_hl};
+use crate::transfer::holds_words;
+use gb_domain::pairs::{Bounds, Pairs, WordPair};
+use gb_domain::types::{Rules, Val};
+use gb_ops::op::{Indirect, Op, Operand};
+use gb_ops::registers::Registers;
+use gb_pairs::bounds::bounds_of;
+use gb_pairs::moved::added;
+use gb_pairs::values::Values;
+
+/// The pair that holds the operand's address.
+fn operand_pointer(operand: Operand) -> Option<WordPair>
+    ensures { result ≡ Pointers.operand_pointer operand }
+{
+    match operand {
+        Operand::Register(_) => None,
+        Operand::AtHl => Some(WordPair::Hl),
+    }
+}
+
+fn indirect_pointer(indirect: Indirect) -> WordPair
+    ensures { result ≡ Pointers.indirect_pointer indirect }
+{
+    match indirect {
+        Indirect::Bc => WordPair::Bc,
+        Indirect::De => WordPair::De,
+        Indirect::HlIncrement | Indirect::HlDecrement => WordPair::Hl,
+    }
+}
+
+/// The pair that holds the address of the byte that an instruction reads or writes, or that it jumps or sets SP to.
+#[tactic(auto, unfolding(crate::specs::Pointers::pointer_of))]
+fn pointer_of(op: Op) -> Option<WordPair>
+    ensures { result ≡ Pointers.pointer_of op }
+{
+    match op {
+        Op::StoreA(indirect) | Op::LoadA(indirect) => Some(indirect_pointer(indirect)),
+        Op::Increment(operand)
+        | Op::Decrement(operand)
+        | Op::LoadImmediate(operand, _)
+        | Op::Alu(_, operand)
+        | Op::Shift(_, operand)
+        | Op::Bit(_, operand)
+        | Op::Reset(_, operand)
+        | Op::Set(_, operand) => operand_pointer(operand),
+        Op::Load(to, from) => operand_pointer(to).or(operand_pointer(from)),
+        Op::JumpHl | Op::LoadSpHl => Some(WordPair::Hl),
+        _ => None,
+    }
+}
+
+#[tactic(auto, unfolding(crate::specs::Pointers::pointer_bounds))]
+fn bounds_at(rules: Rules, op: Op, registers: &Registers<Val>, pairs: &Pairs) -> Option<Bounds>
+    ensures { result ≡ Pointers.pointer_bounds rules op registers.now pairs.now }
+{
+    if rules == Rules::Simple {
+        return None;
+    }
+    let pointer = pointer_of(op)?;
+    let values = Values {
+        registers: *registers,
+        pairs: *pairs,
+    };
+    Some(bounds_of(pointer, &values))
+}
+
+/// The addresses of the byte that an instruction reads or writes, where a pair holds its address: the pair's bounds, as registers
+/// and pairs are before it. None where no pair does, and by the rules of versions 1 and 2.
+#[tactic(auto, using(crate::proofs::PointerLaws::pointer_bounds_sound))]
+pub fn pointer_bounds(
+    rules: Rules,
+    op: Op,
+    registers: &Registers<Val>,
+    pairs: &Pairs,
+) -> Option<Bounds>
+    ensures exact { result ≡ Pointers.pointer_bounds rules op registers.now pairs.now }
+    ensures sound { IsSoundPointer op registers.now pairs.now result }
+{
+    bounds_at(rules, op, registers, pairs)
+}
+
+#[tactic(auto, unfolding(crate::specs::Pointers::known_carry))]
+fn carry_after(
+    rules: Rules,
+    op: Op,
+    sp: Bounds,
+    registers: &Registers<Val>,
+    pairs: &Pairs,
+) -> Option<bool>
+    ensures { result ≡ Pointers.known_carry rules op sp registers.now pairs.now }
+{
+    if rules == Rules::Simple {
+        return None;
+    }
+    let values = Values {
+        registers: *registers,
+        pairs: *pairs,
+    };
+    match op {
+        Op::AddHl(pair) => added(addend(pair, sp, &values), is_hl(pair), &values).carry,
+        _ => None,
+    }
+}
+
+/// The carry of ADD HL, where it is known, as registers and pairs are before it, and SP has these bounds. None for other
+/// instructions, and by the rules of versions 1 and 2.
+#[tactic(auto, using(crate::proofs::PointerLaws::known_carry_sound))]
+pub fn known_carry(
+    rules: Rules,
+    op: Op,
+    sp: Bounds,
+    registers: &Registers<Val>,
+    pairs: &Pairs,
+) -> Option<bool>
+    ensures exact { result ≡ Pointers.known_carry rules op sp registers.now pairs.now }
+    ensures sound { IsSoundCarry op sp registers.now pairs.now result }
+{
+    holds_words(*pairs);
+    carry_after(rules, op, sp, registers, pairs)
+}
