@@ -1,27 +1,44 @@
 -- Which procedure is called, and how it is found.
-use Rattle.std.proofs.Common.{◌≡◌, ℕ, zero, suc, ◌+◌, ◌<◌, Bool, true, false, ◌==◌, List, [], ◌∷◌, drop, slice_get, Option, Some, None, refl, sym, ◌∙◌, ap, subst, arith}
-use Rattle.std.proofs.lemmas.Bool.{and_parts, eqb-true}
+use Rattle.std.proofs.Common.{◌≡◌, ℕ, zero, suc, ◌+◌, ◌-◌, ◌≤◌, ◌<◌, Bool, true, false, ◌&&◌, ◌||◌, ◌==◌, nat_le, cond, List, [], ◌∷◌, length, drop, slice_get, Option, Some, None, refl, sym, ◌∙◌, ap, subst, arith}
+use Rattle.std.proofs.lemmas.Bool.{and_parts, eqb-true, leb-true}
+use Rattle.std.proofs.lemmas.Option.{same_Some}
+use Rattle.gb_domain.specs.declared.rules.Rules.{Rules}
+use Rattle.gb_domain.specs.declared.rules.Rules.TheVariants.{Extended}
+use Rattle.gb_domain.specs.declared.setting.Setting.{Setting}
+use Rattle.gb_domain.specs.declared.types.Val.{Val}
+use Rattle.gb_domain.specs.Settings.{known_base, IsBase}
 use Rattle.gb_domain.specs.Types.{AbsState, ProcedureParts, Node}
 use Rattle.gb_domain.specs.Certificate.{Certificate}
 use Rattle.gb_product.specs.Covering.{covers}
-use Rattle.gb_calls.specs.Calls.{entered, is_entry_node, is_entry, or_later, entry_from, entry_behind_main, callee_of}
+use Rattle.gb_calls.specs.Calls.{entered_by, fits_by, is_base_below, fits, may_begin, is_entry_node, is_entry, or_later, entry_from, entry_behind_main, callee_of}
+use Rattle.gb_calls.specs.TakenOver.{base_below}
+
+-- ---- a base that is said
+
+said_base : (q : Setting) (b : ℕ) → known_base q ≡ Some b → ((q.base == 0) ≡ false) × (q.base ≡ b)
+unfolding known_base
+said_base q b h = choose (q.base == 0) refl h
+  where
+    choose : (c : Bool) → (q.base == 0) ≡ c → cond c None (Some q.base) ≡ Some b → ((q.base == 0) ≡ false) × (q.base ≡ b)
+    choose true e is = absurd (cc)
+    choose false e is = (e, same_Some q.base b is)
 
 -- ---- what is found
 
 -- one of these procedures begins so, the first of which has the number i
-record IsFrom (cert : Certificate) (a : ℕ) (s : AbsState) (i : ℕ) (ps : List ProcedureParts) (q : ℕ) : Type 0 where
+record IsFrom (cert : Certificate) (z : Setting) (a : ℕ) (s : AbsState) (i : ℕ) (ps : List ProcedureParts) (q : ℕ) : Type 0 where
   behind : ℕ
   number : q ≡ i + behind
   procedure : ProcedureParts
   is_procedure : slice_get ps behind ≡ Some procedure
-  begins : is_entry cert a s procedure ≡ true
+  begins : is_entry cert z a s procedure ≡ true
 
 IsFrom-found :
-    (cert : Certificate) (a : ℕ) (s : AbsState) (i : ℕ) (ps : List ProcedureParts) (q : ℕ) → entry_from cert a s i ps ≡ Some q → IsFrom cert a s i ps q
-IsFrom-found cert a s i [] q h = absurd (cc)
-IsFrom-found cert a s i (p ∷ ps) q h = choose (is_entry cert a s p) refl h (IsFrom-found cert a s (i + 1) ps q)
+    (cert : Certificate) (z : Setting) (a : ℕ) (s : AbsState) (i : ℕ) (ps : List ProcedureParts) (q : ℕ) → entry_from cert z a s i ps ≡ Some q → IsFrom cert z a s i ps q
+IsFrom-found cert z a s i [] q h = absurd (cc)
+IsFrom-found cert z a s i (p ∷ ps) q h = choose (is_entry cert z a s p) refl h (IsFrom-found cert z a s (i + 1) ps q)
   where
-    later : IsFrom cert a s (i + 1) ps q → IsFrom cert a s i (p ∷ ps) q
+    later : IsFrom cert z a s (i + 1) ps q → IsFrom cert z a s i (p ∷ ps) q
     later f =
         record {
           behind = suc f.behind;
@@ -32,8 +49,8 @@ IsFrom-found cert a s i (p ∷ ps) q h = choose (is_entry cert a s p) refl h (Is
         }
 
     choose :
-        (b : Bool) → is_entry cert a s p ≡ b → or_later b i (entry_from cert a s (i + 1) ps) ≡ Some q
-        → (entry_from cert a s (i + 1) ps ≡ Some q → IsFrom cert a s (i + 1) ps q) → IsFrom cert a s i (p ∷ ps) q
+        (b : Bool) → is_entry cert z a s p ≡ b → or_later b i (entry_from cert z a s (i + 1) ps) ≡ Some q
+        → (entry_from cert z a s (i + 1) ps ≡ Some q → IsFrom cert z a s (i + 1) ps q) → IsFrom cert z a s i (p ∷ ps) q
     choose true e is rest =
         record {
           behind = 0;
@@ -45,44 +62,78 @@ IsFrom-found cert a s i (p ∷ ps) q h = choose (is_entry cert a s p) refl h (Is
     choose false e is rest = later (rest is)
 
 -- what is known of a callee: it isn't main, and its entry node has the address and stands for what it begins with
-pub record IsCallee (cert : Certificate) (a : ℕ) (s : AbsState) (q : ℕ) : Type 0 where
+pub record IsCallee (cert : Certificate) (z : Setting) (a : ℕ) (s : AbsState) (q : ℕ) : Type 0 where
   pub not_main : 0 < q
   pub procedure : ProcedureParts
   pub is_procedure : slice_get cert.procedures q ≡ Some procedure
-  pub begins : is_entry cert a (entered s) procedure ≡ true
+  pub begins : is_entry cert z a s procedure ≡ true
 
 -- the callee that is found is one
-pub IsCallee-found : (cert : Certificate) (a : ℕ) (s : AbsState) (q : ℕ) → callee_of cert a s ≡ Some q → IsCallee cert a s q
+pub IsCallee-found : (cert : Certificate) (z : Setting) (a : ℕ) (s : AbsState) (q : ℕ) → callee_of cert z a s ≡ Some q → IsCallee cert z a s q
 unfolding callee_of
-IsCallee-found cert a s q h =
+IsCallee-found cert z a s q h =
     let f = behind cert.procedures h in
     record { not_main = f.0; procedure = f.1; is_procedure = f.2; begins = f.3 }
   where
     behind :
-        (ps : List ProcedureParts) → entry_behind_main cert a (entered s) ps ≡ Some q
-        → (0 < q) × (p : ProcedureParts) × (slice_get ps q ≡ Some p) × (is_entry cert a (entered s) p ≡ true)
+        (ps : List ProcedureParts) → entry_behind_main cert z a s ps ≡ Some q
+        → (0 < q) × (p : ProcedureParts) × (slice_get ps q ≡ Some p) × (is_entry cert z a s p ≡ true)
     behind [] e = absurd (cc)
     behind (main ∷ ps) e =
-        let f = IsFrom-found cert a (entered s) 1 ps q e in
+        let f = IsFrom-found cert z a s 1 ps q e in
         let at : q ≡ suc f.behind = (let n = f.number in omega arith) in
         (omega arith, f.procedure, subst (λ n. slice_get (main ∷ ps) n ≡ Some f.procedure) (sym at) f.is_procedure, f.begins)
 
 -- the node at which a procedure begins
-pub record IsEntryNode (cert : Certificate) (a : ℕ) (s : AbsState) (p : ProcedureParts) : Type 0 where
+pub record IsEntryNode (cert : Certificate) (z : Setting) (a : ℕ) (s : AbsState) (p : ProcedureParts) : Type 0 where
   pub node : Node
   pub is_node : slice_get cert.nodes p.entry ≡ Some node
   pub address : node.address ≡ a
-  pub covering : covers s node.state ≡ true
+  pub fitting : fits z p.base (length node.state.items) (length s.items) ≡ true
+  pub covering : covers (entered_by z.rules (length node.state.items) s) node.state ≡ true
 
-pub IsEntryNode-entry : (cert : Certificate) (a : ℕ) (s : AbsState) (p : ProcedureParts) → is_entry cert a s p ≡ true → IsEntryNode cert a s p
-unfolding is_entry
-IsEntryNode-entry cert a s p h = choose (slice_get cert.nodes p.entry) refl h
+pub IsEntryNode-entry : (cert : Certificate) (z : Setting) (a : ℕ) (s : AbsState) (p : ProcedureParts) → is_entry cert z a s p ≡ true → IsEntryNode cert z a s p
+unfolding is_entry may_begin
+IsEntryNode-entry cert z a s p h = choose (slice_get cert.nodes p.entry) refl h
   where
-    choose : (o : Option Node) → slice_get cert.nodes p.entry ≡ o → is_entry_node a s o ≡ true → IsEntryNode cert a s p
+    choose : (o : Option Node) → slice_get cert.nodes p.entry ≡ o → is_entry_node z a s p.base o ≡ true → IsEntryNode cert z a s p
     choose None e is = absurd (cc)
     choose (Some n) e is =
-        let parts = and_parts (n.address == a) (covers s n.state) is in
-        record { node = n; is_node = e; address = eqb-true n.address a parts.0; covering = parts.1 }
+        let k = length n.state.items in
+        let parts = and_parts (n.address == a) (fits z p.base k (length s.items) && covers (entered_by z.rules k s) n.state) is in
+        let begins = and_parts (fits z p.base k (length s.items)) (covers (entered_by z.rules k s) n.state) parts.1 in
+        record { node = n; is_node = e; address = eqb-true n.address a parts.0; fitting = begins.0; covering = begins.1 }
+
+-- ---- what a callee takes over
+
+second : (a c : Bool) → a ≡ false → (a || c) ≡ true → c ≡ true
+second true c none h = absurd (cc)
+second false c none h = h
+
+-- by the rules of version 3 the caller has the items
+pub fits-few : (z : Setting) (base k n : ℕ) → z.rules ≡ Extended → fits z base k n ≡ true → k ≤ n
+unfolding fits
+fits-few z base k n e h = let by = subst (λ (r : Rules). fits_by r (known_base z) base k n ≡ true) e h in leb-true k n (and_parts (nat_le k n) (is_base_below (known_base z) base (n - k)) by).0
+
+-- and the callee's base is right, as its certificate says it
+pub fits-base :
+    (z q : Setting) (k : ℕ) (items : List Val) (base : ℕ)
+    → z.rules ≡ Extended → fits z q.base k (length items) ≡ true → IsBase z base → IsBase q (base_below k items base)
+unfolding fits
+fits-base z q k items base e h is b known =
+    let by = subst (λ (r : Rules). fits_by r (known_base z) q.base k (length items) ≡ true) e h in
+    let below = (and_parts (nat_le k (length items)) (is_base_below (known_base z) q.base (length items - k)) by).1 in
+    let said = said_base q b known in
+    choose (known_base z) refl below said.0 said.1
+  where
+    choose :
+        (o : Option ℕ) → known_base z ≡ o → is_base_below o q.base (length items - k) ≡ true → (q.base == 0) ≡ false → q.base ≡ b
+        → b ≡ base_below k items base
+    choose None e below some same = absurd (cc)
+    choose (Some caller) e below some same =
+        let right : caller ≡ base = is caller e in
+        let sum : q.base + (length items - k) ≡ caller = eqb-true _ _ (second (q.base == 0) (q.base + (length items - k) == caller) some below) in
+        omega arith
 
 -- ---- one after the other
 
@@ -93,20 +144,20 @@ next (y ∷ ys) (suc i) x h = let e : suc i + 1 ≡ suc (i + 1) = omega arith in
 
 -- one procedure more
 callee-next :
-    (cert : Certificate) (a : ℕ) (s : AbsState) (i : ℕ) (p : ProcedureParts) → slice_get cert.procedures i ≡ Some p
-    → entry_from cert a s i (drop i cert.procedures) ≡ or_later (is_entry cert a s p) i (entry_from cert a s (i + 1) (drop (i + 1) cert.procedures))
-callee-next cert a s i p at = rw (next cert.procedures i p at) refl
+    (cert : Certificate) (z : Setting) (a : ℕ) (s : AbsState) (i : ℕ) (p : ProcedureParts) → slice_get cert.procedures i ≡ Some p
+    → entry_from cert z a s i (drop i cert.procedures) ≡ or_later (is_entry cert z a s p) i (entry_from cert z a s (i + 1) (drop (i + 1) cert.procedures))
+callee-next cert z a s i p at = rw (next cert.procedures i p at) refl
 
 -- which begins so, and is the callee
 pub callee-taken :
-    (cert : Certificate) (a : ℕ) (s : AbsState) (i : ℕ) (p : ProcedureParts) → slice_get cert.procedures i ≡ Some p → is_entry cert a s p ≡ true
-    → entry_from cert a s i (drop i cert.procedures) ≡ Some i
-callee-taken cert a s i p at e =
-    callee-next cert a s i p at ∙ ap (λ b. or_later b i (entry_from cert a s (i + 1) (drop (i + 1) cert.procedures))) e
+    (cert : Certificate) (z : Setting) (a : ℕ) (s : AbsState) (i : ℕ) (p : ProcedureParts) → slice_get cert.procedures i ≡ Some p → is_entry cert z a s p ≡ true
+    → entry_from cert z a s i (drop i cert.procedures) ≡ Some i
+callee-taken cert z a s i p at e =
+    callee-next cert z a s i p at ∙ ap (λ b. or_later b i (entry_from cert z a s (i + 1) (drop (i + 1) cert.procedures))) e
 
 -- or doesn't
 pub callee-passed :
-    (cert : Certificate) (a : ℕ) (s : AbsState) (i : ℕ) (p : ProcedureParts) → slice_get cert.procedures i ≡ Some p → is_entry cert a s p ≡ false
-    → entry_from cert a s i (drop i cert.procedures) ≡ entry_from cert a s (i + 1) (drop (i + 1) cert.procedures)
-callee-passed cert a s i p at e =
-    callee-next cert a s i p at ∙ ap (λ b. or_later b i (entry_from cert a s (i + 1) (drop (i + 1) cert.procedures))) e
+    (cert : Certificate) (z : Setting) (a : ℕ) (s : AbsState) (i : ℕ) (p : ProcedureParts) → slice_get cert.procedures i ≡ Some p → is_entry cert z a s p ≡ false
+    → entry_from cert z a s i (drop i cert.procedures) ≡ entry_from cert z a s (i + 1) (drop (i + 1) cert.procedures)
+callee-passed cert z a s i p at e =
+    callee-next cert z a s i p at ∙ ap (λ b. or_later b i (entry_from cert z a s (i + 1) (drop (i + 1) cert.procedures))) e

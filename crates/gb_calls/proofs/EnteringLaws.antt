@@ -1,44 +1,24 @@
 -- What a procedure begins with holds of the machine, as the procedure was entered in it.
-use Rattle.std.proofs.Common.{◌≡◌, ℕ, ◌<◌, List, [], ◌∷◌, map, Some, refl, sym, subst, arith}
+use Rattle.std.proofs.Common.{◌≡◌, ℕ, ◌<◌, refl, sym, subst, arith}
 use Rattle.gb_ops.specs.declared.op.Register.{Register}
 use Rattle.gb_ops.specs.declared.op.Register.TheVariants.{A, B, C, D, E, H, L}
 use Rattle.gb_ops.specs.declared.registers.Registers.{Registers}
 use Rattle.gb_ops.specs.Registers.{get}
-use Rattle.gb_ops.specs.Memory.{Storage}
 use Rattle.gb_ops.specs.Play.{MState}
-use Rattle.gb_domain.specs.declared.types.Origin.{Origin}
+use Rattle.gb_domain.specs.declared.rules.Rules.{Rules}
+use Rattle.gb_domain.specs.declared.rules.Rules.TheVariants.{Simple, Extended}
 use Rattle.gb_domain.specs.declared.types.Origin.TheVariants as origin
 use Rattle.gb_domain.specs.declared.types.Val.{Val}
-use Rattle.gb_domain.specs.declared.types.Cell.{Cell}
 use Rattle.gb_domain.specs.declared.types.Core.{Core}
 use Rattle.gb_domain.specs.Types.{AbsState}
-use Rattle.gb_abs.specs.Meaning.{origin_value, Holds, MeansCore}
+use Rattle.gb_abs.specs.Meaning.{Holds, MeansCore}
+use Rattle.gb_abs.specs.Origins.{own}
+use Rattle.gb_abs.proofs.OriginLaws.{Holds-own, AreCells-without_origins}
 use Rattle.gb_product.specs.Meaning.{Means}
-use Rattle.gb_abs.specs.Storage.{peek}
-use Rattle.gb_abs.proofs.CoveringLaws.{AreCells}
-use Rattle.gb_calls.specs.Calls.{own, without_origin, cell_without_origin, own_registers, entered_core, entered}
-use Rattle.gb_calls.specs.Sound.{without_word, IsSoundEntering}
-
--- ---- values
-
-some_same : (o p : Origin) → Some o ≡ Some p → o ≡ p
-some_same o p h = cc
-
--- what an origin holds in a state is its own there
-Holds-own :
-    (o : Origin) (v : Val) (entry x : MState) (n : ℕ) → Holds v entry n → n ≡ origin_value o x → Holds (own o v) x n
-Holds-own o v entry x n h e =
-    record { least = h.least; most = h.most; origin = λ p is. subst (λ q. n ≡ origin_value q x) (some_same o p is) e }
-
--- of what is no copy, the state at entry doesn't matter
-pub Holds-without_origin : (v : Val) (entry other : MState) (n : ℕ) → Holds v entry n → Holds (without_origin v) other n
-Holds-without_origin v entry other n h = record { least = h.least; most = h.most; origin = λ o e. cc }
-
-pub AreCells-without_origins :
-    (cells : List Cell) (entry other : MState) (m : Storage) → AreCells cells entry m → AreCells (map cell_without_origin cells) other m
-AreCells-without_origins [] entry other m h = tt
-AreCells-without_origins (c ∷ cells) entry other m h =
-    (Holds-without_origin c.val entry other (peek m c.address) h.0, AreCells-without_origins cells entry other m h.1)
+use Rattle.gb_calls.specs.Calls.{own_registers, entered_core, entered_by}
+use Rattle.gb_calls.specs.Sound.{without_word, IsCalled, Begins, callee_base, IsSoundEntering}
+use Rattle.gb_calls.specs.TakenOver.{base_below}
+use Rattle.gb_calls.proofs.TakenOverLaws.{taken_over-items, taken_over-pointer}
 
 -- ---- states
 
@@ -51,7 +31,7 @@ register_own s E = refl
 register_own s H = refl
 register_own s L = refl
 
-MeansCore-entered : (s : Core) (entry x : MState) → MeansCore s entry (without_word x) → MeansCore (entered_core s) x x
+MeansCore-entered : (s : Core) (entry x : MState) → MeansCore s entry x → MeansCore (entered_core s) x x
 MeansCore-entered s entry x m =
     record {
       registers = λ r. subst (λ v. Holds v x (get r x.processor.registers)) (sym (register_own s.registers r))
@@ -79,15 +59,29 @@ MeansCore-entered s entry x m =
       stopped = m.stopped;
     }
 
--- a procedure that is entered, its return word at SP, begins with what is said
+-- where SP points doesn't matter to what it says
+pub MeansCore-with_word : (s : Core) (entry x : MState) → MeansCore s entry (without_word x) → MeansCore s entry x
+MeansCore-with_word s entry x m =
+    record {
+      registers = m.registers;
+      flags = m.flags;
+      ie = m.ie;
+      ime = m.ime;
+      controller = m.controller;
+      count = m.count;
+      locked = m.locked;
+      stopped = m.stopped;
+    }
+
+-- a procedure that is entered, its return word at SP and no item of its caller's, begins with what is said
 pub Means-entered :
-    (s : AbsState) (entry : MState) (base : ℕ) (x : MState)
-    → Means s entry base (without_word x) → x.processor.sp < 65536 → Means (entered s) x x.processor.sp x
-unfolding entered
-Means-entered s entry base x m lt =
+    (k : ℕ) (s : AbsState) (entry : MState) (base : ℕ) (x : MState)
+    → Means s entry base (without_word x) → x.processor.sp < 65536 → Means (entered_by Simple k s) x x.processor.sp x
+unfolding entered_by
+Means-entered k s entry base x m lt =
     record {
       parts = record {
-        core = MeansCore-entered s.core entry x m.parts.core;
+        core = MeansCore-entered s.core entry x (MeansCore-with_word s.core entry x m.parts.core);
         memory = m.parts.memory;
         sp = lt;
         stack = λ e. omega arith;
@@ -97,8 +91,33 @@ Means-entered s entry base x m lt =
       related = m.related;
     }
 
-pub enter_sound : (s o : AbsState) → o ≡ entered s → IsSoundEntering s o
-enter_sound s o e =
+-- a procedure that takes over items of its caller's, its return word among them, begins with what is said
+pub Means-taken_over :
+    (k : ℕ) (s : AbsState) (entry : MState) (base : ℕ) (x : MState)
+    → IsCalled k s entry base x → Means (entered_by Extended k s) x (base_below k s.items base) x
+unfolding entered_by
+Means-taken_over k s entry base x h =
     record {
-      gives = λ entry base x m lt. subst (λ (w : AbsState). Means w x x.processor.sp x) (sym e) (Means-entered s entry base x m lt);
+      parts = record {
+        core = MeansCore-entered s.core entry x h.caller.parts.core;
+        memory = h.caller.parts.memory;
+        sp = h.caller.parts.sp;
+        stack = λ e. taken_over-pointer k s.items x.processor.sp base h.few (h.caller.parts.stack h.stack_set);
+        items = taken_over-items k s entry base x h.few h.stack_set h.caller.parts;
+        cells = AreCells-without_origins s.cells entry x x.storage h.caller.parts.cells;
+      };
+      related = h.caller.related;
+    }
+
+-- by either rules
+Means-begun :
+    (rules : Rules) (k : ℕ) (s : AbsState) (entry : MState) (base : ℕ) (x : MState)
+    → Begins rules k s entry base x → Means (entered_by rules k s) x (callee_base rules k s.items base x) x
+Means-begun Simple k s entry base x h = Means-entered k s entry base x h.0 h.1
+Means-begun Extended k s entry base x h = Means-taken_over k s entry base x h
+
+pub enter_sound : (rules : Rules) (k : ℕ) (s o : AbsState) → o ≡ entered_by rules k s → IsSoundEntering rules k s o
+enter_sound rules k s o e =
+    record {
+      gives = λ entry base x h. subst (λ (w : AbsState). Means w x (callee_base rules k s.items base x) x) (sym e) (Means-begun rules k s entry base x h);
     }

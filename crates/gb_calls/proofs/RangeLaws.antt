@@ -4,10 +4,11 @@ use Rattle.std.proofs.lemmas.Bool.{and_parts, or_parts, or_from}
 use Rattle.std.proofs.lemmas.Bool.Decides.{nat_tests}
 use Rattle.std.specs.List.{list_any, list_all}
 use Rattle.gb_ops.specs.declared.machine.Region.{Region}
+use Rattle.gb_domain.specs.declared.setting.Setting.{Setting}
 use Rattle.gb_domain.specs.declared.types.Range.{Range}
 use Rattle.gb_abs.specs.Span.{one}
 use Rattle.gb_abs_memory.specs.Access.{is_range}
-use Rattle.gb_abs_memory.specs.Kept.{IsKept}
+use Rattle.gb_abs_memory.specs.Kept.{keeps, IsKept}
 use Rattle.gb_calls.specs.Calls.{is_in_one, are_ranges_inside}
 
 -- a byte outside a range is outside each that lies in it
@@ -38,11 +39,12 @@ outside-all (r ∷ inner) outer b inside apart =
 
 -- what a procedure keeps, each keeps that writes no more, and was entered further down the stack
 pub IsKept-inside :
-    (region : Region) (inner outer : List Range) (base base' b : ℕ)
-    → are_ranges_inside inner outer ≡ true → base' ≤ base → IsKept region outer base b → IsKept region inner base' b
+    (z z' : Setting) (region : Region) (inner outer : List Range) (base base' b : ℕ)
+    → keeps z' ≡ true → are_ranges_inside inner outer ≡ true → base' ≤ base → IsKept z region outer base b → IsKept z' region inner base' b
 unfolding are_ranges_inside
-IsKept-inside region inner outer base base' b inside below k =
+IsKept-inside z z' region inner outer base base' b does inside below k =
     record {
+      procedure = does;
       ram = k.ram;
       outside = outside-all inner outer b inside k.outside;
       above = λ m. let q : base ≤ b = k.above m in omega arith;

@@ -1,6 +1,8 @@
 -- What a caller goes on with holds of the machine, whatever its callee did.
-use Rattle.std.proofs.Common.{◌≡◌, ℕ, ◌+◌, ◌≤◌, Bool, true, false, ◌&&◌, cond, List, [], ◌∷◌, length, map, Option, Some, None, refl, sym, ap, subst, arith}
-use Rattle.std.proofs.lemmas.Bool.{or_from}
+use Rattle.std.proofs.Common.{◌≡◌, ℕ, ◌+◌, ◌≤◌, ◌<◌, Bool, true, false, ◌&&◌, not, cond, List, [], ◌∷◌, length, map, Option, Some, None, refl, sym, ◌∙◌, ap, subst, arith}
+use Rattle.std.proofs.lemmas.Bool.{and_parts, or_from}
+use Rattle.std.proofs.lemmas.Option.{same_Some}
+use Rattle.std.specs.Prelude.{IfSome}
 use Rattle.std.proofs.lemmas.Bool.Decides.{nat_tests}
 use Rattle.std.specs.List.{AllByRecursion, filter, list_any}
 use Rattle.gb_ops.specs.declared.machine.Region.{Region}
@@ -19,15 +21,35 @@ use Rattle.gb_domain.specs.declared.types.Flg.{Flg}
 use Rattle.gb_domain.specs.declared.types.Ctl.{Ctl}
 use Rattle.gb_domain.specs.declared.types.Cell.{Cell}
 use Rattle.gb_domain.specs.declared.types.Core.{Core}
+use Rattle.gb_domain.specs.declared.setting.Setting.{Setting}
 use Rattle.gb_domain.specs.declared.types.Range.{Range}
 use Rattle.gb_domain.specs.declared.rules.Rules.{Rules}
+use Rattle.gb_domain.specs.declared.rules.Rules.TheVariants.{Simple, Extended}
+use Rattle.gb_domain.specs.declared.pairs.WordPair.{WordPair}
+use Rattle.gb_domain.specs.declared.pairs.WordPair.TheVariants as pair
+use Rattle.gb_domain.specs.declared.pairs.Link.{Link}
+use Rattle.gb_domain.specs.declared.pairs.PairFacts.{PairFacts}
+use Rattle.gb_domain.specs.declared.relations.Relations.{Relations}
+use Rattle.gb_domain.specs.Pairs.{facts_of, IsLink, IsPairFacts, ArePairs}
 use Rattle.gb_domain.specs.Types.{AbsState}
-use Rattle.gb_domain.specs.Limits.{cell_room}
+use Rattle.gb_domain.specs.Limits.{cell_room, item_room}
 use Rattle.gb_domain.specs.Places.{no_byte}
 use Rattle.gb_domain.specs.Rules.{IsCore}
-use Rattle.gb_product.specs.Below.gb_pairs.Meaning.{AreBytes}
+use Rattle.gb_pairs.specs.declared.values.Values.{Values}
+use Rattle.gb_pairs.specs.Meaning.{AreBytes, Holds as HoldsValues}
+use Rattle.gb_pairs.specs.Reduced.{reduced}
+use Rattle.gb_pairs.specs.Sound.{HoldsIn, IsCut}
+use Rattle.gb_pairs.proofs.CutLaws.{reduced_cuts}
+use Rattle.gb_pairs.proofs.ReducedLaws.{reduced_sound}
+use Rattle.gb_relations.specs.Places.{is_free}
+use Rattle.gb_relations.specs.declared.returned.Kept.{Kept}
+use Rattle.gb_relations.specs.Returned as Returned
+use Rattle.gb_relations.specs.Returned.{is_pair_kept, is_other_kept, link_if_kept, link_returned, facts_returned, returned}
+use Rattle.gb_relations.specs.Sound.{IsByteFree}
+use Rattle.gb_relations.specs.Transfer.{values_of}
+use Rattle.gb_relations.proofs.ReturnLaws.{returned_sound}
 use Rattle.gb_product.specs.Below.gb_places.Meaning.{HoldOneByte}
-use Rattle.gb_product.specs.Below.gb_relations.Compared.{only_of_a}
+use Rattle.gb_relations.specs.Compared.{only_of_a}
 use Rattle.gb_product.proofs.Below.gb_relations_laws.ComparedLaws.{HoldOneByte-nothing, HoldOneByte-only_of_a}
 use Rattle.gb_product.proofs.Below.gb_relations_laws.TransferLaws.{HoldPairs-nothing}
 use Rattle.gb_domain.specs.Areas.{IsRegion, meets}
@@ -36,15 +58,21 @@ use Rattle.gb_abs.specs.Covering.{covers_origin}
 use Rattle.gb_abs.specs.Cells.{IsPlaced, ArePlaced}
 use Rattle.gb_abs.specs.Meaning.{origin_value, Holds, HoldsFlags, HoldsController, MeansCore}
 use Rattle.gb_product.specs.Meaning.{Means}
-use Rattle.gb_abs.specs.Storage.{peek}
+use Rattle.gb_abs.specs.Storage.{peek, is_ram}
 use Rattle.gb_abs.proofs.CellLaws.{AllByRecursion-where}
 use Rattle.gb_abs.proofs.CoveringLaws.{same_origin, AreCells}
 use Rattle.gb_abs.proofs.StorageLaws.{region_in_ram, placed_in_ram, AreItems-same}
 use Rattle.gb_abs_memory.specs.Access.{is_range}
-use Rattle.gb_abs_memory.specs.Kept.{IsKept}
-use Rattle.gb_calls.specs.Calls.{own, is_own, without_origin, given_back, registers_back, core_back, is_in_ranges, is_out_of_ranges, cell_without_origin, merged, byte_back, cells_back, resumed}
-use Rattle.gb_calls.specs.Sound.{without_word, ComesBack, IsSoundResuming}
-use Rattle.gb_calls.proofs.EnteringLaws.{Holds-without_origin, AreCells-without_origins}
+use Rattle.gb_abs_memory.specs.Kept.{keeps, IsKept}
+use Rattle.gb_abs.specs.Origins.{is_own, without_origin, cell_without_origin}
+use Rattle.gb_abs.proofs.OriginLaws.{Holds-without_origin, AreCells-without_origins}
+use Rattle.gb_calls.specs.declared.resuming.Resumed.{Resumed}
+use Rattle.gb_calls.specs.declared.resuming.Resumed.TheVariants.{Nothing, States, TooDeep}
+use Rattle.gb_calls.specs.Resuming.{given_back, registers_back, core_back, is_address_in, is_in_ranges, is_out_of_ranges, merged, byte_back, cells_back, resumed_alone, is_address_kept, own_by_register, kept_by, rejoined, with_values, with_values_if, reduced_state, resumed, IsTooDeep, IsResumed}
+use Rattle.gb_calls.specs.Sound.{ComesBack, HandsBack, ComesBackBy, MeansIf, MeansResumed, ReducesSoundly, IsSoundResuming}
+use Rattle.gb_calls.specs.TakenOver.{base_below, given_back_items}
+use Rattle.gb_calls.proofs.EnteringLaws.{MeansCore-with_word}
+use Rattle.gb_calls.proofs.TakenOverLaws.{given_back-items, given_back-pointer}
 use Rattle.gb_calls.proofs.CellLaws.{AllByRecursion-merged, AllByRecursion-take}
 
 -- ---- what is given back
@@ -106,7 +134,7 @@ HoldsController-back s x entry called b m h = choose x.is_kept refl
 
 MeansCore-resumed :
     (s x : Core) (entry called y : MState)
-    → MeansCore s entry (without_word called) → MeansCore x called y → MeansCore (core_back s x) entry y
+    → MeansCore s entry called → MeansCore x called y → MeansCore (core_back s x) entry y
 MeansCore-resumed s x entry called y m h =
     record {
       registers = λ r. subst (λ v. Holds v entry (get r y.processor.registers)) (sym (register_back s.registers x.registers r))
@@ -127,9 +155,11 @@ not_in_ranges true h = cc
 not_in_ranges false h = refl
 
 IsKept-cell :
-    (region : Region) (ranges : List Range) (base : ℕ) (c : Cell) → is_out_of_ranges ranges c ≡ true → IsPlaced region c → IsKept region ranges base c.address
-IsKept-cell region ranges base c out p =
+    (z : Setting) (region : Region) (ranges : List Range) (base : ℕ) (c : Cell)
+    → keeps z ≡ true → is_out_of_ranges ranges c ≡ true → IsPlaced region c → IsKept z region ranges base c.address
+IsKept-cell z region ranges base c does out p =
     record {
+      procedure = does;
       ram = placed_in_ram region c p;
       outside = not_in_ranges (is_in_ranges ranges c) out;
       above = λ m. let apart = p.apart in absurd (cc);
@@ -147,10 +177,11 @@ apart-ranges region (r ∷ ranges) b low high h =
 
 -- a byte of the stack is kept that isn't below the base
 IsKept-stack :
-    (region : Region) (ranges : List Range) (base b : ℕ) → IsRegion region → AllByRecursion (λ r. meets region r.first r.last ≡ false) ranges
-    → region.first ≤ b → b ≤ region.last → base ≤ b → IsKept region ranges base b
-IsKept-stack region ranges base b is apart low high above =
-    record { ram = region_in_ram region b is low high; outside = apart-ranges region ranges b low high apart; above = λ m. above }
+    (z : Setting) (region : Region) (ranges : List Range) (base b : ℕ)
+    → keeps z ≡ true → IsRegion region → AllByRecursion (λ r. meets region r.first r.last ≡ false) ranges
+    → region.first ≤ b → b ≤ region.last → base ≤ b → IsKept z region ranges base b
+IsKept-stack z region ranges base b does is apart low high above =
+    record { procedure = does; ram = region_in_ram region b is low high; outside = apart-ranges region ranges b low high apart; above = λ m. above }
 
 -- ---- cells
 
@@ -160,26 +191,26 @@ AreCells-where test cells entry m h =
     test (λ c e p q. p) cells h h
 
 AreCells-kept :
-    (region : Region) (ranges : List Range) (base : ℕ) (cells : List Cell) (entry : MState) (m t : Storage)
-    → ((b : ℕ) → IsKept region ranges base b → peek t b ≡ peek m b) → ArePlaced region cells → AreCells cells entry m
+    (z : Setting) (region : Region) (ranges : List Range) (base : ℕ) (cells : List Cell) (entry : MState) (m t : Storage)
+    → keeps z ≡ true → ((b : ℕ) → IsKept z region ranges base b → peek t b ≡ peek m b) → ArePlaced region cells → AreCells cells entry m
     → AreCells (filter (is_out_of_ranges ranges) cells) entry t
-AreCells-kept region ranges base cells entry m t kept placed h =
+AreCells-kept z region ranges base cells entry m t does kept placed h =
     AllByRecursion-where (IsPlaced region) (λ c. Holds c.val entry (peek m c.address)) (λ c. Holds c.val entry (peek t c.address)) (is_out_of_ranges ranges)
-    (λ c out p k. subst (λ n. Holds c.val entry n) (sym (kept c.address (IsKept-cell region ranges base c out p))) k)
+    (λ c out p k. subst (λ n. Holds c.val entry n) (sym (kept c.address (IsKept-cell z region ranges base c does out p))) k)
     cells placed h
 
 AreCells-back :
-    (room : ℕ) (region : Region) (ranges : List Range) (base : ℕ) (caller exit : List Cell) (entry called : MState) (m t : Storage)
-    → ((b : ℕ) → IsKept region ranges base b → peek t b ≡ peek m b) → ArePlaced region caller → AreCells caller entry m → AreCells exit called t
+    (room : ℕ) (z : Setting) (region : Region) (ranges : List Range) (base : ℕ) (caller exit : List Cell) (entry called : MState) (m t : Storage)
+    → keeps z ≡ true → ((b : ℕ) → IsKept z region ranges base b → peek t b ≡ peek m b) → ArePlaced region caller → AreCells caller entry m → AreCells exit called t
     → AreCells (cells_back room ranges caller exit) entry t
 unfolding cells_back
-AreCells-back room region ranges base caller exit entry called m t kept placed h k =
+AreCells-back room z region ranges base caller exit entry called m t does kept placed h k =
     let inside = map cell_without_origin (filter (is_in_ranges ranges) exit) in
     let out = filter (is_out_of_ranges ranges) caller in
     AllByRecursion-take (λ c. Holds c.val entry (peek t c.address)) room (merged inside out)
     (AllByRecursion-merged (λ c. Holds c.val entry (peek t c.address)) inside out
     (AreCells-without_origins (filter (is_in_ranges ranges) exit) called entry t (AreCells-where (is_in_ranges ranges) exit called t k))
-    (AreCells-kept region ranges base caller entry m t kept placed h))
+    (AreCells-kept z region ranges base caller entry m t does kept placed h))
 
 -- ---- what is known together
 
@@ -200,14 +231,57 @@ HoldOneByte-back s exit called x holds h = choose (is_own (origin.Register A) ex
     choose true false is own = HoldOneByte-nothing _ _ _
     choose false q is own = HoldOneByte-nothing _ _ _
 
--- ---- states
+-- what the exit gives back is kept
+register_own : (s : Registers Val) (r : Register) → get r (own_by_register s) ≡ is_own (origin.Register r) (get r s)
+register_own s A = refl
+register_own s B = refl
+register_own s C = refl
+register_own s D = refl
+register_own s E = refl
+register_own s H = refl
+register_own s L = refl
+
+IsKept-address :
+    (z : Setting) (region : Region) (ranges : List Range) (base a : ℕ)
+    → keeps z ≡ true → is_address_in ranges a ≡ false → is_free region a ≡ true → IsKept z region ranges base a
+IsKept-address z region ranges base a does out free =
+    let parts = and_parts (is_ram a) (not (meets region a a)) free in
+    record { procedure = does; ram = parts.0; outside = out; above = λ m. absurd (apart (meets region a a) parts.1 m) }
+  where
+    apart : (b : Bool) → not b ≡ true → b ≡ true → ⊥
+    apart true h k = cc
+    apart false h k = cc
+
+address_kept :
+    (z : Setting) (region : Region) (ranges : List Range) (base : ℕ) (address : Option ℕ) (m t : Storage)
+    → keeps z ≡ true → ((b : ℕ) → IsKept z region ranges base b → peek t b ≡ peek m b) → IsByteFree region address → is_address_kept ranges address ≡ true
+    → (a : ℕ) → address ≡ Some a → peek t a ≡ peek m a
+address_kept z region ranges base None m t does kept free out a is = absurd (cc)
+address_kept z region ranges base (Some b) m t does kept free out a is =
+    subst (λ n. peek t n ≡ peek m n) (same_Some b a is) (kept b (IsKept-address z region ranges base b does (not_in_ranges (is_address_in ranges b) out) free))
+
+Returned-kept :
+    (z : Setting) (region : Region) (ranges : List Range) (base : ℕ) (s exit : AbsState) (called x : MState)
+    → keeps z ≡ true → ((b : ℕ) → IsKept z region ranges base b → peek x.storage b ≡ peek called.storage b) → IsByteFree region s.relations.byte.address
+    → MeansCore exit.core called x
+    → Returned.IsKept (kept_by ranges s.relations.byte exit.core) s.relations.byte.address called.processor.registers x.processor.registers
+    (peek called.storage) (peek x.storage) called.processor.flags x.processor.flags
+Returned-kept z region ranges base s exit called x does kept free h =
+    record {
+      registers = λ r is. own-value (origin.Register r) (get r exit.core.registers) called (get r x.processor.registers)
+          (sym (register_own exit.core.registers r) ∙ is) (h.registers r);
+      memory = λ out a is. address_kept z region ranges base s.relations.byte.address called.storage x.storage does kept free out a is;
+      flags = λ is. h.flags.own is;
+    }
+
+-- ---- by the rules of versions 1 and 2
 
 -- the callee has come back: what its caller goes on with holds
-pub Means-resumed :
-    (rules : Rules) (region : Region) (ranges : List Range) (s exit : AbsState) (entry : MState) (base : ℕ) (called x : MState)
-    → ComesBack region ranges s exit entry base called x → Means (resumed rules ranges s exit) entry base x
-unfolding resumed
-Means-resumed rules region ranges s exit entry base called x h =
+pub Means-resumed_alone :
+    (region : Region) (ranges : List Range) (s exit : AbsState) (entry : MState) (base : ℕ) (called x : MState)
+    → ComesBack region ranges s exit entry base called x → Means (resumed_alone ranges s exit) entry base x
+unfolding resumed_alone
+Means-resumed_alone region ranges s exit entry base called x h =
     let stack : called.processor.sp + 2 + length s.items ≡ base = h.caller.parts.stack h.stack_set in
     let none : length exit.items ≡ 0 = ap length h.exit_items in
     let back : x.processor.sp + length exit.items ≡ called.processor.sp + 2 = h.exits.parts.stack h.exit_set in
@@ -215,14 +289,14 @@ Means-resumed rules region ranges s exit entry base called x h =
     let last = h.room.last in
     record {
       parts = record {
-        core = MeansCore-resumed s.core exit.core entry called x h.caller.parts.core h.exits.parts.core;
+        core = MeansCore-resumed s.core exit.core entry called x (MeansCore-with_word s.core entry called h.caller.parts.core) h.exits.parts.core;
         memory = h.exits.parts.memory;
         sp = h.exits.parts.sp;
         stack = λ e. omega arith;
         items = AreItems-same s.items entry (called.processor.sp + 2) base called.storage x.storage (omega arith)
-            (λ b low high. h.kept b (IsKept-stack region ranges called.processor.sp b h.is_region h.apart (omega arith) (omega arith) (omega arith)))
+            (λ b low high. h.kept b (IsKept-stack h.callee region ranges called.processor.sp b h.keeps h.is_region h.apart (omega arith) (omega arith) (omega arith)))
             h.caller.parts.items;
-        cells = AreCells-back (cell_room rules) region ranges called.processor.sp s.cells exit.cells entry called called.storage x.storage h.kept h.placed h.caller.parts.cells h.exits.parts.cells;
+        cells = AreCells-back (cell_room Simple) h.callee region ranges called.processor.sp s.cells exit.cells entry called called.storage x.storage h.keeps h.kept h.placed h.caller.parts.cells h.exits.parts.cells;
       };
       related = record {
         byte = HoldOneByte-back s exit called x h.caller.related.byte h.exits.parts.core;
@@ -231,8 +305,178 @@ Means-resumed rules region ranges s exit entry base called x h =
       };
     }
 
-pub resume_sound : (rules : Rules) (ranges : List Range) (s exit o : AbsState) → o ≡ resumed rules ranges s exit → IsSoundResuming ranges s exit o
-resume_sound rules ranges s exit o e =
+-- ---- by the rules of version 3
+
+-- the waiting items stand, the exit's behind them
+pub Means-rejoined :
+    (k : ℕ) (region : Region) (ranges : List Range) (s exit : AbsState) (entry : MState) (base : ℕ) (called x : MState)
+    → HandsBack k region ranges s exit entry base called x → Means (rejoined k ranges s exit) entry base x
+unfolding rejoined
+Means-rejoined k region ranges s exit entry base called x h =
+    let first = h.room.first in
+    let last = h.room.last in
+    let caller = h.begins.caller in
+    let under : ℕ = base_below k s.items base in
+    let left : x.processor.sp + length exit.items ≡ under = h.exits.parts.stack h.exit_set in
     record {
-      gives = λ region entry base called x h. subst (λ (w : AbsState). Means w entry base x) (sym e) (Means-resumed rules region ranges s exit entry base called x h);
+      parts = record {
+        core = MeansCore-resumed s.core exit.core entry called x caller.parts.core h.exits.parts.core;
+        memory = h.exits.parts.memory;
+        sp = h.exits.parts.sp;
+        stack = λ e. given_back-pointer k s.items exit.items base x.processor.sp h.begins.few (omega arith) left;
+        items = given_back-items k s.items exit.items entry called base called.storage x.storage h.begins.few (omega arith) caller.parts.items
+            (λ b low high. h.kept b (IsKept-stack h.callee region ranges under b h.keeps h.is_region h.apart (omega arith) (omega arith) low))
+            h.exits.parts.items;
+        cells = AreCells-back (cell_room Extended) h.callee region ranges under s.cells exit.cells entry called called.storage x.storage h.keeps h.kept h.placed.cells caller.parts.cells h.exits.parts.cells;
+      };
+      related = (returned_sound (kept_by ranges s.relations.byte exit.core) s.relations exit.relations _ refl).gives
+          called.processor.registers x.processor.registers (peek called.storage) (peek x.storage) called.processor.flags x.processor.flags
+          (Returned-kept h.callee region ranges under s exit called x h.keeps h.kept h.placed.byte h.exits.parts.core)
+          caller.related h.exits.related;
     }
+
+-- what registers and pairs leave each other
+pub Means-with_values :
+    (s : AbsState) (v : Values) (entry : MState) (base : ℕ) (x : MState)
+    → IsCut (values_of s.core.registers s.relations.pairs) v → HoldsValues v x.processor.registers → Means s entry base x → Means (with_values s v) entry base x
+Means-with_values s v entry base x cuts holds m =
+    record {
+      parts = record {
+        core = record {
+          registers = λ r. record {
+            least = (holds.registers r).least;
+            most = (holds.registers r).most;
+            origin = λ o is. (m.parts.core.registers r).origin o (sym (cuts.origin r) ∙ is);
+          };
+          flags = m.parts.core.flags;
+          ie = m.parts.core.ie;
+          ime = m.parts.core.ime;
+          controller = m.parts.core.controller;
+          count = m.parts.core.count;
+          locked = m.parts.core.locked;
+          stopped = m.parts.core.stopped;
+        };
+        memory = m.parts.memory;
+        sp = m.parts.sp;
+        stack = m.parts.stack;
+        items = m.parts.items;
+        cells = m.parts.cells;
+      };
+      related = record { byte = m.related.byte; zero = m.related.zero; pairs = holds.pairs };
+    }
+
+-- cut, they mean the same; where nothing is left, none is meant
+pub Means-reduced :
+    (s : AbsState) (entry : MState) (base : ℕ) (x : MState)
+    → ReducesSoundly s → AreBytes x.processor.registers → Means s entry base x → MeansIf (reduced_state s) entry base x
+unfolding reduced_state
+Means-reduced s entry base x sound bytes m =
+    choose (reduced v) (reduced_cuts v (reduced v) refl) (sound.gives x.processor.registers bytes holds)
+  where
+    v : Values
+    v = values_of s.core.registers s.relations.pairs
+
+    holds : HoldsValues v x.processor.registers
+    holds = record {
+      registers = λ r. record { least = (m.parts.core.registers r).least; most = (m.parts.core.registers r).most };
+      pairs = m.related.pairs;
+    }
+
+    choose : (o : Option Values) → IfSome o (IsCut v) → HoldsIn o x.processor.registers → MeansIf (with_values_if s o) entry base x
+    choose None cuts h = h
+    choose (Some w) cuts h = Means-with_values s w entry base x cuts h m
+
+Means-rejoined_reduced :
+    (k : ℕ) (region : Region) (ranges : List Range) (s exit : AbsState) (entry : MState) (base : ℕ) (called x : MState)
+    → ReducesSoundly (rejoined k ranges s exit) → HandsBack k region ranges s exit entry base called x
+    → MeansIf (reduced_state (rejoined k ranges s exit)) entry base x
+Means-rejoined_reduced k region ranges s exit entry base called x sound h =
+    Means-reduced (rejoined k ranges s exit) entry base x sound
+    (registers_are_bytes exit.core called x h.exit_core h.exits.parts.core)
+    (Means-rejoined k region ranges s exit entry base called x h)
+
+-- ---- what was computed
+
+-- with more items than a state holds
+pub too_deep :
+    (k : ℕ) (ranges : List Range) (s exit : AbsState) (kept : Kept) (core : Core) (relations : Relations) (v : Values)
+    → kept ≡ kept_by ranges s.relations.byte exit.core → core ≡ core_back s.core exit.core → relations ≡ returned kept s.relations exit.relations
+    → Some v ≡ reduced (values_of core.registers relations.pairs)
+    → 255 < length (given_back_items k s.items exit.items) → IsTooDeep (reduced_state (rejoined k ranges s exit))
+unfolding rejoined reduced_state item_room
+too_deep k ranges s exit kept core relations v is is_core are e many =
+    let same : relations ≡ returned (kept_by ranges s.relations.byte exit.core) s.relations exit.relations =
+    are ∙ ap (λ (o : Kept). returned o s.relations exit.relations) is in
+    let cut : Some v ≡ reduced (values_of (core_back s.core exit.core).registers (returned (kept_by ranges s.relations.byte exit.core) s.relations exit.relations).pairs) =
+    e ∙ (ap (λ (c : Core). reduced (values_of c.registers relations.pairs)) is_core
+    ∙ ap (λ (r : Relations). reduced (values_of (core_back s.core exit.core).registers r.pairs)) same) in
+    record { state = with_values (rejoined k ranges s exit) v; is = ap (with_values_if (rejoined k ranges s exit)) (sym cut); deep = many }
+
+computed : (r : Resumed) (s : Option AbsState) (entry : MState) (base : ℕ) (x : MState) → IsResumed r s → MeansIf s entry base x → MeansResumed r entry base x
+computed Nothing s entry base x e m = subst (λ (o : Option AbsState). MeansIf o entry base x) e m
+computed (States t) s entry base x e m = subst (λ (o : Option AbsState). MeansIf o entry base x) e m
+computed TooDeep s entry base x e m = tt
+
+pub resumed_alone_sound :
+    (k : ℕ) (ranges : List Range) (s exit o : AbsState) → o ≡ resumed_alone ranges s exit → IsSoundResuming Simple k ranges s exit (States o)
+resumed_alone_sound k ranges s exit o e =
+    record {
+      gives = λ region entry base called x h. subst (λ (w : AbsState). Means w entry base x) (sym e) (Means-resumed_alone region ranges s exit entry base called x h);
+    }
+
+pub rejoined_sound :
+    (k : ℕ) (ranges : List Range) (s exit : AbsState) (r : Resumed)
+    → IsResumed r (reduced_state (rejoined k ranges s exit)) → ReducesSoundly (rejoined k ranges s exit) → IsSoundResuming Extended k ranges s exit r
+rejoined_sound k ranges s exit r e sound =
+    record {
+      gives = λ region entry base called x h. computed r (reduced_state (rejoined k ranges s exit)) entry base x e
+          (Means-rejoined_reduced k region ranges s exit entry base called x sound h);
+    }
+
+-- ---- by either rules, of states that a certificate may have
+
+IsLink-kept : (p : WordPair) (k : Kept) (l : Option Link) → IfSome l IsLink → IfSome (link_if_kept p k l) IsLink
+IsLink-kept p k None h = tt
+IsLink-kept p k (Some l) h = by (is_pair_kept p k && is_other_kept l.other k)
+  where
+    by : (b : Bool) → IfSome (cond b (Some l) None) IsLink
+    by true = h
+    by false = tt
+
+IsLink-returned : (p : WordPair) (k : Kept) (l m : Option Link) → IfSome l IsLink → IfSome m IsLink → IfSome (link_returned p k l m) IsLink
+IsLink-returned p k l (Some m) h i = i
+IsLink-returned p k l None h i = IsLink-kept p k l h
+
+IsPairFacts-returned : (p : WordPair) (k : Kept) (f g : PairFacts) → IsPairFacts f → IsPairFacts g → IsPairFacts (facts_returned p k f g)
+unfolding facts_returned
+IsPairFacts-returned p k f g h i = record { last = by (is_pair_kept p k); link = IsLink-returned p k f.link g.link h.link i.link }
+  where
+    by : (b : Bool) → (cond b f.bounds g.bounds).last < 65536
+    by true = h.last
+    by false = i.last
+
+ArePairs-returned : (k : Kept) (s t : Relations) → ArePairs s.pairs → ArePairs t.pairs → ArePairs (returned k s t).pairs
+unfolding returned
+ArePairs-returned k s t h i = record { each = λ p. each p }
+  where
+    each : (p : WordPair) → IsPairFacts (facts_of p (returned k s t).pairs)
+    each pair.Bc = IsPairFacts-returned pair.Bc k s.pairs.bc t.pairs.bc (h.each pair.Bc) (i.each pair.Bc)
+    each pair.De = IsPairFacts-returned pair.De k s.pairs.de t.pairs.de (h.each pair.De) (i.each pair.De)
+    each pair.Hl = IsPairFacts-returned pair.Hl k s.pairs.hl t.pairs.hl (h.each pair.Hl) (i.each pair.Hl)
+
+ReducesSoundly-rejoined :
+    (k : ℕ) (ranges : List Range) (s exit : AbsState) → ArePairs s.relations.pairs → ArePairs exit.relations.pairs → ReducesSoundly (rejoined k ranges s exit)
+unfolding rejoined
+ReducesSoundly-rejoined k ranges s exit h i =
+    reduced_sound (values_of (rejoined k ranges s exit).core.registers (rejoined k ranges s exit).relations.pairs) _ refl
+    (ArePairs-returned (kept_by ranges s.relations.byte exit.core) s.relations exit.relations h i)
+
+-- the callee has come back: there is something that its caller goes on with, and it holds
+pub Means-resumed :
+    (rules : Rules) (k : ℕ) (region : Region) (ranges : List Range) (s exit : AbsState) (entry : MState) (base : ℕ) (called x : MState)
+    → ArePairs s.relations.pairs → ArePairs exit.relations.pairs → ComesBackBy rules k region ranges s exit entry base called x
+    → MeansIf (resumed rules k ranges s exit) entry base x
+unfolding resumed
+Means-resumed Simple k region ranges s exit entry base called x p q h = Means-resumed_alone region ranges s exit entry base called x h
+Means-resumed Extended k region ranges s exit entry base called x p q h =
+    Means-rejoined_reduced k region ranges s exit entry base called x (ReducesSoundly-rejoined k ranges s exit p q) h

@@ -1,19 +1,17 @@
 -- Items that change hands stand for the same bytes.
-use Rattle.std.proofs.Common.{◌≡◌, ℕ, zero, suc, ◌+◌, ◌-◌, ◌≤◌, ◌<◌, true, List, [], ◌∷◌, ◌++◌, length, map, take, drop, Option, Some, refl, sym, ◌∙◌, ap, subst, arith, length-drop}
+use Rattle.std.proofs.Common.{◌≡◌, ℕ, suc, ◌+◌, ◌-◌, ◌≤◌, ◌<◌, true, List, [], ◌∷◌, ◌++◌, length, map, refl, sym, ap, subst, arith, length-drop}
 use Rattle.std.proofs.lemmas.List.{take-append-drop, length-append, length-map, length-take-le}
-use Rattle.std.proofs.lemmas.Option.{same_Some}
 use Rattle.gb_ops.specs.Memory.{Storage}
 use Rattle.gb_ops.specs.Play.{MState}
-use Rattle.gb_domain.specs.declared.types.Origin.{Origin}
 use Rattle.gb_domain.specs.declared.types.Origin.TheVariants.{ReturnHigh, ReturnLow}
 use Rattle.gb_domain.specs.declared.types.Val.{Val}
 use Rattle.gb_domain.specs.Types.{AbsState}
-use Rattle.gb_abs.specs.Meaning.{Holds, AreItems, MeansParts, origin_value}
+use Rattle.gb_abs.specs.Meaning.{AreItems, MeansParts}
 use Rattle.gb_abs.specs.Storage.{peek}
 use Rattle.gb_abs.proofs.StorageLaws.{AreItems-same}
-use Rattle.gb_calls.specs.Calls.{own, without_origin}
+use Rattle.gb_abs.specs.Origins.{without_origin}
+use Rattle.gb_abs.proofs.OriginLaws.{Holds-own, Holds-without_origin, AreItems-without_origins}
 use Rattle.gb_calls.specs.TakenOver.{newest, waiting, returning, taken_over, base_below, given_back_items}
-use Rattle.gb_calls.proofs.EnteringLaws.{Holds-without_origin}
 
 -- ---- two lists end to end
 
@@ -32,17 +30,7 @@ AreItems-both (x ∷ xs) ys entry top s h k =
     let e : top - suc (length xs) ≡ top - 1 - length xs = omega arith in
     (h.0, AreItems-both xs ys entry (top - 1) s h.1 (subst (λ n. AreItems ys entry n s) e k))
 
--- whatever they are relative to, where they are no copies
-AreItems-without_origins : (items : List Val) (entry other : MState) (top : ℕ) (s : Storage) → AreItems items entry top s → AreItems (map without_origin items) other top s
-AreItems-without_origins [] entry other top s h = tt
-AreItems-without_origins (v ∷ items) entry other top s h =
-    (Holds-without_origin v entry other (peek s (top - 1)) h.0, AreItems-without_origins items entry other (top - 1) s h.1)
-
 -- ---- put on: the callee's items are the caller's newest
-
-Holds-own : (o : Origin) (v : Val) (entry other : MState) (n : ℕ) → Holds v entry n → n ≡ origin_value o other → Holds (own o v) other n
-Holds-own o v entry other n h e =
-    record { least = h.least; most = h.most; origin = λ q is. let same : o ≡ q = same_Some _ _ is in e ∙ ap (λ p. origin_value p other) same }
 
 -- the last two are the bytes at SP
 AreItems-returning : (items : List Val) (entry s : MState) (top : ℕ) → s.processor.sp + length items ≡ top → AreItems items entry top s.storage → AreItems (returning items) s top s.storage
@@ -82,6 +70,21 @@ taken_over-items k state entry base s few set m =
     pointer : (k : ℕ) (items : List Val) (sp base : ℕ) → k ≤ length items → sp + length items ≡ base → sp + length (newest k items) ≡ base_below k items base
     pointer k items sp base few e = let n = length-drop (length items - k) items in omega arith
 
+length-returning : (items : List Val) → length (returning items) ≡ length items
+length-returning [] = refl
+length-returning (low ∷ []) = refl
+length-returning (high ∷ low ∷ []) = refl
+length-returning (v ∷ w ∷ u ∷ rest) = ap suc (length-returning (w ∷ u ∷ rest))
+
+-- SP as the callee begins: its base less what it holds then
+pub taken_over-pointer :
+    (k : ℕ) (items : List Val) (sp base : ℕ) → k ≤ length items → sp + length items ≡ base → sp + length (taken_over k items) ≡ base_below k items base
+unfolding taken_over
+taken_over-pointer k items sp base few e =
+    let same = length-returning (newest k items) in
+    let n = length-drop (length items - k) items in
+    omega arith
+
 -- ---- taken off: nobody has written at or above the callee's base, so the caller's waiting items stand
 
 pub given_back-items :
@@ -108,5 +111,16 @@ unfolding given_back_items
 given_back-pointer k items exit base sp few room e =
     let count = waiting-length k items in
     let all = length-append (waiting k items) (map without_origin exit) in
+    let exits = length-map exit without_origin in
+    omega arith
+
+-- ---- how many there are
+
+pub given_back_fits :
+    (k : ℕ) (held exit : List Val) → 255 < (length held - k) + length exit → 255 < length (given_back_items k held exit)
+unfolding given_back_items
+given_back_fits k held exit many =
+    let count = waiting-length k held in
+    let all = length-append (waiting k held) (map without_origin exit) in
     let exits = length-map exit without_origin in
     omega arith

@@ -1,43 +1,22 @@
--- What a procedure begins with, which one is called, and what its caller goes on with (own rules: calls).
-use Rattle.std.specs.Prelude.{ℕ, ◌+◌, Bool, true, false, ◌&&◌, ◌==◌, if◌then◌else◌, nat_lt, List, [], ◌∷◌, map, take, slice_get, Option, Some, None}
-use Rattle.std.specs.List.{filter, list_any, list_all}
+-- What a procedure begins with, which one is called, and what it may write (own rules: calls).
+use Rattle.std.specs.Prelude.{ℕ, ◌+◌, ◌-◌, Bool, true, false, ◌&&◌, ◌||◌, ◌==◌, nat_le, List, [], ◌∷◌, length, map, slice_get, Option, Some, None}
+use Rattle.std.specs.List.{list_any, list_all}
 use Rattle.gb_ops.specs.declared.op.Register.TheVariants as register
 use Rattle.gb_ops.specs.declared.registers.Registers.{Registers}
-use Rattle.gb_domain.specs.declared.types.Origin.{Origin}
 use Rattle.gb_domain.specs.declared.types.Origin.TheVariants as origin
 use Rattle.gb_domain.specs.declared.types.Val.{Val}
-use Rattle.gb_domain.specs.declared.types.Cell.{Cell}
 use Rattle.gb_domain.specs.declared.types.Core.{Core}
 use Rattle.gb_domain.specs.declared.types.Range.{Range}
-use Rattle.gb_domain.specs.declared.places.OneByte.{OneByte}
 use Rattle.gb_domain.specs.declared.rules.Rules.{Rules}
-use Rattle.gb_domain.specs.Limits.{cell_room}
-use Rattle.gb_domain.specs.Places.{no_byte}
-use Rattle.gb_domain.specs.Relations.{no_relations}
+use Rattle.gb_domain.specs.declared.rules.Rules.TheVariants.{Simple, Extended}
+use Rattle.gb_domain.specs.declared.setting.Setting.{Setting}
+use Rattle.gb_domain.specs.Settings.{known_base}
 use Rattle.gb_domain.specs.Types.{AbsState, ProcedureParts, Node}
 use Rattle.gb_domain.specs.Certificate.{Certificate}
-use Rattle.gb_abs.specs.Span.{one}
-use Rattle.gb_abs.specs.Covering.{covers_origin}
+use Rattle.gb_abs.specs.Origins.{own, cell_without_origin}
 use Rattle.gb_abs_memory.specs.Access.{is_range}
-use Rattle.gb_product.specs.Below.gb_relations.Compared.{only_of_a}
 use Rattle.gb_product.specs.Covering.{covers}
-
--- ---- values
-
--- a value that is what this register held when the procedure was entered
-abbrev pub own : Origin → Val → Val
-own o v = record v { origin = Some o }
-
--- a value that is no copy
-abbrev pub without_origin : Val → Val
-without_origin v = record v { origin = None }
-
--- it is what this register held at entry
-abbrev pub is_own : Origin → Val → Bool
-is_own o v = covers_origin v.origin (Some o)
-
-abbrev pub cell_without_origin : Cell → Cell
-cell_without_origin c = record c { val = without_origin c.val }
+use Rattle.gb_calls.specs.TakenOver.{taken_over}
 
 -- ---- entering
 
@@ -60,38 +39,65 @@ entered_core s = record s {
   ctl = record s.ctl { is_kept = true };
 }
 
+-- the items with which it begins, its entry node having k: by the rules of versions 1 and 2 none, the return word being no item
+-- of any procedure's; by those of version 3 its caller's newest
+abbrev pub items_entered : Rules → ℕ → List Val → List Val
+items_entered Simple k items = []
+items_entered Extended k items = taken_over k items
+
 -- what a procedure begins with that is called in s: each register, the flags and IE are their own origins, the
--- controller is kept, no word is pushed, the cells are no copies, and what is known together stays
-unfoldable pub entered : AbsState → AbsState
-entered s = record s { core = entered_core s.core; items = []; cells = map cell_without_origin s.cells }
+-- controller is kept, the cells are no copies, and what is known together stays
+unfoldable pub entered_by : Rules → ℕ → AbsState → AbsState
+entered_by rules k s =
+    record s { core = entered_core s.core; items = items_entered rules k s.items; cells = map cell_without_origin s.cells }
 
 -- ---- the callee
 
+-- a base that is said is so many bytes below the caller's, which then is said too
+abbrev pub is_base_below : Option ℕ → ℕ → ℕ → Bool
+is_base_below None base below = base == 0
+is_base_below (Some caller) base below = base == 0 || base + below == caller
+
+-- by the rules of versions 1 and 2 nothing is taken over; by those of version 3 the caller has the k items among its n, and the
+-- others wait above the base
+abbrev pub fits_by : Rules → Option ℕ → ℕ → ℕ → ℕ → Bool
+fits_by Simple caller base k n = true
+fits_by Extended caller base k n = nat_le k n && is_base_below caller base (n - k)
+
+-- a procedure with this base, whose entry node has k items, may take them of a caller's n
+unfoldable pub fits : Setting → ℕ → ℕ → ℕ → Bool
+fits z base k n = fits_by z.rules (known_base z) base k n
+
+-- a procedure with this base and t at its entry may begin where it is called in s
+unfoldable pub may_begin : Setting → AbsState → ℕ → AbsState → Bool
+may_begin z s base t = fits z base (length t.items) (length s.items) && covers (entered_by z.rules (length t.items) s) t
+
 -- the node begins at the address and stands for the states
-abbrev pub is_entry_node : ℕ → AbsState → Option Node → Bool
-is_entry_node a s None = false
-is_entry_node a s (Some n) = (n.address == a) && covers s n.state
+abbrev pub is_entry_node : Setting → ℕ → AbsState → ℕ → Option Node → Bool
+is_entry_node z a s base None = false
+is_entry_node z a s base (Some n) = (n.address == a) && may_begin z s base n.state
 
 -- the procedure begins so
-unfoldable pub is_entry : Certificate → ℕ → AbsState → ProcedureParts → Bool
-is_entry cert a s p = is_entry_node a s (slice_get cert.nodes p.entry)
+unfoldable pub is_entry : Certificate → Setting → ℕ → AbsState → ProcedureParts → Bool
+is_entry cert z a s p = is_entry_node z a s p.base (slice_get cert.nodes p.entry)
 
 abbrev pub or_later : Bool → ℕ → Option ℕ → Option ℕ
 or_later true i later = Some i
 or_later false i later = later
 
 -- the first of these procedures that begins so; the first of them has the number i
-abbrev pub entry_from : Certificate → ℕ → AbsState → ℕ → List ProcedureParts → Option ℕ
-entry_from cert a s i [] = None
-entry_from cert a s i (p ∷ ps) = or_later (is_entry cert a s p) i (entry_from cert a s (i + 1) ps)
+abbrev pub entry_from : Certificate → Setting → ℕ → AbsState → ℕ → List ProcedureParts → Option ℕ
+entry_from cert z a s i [] = None
+entry_from cert z a s i (p ∷ ps) = or_later (is_entry cert z a s p) i (entry_from cert z a s (i + 1) ps)
 
-abbrev pub entry_behind_main : Certificate → ℕ → AbsState → List ProcedureParts → Option ℕ
-entry_behind_main cert a s [] = None
-entry_behind_main cert a s (main ∷ ps) = entry_from cert a s 1 ps
+abbrev pub entry_behind_main : Certificate → Setting → ℕ → AbsState → List ProcedureParts → Option ℕ
+entry_behind_main cert z a s [] = None
+entry_behind_main cert z a s (main ∷ ps) = entry_from cert z a s 1 ps
 
--- the callee: the first procedure but main whose entry node has the address, and stands for what it begins with
-unfoldable pub callee_of : Certificate → ℕ → AbsState → Option ℕ
-callee_of cert a s = entry_behind_main cert a (entered s) cert.procedures
+-- the callee of a call in s, which stands in the setting: the first procedure but main whose entry node has the address, and that
+-- may begin there
+unfoldable pub callee_of : Certificate → Setting → ℕ → AbsState → Option ℕ
+callee_of cert z a s = entry_behind_main cert z a s cert.procedures
 
 -- ---- ranges
 
@@ -102,73 +108,3 @@ is_in_one outer r = list_any (is_range (record { first = r.first; last = r.last 
 -- each range of the callee lies in one of the caller's
 unfoldable pub are_ranges_inside : List Range → List Range → Bool
 are_ranges_inside inner outer = list_all (is_in_one outer) inner
-
--- ---- resuming
-
--- what the callee gives back as it was is the caller's; else its exit says what it is, and that is no copy
-abbrev pub given_back : Origin → Val → Val → Val
-given_back o caller exit = if is_own o exit then caller else without_origin exit
-
-abbrev pub registers_back : Registers Val → Registers Val → Registers Val
-registers_back s x = record {
-  a = given_back (origin.Register register.A) s.a x.a;
-  b = given_back (origin.Register register.B) s.b x.b;
-  c = given_back (origin.Register register.C) s.c x.c;
-  d = given_back (origin.Register register.D) s.d x.d;
-  e = given_back (origin.Register register.E) s.e x.e;
-  h = given_back (origin.Register register.H) s.h x.h;
-  l = given_back (origin.Register register.L) s.l x.l;
-}
-
--- what is said of the caller's A holds again where A and the flags are the caller's
-abbrev pub byte_back : AbsState → AbsState → OneByte
-byte_back s x =
-    if is_own (origin.Register register.A) x.core.registers.a && x.core.flags.is_own then only_of_a s.relations.byte else no_byte
-
--- interrupts and the bound are the exit's, the stack is the caller's
-abbrev pub core_back : Core → Core → Core
-core_back s x = record {
-  ime = x.ime;
-  bound = x.bound;
-  stack_set = s.stack_set;
-  ctl = if x.ctl.is_kept then s.ctl else x.ctl;
-  flags = if x.flags.is_own then s.flags else x.flags;
-  ie = given_back origin.Ie s.ie x.ie;
-  registers = registers_back s.registers x.registers;
-}
-
--- the byte lies in one of the ranges
-abbrev pub is_in_ranges : List Range → Cell → Bool
-is_in_ranges ranges c = list_any (is_range (one c.address)) ranges
-
-abbrev pub is_out_of_ranges : List Range → Cell → Bool
-is_out_of_ranges ranges c = if is_in_ranges ranges c then false else true
-
--- a cell in its place by address
-abbrev pub inserted : Cell → List Cell → List Cell
-inserted c [] = c ∷ []
-inserted c (d ∷ ds) = if nat_lt c.address d.address then c ∷ d ∷ ds else d ∷ inserted c ds
-
--- cells among others, by address
-abbrev pub merged : List Cell → List Cell → List Cell
-merged [] others = others
-merged (c ∷ cs) others = merged cs (inserted c others)
-
--- the caller's cells outside the callee's ranges, the exit's inside, which are no copies, by address
-abbrev pub all_cells_back : List Range → List Cell → List Cell → List Cell
-all_cells_back ranges caller exit =
-    merged (map cell_without_origin (filter (is_in_ranges ranges) exit)) (filter (is_out_of_ranges ranges) caller)
-
--- the first of them, as many as there is room for
-unfoldable pub cells_back : ℕ → List Range → List Cell → List Cell → List Cell
-cells_back room ranges caller exit = take room (all_cells_back ranges caller exit)
-
--- what the caller goes on with that was in s, where the callee has these ranges and left by the exit x
-unfoldable pub resumed : Rules → List Range → AbsState → AbsState → AbsState
-resumed rules ranges s x =
-    record {
-      core = core_back s.core x.core;
-      items = s.items;
-      cells = cells_back (cell_room rules) ranges s.cells x.cells;
-      relations = record no_relations { byte = byte_back s x };
-    }

@@ -1,5 +1,6 @@
-pub mod Calls
-pub mod Interrupts
 pub mod TakenOver
+pub mod Calls
+pub mod Resuming
+pub mod Interrupts
 pub mod Sound
 pub mod Below

@@ -1,33 +1,63 @@
 -- What entering and resuming promise of the machine (abstract interpretation: soundness; own rules: calls).
-use Rattle.std.specs.Prelude.{◌≡◌, ℕ, ◌+◌, ◌<◌, true, false, List, [], length}
+use Rattle.std.specs.Prelude.{◌≡◌, ℕ, ◌+◌, ◌≤◌, ◌<◌, true, false, List, [], length, Option, Some, None}
 use Rattle.std.specs.List.{AllByRecursion}
 use Rattle.gb_ops.specs.declared.machine.Region.{Region}
 use Rattle.gb_ops.specs.Effects.{with_sp}
 use Rattle.gb_ops.specs.Play.{MState}
+use Rattle.gb_domain.specs.declared.rules.Rules.{Rules}
+use Rattle.gb_domain.specs.declared.rules.Rules.TheVariants.{Simple, Extended}
+use Rattle.gb_domain.specs.declared.setting.Setting.{Setting}
 use Rattle.gb_domain.specs.declared.types.Range.{Range}
+use Rattle.gb_domain.specs.declared.types.Val.{Val}
+use Rattle.gb_domain.specs.Settings.{IsBase}
 use Rattle.gb_domain.specs.Types.{AbsState}
 use Rattle.gb_domain.specs.Areas.{IsRegion, meets}
 use Rattle.gb_domain.specs.Rules.{IsCore}
+use Rattle.gb_pairs.specs.Reduced.{reduced}
+use Rattle.gb_pairs.specs.Sound.{IsSoundReducing}
+use Rattle.gb_relations.specs.Transfer.{values_of}
 use Rattle.gb_abs.specs.Cells.{ArePlaced}
-use Rattle.gb_product.specs.Meaning.{Means}
+use Rattle.gb_product.specs.Meaning.{Means, IsApart}
 use Rattle.gb_abs.specs.Stack.{AreInRegion}
 use Rattle.gb_abs.specs.Storage.{peek}
-use Rattle.gb_abs_memory.specs.Kept.{IsKept}
+use Rattle.gb_abs_memory.specs.Kept.{keeps, IsKept}
+use Rattle.gb_calls.specs.declared.resuming.Resumed.{Resumed}
+use Rattle.gb_calls.specs.declared.resuming.Resumed.TheVariants.{Nothing, States, TooDeep}
+use Rattle.gb_calls.specs.TakenOver.{base_below}
+
+-- ---- entering
 
 -- the machine with the return word taken off the stack again
 abbrev pub without_word : MState → MState
 without_word x = record x { processor = with_sp x.processor (x.processor.sp + 2) }
 
+-- s was left by a call, the return word being two of its items, and the callee takes k of them over
+pub record IsCalled (k : ℕ) (s : AbsState) (entry : MState) (base : ℕ) (x : MState) : Type 0 where
+  pub few : k ≤ length s.items
+  pub stack_set : s.core.stack_set ≡ true
+  pub caller : Means s entry base x
+
+-- x is the machine as a callee begins, whose caller is in s but for the return word at SP, or, by the rules of version 3, with it
+abbrev pub Begins : Rules → ℕ → AbsState → MState → ℕ → MState → Type 0
+Begins Simple k s entry base x = Means s entry base (without_word x) × (x.processor.sp < 65536)
+Begins Extended k s entry base x = IsCalled k s entry base x
+
+-- the callee's base: SP, or the address above the items that it takes over
+abbrev pub callee_base : Rules → ℕ → List Val → ℕ → MState → ℕ
+callee_base Simple k items base x = x.processor.sp
+callee_base Extended k items base x = base_below k items base
+
 -- Of each state in which s was left by a call: the callee, entered in just that state with its return word at SP,
 -- begins with what is said.
-pub record IsSoundEntering (s after : AbsState) : Type 0 where
+pub record IsSoundEntering (rules : Rules) (k : ℕ) (s after : AbsState) : Type 0 where
   pub gives :
       (entry : MState) (base : ℕ) (x : MState)
-      → Means s entry base (without_word x) → x.processor.sp < 65536
-      → Means after x x.processor.sp x
+      → Begins rules k s entry base x → Means after x (callee_base rules k s.items base x) x
 
--- A procedure was left in s by a call, and the callee, which was entered in the state called, has come back: x is
--- what its exit means, and what it keeps is as it was.
+-- ---- resuming
+
+-- By the rules of versions 1 and 2: a procedure was left in s by a call, and the callee, which stands in a setting of its own and was
+-- entered in the state called, has come back: x is what its exit means, and what it keeps is as it was.
 pub record ComesBack (region : Region) (ranges : List Range) (s exit : AbsState) (entry : MState) (base : ℕ) (called x : MState) : Type 0 where
   pub is_region : IsRegion region
   pub apart : AllByRecursion (λ r. meets region r.first r.last ≡ false) ranges
@@ -39,10 +69,49 @@ pub record ComesBack (region : Region) (ranges : List Range) (s exit : AbsState)
   pub exit_items : exit.items ≡ []
   pub exit_core : IsCore exit.core
   pub exits : Means exit called (called.processor.sp + 2) x
-  pub kept : (b : ℕ) → IsKept region ranges called.processor.sp b → peek x.storage b ≡ peek called.storage b
+  pub callee : Setting
+  pub keeps : keeps callee ≡ true
+  pub kept : (b : ℕ) → IsKept callee region ranges called.processor.sp b → peek x.storage b ≡ peek called.storage b
+
+-- By those of version 3: the callee took over k items of the caller's, the return word among them, and leaves as many as its exit
+-- has. It stands in a setting of its own, in which it keeps what isn't its own to write.
+pub record HandsBack (k : ℕ) (region : Region) (ranges : List Range) (s exit : AbsState) (entry : MState) (base : ℕ) (called x : MState) : Type 0 where
+  pub is_region : IsRegion region
+  pub apart : AllByRecursion (λ r. meets region r.first r.last ≡ false) ranges
+  pub placed : IsApart region s
+  pub room : AreInRegion region base (length s.items)
+  pub begins : IsCalled k s entry base called
+  pub callee : Setting
+  pub keeps : keeps callee ≡ true
+  pub callee_base : IsBase callee (base_below k s.items base)
+  pub exit_set : exit.core.stack_set ≡ true
+  pub exit_core : IsCore exit.core
+  pub exits : Means exit called (base_below k s.items base) x
+  pub kept : (b : ℕ) → IsKept callee region ranges (base_below k s.items base) b → peek x.storage b ≡ peek called.storage b
+
+abbrev pub ComesBackBy :
+    Rules → ℕ → Region → List Range → AbsState → AbsState → MState → ℕ → MState → MState → Type 0
+ComesBackBy Simple k region ranges s exit entry base called x = ComesBack region ranges s exit entry base called x
+ComesBackBy Extended k region ranges s exit entry base called x = HandsBack k region ranges s exit entry base called x
+
+-- x is one of the states, of which there are some
+abbrev pub MeansIf : Option AbsState → MState → ℕ → MState → Type 0
+MeansIf None entry base x = ⊥
+MeansIf (Some s) entry base x = Means s entry base x
+
+-- the same of what was computed; of what is too deep nothing is said
+abbrev pub MeansResumed : Resumed → MState → ℕ → MState → Type 0
+MeansResumed Nothing entry base x = ⊥
+MeansResumed (States s) entry base x = Means s entry base x
+MeansResumed TooDeep entry base x = Unit {0}
+
+-- cutting to what registers and pairs leave each other loses none of these states
+abbrev pub ReducesSoundly : AbsState → Type 0
+ReducesSoundly s =
+    IsSoundReducing (values_of s.core.registers s.relations.pairs) (reduced (values_of s.core.registers s.relations.pairs))
 
 -- whatever the callee did, what is said of the caller's state holds
-pub record IsSoundResuming (ranges : List Range) (s exit after : AbsState) : Type 0 where
+pub record IsSoundResuming (rules : Rules) (k : ℕ) (ranges : List Range) (s exit : AbsState) (after : Resumed) : Type 0 where
   pub gives :
       (region : Region) (entry : MState) (base : ℕ) (called x : MState)
-      → ComesBack region ranges s exit entry base called x → Means after entry base x
+      → ComesBackBy rules k region ranges s exit entry base called x → MeansResumed after entry base x

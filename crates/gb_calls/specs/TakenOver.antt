@@ -1,10 +1,8 @@
 -- Items that change hands: what a callee takes over of its caller's, and what is given back, in bytes (own rules: calls, version 3).
-use Rattle.std.specs.Prelude.{ℕ, ◌-◌, ◌≤◌, ◌≡◌, true, List, [], ◌∷◌, ◌++◌, length, map, take, drop}
-use Rattle.gb_ops.specs.Play.{MState}
+use Rattle.std.specs.Prelude.{ℕ, ◌-◌, List, [], ◌∷◌, ◌++◌, length, map, take, drop}
 use Rattle.gb_domain.specs.declared.types.Origin.TheVariants.{ReturnHigh, ReturnLow}
 use Rattle.gb_domain.specs.declared.types.Val.{Val}
-use Rattle.gb_domain.specs.Types.{AbsState}
-use Rattle.gb_calls.specs.Calls.{own, without_origin}
+use Rattle.gb_abs.specs.Origins.{own, without_origin}
 
 -- a caller's newest k items
 abbrev pub newest : ℕ → List Val → List Val

@@ -1,37 +1,78 @@
 //! Which procedure is called.
 
-ghost use Rattle.std.specs.Prelude.{◌≡◌};
+ghost use Rattle.std.specs.Prelude.{◌≡◌, ◌≤◌};
 ghost use Rattle.gb_calls.specs.Calls as Calls;
 
 use crate::entering::enter;
 use gb_cert::{Cert, ProcedureRef};
-use gb_domain::types::Abs;
+use gb_domain::types::{Abs, Rules, Setting};
 use gb_product::covering::covers;
+
+/// Whether a base that is said is so many bytes below the caller's, which then is said too.
+fn is_base_below(caller: Option<u16>, base: u16, below: usize) -> bool
+    requires { below ≤ 255 }
+    ensures { result ≡ Calls.is_base_below caller base below }
+{
+    match caller {
+        None => base == 0,
+        Some(caller) => base == 0 || usize::from(base) + below == usize::from(caller),
+    }
+}
+
+/// Whether a procedure with this base, whose entry node has `count` items, may take them of a caller's `held`.
+#[tactic(auto, unfolding(crate::specs::Calls::fits))]
+fn fits(setting: Setting, base: u16, count: usize, held: usize) -> bool
+    requires { held ≤ 255 }
+    ensures { result ≡ Calls.fits setting base count held }
+{
+    match setting.rules {
+        Rules::Simple => true,
+        Rules::Extended => {
+            count <= held && is_base_below(setting.known_base(), base, held - count)
+        }
+    }
+}
+
+/// Whether a procedure with this base and this state at its entry may begin where it is called in these states.
+#[tactic(auto, unfolding(crate::specs::Calls::may_begin))]
+fn may_begin(setting: Setting, state: &Abs, base: u16, entry: &Abs) -> bool
+    ensures { result ≡ Calls.may_begin setting state.now base entry.now }
+{
+    let count = entry.items().len();
+    fits(setting, base, count, state.items().len())
+        && covers(&enter(setting.rules, count as u8, state), entry)
+}
 
 /// Whether a procedure begins at the address, in a state that stands for these. The state is decoded only where
 /// the address is right.
 #[tactic(auto, unfolding(crate::specs::Calls::is_entry))]
-fn is_entry(cert: &Cert<'_>, address: u16, entered: &Abs, procedure: &ProcedureRef<'_>) -> bool
-    ensures { result ≡ Calls.is_entry cert.now address entered.now procedure.now }
+fn is_entry(
+    cert: &Cert<'_>,
+    setting: Setting,
+    address: u16,
+    state: &Abs,
+    procedure: &ProcedureRef<'_>,
+) -> bool
+    ensures { result ≡ Calls.is_entry cert.now setting address state.now procedure.now }
 {
     let entry = procedure.entry();
     if entry >= cert.nodes() {
         return false;
     }
     let node = cert.node(entry);
-    node.address() == address && covers(entered, &node.state())
+    node.address() == address && may_begin(setting, state, procedure.base(), &node.state())
 }
 
-/// The callee of a call to an address in these states: the first procedure but main whose entry node has the
-/// address, and stands for what the procedure begins with (own).
+/// The callee of a call to an address in these states, which stand in the setting: the first procedure but main whose
+/// entry node has the address, and that may begin there (own). By the rules of version 3 the return word is among the
+/// items of these states, which have those that the entry node has, and a base that the procedure says is right.
 #[tactic(auto, unfolding(crate::specs::Calls::callee_of))]
-pub fn callee(cert: &Cert<'_>, address: u16, state: &Abs) -> Option<u8>
-    ensures exact { result ≡ Calls.callee_of cert.now address state.now }
+pub fn callee(cert: &Cert<'_>, setting: Setting, address: u16, state: &Abs) -> Option<u8>
+    ensures exact { result ≡ Calls.callee_of cert.now setting address state.now }
 {
-    let entered = enter(state);
     for i in 1..cert.procedures() {
         let procedure = cert.procedure(i);
-        if is_entry(cert, address, &entered, &procedure) {
+        if is_entry(cert, setting, address, state, &procedure) {
             return Some(i);
         }
     }

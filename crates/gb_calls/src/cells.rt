@@ -3,29 +3,36 @@
 ghost use Rattle.std.specs.Prelude.{◌≡◌, ◌≤◌, length, map, take, insert};
 ghost use Rattle.std.specs.List.{filter};
 ghost use Rattle.gb_domain.specs.Limits.{cell_room};
-ghost use Rattle.gb_calls.specs.Calls as Calls;
+ghost use Rattle.gb_calls.specs.Resuming as Resuming;
 
-use crate::entering::cell_without_origin;
 use arrayvec::ArrayVec;
+use gb_abs::origins::cell_without_origin;
 use gb_abs::span::Span;
 use gb_domain::types::{Cell, Range, Rules};
 
 /// The most cells that a state holds by any rules.
 const CELLS: usize = 64;
 
-fn is_in_ranges(ranges: &[Range], cell: &Cell) -> bool
-    ensures { result ≡ Calls.is_in_ranges ranges.now cell.now }
+/// Whether an address lies in one of the ranges.
+pub(crate) fn is_address_in(ranges: &[Range], address: u16) -> bool
+    ensures { result ≡ Resuming.is_address_in ranges.now address }
 {
-    let span = Span::one(cell.address);
+    let span = Span::one(address);
     ranges
         .iter()
         .any(|range| span.is_inside(range.first, range.last))
 }
 
+fn is_in_ranges(ranges: &[Range], cell: &Cell) -> bool
+    ensures { result ≡ Resuming.is_in_ranges ranges.now cell.now }
+{
+    is_address_in(ranges, cell.address)
+}
+
 /// The caller's cells that the callee may not write: those outside its ranges. There must be room.
 fn outside(ranges: &[Range], cells: &[Cell]) -> ArrayVec<Cell, 64>
     requires { length cells.now ≤ 64 }
-    ensures { result.items ≡ filter (Calls.is_out_of_ranges ranges.now) cells.now }
+    ensures { result.items ≡ filter (Resuming.is_out_of_ranges ranges.now) cells.now }
 {
     let mut kept = ArrayVec::new();
     for cell in cells {
@@ -39,7 +46,7 @@ fn outside(ranges: &[Range], cells: &[Cell]) -> ArrayVec<Cell, 64>
 /// Where a cell belongs among others that are in order of address: before the first that is above it.
 fn place_among(cell: &Cell, cells: &[Cell]) -> usize
     ensures within { result ≤ length cells.now }
-    ensures place { Calls.inserted cell.now cells.now ≡ insert cells.now result cell.now }
+    ensures place { Resuming.inserted cell.now cells.now ≡ insert cells.now result cell.now }
 {
     for (place, held) in cells.iter().enumerate() {
         if cell.address < held.address {
@@ -51,7 +58,7 @@ fn place_among(cell: &Cell, cells: &[Cell]) -> usize
 
 /// Puts a cell in its place by address. Where 64 are held, the last of all falls.
 fn put(cells: &mut ArrayVec<Cell, 64>, cell: Cell)
-    ensures { cells.new.items ≡ take 64 (Calls.inserted cell cells.old.items) }
+    ensures { cells.new.items ≡ take 64 (Resuming.inserted cell cells.old.items) }
 {
     let place = place_among(&cell, cells.as_slice());
     if place < CELLS {
@@ -64,7 +71,7 @@ fn put(cells: &mut ArrayVec<Cell, 64>, cell: Cell)
 /// address. There must be room for the caller's.
 fn most_cells_back(ranges: &[Range], caller: &[Cell], exit: &[Cell]) -> ArrayVec<Cell, 64>
     requires { length caller.now ≤ 64 }
-    ensures { result.items ≡ take 64 (Calls.all_cells_back ranges.now caller.now exit.now) }
+    ensures { result.items ≡ take 64 (Resuming.all_cells_back ranges.now caller.now exit.now) }
 {
     let mut cells = outside(ranges, caller);
     for cell in exit {
@@ -76,7 +83,7 @@ fn most_cells_back(ranges: &[Range], caller: &[Cell], exit: &[Cell]) -> ArrayVec
 }
 
 /// The same, as many as there is room for. There must be room for the caller's by any rules.
-#[tactic(auto, using(crate::proofs::CellLaws::take_fewer), unfolding(crate::specs::Calls::cells_back))]
+#[tactic(auto, using(crate::proofs::CellLaws::take_fewer), unfolding(crate::specs::Resuming::cells_back))]
 pub(crate) fn cells_back(
     rules: Rules,
     ranges: &[Range],
@@ -84,7 +91,7 @@ pub(crate) fn cells_back(
     exit: &[Cell],
 ) -> ArrayVec<Cell, 64>
     requires { length caller.now ≤ 64 }
-    ensures { result.items ≡ Calls.cells_back (cell_room rules) ranges.now caller.now exit.now }
+    ensures { result.items ≡ Resuming.cells_back (cell_room rules) ranges.now caller.now exit.now }
 {
     let mut cells = most_cells_back(ranges, caller, exit);
     cells.truncate(rules.cell_room());

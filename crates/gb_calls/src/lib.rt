@@ -3,12 +3,14 @@
 //! on with (`resume`). Each is `exact`; entering and resuming follow what the machine does (`sound`).
 //!
 //! An interrupt's handler is a callee too: whether the interrupt may come (`may_come`), what its dispatch leaves
-//! (`dispatched`), and which procedure handles it (`handler`).
+//! (`left_by_dispatch`), and which procedure handles it (`handler`).
 //!
-//! A caller's state is the one in which it left, the return word on the stack but no item of the caller's.
+//! A caller's state is the one in which it left. By the rules of versions 1 and 2 the return word is on the stack, but no
+//! item of the caller's. By those of version 3 it is two items; the callee takes over the caller's newest, as many as its
+//! entry node has, the others wait, and what its exit holds is the caller's again.
 //!
-//! Read `entering` and `callees`, then `ranges`, `cells`, `resuming` and `interrupts`. Of the definitions, `Calls`,
-//! `Interrupts` and `Sound`.
+//! Read `entering` and `callees`, then `ranges`, `cells`, `resuming` and `interrupts`. Of the definitions, `TakenOver`,
+//! `Calls`, `Resuming`, `Interrupts` and `Sound`.
 #![tactic(auto)]
 
 pub mod callees;

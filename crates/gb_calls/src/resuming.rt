@@ -1,30 +1,42 @@
 //! What a caller goes on with.
 
-ghost use Rattle.std.specs.Prelude.{◌≡◌};
-ghost use Rattle.gb_calls.specs.Calls as Calls;
-ghost use Rattle.gb_calls.specs.Sound.{IsSoundResuming};
+ghost use Rattle.std.specs.Prelude.{◌≡◌, ◌+◌, ◌≤◌, ◌<◌, ◌++◌, length, map, None, IfSome};
+ghost use Rattle.arrayvec.specs.ArrayVec.{array_vec_len};
+ghost use Rattle.gb_domain.specs.declared.rules.Rules.TheVariants.{Extended};
+ghost use Rattle.gb_abs.specs.Origins as Origins;
+ghost use Rattle.gb_calls.specs.Resuming as Resuming;
+ghost use Rattle.gb_calls.specs.Sound.{IsSoundResuming, ReducesSoundly};
+ghost use Rattle.gb_calls.specs.TakenOver as TakenOver;
 
-use crate::cells::cells_back;
-use crate::entering::without_origin;
+use crate::cells::{cells_back, is_address_in};
 use arrayvec::ArrayVec;
-use gb_abs::covering::covers_origin;
+use gb_abs::origins::{is_own, without_origin};
 use gb_domain::places::OneByte;
 use gb_domain::relations::Relations;
 use gb_domain::types::{Abs, Core, Origin, Range, Rules, Val};
 use gb_ops::op::Register;
 use gb_ops::registers::Registers;
+use gb_pairs::reduced::reduced;
+use gb_pairs::values::Values;
 use gb_product::only_of_a;
+use gb_relations::returned::{Kept, returned};
 
-/// Whether a value is what this held at entry.
-fn is_own(origin: Origin, val: Val) -> bool
-    ensures { result ≡ Calls.is_own origin val }
-{
-    covers_origin(val.origin, Some(origin))
+/// The most items that a state holds by any rules.
+const ITEMS: usize = 255;
+
+/// What a caller goes on with.
+#[derive(Drop)]
+pub enum Resumed {
+    /// No machine state is meant: the callee doesn't come back.
+    Nothing,
+    States(Abs),
+    /// More items than a state holds.
+    TooDeep,
 }
 
 /// What the callee gives back as it was is the caller's; else its exit says what it is, and that is no copy.
 fn given_back(origin: Origin, caller: Val, exit: Val) -> Val
-    ensures { result ≡ Calls.given_back origin caller exit }
+    ensures { result ≡ Resuming.given_back origin caller exit }
 {
     if is_own(origin, exit) {
         caller
@@ -34,7 +46,7 @@ fn given_back(origin: Origin, caller: Val, exit: Val) -> Val
 }
 
 fn registers_back(caller: &Registers<Val>, exit: &Registers<Val>) -> Registers<Val>
-    ensures { result ≡ Calls.registers_back caller.now exit.now }
+    ensures { result ≡ Resuming.registers_back caller.now exit.now }
 {
     Registers {
         a: given_back(Origin::Register(Register::A), caller.a, exit.a),
@@ -47,21 +59,9 @@ fn registers_back(caller: &Registers<Val>, exit: &Registers<Val>) -> Registers<V
     }
 }
 
-/// What is said of the caller's A, where A and the flags are the caller's.
-fn byte_back(caller: &Abs, exit: &Abs) -> OneByte
-    ensures { result ≡ Calls.byte_back caller.now exit.now }
-{
-    let core = exit.core();
-    if is_own(Origin::Register(Register::A), core.registers.a) && core.flags.is_own {
-        only_of_a(&caller.relations().byte)
-    } else {
-        OneByte::default()
-    }
-}
-
 /// IME and the bound are the exit's, the stack is the caller's; the rest is the caller's where it is given back.
 fn core_back(caller: &Core, exit: &Core) -> Core
-    ensures { result ≡ Calls.core_back caller.now exit.now }
+    ensures { result ≡ Resuming.core_back caller.now exit.now }
 {
     Core {
         ime: exit.ime,
@@ -82,10 +82,24 @@ fn core_back(caller: &Core, exit: &Core) -> Core
     }
 }
 
-/// The state with which a caller goes on.
-#[tactic(auto, unfolding(crate::specs::Calls::resumed))]
-fn resumed(rules: Rules, ranges: &[Range], state: &Abs, exit: &Abs) -> Abs
-    ensures { result ≡ Calls.resumed rules ranges.now state.now exit.now }
+// ---- by the rules of versions 1 and 2
+
+/// What is said of the caller's A, where A and the flags are the caller's.
+fn byte_back(caller: &Abs, exit: &Abs) -> OneByte
+    ensures { result ≡ Resuming.byte_back caller.now exit.now }
+{
+    let core = exit.core();
+    if is_own(Origin::Register(Register::A), core.registers.a) && core.flags.is_own {
+        only_of_a(&caller.relations().byte)
+    } else {
+        OneByte::default()
+    }
+}
+
+/// The state with which a caller goes on: it holds what it held.
+#[tactic(auto, unfolding(crate::specs::Resuming::resumed_alone))]
+fn resumed_alone(ranges: &[Range], state: &Abs, exit: &Abs) -> Abs
+    ensures { result ≡ Resuming.resumed_alone ranges.now state.now exit.now }
 {
     let mut items = ArrayVec::new();
     if items.try_extend_from_slice(state.items()).is_err() {
@@ -94,7 +108,7 @@ fn resumed(rules: Rules, ranges: &[Range], state: &Abs, exit: &Abs) -> Abs
     Abs::of_parts(
         core_back(state.core(), exit.core()),
         items,
-        cells_back(rules, ranges, state.cells(), exit.cells()),
+        cells_back(Rules::Simple, ranges, state.cells(), exit.cells()),
         Relations {
             byte: byte_back(state, exit),
             ..Relations::default()
@@ -102,12 +116,126 @@ fn resumed(rules: Rules, ranges: &[Range], state: &Abs, exit: &Abs) -> Abs
     )
 }
 
-/// What a caller goes on with that was in these states, where its callee has these ranges and left by this exit
-/// (abstract interpretation: calls; own).
-#[tactic(auto, using(crate::proofs::ResumingLaws::resume_sound))]
-pub fn resume(rules: Rules, ranges: &[Range], state: &Abs, exit: &Abs) -> Abs
-    ensures exact { result ≡ Calls.resumed rules ranges.now state.now exit.now }
-    ensures sound { IsSoundResuming ranges.now state.now exit.now result }
+// ---- by the rules of version 3
+
+/// Whether the address among the places of the caller's byte, if there is one, lies outside the callee's ranges.
+fn is_address_kept(ranges: &[Range], address: Option<u16>) -> bool
+    ensures { result ≡ Resuming.is_address_kept ranges.now address }
 {
-    resumed(rules, ranges, state, exit)
+    match address {
+        None => true,
+        Some(address) => !is_address_in(ranges, address),
+    }
+}
+
+fn own_by_register(registers: &Registers<Val>) -> Registers<bool>
+    ensures { result ≡ Resuming.own_by_register registers.now }
+{
+    Registers {
+        a: is_own(Origin::Register(Register::A), registers.a),
+        b: is_own(Origin::Register(Register::B), registers.b),
+        c: is_own(Origin::Register(Register::C), registers.c),
+        d: is_own(Origin::Register(Register::D), registers.d),
+        e: is_own(Origin::Register(Register::E), registers.e),
+        h: is_own(Origin::Register(Register::H), registers.h),
+        l: is_own(Origin::Register(Register::L), registers.l),
+    }
+}
+
+/// What a callee gives back as it was, of what the caller's byte and its pairs read.
+fn kept_by(ranges: &[Range], byte: &OneByte, exit: &Core) -> Kept
+    ensures { result ≡ Resuming.kept_by ranges.now byte.now exit.now }
+{
+    Kept {
+        registers: own_by_register(&exit.registers),
+        flags: exit.flags.is_own,
+        address: is_address_kept(ranges, byte.address),
+    }
+}
+
+/// Appends items, no copies. There must be room.
+fn append_without_origins(items: &mut ArrayVec<Val, 255>, from: &[Val])
+    requires { array_vec_len items.old + length from.now ≤ 255 }
+    ensures { items.new.items ≡ items.old.items ++ map Origins.without_origin from.now }
+{
+    for item in from {
+        items.push(without_origin(*item));
+    }
+}
+
+/// A caller's waiting items, the callee having taken over so many, and those of its exit behind them. None where they are
+/// more than a state holds.
+#[tactic(auto, using(crate::proofs::TakenOverLaws::given_back_fits), unfolding(crate::specs::TakenOver::given_back_items))]
+fn given_back_items(count: u8, held: &[Val], exit: &[Val]) -> Option<ArrayVec<Val, 255>>
+    requires { length held.now ≤ 255 }
+    ensures few { IfSome result (λ items. items.items ≡ TakenOver.given_back_items count held.now exit.now) }
+    ensures many { result ≡ None → 255 < length (TakenOver.given_back_items count held.now exit.now) }
+{
+    let waiting = held.len().saturating_sub(usize::from(count));
+    if exit.len() > ITEMS - waiting {
+        return None;
+    }
+    let mut items = ArrayVec::new();
+    if items.try_extend_from_slice(&held[..waiting]).is_err() {
+        unreachable!();
+    }
+    append_without_origins(&mut items, exit);
+    Some(items)
+}
+
+/// What a caller goes on with: its waiting items and the exit's behind them, and what is known together on either side,
+/// cut to what registers and pairs leave each other.
+#[tactic(auto, unfolding(crate::specs::Resuming::rejoined, crate::specs::Resuming::reduced_state))]
+fn rejoined(count: u8, ranges: &[Range], state: &Abs, exit: &Abs) -> Resumed
+    ensures exact { Resuming.IsResumed result (Resuming.reduced_state (Resuming.rejoined count ranges.now state.now exit.now)) }
+    ensures reducing { ReducesSoundly (Resuming.rejoined count ranges.now state.now exit.now) }
+{
+    let kept = kept_by(ranges, &state.relations().byte, exit.core());
+    let core = core_back(state.core(), exit.core());
+    let relations = returned(&kept, state.relations(), exit.relations());
+    let Some(values) = reduced(&Values {
+        registers: core.registers,
+        pairs: relations.pairs,
+    }) else {
+        return Resumed::Nothing;
+    };
+    match given_back_items(count, state.items(), exit.items()) {
+        None => Resumed::TooDeep,
+        Some(items) => Resumed::States(Abs::of_parts(
+            Core {
+                registers: values.registers,
+                ..core
+            },
+            items,
+            cells_back(Rules::Extended, ranges, state.cells(), exit.cells()),
+            Relations {
+                pairs: values.pairs,
+                ..relations
+            },
+        )),
+    }
+}
+
+/// The same, as it follows what the machine does.
+#[tactic(auto, using(crate::proofs::ResumingLaws::rejoined_sound))]
+fn rejoin(count: u8, ranges: &[Range], state: &Abs, exit: &Abs) -> Resumed
+    ensures exact { Resuming.IsResumed result (Resuming.reduced_state (Resuming.rejoined count ranges.now state.now exit.now)) }
+    ensures sound { IsSoundResuming Extended count ranges.now state.now exit.now result }
+{
+    rejoined(count, ranges, state, exit)
+}
+
+// ---- by either
+
+/// What a caller goes on with that was in these states, where its callee has these ranges, began with so many items and left
+/// by this exit (abstract interpretation: calls; own).
+#[tactic(auto, using(crate::proofs::ResumingLaws::resumed_alone_sound), unfolding(crate::specs::Resuming::resumed))]
+pub fn resume(rules: Rules, count: u8, ranges: &[Range], state: &Abs, exit: &Abs) -> Resumed
+    ensures exact { Resuming.IsResumed result (Resuming.resumed rules count ranges.now state.now exit.now) }
+    ensures sound { IsSoundResuming rules count ranges.now state.now exit.now result }
+{
+    match rules {
+        Rules::Simple => Resumed::States(resumed_alone(ranges, state, exit)),
+        Rules::Extended => rejoin(count, ranges, state, exit),
+    }
 }

@@ -1,25 +1,21 @@
-use Rattle.std.proofs.Common.{◌≡◌, true, false, sym, ◌∙◌, ap}
-use Rattle.gb_calls.specs.Calls.{entered, is_entry, callee_of}
+use Rattle.std.proofs.Common.{◌≡◌, true, false, sym, ◌∙◌}
+use Rattle.gb_calls.specs.Calls.{is_entry, callee_of}
 use Rattle.gb_calls.proofs.CalleeLaws.{callee-taken, callee-passed}
 use Rattle.gb_calls.proofs.callees.callee.Goals as goal
 
 pub returns-then-is_entry : goal.returns-then-is_entry
 unfolding callee_of
 returns-then-is_entry c =
-    let begins : is_entry c.args.cert.now c.args.address (entered c.args.state.now) c.procedure-procedure.result ≡ true =
-    ap (λ s. is_entry c.args.cert.now c.args.address s c.procedure-procedure.result) (sym c.enter-entered.ensures.exact)
-    ∙ sym c.is_entry.ensures
-    ∙ c.if-is_entry.true in
+    let begins : is_entry c.args.cert.now c.args.setting c.args.address c.args.state.now c.procedure-procedure.result ≡ true =
+    sym c.is_entry.ensures ∙ c.if-is_entry.true in
     record {
-      exact = sym (callee-taken c.args.cert.now c.args.address (entered c.args.state.now) c.loop-i.i c.procedure-procedure.result c.procedure-procedure.ensures begins)
+      exact = sym (callee-taken c.args.cert.now c.args.setting c.args.address c.args.state.now c.loop-i.i c.procedure-procedure.result c.procedure-procedure.ensures begins)
           ∙ c.loop-i.invariant;
     }
 
 pub loop-i-preserved : goal.loop-i-preserved
 loop-i-preserved c =
-    let apart : is_entry c.args.cert.now c.args.address (entered c.args.state.now) c.procedure-procedure.result ≡ false =
-    ap (λ s. is_entry c.args.cert.now c.args.address s c.procedure-procedure.result) (sym c.enter-entered.ensures.exact)
-    ∙ sym c.is_entry.ensures
-    ∙ c.if-is_entry.false in
-    sym (callee-passed c.args.cert.now c.args.address (entered c.args.state.now) c.loop-i.i c.procedure-procedure.result c.procedure-procedure.ensures apart)
+    let apart : is_entry c.args.cert.now c.args.setting c.args.address c.args.state.now c.procedure-procedure.result ≡ false =
+    sym c.is_entry.ensures ∙ c.if-is_entry.false in
+    sym (callee-passed c.args.cert.now c.args.setting c.args.address c.args.state.now c.loop-i.i c.procedure-procedure.result c.procedure-procedure.ensures apart)
     ∙ c.loop-i.invariant

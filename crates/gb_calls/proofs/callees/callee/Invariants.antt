@@ -1,8 +1,8 @@
 use Rattle.std.proofs.Common.{◌≡◌, drop}
-use Rattle.gb_calls.specs.Calls.{entered, entry_from, entry_behind_main}
+use Rattle.gb_calls.specs.Calls.{entry_from, entry_behind_main}
 use Rattle.gb_calls.proofs.callees.callee.Given as goal
 
 abbrev pub invariant-loop-i : goal.invariant-loop-i
 invariant-loop-i l =
-    entry_from l.cert l.address (entered l.state) l.i (drop l.i l.cert.procedures)
-    ≡ entry_behind_main l.cert l.address (entered l.state) l.cert.procedures
+    entry_from l.cert l.setting l.address l.state l.i (drop l.i l.cert.procedures)
+    ≡ entry_behind_main l.cert l.setting l.address l.state l.cert.procedures

@@ -1,6 +1,6 @@
 use Rattle.std.proofs.Common.{◌≡◌, ◌≤◌, length, take, drop}
 use Rattle.std.specs.List.{filter}
-use Rattle.gb_calls.specs.Calls.{is_in_ranges, is_out_of_ranges, merged}
+use Rattle.gb_calls.specs.Resuming.{is_in_ranges, is_out_of_ranges, merged}
 use Rattle.gb_calls.proofs.CellLaws.{written}
 use Rattle.gb_calls.proofs.cells.most_cells_back.Given as goal
 

@@ -1,6 +1,6 @@
 use Rattle.std.proofs.Common.{◌≡◌, ◌++◌, drop}
 use Rattle.std.specs.List.{filter}
-use Rattle.gb_calls.specs.Calls.{is_out_of_ranges}
+use Rattle.gb_calls.specs.Resuming.{is_out_of_ranges}
 use Rattle.gb_calls.proofs.cells.outside.Given as goal
 
 abbrev pub invariant-loop-cell : goal.invariant-loop-cell

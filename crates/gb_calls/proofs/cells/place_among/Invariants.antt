@@ -1,5 +1,5 @@
 use Rattle.std.proofs.Common.{◌≡◌, ◌++◌, take, drop}
-use Rattle.gb_calls.specs.Calls.{inserted}
+use Rattle.gb_calls.specs.Resuming.{inserted}
 use Rattle.gb_calls.proofs.cells.place_among.Given as goal
 
 abbrev pub invariant-loop-place : goal.invariant-loop-place

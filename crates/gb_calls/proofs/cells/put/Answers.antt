@@ -1,5 +1,5 @@
 use Rattle.std.proofs.Common.{◌≡◌, ◌≤◌, length, insert, ◌∙◌, ap}
-use Rattle.gb_calls.specs.Calls.{inserted}
+use Rattle.gb_calls.specs.Resuming.{inserted}
 use Rattle.gb_calls.proofs.CellLaws.{put-inside, put-behind}
 use Rattle.gb_calls.proofs.cells.put.Goals as goal
 

@@ -1,0 +1,17 @@
+use Rattle.std.proofs.Common.{◌≡◌, refl}
+use Rattle.gb_relations.specs.Returned.{returned}
+use Rattle.gb_calls.specs.Resuming.{kept_by, core_back}
+use Rattle.gb_calls.proofs.ResumingLaws.{too_deep}
+use Rattle.gb_calls.proofs.resuming.rejoined.Goals as goal
+
+pub returns-in-None-clause-exact : goal.returns-in-None-clause-exact
+returns-in-None-clause-exact c =
+    let s = c.args.state.now in
+    let x = c.args.exit.now in
+    let kept : c.kept_by-kept.result ≡ kept_by c.args.ranges.now s.relations.byte x.core =
+    rw (c.relations.ensures, c.core.ensures) at c.kept_by-kept.ensures in
+    let core : c.core_back-core.result ≡ core_back s.core x.core = rw (c.core-2.ensures, c.core-3.ensures) at c.core_back-core.ensures in
+    let relations : c.returned-relations.result ≡ returned c.kept_by-kept.result s.relations x.relations =
+    rw (c.relations-2.ensures, c.relations-3.ensures) at c.returned-relations.ensures.exact in
+    too_deep c.args.count c.args.ranges.now s x c.kept_by-kept.result c.core_back-core.result c.returned-relations.result
+    c.in-Some.values kept core relations c.in-Some.ensures.exact (rw (c.items.ensures.items, c.items-2.ensures.items) at (c.in-None.ensures.many refl))

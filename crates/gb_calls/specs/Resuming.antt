@@ -1,0 +1,171 @@
+-- What a caller goes on with behind a call (own rules: calls).
+use Rattle.std.specs.Prelude.{◌≡◌, ℕ, ◌<◌, Bool, true, false, ◌&&◌, if◌then◌else◌, nat_lt, List, [], ◌∷◌, length, map, take, Option, Some, None}
+use Rattle.std.specs.List.{filter, list_any}
+use Rattle.gb_ops.specs.declared.op.Register.TheVariants as register
+use Rattle.gb_ops.specs.declared.registers.Registers.{Registers}
+use Rattle.gb_domain.specs.declared.types.Origin.{Origin}
+use Rattle.gb_domain.specs.declared.types.Origin.TheVariants as origin
+use Rattle.gb_domain.specs.declared.types.Val.{Val}
+use Rattle.gb_domain.specs.declared.types.Cell.{Cell}
+use Rattle.gb_domain.specs.declared.types.Core.{Core}
+use Rattle.gb_domain.specs.declared.types.Range.{Range}
+use Rattle.gb_domain.specs.declared.places.OneByte.{OneByte}
+use Rattle.gb_domain.specs.declared.rules.Rules.{Rules}
+use Rattle.gb_domain.specs.declared.rules.Rules.TheVariants.{Simple, Extended}
+use Rattle.gb_domain.specs.Limits.{cell_room, item_room}
+use Rattle.gb_domain.specs.Places.{no_byte}
+use Rattle.gb_domain.specs.Relations.{no_relations}
+use Rattle.gb_domain.specs.Types.{AbsState}
+use Rattle.gb_pairs.specs.declared.values.Values.{Values}
+use Rattle.gb_pairs.specs.Reduced.{reduced}
+use Rattle.gb_relations.specs.declared.returned.Kept.{Kept}
+use Rattle.gb_relations.specs.Compared.{only_of_a}
+use Rattle.gb_relations.specs.Returned.{returned}
+use Rattle.gb_relations.specs.Transfer.{values_of}
+use Rattle.gb_abs.specs.Origins.{without_origin, is_own, cell_without_origin}
+use Rattle.gb_abs.specs.Span.{one}
+use Rattle.gb_abs_memory.specs.Access.{is_range}
+use Rattle.gb_calls.specs.declared.resuming.Resumed.{Resumed}
+use Rattle.gb_calls.specs.declared.resuming.Resumed.TheVariants.{Nothing, States, TooDeep}
+use Rattle.gb_calls.specs.TakenOver.{given_back_items}
+
+-- ---- the core
+
+-- what the callee gives back as it was is the caller's; else its exit says what it is, and that is no copy
+abbrev pub given_back : Origin → Val → Val → Val
+given_back o caller exit = if is_own o exit then caller else without_origin exit
+
+abbrev pub registers_back : Registers Val → Registers Val → Registers Val
+registers_back s x = record {
+  a = given_back (origin.Register register.A) s.a x.a;
+  b = given_back (origin.Register register.B) s.b x.b;
+  c = given_back (origin.Register register.C) s.c x.c;
+  d = given_back (origin.Register register.D) s.d x.d;
+  e = given_back (origin.Register register.E) s.e x.e;
+  h = given_back (origin.Register register.H) s.h x.h;
+  l = given_back (origin.Register register.L) s.l x.l;
+}
+
+-- interrupts and the bound are the exit's, the stack is the caller's
+abbrev pub core_back : Core → Core → Core
+core_back s x = record {
+  ime = x.ime;
+  bound = x.bound;
+  stack_set = s.stack_set;
+  ctl = if x.ctl.is_kept then s.ctl else x.ctl;
+  flags = if x.flags.is_own then s.flags else x.flags;
+  ie = given_back origin.Ie s.ie x.ie;
+  registers = registers_back s.registers x.registers;
+}
+
+-- ---- cells
+
+-- the address lies in one of the ranges
+abbrev pub is_address_in : List Range → ℕ → Bool
+is_address_in ranges a = list_any (is_range (one a)) ranges
+
+abbrev pub is_in_ranges : List Range → Cell → Bool
+is_in_ranges ranges c = is_address_in ranges c.address
+
+abbrev pub is_out_of_ranges : List Range → Cell → Bool
+is_out_of_ranges ranges c = if is_in_ranges ranges c then false else true
+
+-- a cell in its place by address
+abbrev pub inserted : Cell → List Cell → List Cell
+inserted c [] = c ∷ []
+inserted c (d ∷ ds) = if nat_lt c.address d.address then c ∷ d ∷ ds else d ∷ inserted c ds
+
+-- cells among others, by address
+abbrev pub merged : List Cell → List Cell → List Cell
+merged [] others = others
+merged (c ∷ cs) others = merged cs (inserted c others)
+
+-- the caller's cells outside the callee's ranges, the exit's inside, which are no copies, by address
+abbrev pub all_cells_back : List Range → List Cell → List Cell → List Cell
+all_cells_back ranges caller exit =
+    merged (map cell_without_origin (filter (is_in_ranges ranges) exit)) (filter (is_out_of_ranges ranges) caller)
+
+-- the first of them, as many as there is room for
+unfoldable pub cells_back : ℕ → List Range → List Cell → List Cell → List Cell
+cells_back room ranges caller exit = take room (all_cells_back ranges caller exit)
+
+-- ---- by the rules of versions 1 and 2
+
+-- what is said of the caller's A holds again where A and the flags are the caller's
+abbrev pub byte_back : AbsState → AbsState → OneByte
+byte_back s x =
+    if is_own (origin.Register register.A) x.core.registers.a && x.core.flags.is_own then only_of_a s.relations.byte else no_byte
+
+-- the caller holds what it held, its cells and a comparison of A as far as they are kept
+unfoldable pub resumed_alone : List Range → AbsState → AbsState → AbsState
+resumed_alone ranges s x =
+    record {
+      core = core_back s.core x.core;
+      items = s.items;
+      cells = cells_back (cell_room Simple) ranges s.cells x.cells;
+      relations = record no_relations { byte = byte_back s x };
+    }
+
+-- ---- by the rules of version 3
+
+-- the address among the places of the caller's byte, if there is one, lies outside the callee's ranges
+abbrev pub is_address_kept : List Range → Option ℕ → Bool
+is_address_kept ranges None = true
+is_address_kept ranges (Some a) = if is_address_in ranges a then false else true
+
+abbrev pub own_by_register : Registers Val → Registers Bool
+own_by_register r = record {
+  a = is_own (origin.Register register.A) r.a;
+  b = is_own (origin.Register register.B) r.b;
+  c = is_own (origin.Register register.C) r.c;
+  d = is_own (origin.Register register.D) r.d;
+  e = is_own (origin.Register register.E) r.e;
+  h = is_own (origin.Register register.H) r.h;
+  l = is_own (origin.Register register.L) r.l;
+}
+
+-- what a callee with these ranges and this exit gives back as it was, of what the caller's byte b and its pairs read
+abbrev pub kept_by : List Range → OneByte → Core → Kept
+kept_by ranges b exit =
+    record { registers = own_by_register exit.registers; flags = exit.flags.is_own; address = is_address_kept ranges b.address }
+
+-- the caller's waiting items and the exit's behind them, and what is known together on either side
+unfoldable pub rejoined : ℕ → List Range → AbsState → AbsState → AbsState
+rejoined k ranges s x =
+    record {
+      core = core_back s.core x.core;
+      items = given_back_items k s.items x.items;
+      cells = cells_back (cell_room Extended) ranges s.cells x.cells;
+      relations = returned (kept_by ranges s.relations.byte x.core) s.relations x.relations;
+    }
+
+abbrev pub with_values : AbsState → Values → AbsState
+with_values s v = record s { core = record s.core { registers = v.registers }; relations = record s.relations { pairs = v.pairs } }
+
+abbrev pub with_values_if : AbsState → Option Values → Option AbsState
+with_values_if s None = None
+with_values_if s (Some v) = Some (with_values s v)
+
+-- registers and pairs are cut to what they leave each other; none where nothing is meant
+unfoldable pub reduced_state : AbsState → Option AbsState
+reduced_state s = with_values_if s (reduced (values_of s.core.registers s.relations.pairs))
+
+-- ---- by either
+
+-- what the caller goes on with that was in s, where the callee has these ranges, began with k items and left by the exit x; none
+-- where nothing is meant
+unfoldable pub resumed : Rules → ℕ → List Range → AbsState → AbsState → Option AbsState
+resumed Simple k ranges s x = Some (resumed_alone ranges s x)
+resumed Extended k ranges s x = reduced_state (rejoined k ranges s x)
+
+-- with more items than any state has
+pub record IsTooDeep (s : Option AbsState) : Type 0 where
+  pub state : AbsState
+  pub is : s ≡ Some state
+  pub deep : item_room Extended < length state.items
+
+-- what was computed is the states, as far as a state holds them
+abbrev pub IsResumed : Resumed → Option AbsState → Type 0
+IsResumed Nothing s = s ≡ None
+IsResumed (States t) s = s ≡ Some t
+IsResumed TooDeep s = IsTooDeep s
