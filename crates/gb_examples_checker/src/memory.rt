@@ -9,7 +9,7 @@ use gb_abs_memory::load::{load, val_at};
 use gb_abs_memory::refusals::{
     is_limited, is_store_limited, meets_closed_ram, store_meets_closed_ram,
 };
-use gb_abs_memory::store::{Area, area_of, is_storable, store};
+use gb_abs_memory::store::{Area, area_of, is_storable, store, stored_state};
 use gb_abs_memory::windows::ControllerRegister;
 use gb_domain::types::{Halves, Rules, Setting};
 use gb_ops::machine::{Kind, Region};
@@ -31,6 +31,16 @@ const ABOVE: Setting = Setting {
     rules: Rules::Extended,
     is_main: false,
     base: 0xDFF0,
+};
+
+/// A procedure whose base isn't known, by the rules of version 3.
+const ANYWHERE: Setting = Setting { base: 0, ..ABOVE };
+
+/// Main, by the rules of version 3.
+const FREE: Setting = Setting {
+    rules: Rules::Extended,
+    is_main: true,
+    base: 0xE000,
 };
 
 /// MBC3 with 8 KiB of RAM.
@@ -248,7 +258,40 @@ fn areas_of_stores(rt: HostRuntime) {
         let at = span(first, last);
         assert!(rt; area_of(Kind::Mbc1, at) == area, "{first:x} to {last:x}");
         assert!(rt;
-            is_storable(Kind::Mbc1, REGION, &RANGES, at) == storable,
+            is_storable(MAIN, Kind::Mbc1, REGION, &RANGES, at) == storable,
+            "{first:x} to {last:x}"
+        );
+    }
+}
+
+/// Where a procedure stands, addresses, and whether it may store there by the rules of version 3.
+const ALLOWED: [(Setting, u16, u16, bool); 15] = [
+    // Main may in all of RAM, as long as all addresses lie in one of its parts.
+    (FREE, 0xC000, 0xDFFF, true),
+    (FREE, 0xDFF0, 0xDFFF, true),
+    (FREE, 0xFF80, 0xFFFE, true),
+    (FREE, 0xDFFF, 0xE000, false),
+    (FREE, 0xFF7F, 0xFF80, false),
+    // Another procedure may in its ranges, and in the stack region below its base.
+    (ABOVE, 0xC000, 0xCFFF, true),
+    (ABOVE, 0xCFFF, 0xD000, false),
+    (ABOVE, 0xDF00, 0xDFEF, true),
+    (ABOVE, 0xDFEF, 0xDFF0, false),
+    (ABOVE, 0xDFF0, 0xDFF0, false),
+    (ABOVE, 0xDEFF, 0xDF00, false),
+    (ABOVE, 0xDFFF, 0xDFFF, false),
+    // Where the base isn't known, in the ranges alone.
+    (ANYWHERE, 0xC000, 0xCFFF, true),
+    (ANYWHERE, 0xDF00, 0xDF00, false),
+    (ANYWHERE, 0xFF80, 0xFFFE, true),
+];
+
+#[test]
+fn procedures_may_store(rt: HostRuntime) {
+    for (setting, first, last, allowed) in ALLOWED {
+        let at = span(first, last);
+        assert!(rt;
+            is_storable(setting, Kind::Mbc1, REGION, &RANGES, at) == allowed,
             "{first:x} to {last:x}"
         );
     }
@@ -378,6 +421,45 @@ const EXTENDED_STORES: [(u16, u16, Val, Left); 3] = [
         (IE, FIRST_OR_OWN, SECOND_OR_OWN, 4, true, false),
     ),
 ];
+
+/// A copy of B from 64 to 65, and 66 to 67: the items of `stacked`, at DFEF and DFEE where the base is DFF0.
+const HIGH: Val = Val {
+    lo: 64,
+    hi: 65,
+    origin: Some(Origin::Register(Register::B)),
+};
+
+const LOW: Val = Val {
+    lo: 66,
+    hi: 67,
+    origin: None,
+};
+
+/// Where a procedure stands, the addresses of a store, and the two items behind it. No store here makes a cell.
+const ITEM_STORES: [(Setting, u16, u16, [Val; 2]); 8] = [
+    // An item gets the value; of several each may be any byte.
+    (ABOVE, 0xDFEF, 0xDFEF, [OWN, LOW]),
+    (ABOVE, 0xDFEE, 0xDFEE, [HIGH, OWN]),
+    (ABOVE, 0xDFED, 0xDFEE, [HIGH, ANY]),
+    (ABOVE, 0xDFEE, 0xDFEF, [ANY, ANY]),
+    // Nothing is known of the bytes below them, nor of those above the base.
+    (ABOVE, 0xDFED, 0xDFED, [HIGH, LOW]),
+    (ABOVE, 0xDFF0, 0xDFF0, [HIGH, LOW]),
+    // Where the base isn't known they may stand anywhere in the region.
+    (ANYWHERE, 0xDF80, 0xDF80, [ANY, ANY]),
+    (ANYWHERE, 0xC001, 0xC001, [HIGH, LOW]),
+];
+
+#[test]
+fn stores_meet_items(rt: HostRuntime) {
+    let state = stacked(1);
+    for (i, (setting, first, last, items)) in ITEM_STORES.iter().enumerate() {
+        let at = span(*first, *last);
+        let stored = stored_state(*setting, REGION, Kind::Mbc3, at, &OWN, &state);
+        assert!(rt; stored.items() == items.as_slice(), "store {i}");
+        assert!(rt; stored.cells().len() == 4, "store {i}");
+    }
+}
 
 /// Whether a store isn't refused, and leaves this of the state with an open gate.
 fn leaves(setting: Setting, rom: &Rom<'_>, at: Span, val: &Val, left: &Left) -> bool {

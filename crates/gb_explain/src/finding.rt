@@ -5,13 +5,14 @@ ghost use Rattle.std.specs.Prelude.{◌<◌, length, IfSome};
 use crate::Differences;
 use crate::obstacle::{Claim, Finding, Obstacle, Way, Words};
 use gb_abs::reason::Reason;
-use gb_abs::{Abs, Range, Rules, Setting};
+use gb_abs::{Abs, Range, Rules};
 use gb_ops::decode::decode;
 use gb_ops::op::Op;
 use gb_product::covering::covers;
 use gb_verify::{
-    Cert, NodeRef, Rom, Successor, Target, are_ranges_inside, callee_at, covered_at, enter,
-    exit_of, known_bytes, need_of, ranges_of, resume, successors_of,
+    Cert, NodeRef, Resumed, Rom, Successor, Target, are_ranges_inside, callee_at, covered_at,
+    enter, exit_of, known_bytes, need_of, ranges_of, resume, setting_of, stack_of, successors_of,
+    taken_by,
 };
 
 /// A finding without compared states.
@@ -25,20 +26,6 @@ fn plain(obstacle: Obstacle) -> Finding {
 /// The rules of a certificate's version.
 fn rules_of(cert: &Cert<'_>) -> Rules {
     Rules::of(cert.version())
-}
-
-/// Where a procedure's states stand.
-fn setting_of(cert: &Cert<'_>, procedure: u8) -> Setting {
-    let base = if procedure < cert.procedures() {
-        cert.procedure(procedure).base()
-    } else {
-        0
-    };
-    Setting {
-        rules: rules_of(cert),
-        is_main: procedure == 0,
-        base,
-    }
 }
 
 /// The words that PUSH would hold, where they are too many.
@@ -65,7 +52,7 @@ fn push_finding(cert: &Cert<'_>, procedure: u8, state: &Abs) -> Option<Finding> 
 
 /// The words that a call would need, where they are too many.
 fn call_finding(cert: &Cert<'_>, procedure: u8, successor: &Successor<'_>) -> Option<Finding> {
-    let callee = callee_at(cert, successor)?;
+    let callee = callee_at(cert, setting_of(cert, procedure), successor)?;
     let held = successor.state().items().len();
     let need = need_of(cert, procedure);
     let wanted = need_of(cert, callee);
@@ -117,7 +104,7 @@ fn nearest_node(cert: &Cert<'_>, procedure: u8, address: u16, state: &Abs) -> Op
 
 /// What there is where the procedure goes on, if no node stands for the states.
 fn way_finding(cert: &Cert<'_>, procedure: u8, way: Way, state: &Abs) -> Option<Finding> {
-    if covered_at(cert, procedure, way.address, state) {
+    if covered_at(rules_of(cert), cert, procedure, way.address, state) {
         return None;
     }
     match nearest_node(cert, procedure, way.address, state) {
@@ -146,17 +133,27 @@ fn uncovered_finding(cert: &Cert<'_>, procedure: u8, successor: &Successor<'_>) 
             way_finding(cert, procedure, way, &successor.state())
         }
         Target::Call(_) => {
-            let callee = callee_at(cert, successor)?;
+            let callee = callee_at(cert, setting_of(cert, procedure), successor)?;
             let exit = exit_of(cert, callee)?;
             let ranges = ranges_of(cert, callee);
-            let resumed = resume(rules_of(cert), ranges.as_slice(), &successor.state(), &exit);
+            let taken = taken_by(cert, callee);
+            let state = successor.state();
+            let Resumed::States(resumed) = resume(
+                rules_of(cert),
+                taken,
+                ranges.as_slice(),
+                &state,
+                &exit,
+            ) else {
+                return None;
+            };
             let way = Way {
                 behind: Some(callee),
                 address: successor.next,
             };
             way_finding(cert, procedure, way, &resumed)
         }
-        Target::Return | Target::Unknown => None,
+        Target::Main(_) | Target::Return | Target::Unknown | Target::Lost => None,
     }
 }
 
@@ -181,10 +178,11 @@ fn nearest_entry(cert: &Cert<'_>, address: u16, state: &Abs) -> Option<Nearest> 
     for procedure in 1..cert.procedures() {
         if let Some(node) = entry_at(cert, procedure, address) {
             let claimed = cert.node(node).state();
+            let entered = enter(rules_of(cert), taken_by(cert, procedure), state);
             let next = Nearest {
                 procedure,
                 node,
-                differences: Differences::of(state, &claimed),
+                differences: Differences::of(&entered, &claimed),
             };
             nearest = nearer(nearest, next);
         }
@@ -194,7 +192,7 @@ fn nearest_entry(cert: &Cert<'_>, address: u16, state: &Abs) -> Option<Nearest> 
 
 /// What there is at the address of a call that calls no procedure.
 fn entry_finding(cert: &Cert<'_>, address: u16, state: &Abs) -> Finding {
-    match nearest_entry(cert, address, &enter(state)) {
+    match nearest_entry(cert, address, state) {
         None => plain(Obstacle::NoProcedure { address }),
         Some(
             Nearest {
@@ -230,7 +228,7 @@ fn callee_finding(cert: &Cert<'_>, procedure: u8, successor: &Successor<'_>) -> 
     let Target::Call(address) = successor.target else {
         return None;
     };
-    match callee_at(cert, successor) {
+    match callee_at(cert, setting_of(cert, procedure), successor) {
         None => Some(entry_finding(cert, address, &successor.state())),
         Some(callee) => range_finding(cert, procedure, callee),
     }
@@ -299,8 +297,8 @@ pub fn finding_of(
     if let (Reason::Depth, Op::Push(_)) = (reason, row.op) {
         return push_finding(cert, procedure, &state);
     }
-    let setting = setting_of(cert, procedure);
-    let ways = successors_of(setting, rom, cert.region(), row, node.address(), &state);
+    let stack = stack_of(cert, procedure);
+    let ways = successors_of(stack, rom, row, node.address(), &state);
     let taken = successor_finding(cert, procedure, reason, &ways.taken);
     if taken.is_some() {
         return taken;

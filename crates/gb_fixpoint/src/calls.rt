@@ -8,7 +8,7 @@ use crate::setting::RULES;
 use crate::stop::Stop;
 use crate::tracking::keep_tracked;
 use crate::types::{Call, Procedure, Run};
-use gb_verify::{Abs, Core, Range, enter, resume};
+use gb_verify::{Abs, Core, Range, Resumed, enter, resume};
 use std::collections::BTreeSet;
 use std::mem;
 
@@ -27,7 +27,7 @@ impl<'a> Run<'a> {
             return Ok(());
         };
         let procedure = node.key.procedure;
-        let mut entered = enter(caller);
+        let mut entered = enter(RULES, 0, caller);
         keep_tracked(&mut entered, self.tracked.as_slice());
         let cells = self.number_cells(entered.cells())?;
         let key = self.procedure_key(entered.core(), target, is_handler, cells);
@@ -141,9 +141,10 @@ impl<'a> Run<'a> {
     /// What the caller goes on with behind a callee, if that has returned yet.
     fn resumed(&self, callee: usize, caller: &Abs) -> Option<Abs> {
         let called = self.procedures.get(callee)?;
-        match &called.exit {
-            Some(exit) => Some(resume(RULES, called.ranges.as_slice(), caller, exit)),
-            None => None,
+        let exit = called.exit.as_ref()?;
+        match resume(RULES, 0, called.ranges.as_slice(), caller, exit) {
+            Resumed::States(resumed) => Some(resumed),
+            Resumed::Nothing | Resumed::TooDeep => None,
         }
     }
 

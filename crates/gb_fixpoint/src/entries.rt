@@ -1,11 +1,11 @@
 //! What nodes enter, for who puts procedures in order.
 
 use crate::instruction::decoded;
-use crate::setting::setting_of;
+use crate::setting::{RULES, stack_of};
 use crate::stepping::FIRST_VECTOR;
 use crate::tracking::keep_tracked;
 use crate::types::Run;
-use gb_verify::{Abs, Successor, Target, dispatched, enter, may_come, successors_of};
+use gb_verify::{Abs, Successor, Target, enter, left_by_dispatch, may_come, successors_of};
 use std::alloc::AllocError;
 
 /// What a node enters, and where.
@@ -24,10 +24,8 @@ impl<'a> Run<'a> {
             return Ok(all);
         };
         if let Ok(row) = decoded(self.rom, &node.state, node.key.address) {
-            let setting = setting_of(node.key.procedure);
-            let region = self.configuration.region;
-            let address = node.key.address;
-            let ways = successors_of(setting, self.rom, region, row, address, &node.state);
+            let stack = stack_of(node.key.procedure, self.configuration.region);
+            let ways = successors_of(stack, self.rom, row, node.key.address, &node.state);
             let taken = self.called_by(&ways.taken);
             let not_taken = self.called_by(&ways.not_taken);
             let stays = self.called_by(&ways.stays);
@@ -35,7 +33,7 @@ impl<'a> Run<'a> {
                 all.push(entered)?;
             }
         }
-        let after = dispatched(&node.state);
+        let after = left_by_dispatch(RULES, node.key.address, &node.state);
         for interrupt in 0..5u8 {
             if may_come(interrupt, node.state.core()) {
                 let vector = FIRST_VECTOR + 8 * u16::from(interrupt);
@@ -49,12 +47,13 @@ impl<'a> Run<'a> {
         let Some(successor) = way else { return None };
         match successor.target {
             Target::Call(target) => Some(self.entered_in(target, false, &successor.state())),
-            Target::At(_) | Target::Return | Target::Unknown => None,
+            Target::At(_) | Target::Main(_) | Target::Return | Target::Unknown | Target::Lost =>
+                None,
         }
     }
 
     fn entered_in(&self, target: u16, is_handler: bool, caller: &Abs) -> Entered {
-        let mut state = enter(caller);
+        let mut state = enter(RULES, 0, caller);
         keep_tracked(&mut state, self.tracked.as_slice());
         Entered {
             target,

@@ -4,11 +4,10 @@
 use crate::cause::{Cause, TransferMisuse};
 use crate::register_set::RegisterSet;
 use crate::setting::RULES;
-use gb_ops::machine::Region;
 use gb_ops::op::{Indirect, Op, Operand, Register, Row};
 use gb_verify::{
-    Abs, AbsRead, AbsWrite, Core, Range, Rom, Span, Successors, is_limited, is_stack_limited,
-    lies_in_high_ram, may_come, meets_closed_ram,
+    Abs, AbsRead, AbsWrite, Core, Range, Rom, Span, Stack, Successors, is_limited,
+    is_stack_limited, lies_in_high_ram, may_come, meets_closed_ram,
 };
 
 /// All that a procedure could declare: work RAM and high RAM. The region is asked for apart.
@@ -145,14 +144,24 @@ fn first_interrupt(core: &Core) -> Option<u8> {
     None
 }
 
+/// Where an instruction stands.
+#[derive(Clone, Copy)]
+pub struct Standing<'a> {
+    pub stack: Stack,
+    pub state: &'a Abs,
+    pub address: u16,
+    pub row: Row,
+}
+
 /// What an OAM transfer refuses of an instruction, or of a dispatch before it.
-fn transfer_refusal(
-    region: Region,
-    core: &Core,
-    address: u16,
-    row: Row,
-    ways: &Successors<'_>,
-) -> Option<Refusal> {
+fn transfer_refusal(standing: Standing<'_>, ways: &Successors<'_>) -> Option<Refusal> {
+    let Standing {
+        stack,
+        state,
+        address,
+        row,
+    } = standing;
+    let (region, core) = (stack.region, state.core());
     let none = RegisterSet::empty();
     if core.bound != 0 && ways.are_some() && !lies_in_high_ram(address, row.length) {
         return Some((Cause::OamTransfer(TransferMisuse::Code), none));
@@ -168,25 +177,24 @@ fn transfer_refusal(
 }
 
 /// What is against an instruction in a state, of all but covering, calls and returns.
-pub fn refusal(
-    rom: &Rom<'_>,
-    region: Region,
-    state: &Abs,
-    address: u16,
-    row: Row,
-    ways: &Successors<'_>,
-) -> Option<Refusal> {
+pub fn refusal(rom: &Rom<'_>, standing: Standing<'_>, ways: &Successors<'_>) -> Option<Refusal> {
+    let Standing {
+        stack,
+        state,
+        row,
+        ..
+    } = standing;
     let core = state.core();
     if matches!(row.op, Op::Push(_)) && state.items().len() + 2 > RULES.item_room() {
         return Some((Cause::PushesTooMany, RegisterSet::empty()));
     }
-    if ways.store_outside(rom.kind(), region, &RAM) {
+    if ways.store_outside(stack.setting, rom.kind(), stack.region, &RAM) {
         return Some(store_refusal(row.op, ways));
     }
     if ways.meet_closed_ram(rom, core) {
         return Some(closed_refusal(rom, core, row.op, ways));
     }
-    if let Some(refusal) = transfer_refusal(region, core, address, row, ways) {
+    if let Some(refusal) = transfer_refusal(standing, ways) {
         return Some(refusal);
     }
     if ways.lead_anywhere() {

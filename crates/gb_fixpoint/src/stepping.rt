@@ -1,13 +1,13 @@
 //! One step: a node's instruction is executed, and the interrupts come that may come.
 
 use crate::cause::Cause;
-use crate::refusals::refusal;
+use crate::refusals::{Standing, refusal};
 use crate::register_set::RegisterSet;
-use crate::setting::setting_of;
+use crate::setting::{RULES, stack_of};
 use crate::stop::Stop;
 use crate::tracking::keep_tracked;
 use crate::types::Run;
-use gb_verify::{Abs, Successor, Target, dispatched, may_come, successors_of};
+use gb_verify::{Abs, Successor, Target, left_by_dispatch, may_come, successors_of};
 
 /// The address that interrupt 0 calls; those of the others follow it, 8 bytes apart.
 pub(crate) const FIRST_VECTOR: u16 = 0x40;
@@ -20,11 +20,16 @@ impl<'a> Run<'a> {
             return Ok(());
         };
         let address = node.key.address;
-        let setting = setting_of(node.key.procedure);
+        let stack = stack_of(node.key.procedure, self.configuration.region);
         let state = node.state.copied();
-        let region = self.configuration.region;
-        let ways = successors_of(setting, self.rom, region, row, address, &state);
-        if let Some((cause, registers)) = refusal(self.rom, region, &state, address, row, &ways) {
+        let ways = successors_of(stack, self.rom, row, address, &state);
+        let standing = Standing {
+            stack,
+            state: &state,
+            address,
+            row,
+        };
+        if let Some((cause, registers)) = refusal(self.rom, standing, &ways) {
             return Err(Run::failure(number, cause, registers));
         }
         self.record_accesses(number, row.op, &ways)?;
@@ -48,7 +53,7 @@ impl<'a> Run<'a> {
                 self.call(number, &successor.state(), address, successor.next, false)
             }
             Target::Return => self.leave(number, successor.state()),
-            Target::Unknown => Ok(()),
+            Target::Main(_) | Target::Unknown | Target::Lost => Ok(()),
         }
     }
 
@@ -62,7 +67,7 @@ impl<'a> Run<'a> {
         if !core.ime.on {
             return Ok(());
         }
-        let after = dispatched(&node.state);
+        let after = left_by_dispatch(RULES, address, &node.state);
         for interrupt in 0..5u8 {
             if may_come(interrupt, &core) {
                 if !core.stack_set {

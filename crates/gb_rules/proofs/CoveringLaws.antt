@@ -6,16 +6,18 @@ use Rattle.std.proofs.lemmas.List.Folds.{Any-from_list_any}
 use Rattle.gb_ops.specs.declared.op.Register.{Register}
 use Rattle.gb_ops.specs.Registers.{get}
 use Rattle.gb_ops.specs.Play.{MState}
+use Rattle.gb_domain.specs.declared.rules.Rules.TheVariants.{Simple}
 use Rattle.gb_domain.specs.declared.types.Val.{Val}
 use Rattle.gb_domain.specs.Types.{AbsState, Node}
 use Rattle.gb_domain.specs.Certificate.{Certificate}
 use Rattle.gb_abs.specs.Covering.{covers_items, covers_parts}
 use Rattle.gb_product.specs.Covering.{covers}
 use Rattle.gb_product.specs.Meaning.{Means}
+use Rattle.gb_product.specs.Reduced.{reduced}
 use Rattle.gb_abs.specs.Meaning.{Holds}
 use Rattle.gb_product.proofs.CoveringLaws.{Means-covered}
 use Rattle.gb_abs.proofs.OperationLaws.{MeansParts-with_value}
-use Rattle.gb_rules.specs.Covered.{is_cover, is_covered_by_one, is_covered_by_values, with_value, all_from, count_of, registers, covered_at}
+use Rattle.gb_rules.specs.Covered.{is_cover, is_covered_by_one, is_value_covered, is_covered_by_values, reduced_state, with_value, all_from, count_of, registers, covered_at}
 
 items_counted : (s t : List Val) → covers_items s t ≡ true → length t ≡ length s
 items_counted [] [] h = refl
@@ -66,9 +68,9 @@ one_of_them test first (suc n) v h le lt =
     split : (first n v : ℕ) → v < first + suc n → (v < first + n) ⊎ (v ≡ first + n)
     split first n v h = grind arith
 
-found_by_values : (cert : Certificate) (procedure a : ℕ) (s : AbsState) (r : Register) (entry : MState) (base : ℕ) (y : MState) → is_covered_by_values cert.nodes procedure a s r ≡ true → Means s entry base y
+found_by_values : (cert : Certificate) (procedure a : ℕ) (s : AbsState) (r : Register) (entry : MState) (base : ℕ) (y : MState) → is_covered_by_values Simple cert.nodes procedure a s r ≡ true → Means s entry base y
     → IsFoundAt cert procedure a (length s.items) entry base y
-unfolding is_covered_by_values with_value
+unfolding is_covered_by_values is_value_covered reduced_state reduced with_value
 found_by_values cert procedure a s r entry base y h m =
     let val = get r s.core.registers in
     let v = get r y.processor.registers in
@@ -78,17 +80,17 @@ found_by_values cert procedure a s r entry base y h m =
     let one = one_of_them (λ v. is_covered_by_one cert.nodes procedure a (with_value r s v)) val.lo (count_of val) v h least (omega arith) in
     found_by_one cert procedure a (with_value r s v) entry base y one (record { parts = MeansParts-with_value r s entry base y m.parts; related = m.related })
 
--- states that are covered at an address: a node there means each of their machine states
-pub found_at : (cert : Certificate) (procedure a : ℕ) (s : AbsState) (entry : MState) (base : ℕ) (y : MState) → covered_at cert.nodes procedure a s ≡ true → Means s entry base y
+-- states that are covered at an address, by the rules of versions 1 and 2: a node there means each of their machine states
+pub found_at : (cert : Certificate) (procedure a : ℕ) (s : AbsState) (entry : MState) (base : ℕ) (y : MState) → covered_at Simple cert.nodes procedure a s ≡ true → Means s entry base y
     → IsFoundAt cert procedure a (length s.items) entry base y
 unfolding covered_at
 found_at cert procedure a s entry base y h m = by (is_covered_by_one cert.nodes procedure a s) refl h
   where
-    values : list_any (is_covered_by_values cert.nodes procedure a s) registers ≡ true → IsFoundAt cert procedure a (length s.items) entry base y
+    values : list_any (is_covered_by_values Simple cert.nodes procedure a s) registers ≡ true → IsFoundAt cert procedure a (length s.items) entry base y
     values e =
-        let p = Any-from_list_any (is_covered_by_values cert.nodes procedure a s) registers e in
+        let p = Any-from_list_any (is_covered_by_values Simple cert.nodes procedure a s) registers e in
         found_by_values cert procedure a s p.1 entry base y p.4 m
 
-    by : (b : Bool) → is_covered_by_one cert.nodes procedure a s ≡ b → (b || list_any (is_covered_by_values cert.nodes procedure a s) registers) ≡ true → IsFoundAt cert procedure a (length s.items) entry base y
+    by : (b : Bool) → is_covered_by_one cert.nodes procedure a s ≡ b → (b || list_any (is_covered_by_values Simple cert.nodes procedure a s) registers) ≡ true → IsFoundAt cert procedure a (length s.items) entry base y
     by true e t = found_by_one cert procedure a s entry base y e m
     by false e t = values t

@@ -21,7 +21,9 @@ use Rattle.gb_ops.specs.Play.{MState, within, outside}
 use Rattle.gb_ops.specs.declared.registers.Registers.{Registers}
 use Rattle.gb_ops.specs.declared.registers.Flags.{Flags}
 use Rattle.gb_domain.specs.declared.relations.Relations.{Relations}
+use Rattle.gb_domain.specs.declared.rules.Rules.{Rules}
 use Rattle.gb_domain.specs.declared.rules.Rules.TheVariants.{Simple}
+use Rattle.gb_product.specs.Covering.{covers}
 use Rattle.gb_domain.specs.declared.types.Core.{Core}
 use Rattle.gb_domain.specs.Areas.{is_free_byte}
 use Rattle.gb_domain.specs.Limits.{rules_of}
@@ -45,8 +47,9 @@ use Rattle.gb_abs.proofs.OperationLaws.{Holds-single}
 use Rattle.gb_abs.proofs.StackLaws.{IsRegionOpen-bound, MeansParts-pushed, MeansParts-with_core}
 use Rattle.gb_code.specs.Below.gb_abs_memory.Kept.{IsKept}
 use Rattle.gb_code.specs.Below.gb_abs_memory.Sound.{view}
-use Rattle.gb_calls.specs.Calls.{entered, callee_of, are_ranges_inside, resumed}
-use Rattle.gb_calls.specs.Interrupts.{only_off, dispatched, may_come, handler_of}
+use Rattle.gb_calls.specs.Calls.{entered_by, callee_of, are_ranges_inside}
+use Rattle.gb_calls.specs.Resuming.{resumed}
+use Rattle.gb_calls.specs.Interrupts.{only_off, dispatched, left_by_dispatch, may_come, handler_of}
 use Rattle.gb_calls.proofs.CalleeLaws.{IsCallee-found, IsEntryNode-entry}
 use Rattle.gb_code.specs.Places.{IsCertified}
 use Rattle.gb_successors.specs.Behind.{ended}
@@ -54,11 +57,11 @@ use Rattle.gb_successors.specs.Below.gb_abs_effects.Pairs.{known_word}
 use Rattle.gb_successors.proofs.StackWayLaws.{not_pushed}
 use Rattle.gb_successors.proofs.SuccessorLaws.{MeansParts-ended, passed_peek}
 use Rattle.gb_rules.specs.Covered.{covered_at}
-use Rattle.gb_rules.specs.Procedures.{ranges_of, need_of, exit_of}
+use Rattle.gb_rules.specs.Procedures.{ranges_of, need_of, setting_of, exit_of, taken_by}
 use Rattle.gb_rules.specs.Safety.{IsAt, Calls, IsSafeEvent}
 use Rattle.gb_rules.proofs.SearchLaws.{Contains-slice_get}
-use Rattle.gb_rules.proofs.NodeLaws.{IsNodeState-node, fewer_bytes}
-use Rattle.gb_rules.proofs.WayLaws.{is_own, same_number}
+use Rattle.gb_rules.proofs.NodeLaws.{IsNodeState-node, simple_at, fewer_bytes}
+use Rattle.gb_rules.proofs.WayLaws.{is_own, same_number, covered_by_version}
 use Rattle.gb_rules.proofs.EventLaws.{IsSafeHappening, IsSafeEvent-where}
 
 -- ---- where a dispatch is possible
@@ -181,7 +184,7 @@ byte_placed region (Some b) a h e =
 record IsDispatched (rom : List ℕ) (cert : Certificate) (n : Node) (entry : MState) (base : ℕ) (x : MState) (i : ℕ) : Type 0 where
   means : Means (pushed (known_word n.address) (dispatched n.state)) entry base (left_by rom x i n.address)
   faults : store_faults cert.region (view rom x false) (write.Push x.processor.sp n.address) ≡ no_faults
-  kept : (b : ℕ) → IsKept cert.region (ranges_of cert n.procedure) base b → peek (left_by rom x i n.address).storage b ≡ peek x.storage b
+  kept : (b : ℕ) → IsKept (setting_of cert n.procedure) cert.region (ranges_of cert n.procedure) base b → peek (left_by rom x i n.address).storage b ≡ peek x.storage b
 
 pushed_ended : (s : AbsState) (a : ℕ) → ended false 5 (pushed (known_word a) (with_core s (masked s.core))) ≡ pushed (known_word a) (dispatched s)
 unfolding ended pushed dispatched
@@ -228,19 +231,29 @@ dispatched_cells : (s : AbsState) → (dispatched s).cells ≡ s.cells
 unfolding dispatched
 dispatched_cells s = refl
 
-handler_is : (cert : Certificate) (i : ℕ) (s : AbsState) → handler_of cert i s ≡ callee_of cert (vector i) (dispatched s)
-unfolding handler_of
-handler_is cert i s = refl
+handler_is : (cert : Certificate) (n : Node) (i : ℕ) → handler_of cert (simple_at cert n) i n.address n.state ≡ callee_of cert (simple_at cert n) (vector i) (dispatched n.state)
+unfolding handler_of left_by_dispatch
+handler_is cert n i = refl
+
+left_is : (a : ℕ) (s : AbsState) → left_by_dispatch Simple a s ≡ dispatched s
+unfolding left_by_dispatch
+left_is a s = refl
+
+-- behind a handler the procedure goes on at a node
+abbrev pub GoesOn : Certificate → Node → ℕ → Type 0
+GoesOn cert n q =
+    (exit : AbsState) → exit_of cert q ≡ Some exit
+    → IfSome (resumed Simple (taken_by cert q) (ranges_of cert q) (left_by_dispatch Simple n.address n.state) exit) (λ after. covered_at Simple cert.nodes n.procedure n.address after ≡ true)
 
 handled : (rom : List ℕ) (cert : Certificate) (n : Node) (entry : MState) (base : ℕ) (x : MState) (i q : ℕ) → IsAt rom cert n entry base x → Contains cert.nodes n → IsCertificate cert
-    → rules_of cert.version ≡ Simple → IsDispatched rom cert n entry base x i → x.processor.halt_mark ≡ false → n.state.core.stack_set ≡ true → handler_of cert i n.state ≡ Some q
+    → rules_of cert.version ≡ Simple → IsDispatched rom cert n entry base x i → x.processor.halt_mark ≡ false → n.state.core.stack_set ≡ true → handler_of cert (simple_at cert n) i n.address n.state ≡ Some q
     → are_ranges_inside (ranges_of cert q) (ranges_of cert n.procedure) ≡ true → length n.state.items + 2 + need_of cert q ≤ need_of cert n.procedure
-    → ((exit : AbsState) → exit_of cert q ≡ Some exit → covered_at cert.nodes n.procedure n.address (resumed (rules_of cert.version) (ranges_of cert q) (dispatched n.state) exit) ≡ true)
+    → GoesOn cert n q
     → Calls cert n.procedure entry base (left_by rom x i n.address)
 handled rom cert n entry base x i q at is_node certificate simple d mark set handler inside depth resumes =
     let s = IsNodeState-node cert n certificate is_node in
-    let callee = IsCallee-found cert (vector i) (dispatched n.state) q (sym (handler_is cert i n.state) ∙ handler) in
-    let begin = IsEntryNode-entry cert (vector i) (entered (dispatched n.state)) callee.procedure callee.begins in
+    let callee = IsCallee-found cert (simple_at cert n) (vector i) (dispatched n.state) q (sym (handler_is cert n i) ∙ handler) in
+    let begin = IsEntryNode-entry cert (simple_at cert n) (vector i) (dispatched n.state) callee.procedure callee.begins in
     let number : begin.node.procedure ≡ q =
     same_number begin.node.procedure q (is_own 0 cert.procedures cert.nodes q callee.procedure begin.node certificate.entries callee.is_procedure begin.is_node) in
     record {
@@ -255,13 +268,16 @@ handled rom cert n entry base x i q at is_node certificate simple d mark set han
       is_node = Contains-slice_get cert.nodes callee.procedure.entry begin.node begin.is_node;
       not_main = subst (λ m. 0 < m) (sym number) callee.not_main;
       address = sym begin.address;
-      begins = begin.covering;
+      begins = subst (λ (r : Rules). covers (entered_by r (length begin.node.state.items) (dispatched n.state)) begin.node.state ≡ true) (sym simple) begin.covering;
       mark = mark;
       depth = subst (λ items. length items + 2 + need_of cert begin.node.procedure ≤ need_of cert n.procedure) (sym (dispatched_items n.state))
           (subst (λ m. length n.state.items + 2 + need_of cert m ≤ need_of cert n.procedure) (sym number) depth);
       inside = subst (λ m. are_ranges_inside (ranges_of cert m) (ranges_of cert n.procedure) ≡ true) (sym number) inside;
-      resumes = λ exit is. subst (λ m. covered_at cert.nodes n.procedure n.address (resumed (rules_of cert.version) (ranges_of cert m) (dispatched n.state) exit) ≡ true) (sym number)
-          (resumes exit (subst (λ m. exit_of cert m ≡ Some exit) number is));
+      resumes = λ exit is.
+          subst (λ m. IfSome (resumed (rules_of cert.version) (taken_by cert m) (ranges_of cert m) (dispatched n.state) exit) (λ after. covered_at (rules_of cert.version) cert.nodes n.procedure n.address after ≡ true)) (sym number)
+          (covered_by_version cert n.procedure n.address q (dispatched n.state) exit simple
+          (subst (λ (s : AbsState). IfSome (resumed Simple (taken_by cert q) (ranges_of cert q) s exit) (λ after. covered_at Simple cert.nodes n.procedure n.address after ≡ true)) (left_is n.address n.state)
+          (resumes exit (subst (λ m. exit_of cert m ≡ Some exit) number is))));
     }
 
 -- ---- the event
@@ -269,9 +285,9 @@ handled rom cert n entry base x i q at is_node certificate simple d mark set han
 -- A dispatch is safe where the stack is set and no OAM transfer closes it, and where the interrupt has a handler whose
 -- ranges and bytes lie inside the procedure's, and behind which the procedure goes on at a node.
 pub IsSafeEvent-dispatch : (rom : List ℕ) (cert : Certificate) (n : Node) (entry : MState) (base : ℕ) (x : MState) (i q : ℕ) → IsAt rom cert n entry base x → Contains cert.nodes n → IsCertificate cert → rules_of cert.version ≡ Simple
-    → is_possible (within rom x) (event.Irq i) ≡ true → n.state.core.stack_set ≡ true → (n.state.core.bound ≡ 0) ⊎ (0xFF80 ≤ cert.region.first) → handler_of cert i n.state ≡ Some q
+    → is_possible (within rom x) (event.Irq i) ≡ true → n.state.core.stack_set ≡ true → (n.state.core.bound ≡ 0) ⊎ (0xFF80 ≤ cert.region.first) → handler_of cert (simple_at cert n) i n.address n.state ≡ Some q
     → are_ranges_inside (ranges_of cert q) (ranges_of cert n.procedure) ≡ true → length n.state.items + 2 + need_of cert q ≤ need_of cert n.procedure
-    → ((exit : AbsState) → exit_of cert q ≡ Some exit → covered_at cert.nodes n.procedure n.address (resumed (rules_of cert.version) (ranges_of cert q) (dispatched n.state) exit) ≡ true)
+    → GoesOn cert n q
     → IsSafeEvent rom cert n.procedure entry base x (event.Irq i)
 IsSafeEvent-dispatch rom cert n entry base x i q at is_node certificate simple possible set unlimited handler inside depth resumes =
     let mark = mark_clear rom x at.mark (is_called rom x i possible).on in

@@ -1,7 +1,7 @@
 -- One event from a state of a node that passes: no fault, certified places, a node that means the state behind it, and
 -- what the procedure keeps is unchanged.
 use Rattle.std.proofs.Common.{◌≡◌, ℕ, ◌+◌, ◌-◌, ◌%◌, ◌≤◌, ◌<◌, Bool, true, false, cond, not, ◌&&◌, ◌||◌, ◌==◌, nat_lt, inl, inr, List, [], ◌∷◌, map, length, slice_index, slice_get, Option, Some, None, refl, sym, ◌∙◌, ap, subst, arith}
-use Rattle.std.specs.Prelude.{option_and_then, option_map}
+use Rattle.std.specs.Prelude.{option_and_then}
 use Rattle.std.proofs.lemmas.Bool.{and_parts, eqb-true}
 use Rattle.std.proofs.lemmas.Bool.Decides.{nat_tests}
 use Rattle.std.proofs.lemmas.Option.{same_Some}
@@ -44,20 +44,17 @@ use Rattle.gb_code.specs.Places.{IsCertified, IsCertifiedBy}
 use Rattle.gb_code.specs.Code.{area_end, known_byte}
 use Rattle.gb_code.proofs.ByteLaws.{Reads-known}
 use Rattle.gb_code.proofs.CodeLaws.{IsInside, clear_byte, area_small, FetchesFirst-known, FetchesAll-known}
-use Rattle.gb_abs.specs.Operations.{core_settle}
-use Rattle.gb_domain.specs.declared.types.Core.{Core}
 use Rattle.gb_successors.specs.Below.gb_abs_effects.declared.targets.Target.TheVariants as target
 use Rattle.gb_successors.specs.Below.gb_abs_effects.Targets.{target_of}
-use Rattle.gb_product.specs.Sides.{sides_of}
 use Rattle.gb_code.specs.Below.gb_abs_memory.Kept.{IsKept}
 use Rattle.gb_successors.specs.Way.{Successor}
-use Rattle.gb_successors.specs.Successors.{successors_of, taken_parts, taken_successor}
 use Rattle.gb_successors.specs.Sound.{IsHalt}
-use Rattle.gb_rules.specs.Rules.{is_halt, is_nop, is_nop_behind, may_read_twice, reason_of, reason_at}
-use Rattle.gb_rules.specs.Procedures.{ranges_of, setting_of}
+use Rattle.gb_rules.specs.Rules.{ways_of, is_halt, is_nop, is_nop_behind, may_read_twice, reason_of, reason_at}
+use Rattle.gb_rules.specs.Procedures.{ranges_of, setting_of, stack_of}
 use Rattle.gb_rules.specs.Safety.{IsMeant, Leads, IsSafeEvent, IsNoDispatch, IsSafeNode}
 use Rattle.gb_rules.proofs.SearchLaws.{Contains-slice_get}
-use Rattle.gb_rules.proofs.NodeLaws.{IsNodeState-node, Passes-from, ways_of, ruled, allowed, known_by}
+use Rattle.gb_rules.proofs.TargetLaws.{taken_target}
+use Rattle.gb_rules.proofs.NodeLaws.{IsNodeState-node, Passes, Passes-from, ruled, allowed, known_by}
 use Rattle.gb_rules.proofs.StandLaws.{OnNode, stands, sound_ways, is_known, on_code}
 use Rattle.gb_rules.proofs.WayLaws.{IsElsewhere, bytes_within, Leads-way}
 
@@ -66,7 +63,7 @@ pub record IsSafeHappening (rom : List ℕ) (cert : Certificate) (procedure : �
   pub faults : event_faults cert.region (within rom s) e ≡ no_faults
   pub places : All (IsCertified rom cert) (event_places (within rom s) e)
   pub leads : Leads rom cert procedure entry base s (outside (happened (within rom s) e))
-  pub kept : (b : ℕ) → IsKept cert.region (ranges_of cert procedure) base b → peek (outside (happened (within rom s) e)).storage b ≡ peek s.storage b
+  pub kept : (b : ℕ) → IsKept (setting_of cert procedure) cert.region (ranges_of cert procedure) base b → peek (outside (happened (within rom s) e)).storage b ≡ peek s.storage b
 
 certified_by : (rom : List ℕ) (cert : Certificate) (n : Node) (xs : List CodePlace) → Contains cert.nodes n → All (IsCertifiedBy rom n) xs → All (IsCertified rom cert) xs
 certified_by rom cert n xs is h = λ i d lt. (n, is, h i d lt)
@@ -385,16 +382,12 @@ unfolding halt_bug within outside
 bug_pc rom x = refl
 
 -- behind HALT the machine is in the same procedure
-halt_stays_here : (rom : List ℕ) (cert : Certificate) (n : Node) (row : Row) (t : Successor) → IsHalt row → (ways_of rom cert n row).taken ≡ Some t → IsElsewhere t.target → ⊥
-unfolding successors_of taken_successor taken_parts target_of
-halt_stays_here rom cert n row t halt is e = by (sides_of row.op n.state (core_settle n.state.core)).taken is
-  where
-    by : (o : Option Core) → option_map (taken_successor (setting_of cert n.procedure) rom cert.region row ((n.address + row.length) % 65536) n.state) o ≡ Some t → ⊥
-    by None h = cc
-    by (Some c) h =
-        let same : taken_successor (setting_of cert n.procedure) rom cert.region row ((n.address + row.length) % 65536) n.state c ≡ t = same_Some _ _ h in
-        let here : t.target ≡ target.At ((n.address + row.length) % 65536) = sym (ap (λ (u : Successor). u.target) same) ∙ ap (λ o. target_of o ((n.address + row.length) % 65536) c) halt.op_is in
-        subst IsElsewhere here e
+halt_stays_here : (rom : List ℕ) (cert : Certificate) (n : Node) (p : Passes rom cert n) (t : Successor) → IsHalt p.row → (ways_of rom cert n p.row).taken ≡ Some t → IsElsewhere t.target → ⊥
+unfolding ways_of stack_of setting_of target_of
+halt_stays_here rom cert n p t halt is e =
+    let goes = taken_target (stack_of cert n.procedure) rom p.row n.address n.state t p.rules is in
+    let here : t.target ≡ target.At ((n.address + p.row.length) % 65536) = goes.1 ∙ ap (λ o. target_of o ((n.address + p.row.length) % 65536) goes.0) halt.op_is in
+    subst IsElsewhere here e
 
 bug_safe : (rom : List ℕ) (cert : Certificate) (n : Node) (entry : MState) (base : ℕ) (x : MState) (k : OnNode rom cert n entry base x) → IsMarkHarmless rom x
     → is_possible (within rom x) event.HaltBug ≡ true → IsSafeHappening rom cert n.procedure entry base x event.HaltBug
@@ -427,7 +420,7 @@ bug_safe rom cert n entry base x k mark possible =
       faults = (halt_faults cert.region rom x first.faults).1;
       places = (halt_places rom cert x (n, k.is_node, first.place)).1;
       leads = Leads-way rom cert n entry base x k way.successor (inl way.is_way) _ way.leads (at_most _ _ _ way.held k.depth)
-          (record { harmless = inr (bug_ime rom x ∙ off, fixed, byte); clear = λ e. absurd (halt_stays_here rom cert n k.passes.row way.successor halt way.is_way e) });
+          (record { harmless = inr (bug_ime rom x ∙ off, fixed, byte); clear = λ e. absurd (halt_stays_here rom cert n k.passes way.successor halt way.is_way e) });
       kept = λ b kept. way.leads.kept b kept;
     }
 

@@ -7,6 +7,8 @@ use Rattle.gb_domain.specs.Types.{AbsState, Node}
 use Rattle.gb_domain.specs.Certificate.{Certificate}
 use Rattle.gb_states.specs.declared.role.Role.TheVariants as role
 use Rattle.gb_domain.specs.Limits.{rules_of}
+use Rattle.gb_domain.specs.declared.rules.Rules.{Rules}
+use Rattle.gb_domain.specs.declared.rules.Rules.TheVariants.{Simple}
 use Rattle.gb_states.specs.Rules.{IsState, IsCertificate}
 use Rattle.gb_product.specs.Covering.{covers}
 use Rattle.gb_product.specs.Meaning.{Means}
@@ -14,15 +16,17 @@ use Rattle.gb_abs.specs.Stack.{AreInRegion}
 use Rattle.gb_abs.specs.Storage.{peek}
 use Rattle.gb_product.proofs.CoveringLaws.{Means-covered}
 use Rattle.gb_abs.proofs.StorageLaws.{region_in_ram}
-use Rattle.gb_code.specs.Below.gb_abs_memory.Kept.{IsKept}
-use Rattle.gb_calls.specs.Calls.{entered, are_ranges_inside, resumed}
+use Rattle.gb_code.specs.Below.gb_abs_memory.Kept.{keeps, keeps_by, IsKept}
+use Rattle.gb_calls.specs.Calls.{entered_by, are_ranges_inside}
+use Rattle.gb_calls.specs.Resuming.{resumed_alone, resumed}
+use Rattle.std.specs.Prelude.{◌==◌, IfSome}
 use Rattle.gb_calls.specs.Sound.{without_word, ComesBack}
 use Rattle.gb_calls.proofs.EnteringLaws.{Means-entered}
 use Rattle.gb_calls.proofs.RangeLaws.{IsKept-inside}
-use Rattle.gb_calls.proofs.ResumingLaws.{Means-resumed}
+use Rattle.gb_calls.proofs.ResumingLaws.{Means-resumed_alone}
 use Rattle.gb_successors.specs.Below.gb_abs_effects.Pairs.{known_word}
 use Rattle.gb_rules.specs.Covered.{covered_at}
-use Rattle.gb_rules.specs.Procedures.{ranges_of, need_of, exit_of}
+use Rattle.gb_rules.specs.Procedures.{ranges_of, need_of, setting_of, exit_of, taken_by}
 use Rattle.gb_rules.specs.Safety.{IsAt, IsMeant, Calls, Returns, Leads, IsSafeEvent}
 use Rattle.gb_rules.specs.Frames.{Keeps, Frame, IsWaiting, Stands, IsStanding}
 use Rattle.gb_rules.proofs.CoveringLaws.{IsFoundAt, covered_items, found_at}
@@ -78,21 +82,26 @@ caller_means cert procedure entry base t c p = Means-without_word (known_word c.
 
 -- ---- a frame is put on
 
-no_items : (s : AbsState) (n : Node) → covers (entered s) n.state ≡ true → length n.state.items ≡ 0
-unfolding entered
-no_items s n h = covered_items (entered s) n.state h
+-- what the callee begins with, by the rules of versions 1 and 2
+begins_simply : (cert : Certificate) (procedure : ℕ) (entry : MState) (base : ℕ) (t : MState) (c : Calls cert procedure entry base t) → covers (entered_by Simple (length c.node.state.items) c.state) c.node.state ≡ true
+begins_simply cert procedure entry base t c = subst (λ (r : Rules). covers (entered_by r (length c.node.state.items) c.state) c.node.state ≡ true) c.rules c.begins
+
+no_items : (k : ℕ) (s : AbsState) (n : Node) → covers (entered_by Simple k s) n.state ≡ true → length n.state.items ≡ 0
+unfolding entered_by
+no_items k s n h = covered_items (entered_by Simple k s) n.state h
 
 -- the callee stands at its entry, and was entered just now
 IsAt-called : (rom : List ℕ) (cert : Certificate) (procedure : ℕ) (entry : MState) (base : ℕ) (t : MState)
     → (c : Calls cert procedure entry base t) → IsPlacedCall cert procedure entry base t c → IsAt rom cert c.node t t.processor.sp t
 IsAt-called rom cert procedure entry base t c p =
     let small : t.processor.sp < 65536 = (let h = p.small in omega arith) in
-    let none = no_items c.state c.node c.begins in
+    let begins = begins_simply cert procedure entry base t c in
+    let none = no_items (length c.node.state.items) c.state c.node begins in
     let some = c.not_main in
     record {
       address = c.address;
-      means = Means-covered (entered c.state) c.node.state t t.processor.sp t c.begins
-          (Means-entered c.state entry base t (caller_means cert procedure entry base t c p) small);
+      means = Means-covered (entered_by Simple (length c.node.state.items) c.state) c.node.state t t.processor.sp t begins
+          (Means-entered (length c.node.state.items) c.state entry base t (caller_means cert procedure entry base t c p) small);
       mark = inl c.mark;
       main = λ e. absurd (omega arith);
       return_word = λ _. p.return_word;
@@ -128,6 +137,11 @@ Stands-called rom cert frames procedure entry base s t certificate stands c keep
 
 -- ---- a frame is taken off
 
+-- by the rules of versions 1 and 2 each procedure keeps some of RAM
+all_keep : (cert : Certificate) (procedure : ℕ) → rules_of cert.version ≡ Simple → keeps (setting_of cert procedure) ≡ true
+unfolding setting_of
+all_keep cert procedure simple = ap (λ (r : Rules). keeps_by r (procedure == 0)) simple
+
 -- what a procedure keeps, the one that it called keeps too
 Keeps-callee : (cert : Certificate) (f : Frame) (procedure : ℕ) (entered : MState) (base : ℕ) (s t : MState) → IsCertificate cert → IsWaiting cert f procedure entered base
     → Keeps cert procedure base s t → Keeps cert f.procedure f.base s t
@@ -137,12 +151,13 @@ Keeps-callee cert f procedure called base s t certificate w keeps =
     let below : called.processor.sp ≤ f.base = (let sp = p.sp in omega arith) in
     let lower : base ≤ f.base = subst (λ n. n ≤ f.base) (sym w.base_is) below in
     let inside = subst (λ n. are_ranges_inside (ranges_of cert n) (ranges_of cert f.procedure) ≡ true) w.callee c.inside in
-    record { byte = λ b k. keeps.byte b (IsKept-inside cert.region (ranges_of cert procedure) (ranges_of cert f.procedure) f.base base b inside lower k) }
+    record { byte = λ b k. keeps.byte b (IsKept-inside (setting_of cert f.procedure) (setting_of cert procedure) cert.region (ranges_of cert procedure) (ranges_of cert f.procedure) f.base base b (all_keep cert procedure c.rules) inside lower k) }
 
 -- a byte of the return word is kept
-word_kept : (cert : Certificate) (procedure base b : ℕ) → IsCertificate cert → cert.region.first ≤ base → base + 2 ≤ cert.region.last + 1 → base ≤ b → b ≤ base + 1
-    → IsKept cert.region (ranges_of cert procedure) base b
-word_kept cert procedure base b certificate first last low high = record {
+word_kept : (cert : Certificate) (procedure base b : ℕ) → IsCertificate cert → rules_of cert.version ≡ Simple → cert.region.first ≤ base → base + 2 ≤ cert.region.last + 1 → base ≤ b → b ≤ base + 1
+    → IsKept (setting_of cert procedure) cert.region (ranges_of cert procedure) base b
+word_kept cert procedure base b certificate simple first last low high = record {
+  procedure = all_keep cert procedure simple;
   ram = region_in_ram cert.region b certificate.region (omega arith) (omega arith);
   outside = apart_outside cert.region (ranges_of cert procedure) b (ranges_apart cert procedure certificate) (omega arith) (omega arith);
   above = λ _. low;
@@ -157,8 +172,8 @@ back_is cert f procedure entry base s certificate w keeps =
     let e = w.base_is in
     let first : cert.region.first ≤ base = (let room = p.callee_room.first in omega arith) in
     let last : base + 2 ≤ cert.region.last + 1 = (let h = p.return_word in omega arith) in
-    let low = keeps.byte base (word_kept cert procedure base base certificate first last (omega arith) (omega arith)) in
-    let high = keeps.byte (base + 1) (word_kept cert procedure base (base + 1) certificate first last (omega arith) (omega arith)) in
+    let low = keeps.byte base (word_kept cert procedure base base certificate c.rules first last (omega arith) (omega arith)) in
+    let high = keeps.byte (base + 1) (word_kept cert procedure base (base + 1) certificate c.rules first last (omega arith) (omega arith)) in
     let found = pushed_word c.back c.state f.entry f.base entry c.means.parts c.stack_set in
     ap (λ n. word n (peek s.storage base)) high ∙ (ap (λ n. word (peek entry.storage (base + 1)) n) low ∙ (ap (λ n. word (peek entry.storage (n + 1)) (peek entry.storage n)) e ∙ found))
 
@@ -182,26 +197,35 @@ comes_back cert f procedure entry base s t certificate w before r keeps =
       exit_items = exit_items cert.region r.exit (subst (λ q. IsState q role.Exit cert.region r.exit) c.rules exit);
       exit_core = exit.core;
       exits = subst (λ n. Means r.exit entry (n + 2) t) w.base_is r.means;
-      kept = λ b k. all.byte b (subst (λ n. IsKept cert.region (ranges_of cert procedure) n b) (sym w.base_is) k);
+      callee = setting_of cert procedure;
+      keeps = all_keep cert procedure c.rules;
+      kept = λ b k. all.byte b (subst (λ n. IsKept (setting_of cert procedure) cert.region (ranges_of cert procedure) n b) (sym w.base_is) k);
     }
 
 -- the state that the caller goes on with is covered at the address behind the call
 is_resumed : (cert : Certificate) (f : Frame) (procedure : ℕ) (entry : MState) (base : ℕ) (exit : AbsState) → (w : IsWaiting cert f procedure entry base) → exit_of cert procedure ≡ Some exit
-    → covered_at cert.nodes f.procedure w.calls.back (resumed (rules_of cert.version) (ranges_of cert procedure) w.calls.state exit) ≡ true
+    → covered_at Simple cert.nodes f.procedure w.calls.back (resumed_alone (ranges_of cert procedure) w.calls.state exit) ≡ true
+unfolding resumed
 is_resumed cert f procedure entry base exit w is =
-    subst (λ n. covered_at cert.nodes f.procedure w.calls.back (resumed (rules_of cert.version) (ranges_of cert n) w.calls.state exit) ≡ true) w.callee
-    (w.calls.resumes exit (ap (exit_of cert) w.callee ∙ is))
+    subst (λ n. covered_at Simple cert.nodes f.procedure w.calls.back (resumed_alone (ranges_of cert n) w.calls.state exit) ≡ true) w.callee
+    (simply w.calls.node.procedure w.calls.rules (w.calls.resumes exit (ap (exit_of cert) w.callee ∙ is)))
+  where
+    simply : (q : ℕ) → rules_of cert.version ≡ Simple
+        → IfSome (resumed (rules_of cert.version) (taken_by cert q) (ranges_of cert q) w.calls.state exit) (λ after. covered_at (rules_of cert.version) cert.nodes f.procedure w.calls.back after ≡ true)
+        → covered_at Simple cert.nodes f.procedure w.calls.back (resumed_alone (ranges_of cert q) w.calls.state exit) ≡ true
+    simply q simple h =
+        subst (λ (r : Rules). IfSome (resumed r (taken_by cert q) (ranges_of cert q) w.calls.state exit) (λ after. covered_at r cert.nodes f.procedure w.calls.back after ≡ true)) simple h
 
 -- the caller's state behind the call is meant by a node
 goes_on : (cert : Certificate) (f : Frame) (procedure : ℕ) (entry : MState) (base : ℕ) (s t : MState) → IsCertificate cert → (w : IsWaiting cert f procedure entry base)
     → Keeps cert procedure base entry s → Returns cert procedure entry base s t → Keeps cert procedure base s t
     → IsFoundAt cert f.procedure w.calls.back (length w.calls.state.items) f.entry f.base t
-unfolding resumed
+unfolding resumed_alone
 goes_on cert f procedure entry base s t certificate w before r keeps =
     let ranges = ranges_of cert procedure in
-    let after = resumed (rules_of cert.version) ranges w.calls.state r.exit in
+    let after = resumed_alone ranges w.calls.state r.exit in
     let back = comes_back cert f procedure entry base s t certificate w before r keeps in
-    let means = Means-resumed (rules_of cert.version) cert.region ranges w.calls.state r.exit f.entry f.base entry t back in
+    let means = Means-resumed_alone cert.region ranges w.calls.state r.exit f.entry f.base entry t back in
     found_at cert f.procedure w.calls.back after f.entry f.base t (is_resumed cert f procedure entry base r.exit w r.is_exit) means
 
 IsMeant-returned : (rom : List ℕ) (cert : Certificate) (f : Frame) (procedure : ℕ) (entry : MState) (base : ℕ) (s t : MState) → IsCertificate cert

@@ -1,9 +1,11 @@
 pub mod SearchLaws
 pub mod CoveredLaws
 pub mod ValueLaws
+pub mod ReducedValueLaws
 pub mod CoveringLaws
 pub mod ProcedureLaws
 pub mod CallLaws
+pub mod TargetLaws
 pub mod NodeLaws
 pub mod StandLaws
 pub mod WayLaws

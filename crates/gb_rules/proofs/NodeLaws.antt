@@ -1,5 +1,5 @@
 -- What is known of a node of a certificate that no reason applies to.
-use Rattle.std.proofs.Common.{◌≡◌, ℕ, zero, suc, ◌+◌, ◌≤◌, ◌<◌, Bool, true, false, cond, not, ◌&&◌, ◌||◌, ◌==◌, nat_lt, ◌⊎◌, inl, inr, List, [], ◌∷◌, length, slice_index, slice_get, get_or, Option, Some, None, is_none, refl, sym, ◌∙◌, ap, subst, arith}
+use Rattle.std.proofs.Common.{◌≡◌, ℕ, zero, suc, ◌+◌, ◌≤◌, ◌<◌, Bool, true, false, cond, not, ◌&&◌, ◌||◌, ◌==◌, nat_le, nat_lt, ◌⊎◌, inl, inr, List, [], ◌∷◌, length, slice_index, slice_get, get_or, Option, Some, None, is_none, refl, sym, ◌∙◌, ap, subst, arith}
 use Rattle.std.proofs.lemmas.Bool.{or_parts, not-false, eqb-true}
 use Rattle.gb_states.specs.declared.role.Role.TheVariants as role
 use Rattle.std.proofs.lemmas.Bool.Decides.{nat_tests}
@@ -11,6 +11,7 @@ use Rattle.gb_ops.specs.declared.op.Pair.TheVariants as pair
 use Rattle.gb_ops.specs.declared.op.Op.{Op}
 use Rattle.gb_ops.specs.declared.op.Op.TheVariants as op
 use Rattle.gb_ops.specs.declared.op.Row.{Row}
+use Rattle.gb_ops.specs.Cartridge.{kind_of}
 use Rattle.gb_ops.specs.Table.{decoded}
 use Rattle.gb_ops.specs.Machine.{length_of}
 use Rattle.gb_domain.specs.declared.types.Cell.{Cell}
@@ -18,11 +19,12 @@ use Rattle.gb_domain.specs.declared.types.Val.{Val}
 use Rattle.gb_domain.specs.declared.rules.Rules.{Rules}
 use Rattle.gb_domain.specs.declared.rules.Rules.TheVariants.{Simple, Extended}
 use Rattle.gb_domain.specs.declared.setting.Setting.{Setting}
-use Rattle.gb_domain.specs.Areas.{is_free_byte}
+use Rattle.gb_domain.specs.Areas.{are_in_ram, is_free_byte}
 use Rattle.gb_domain.specs.Limits.{rules_of, item_room}
 use Rattle.gb_domain.specs.Types.{AbsState, Node}
 use Rattle.gb_domain.specs.Certificate.{Certificate}
-use Rattle.gb_domain.specs.Areas.{IsRegion}
+use Rattle.gb_domain.specs.Areas.{IsRegion, meets}
+use Rattle.gb_domain.specs.Pairs.{ArePairs}
 use Rattle.gb_domain.specs.Rules.{IsVal, IsCell, IsChain, IsCore, after_cell}
 use Rattle.gb_states.specs.Rules.{IsNode, IsState, IsCertificate, key, role_of, needs_stack}
 use Rattle.gb_abs.specs.Cells.{ArePlaced}
@@ -39,15 +41,19 @@ use Rattle.gb_code.proofs.ByteLaws.{chosen}
 use Rattle.gb_code.proofs.CodeLaws.{KnownBytes, KnownBytes-known_bytes, IsKnown, end_of, bank_of, clear_of}
 use Rattle.gb_successors.specs.Way.{Successor}
 use Rattle.gb_successors.specs.declared.successors.Successors.{Successors}
-use Rattle.gb_successors.specs.Successors.{has, any_successor, successors_of}
-use Rattle.gb_successors.specs.Refused.{is_stack_limited, is_unknown}
-use Rattle.gb_successors.specs.Sound.{IsOneOf, IsAllowed, IsStackKnown, IsStackFit, IsPushable, IsPoppable, IsReturnable, IsRuled}
-use Rattle.gb_calls.specs.Calls.{callee_of, are_ranges_inside, resumed}
-use Rattle.gb_calls.specs.Interrupts.{dispatched, may_come, handler_of}
+use Rattle.gb_successors.specs.Successors.{has, any_successor, product_before}
+use Rattle.gb_product.specs.Reduced.{reduced}
+use Rattle.gb_product.specs.Below.gb_relations.Sound.{IsByteFree}
+use Rattle.gb_successors.specs.Refused.{is_unstorable, meets_closed, is_stack_limited, meets_oam_transfer, is_unknown}
+use Rattle.gb_successors.specs.Sound.{IsOneOf, is_followed, IsAllowed, IsStackKnown, IsStackFit, IsPushable, IsPoppable, IsReturnable, IsRuled}
+use Rattle.gb_calls.specs.Calls.{callee_of, are_ranges_inside}
+use Rattle.gb_calls.specs.Resuming.{resumed}
+use Rattle.gb_calls.specs.Interrupts.{left_by_dispatch, may_come, handler_of}
 use Rattle.gb_rules.specs.Covered.{covered_at}
-use Rattle.std.specs.Option.{IfSome}
-use Rattle.gb_rules.specs.Procedures.{ranges_of, need_of, setting_of, exit_of}
-use Rattle.gb_rules.specs.Rules.{is_extended, is_unjudged, is_stop, may_read_twice, breaks_stack, pushes_too_deep, is_code_limited, callee_by, callee_at, is_over, calls_too_deep, is_resumed_uncovered, is_uncovered, is_outside_of, is_uncallable_at, is_uncallable, is_exit_missed, is_unreturnable_at, is_unreturnable, interrupts, any_interrupt, handles_too_deep, is_dispatch_limited, is_unhandled, lacks_handler, test_row, test_instruction, is_undefined, node_bytes, any_of, grows_too_deep, stores_outside, meets_ram, meets_transfer, leads_anywhere, leads_uncovered, calls_wrongly, returns_wrongly, applies_to_row, applies, reasons, reason_of}
+use Rattle.gb_rules.proofs.TargetLaws.{way_followed}
+use Rattle.std.specs.Option.{IfSome, is_some}
+use Rattle.gb_rules.specs.Procedures.{ranges_of, need_of, setting_of, stack_of, exit_of, taken_by}
+use Rattle.gb_rules.specs.Rules.{is_extended, is_unjudged, is_stop, may_read_twice, breaks_simple_stack, breaks_stack_by, breaks_stack, pushes_too_deep, moves_too_deep, is_code_limited, callee_by, callee_at, is_over, calls_too_deep, is_resumed_uncovered, is_uncovered_if, is_uncovered, is_outside_of, is_uncallable_at, is_uncallable, is_exit_missed, is_unreturnable_at, is_unreturnable, interrupts, any_interrupt, is_dispatch_deep, handles_too_deep, is_dispatch_limited, is_unhandled, lacks_handler, test_row, test_instruction, is_undefined, node_bytes, ways_of, any_of, is_possible, grows_too_deep, stores_outside, meets_ram, meets_transfer, leads_anywhere, leads_uncovered, calls_wrongly, returns_wrongly, applies_to_row, applies, reasons, reason_of}
 
 -- ---- a node of a certificate is one of its grammar
 
@@ -76,6 +82,8 @@ pub record IsNodeState (cert : Certificate) (n : Node) : Type 0 where
   pub vals : AreVals n.state.cells
   pub items : AllByRecursion IsVal n.state.items
   pub byte : IfSome n.state.relations.byte.address (λ a. is_free_byte cert.region a ≡ true)
+  pub free : IsByteFree cert.region n.state.relations.byte.address
+  pub pairs : ArePairs n.state.relations.pairs
   pub stack : 0 < n.procedure → n.state.core.stack_set ≡ true
 
 needs_other : (procedure : ℕ) (set : Bool) → 0 < procedure → (set || not (needs_stack (role_of procedure))) ≡ true → set ≡ true
@@ -85,6 +93,15 @@ needs_other procedure set lt h = by (procedure == 0) refl set h
     by true e set h = let none : procedure ≡ 0 = eqb-true procedure 0 e in absurd (omega arith)
     by false e true h = refl
     by false e false h = cc
+
+-- an address among the places lies in RAM, outside the region
+free_from : (region : Region) (o : Option ℕ) → IfSome o (λ a. is_free_byte region a ≡ true) → IsByteFree region o
+free_from region None h = tt
+free_from region (Some a) h = without_order (nat_le a a) (are_in_ram a a) (not (meets region a a)) h
+  where
+    without_order : (order ram apart : Bool) → ((order && ram) && apart) ≡ true → (ram && apart) ≡ true
+    without_order true ram apart h = h
+    without_order false ram apart h = cc
 
 pub IsNodeState-node : (cert : Certificate) (n : Node) → IsCertificate cert → Contains cert.nodes n → IsNodeState cert n
 IsNodeState-node cert n c is =
@@ -99,6 +116,8 @@ IsNodeState-node cert n c is =
       vals = vals_from cert.region 0 n.state.cells state.cells;
       items = state.items;
       byte = state.relations.byte.address;
+      free = free_from cert.region n.state.relations.byte.address state.relations.byte.address;
+      pairs = state.relations.pairs;
       stack = λ other. needs_other n.procedure n.state.core.stack_set other state.stack;
     }
 
@@ -125,7 +144,7 @@ pub record Passes (rom : List ℕ) (cert : Certificate) (n : Node) : Type 0 wher
   pub stop : is_stop row.op ≡ false
   pub halt : may_read_twice rom n row.op ≡ false
   pub rules : rules_of cert.version ≡ Simple
-  pub stack : breaks_stack cert.region n row.op ≡ false
+  pub stack : breaks_simple_stack cert.region n row.op ≡ false
   pub depth : grows_too_deep rom cert n row ≡ false
   pub stores : stores_outside rom cert n row ≡ false
   pub ram : meets_ram rom cert n row ≡ false
@@ -149,6 +168,11 @@ is_simple : (r : Rules) → is_extended r ≡ false → r ≡ Simple
 is_simple Simple h = refl
 is_simple Extended h = cc
 
+-- by the rules of versions 1 and 2
+simple_stack : (cert : Certificate) (n : Node) (o : Op) → rules_of cert.version ≡ Simple → breaks_stack (stack_of cert n.procedure) n o ≡ false → breaks_simple_stack cert.region n o ≡ false
+unfolding stack_of setting_of
+simple_stack cert n o simple h = subst (λ (q : Rules). breaks_stack_by q (stack_of cert n.procedure) n o ≡ false) simple h
+
 pub Passes-from : (rom : List ℕ) (cert : Certificate) (n : Node) → reason_of rom cert n ≡ None → Passes rom cert n
 unfolding reason_of applies applies_to_row node_bytes is_unjudged
 Passes-from rom cert n h =
@@ -157,6 +181,8 @@ Passes-from rom cert n h =
     let known = KnownBytes-known_bytes rom n.state n.address bytes.0 bytes.1 in
     let row = some_from _ (undefined_use _ bytes.0 bytes.1 none.1.1.1.0) in
     let end = end_of _ _ _ _ known.is_opcode none.0 in
+    let at_stack = or_parts _ _ (row_use _ _ bytes.0 row.0 bytes.1 row.1 none.1.1.1.1.1.1.0) in
+    let simple = is_simple (rules_of cert.version) at_stack.0 in
     record {
       bytes = bytes.0;
       known = known;
@@ -168,8 +194,8 @@ Passes-from rom cert n h =
       bank = bank_of _ _ none.1.0;
       stop = row_use _ _ bytes.0 row.0 bytes.1 row.1 none.1.1.1.1.0;
       halt = row_use _ _ bytes.0 row.0 bytes.1 row.1 none.1.1.1.1.1.0;
-      rules = is_simple (rules_of cert.version) (or_parts _ _ (row_use _ _ bytes.0 row.0 bytes.1 row.1 none.1.1.1.1.1.1.0)).0;
-      stack = (or_parts _ _ (row_use _ _ bytes.0 row.0 bytes.1 row.1 none.1.1.1.1.1.1.0)).1;
+      rules = simple;
+      stack = simple_stack cert n row.0.op simple at_stack.1;
       depth = row_use _ _ bytes.0 row.0 bytes.1 row.1 none.1.1.1.1.1.1.1.0;
       stores = row_use _ _ bytes.0 row.0 bytes.1 row.1 none.1.1.1.1.1.1.1.1.0;
       ram = row_use _ _ bytes.0 row.0 bytes.1 row.1 none.1.1.1.1.1.1.1.1.1.0;
@@ -219,8 +245,8 @@ loaded_stack region n base w main h = ap (λ v. op.LoadPair pair.Sp v) (by n.pro
         let top : base ≡ region.last + 1 = main first in
         word ∙ sym top
 
-loaded_pair : (z : Setting) (region : Region) (n : Node) (base w : ℕ) (which : Pair) → (n.procedure ≡ 0 → base ≡ region.last + 1) → breaks_stack region n (op.LoadPair which w) ≡ false → IsStackKnown z region (op.LoadPair which w) n.state base
-unfolding breaks_stack
+loaded_pair : (z : Setting) (region : Region) (n : Node) (base w : ℕ) (which : Pair) → (n.procedure ≡ 0 → base ≡ region.last + 1) → breaks_simple_stack region n (op.LoadPair which w) ≡ false → IsStackKnown z region (op.LoadPair which w) n.state base
+unfolding breaks_simple_stack
 loaded_pair z region n base w pair.Bc main h = inl refl
 loaded_pair z region n base w pair.De main h = inl refl
 loaded_pair z region n base w pair.Hl main h = inl refl
@@ -257,8 +283,8 @@ poppable s h =
     enough : (n : ℕ) → nat_lt n 2 ≡ false → 2 ≤ n
     enough n h = grind (arith, nat_tests)
 
-stack_known : (z : Setting) (region : Region) (need base : ℕ) (n : Node) (o : Op) → (n.procedure ≡ 0 → base ≡ region.last + 1) → AreInRegion region base need → breaks_stack region n o ≡ false → pushes_too_deep need n o ≡ false → z.rules ≡ Simple → IsStackKnown z region o n.state base
-unfolding breaks_stack pushes_too_deep
+stack_known : (z : Setting) (region : Region) (need base : ℕ) (n : Node) (o : Op) → (n.procedure ≡ 0 → base ≡ region.last + 1) → AreInRegion region base need → breaks_simple_stack region n o ≡ false → pushes_too_deep need n o ≡ false → z.rules ≡ Simple → IsStackKnown z region o n.state base
+unfolding breaks_simple_stack pushes_too_deep item_room
 stack_known z region need base n (op.LoadPair which w) main room h deep simple = loaded_pair z region n base w which main h
 stack_known z region need base n (op.Push from) main room h deep simple = inr (inr (inl (refl, pushable z region need base n.state room h deep simple)))
 stack_known z region need base n (op.Pop to) main room h deep simple = inr (inr (inr (inl (refl, poppable n.state h))))
@@ -275,9 +301,49 @@ pub simple_setting : (cert : Certificate) (procedure : ℕ) → rules_of cert.ve
 unfolding setting_of
 simple_setting cert procedure h = h
 
+-- what is asked of its depth
+
+some_before : (cert : Certificate) (n : Node) → rules_of cert.version ≡ Simple → is_possible cert n ≡ true
+unfolding product_before reduced
+some_before cert n simple = subst (λ (q : Rules). is_some (product_before q n.state) ≡ true) (sym simple) refl
+
+-- each of the three by itself
+pub record IsShallow (rom : List ℕ) (cert : Certificate) (n : Node) (row : Row) : Type 0 where
+  pub pushes : pushes_too_deep (need_of cert n.procedure) n row.op ≡ false
+  pub calls : any_of (calls_too_deep cert (setting_of cert n.procedure) (need_of cert n.procedure)) rom cert n row ≡ false
+  pub handles : handles_too_deep cert n ≡ false
+
+where_possible : (a b : Bool) → a ≡ true → (a && b) ≡ false → b ≡ false
+where_possible true b e h = h
+where_possible false b e h = cc
+
+pub shallow : (rom : List ℕ) (cert : Certificate) (n : Node) (p : Passes rom cert n) → IsShallow rom cert n p.row
+unfolding grows_too_deep
+shallow rom cert n p =
+    let parts = or_parts _ _ p.depth in
+    let first = or_parts _ _ parts.0 in
+    record {
+      pushes = subst (λ (q : Rules). moves_too_deep q (need_of cert n.procedure) n p.row.op (ways_of rom cert n p.row).taken ≡ false) p.rules first.0;
+      calls = first.1;
+      handles = where_possible (is_possible cert n) (handles_too_deep cert n) (some_before cert n p.rules) parts.1;
+    }
+
+-- what is asked of it while an OAM transfer may run
+pub record IsOpen (rom : List ℕ) (cert : Certificate) (n : Node) (row : Row) : Type 0 where
+  pub accesses : any_of (λ t. is_code_limited n.state.core n.address row.length || meets_oam_transfer cert.region n.state.core t) rom cert n row ≡ false
+  pub dispatches : is_dispatch_limited cert.region n ≡ false
+
+pub unlimited : (rom : List ℕ) (cert : Certificate) (n : Node) (p : Passes rom cert n) → IsOpen rom cert n p.row
+unfolding meets_transfer
+unlimited rom cert n p =
+    let parts = or_parts _ _ p.oam_transfer in
+    record {
+      accesses = parts.0;
+      dispatches = where_possible (is_possible cert n) (is_dispatch_limited cert.region n) (some_before cert n p.rules) parts.1;
+    }
+
 pub ruled : (rom : List ℕ) (cert : Certificate) (n : Node) (base : ℕ) (p : Passes rom cert n) → IsRom rom → IsNodeState cert n → (n.procedure ≡ 0 → base ≡ cert.region.last + 1)
     → AreInRegion cert.region base (need_of cert n.procedure) → IsRuled (setting_of cert n.procedure) cert.region p.row n.state base
-unfolding grows_too_deep
 ruled rom cert n base p r s main room =
     let second : p.known.second < 256 = where_small _ rom n.state _ _ r s.core s.vals p.known.is_second in
     let third : p.known.third < 256 = where_small _ rom n.state _ _ r s.core s.vals p.known.is_third in
@@ -286,7 +352,7 @@ ruled rom cert n base p r s main room =
     record {
       operands = HasBytes-decoded p.bytes p.row (subst (λ k. k < 256) (sym at_second) second) (subst (λ k. k < 256) (sym at_third) third) p.is_row;
       runs = not_stop p.row.op p.stop;
-      stack = stack_known (setting_of cert n.procedure) cert.region (need_of cert n.procedure) base n p.row.op main room p.stack (or_parts _ _ (or_parts _ _ p.depth).0).0 (simple_setting cert n.procedure p.rules);
+      stack = stack_known (setting_of cert n.procedure) cert.region (need_of cert n.procedure) base n p.row.op main room p.stack (shallow rom cert n p).pushes (simple_setting cert n.procedure p.rules);
     }
 
 -- ---- nothing is against a successor
@@ -305,12 +371,16 @@ none_of test ss t h is = by is (parts _ _ _ h)
     by (inr (inl e)) k = sym (ap (has test) e) ∙ k.1
     by (inr (inr e)) k = sym (ap (has test) e) ∙ k.2
 
--- the successors of a node's instruction
-abbrev pub ways_of : List ℕ → Certificate → Node → Row → Successors
-ways_of rom cert n row = successors_of (setting_of cert n.procedure) rom cert.region row n.address n.state
+-- where its states stand by the rules of versions 1 and 2
+abbrev pub simple_at : Certificate → Node → Setting
+simple_at cert n = record (setting_of cert n.procedure) { rules = Simple }
+
+pub simply : (cert : Certificate) (n : Node) → rules_of cert.version ≡ Simple → setting_of cert n.procedure ≡ simple_at cert n
+unfolding setting_of
+simply cert n simple = ap (λ (q : Rules). record (setting_of cert n.procedure) { rules = q }) simple
 
 -- what a call asks for: a callee, with room for the return address
-callable : (cert : Certificate) (n : Node) (t : Successor) (base a : ℕ) (o : Option ℕ) → is_outside_of cert n.procedure o ≡ false → is_over cert (need_of cert n.procedure) (length t.state.items) o ≡ false
+callable : (cert : Certificate) (n : Node) (t : Successor) (base a : ℕ) (o : Option ℕ) → is_outside_of (simple_at cert n) cert n.procedure o ≡ false → is_over Simple cert (need_of cert n.procedure) (length t.state.items) o ≡ false
     → AreInRegion cert.region base (need_of cert n.procedure) → AreInRegion cert.region base (length t.state.items + 2)
 callable cert n t base a None outside over room = cc
 callable cert n t base a (Some q) outside over room = fewer_bytes cert.region base (need_of cert n.procedure) (length t.state.items + 2) room (fits (need_of cert n.procedure) (length t.state.items) (need_of cert q) over)
@@ -319,7 +389,7 @@ callable cert n t base a (Some q) outside over room = fewer_bytes cert.region ba
     fits need held more h = grind (arith, nat_tests)
 
 -- what a return asks for: an exit, with nothing held
-returnable : (cert : Certificate) (n : Node) (t : Successor) (base : ℕ) (o : Option AbsState) → IsNodeState cert n → (n.procedure == 0 || is_exit_missed t.state o) ≡ false
+returnable : (cert : Certificate) (n : Node) (t : Successor) (base : ℕ) (o : Option AbsState) → IsNodeState cert n → (n.procedure == 0 || is_exit_missed Simple t.state o) ≡ false
     → (0 < n.procedure → base + 2 ≤ cert.region.last + 1) → AreInRegion cert.region base (need_of cert n.procedure) → IsReturnable cert.region n.state t base
 returnable cert n t base o state h word room =
     let p = or_parts _ _ h in
@@ -335,60 +405,73 @@ returnable cert n t base o state h word room =
     empty [] h = refl
     empty (i ∷ items) h = cc
 
-    no_items : (o : Option AbsState) (s : AbsState) → is_exit_missed s o ≡ false → s.items ≡ []
+    no_items : (o : Option AbsState) (s : AbsState) → is_exit_missed Simple s o ≡ false → s.items ≡ []
     no_items None s h = cc
     no_items (Some exit) s h = empty s.items (eqb-true _ _ (not-false _ (or_parts _ _ h).0))
 
-pub allowed : (rom : List ℕ) (cert : Certificate) (n : Node) (p : Passes rom cert n) (base : ℕ) (t : Successor) → IsOneOf (ways_of rom cert n p.row) t → IsNodeState cert n
-    → (0 < n.procedure → base + 2 ≤ cert.region.last + 1) → AreInRegion cert.region base (need_of cert n.procedure) → IsAllowed rom cert.region (ranges_of cert n.procedure) n.state base t
-unfolding stores_outside meets_ram meets_transfer grows_too_deep calls_wrongly returns_wrongly any_of is_uncallable is_unreturnable calls_too_deep callee_at
-allowed rom cert n p base t is state word room =
-    record {
-      stores = none_of _ (ways_of rom cert n p.row) t p.stores is;
-      ram = none_of _ (ways_of rom cert n p.row) t p.ram is;
-      oam_transfer = (or_parts _ _ (none_of _ (ways_of rom cert n p.row) t (or_parts _ _ p.oam_transfer).0 is)).1;
-      stack = by t.target
-          (none_of (is_uncallable cert n.procedure) (ways_of rom cert n p.row) t p.calls is)
-          (none_of (calls_too_deep cert (need_of cert n.procedure)) (ways_of rom cert n p.row) t (or_parts _ _ (or_parts _ _ p.depth).0).1 is)
-          (none_of (is_unreturnable cert n.procedure) (ways_of rom cert n p.row) t p.returns is);
-    }
-  where
-    by : (w : Target) → is_uncallable_at cert n.procedure w t.state ≡ false → is_over cert (need_of cert n.procedure) (length t.state.items) (callee_by cert w t.state) ≡ false
-        → is_unreturnable_at cert n.procedure w t.state ≡ false → IsStackFit cert.region w n.state t base
-    by (target.At a) calls deep returns = tt
-    by (target.Call a) calls deep returns = callable cert n t base a (callee_of cert a t.state) calls deep room
-    by target.Return calls deep returns = returnable cert n t base (exit_of cert n.procedure) state returns word room
-    by target.Unknown calls deep returns = tt
-
-pub not_uncallable : (rom : List ℕ) (cert : Certificate) (n : Node) (p : Passes rom cert n) (t : Successor) → IsOneOf (ways_of rom cert n p.row) t → is_uncallable cert n.procedure t ≡ false
+pub not_uncallable : (rom : List ℕ) (cert : Certificate) (n : Node) (p : Passes rom cert n) (t : Successor) → IsOneOf (ways_of rom cert n p.row) t → is_uncallable (simple_at cert n) cert n.procedure t ≡ false
 unfolding calls_wrongly any_of
-not_uncallable rom cert n p t is = none_of _ (ways_of rom cert n p.row) t p.calls is
+not_uncallable rom cert n p t is =
+    subst (λ (z : Setting). is_uncallable z cert n.procedure t ≡ false) (simply cert n p.rules) (none_of (is_uncallable (setting_of cert n.procedure) cert n.procedure) (ways_of rom cert n p.row) t p.calls is)
 
-pub not_too_deep : (rom : List ℕ) (cert : Certificate) (n : Node) (p : Passes rom cert n) (t : Successor) → IsOneOf (ways_of rom cert n p.row) t → calls_too_deep cert (need_of cert n.procedure) t ≡ false
-unfolding grows_too_deep any_of
-not_too_deep rom cert n p t is = none_of _ (ways_of rom cert n p.row) t (or_parts _ _ (or_parts _ _ p.depth).0).1 is
+pub not_too_deep : (rom : List ℕ) (cert : Certificate) (n : Node) (p : Passes rom cert n) (t : Successor) → IsOneOf (ways_of rom cert n p.row) t
+    → calls_too_deep cert (simple_at cert n) (need_of cert n.procedure) t ≡ false
+unfolding any_of
+not_too_deep rom cert n p t is =
+    subst (λ (z : Setting). calls_too_deep cert z (need_of cert n.procedure) t ≡ false) (simply cert n p.rules)
+    (none_of (calls_too_deep cert (setting_of cert n.procedure) (need_of cert n.procedure)) (ways_of rom cert n p.row) t (shallow rom cert n p).calls is)
 
-pub not_unreturnable : (rom : List ℕ) (cert : Certificate) (n : Node) (p : Passes rom cert n) (t : Successor) → IsOneOf (ways_of rom cert n p.row) t → is_unreturnable cert n.procedure t ≡ false
+pub not_unreturnable : (rom : List ℕ) (cert : Certificate) (n : Node) (p : Passes rom cert n) (t : Successor) → IsOneOf (ways_of rom cert n p.row) t → is_unreturnable Simple cert n.procedure t ≡ false
 unfolding returns_wrongly any_of
-not_unreturnable rom cert n p t is = none_of _ (ways_of rom cert n p.row) t p.returns is
+not_unreturnable rom cert n p t is =
+    subst (λ (q : Rules). is_unreturnable q cert n.procedure t ≡ false) p.rules (none_of (is_unreturnable (rules_of cert.version) cert n.procedure) (ways_of rom cert n p.row) t p.returns is)
 
 pub not_unknown : (rom : List ℕ) (cert : Certificate) (n : Node) (p : Passes rom cert n) (t : Successor) → IsOneOf (ways_of rom cert n p.row) t → is_unknown t.target ≡ false
 unfolding leads_anywhere any_of
-not_unknown rom cert n p t is = none_of _ (ways_of rom cert n p.row) t p.jump is
+not_unknown rom cert n p t is = none_of (λ w. is_unknown w.target) (ways_of rom cert n p.row) t p.jump is
 
-pub not_uncovered : (rom : List ℕ) (cert : Certificate) (n : Node) (p : Passes rom cert n) (t : Successor) → IsOneOf (ways_of rom cert n p.row) t → is_uncovered cert n.procedure t ≡ false
+-- it goes on in the procedure, calls or returns
+pub followed : (rom : List ℕ) (cert : Certificate) (n : Node) (p : Passes rom cert n) (t : Successor) → IsOneOf (ways_of rom cert n p.row) t → is_followed t.target ≡ true
+unfolding ways_of stack_of setting_of
+followed rom cert n p t is = way_followed (stack_of cert n.procedure) rom p.row n.address n.state t p.rules is (not_unknown rom cert n p t is)
+
+pub not_uncovered : (rom : List ℕ) (cert : Certificate) (n : Node) (p : Passes rom cert n) (t : Successor) → IsOneOf (ways_of rom cert n p.row) t → is_uncovered (simple_at cert n) cert n.procedure t ≡ false
 unfolding leads_uncovered any_of
-not_uncovered rom cert n p t is = none_of _ (ways_of rom cert n p.row) t p.covered is
+not_uncovered rom cert n p t is =
+    subst (λ (z : Setting). is_uncovered z cert n.procedure t ≡ false) (simply cert n p.rules) (none_of (is_uncovered (setting_of cert n.procedure) cert n.procedure) (ways_of rom cert n p.row) t p.covered is)
+
+pub allowed : (rom : List ℕ) (cert : Certificate) (n : Node) (p : Passes rom cert n) (base : ℕ) (t : Successor) → IsOneOf (ways_of rom cert n p.row) t → IsNodeState cert n
+    → (0 < n.procedure → base + 2 ≤ cert.region.last + 1) → AreInRegion cert.region base (need_of cert n.procedure)
+    → IsAllowed (setting_of cert n.procedure) rom cert.region (ranges_of cert n.procedure) n.state base t
+unfolding stores_outside meets_ram any_of is_uncallable is_unreturnable calls_too_deep callee_at
+allowed rom cert n p base t is state word room =
+    record {
+      stores = none_of (λ w. is_unstorable (setting_of cert n.procedure) (kind_of rom) cert.region (ranges_of cert n.procedure) w.write) (ways_of rom cert n p.row) t p.stores is;
+      ram = none_of (meets_closed rom n.state.core) (ways_of rom cert n p.row) t p.ram is;
+      oam_transfer =
+          (or_parts _ _ (none_of (λ w. is_code_limited n.state.core n.address p.row.length || meets_oam_transfer cert.region n.state.core w) (ways_of rom cert n p.row) t (unlimited rom cert n p).accesses is)).1;
+      stack = by t.target (followed rom cert n p t is) (not_uncallable rom cert n p t is) (not_too_deep rom cert n p t is) (not_unreturnable rom cert n p t is);
+    }
+  where
+    by : (w : Target) → is_followed w ≡ true → is_uncallable_at (simple_at cert n) cert n.procedure w t.state ≡ false
+        → is_over Simple cert (need_of cert n.procedure) (length t.state.items) (callee_by cert (simple_at cert n) w t.state) ≡ false
+        → is_unreturnable_at Simple cert n.procedure w t.state ≡ false → IsStackFit cert.region w n.state t base
+    by (target.At a) known calls deep returns = tt
+    by (target.Call a) known calls deep returns = callable cert n t base a (callee_of cert (simple_at cert n) a t.state) calls deep room
+    by target.Return known calls deep returns = returnable cert n t base (exit_of cert n.procedure) state returns word room
+    by (target.Main a) known calls deep returns = cc
+    by target.Unknown known calls deep returns = cc
+    by target.Lost known calls deep returns = cc
 
 first_is : (bytes : List ℕ) (a b c : ℕ) → bytes ≡ a ∷ b ∷ c ∷ [] → slice_index bytes 0 ≡ a
 first_is bytes a b c h = rw h refl
 
 -- where there is a successor, no OAM transfer closes the instruction's bytes
 pub known_by : (rom : List ℕ) (cert : Certificate) (n : Node) (p : Passes rom cert n) (t : Successor) → IsOneOf (ways_of rom cert n p.row) t → IsKnown rom n p.bytes
-unfolding meets_transfer any_of is_code_limited
+unfolding any_of is_code_limited
 known_by rom cert n p t is =
     let length : p.row.length ≡ length_of p.known.opcode = length-decoded p.bytes p.row p.is_row ∙ ap length_of (first_is p.bytes _ _ _ p.known.bytes_are) in
-    let open_ = clear_of n.state.core.bound n.address p.row.length (or_parts _ _ (none_of _ (ways_of rom cert n p.row) t (or_parts _ _ p.oam_transfer).0 is)).0 in
+    let open_ = clear_of n.state.core.bound n.address p.row.length (or_parts _ _ (none_of (λ w. is_code_limited n.state.core n.address p.row.length || meets_oam_transfer cert.region n.state.core w) (ways_of rom cert n p.row) t (unlimited rom cert n p).accesses is)).0 in
     record {
       known = p.known;
       end = p.end;
@@ -426,15 +509,20 @@ pub record IsProvided (cert : Certificate) (n : Node) (i : ℕ) : Type 0 where
   pub stack_set : n.state.core.stack_set ≡ true
   pub clear : is_stack_limited cert.region n.state.core ≡ false
   pub handler : ℕ
-  pub is_handler : handler_of cert i n.state ≡ Some handler
+  pub is_handler : handler_of cert (simple_at cert n) i n.address n.state ≡ Some handler
   pub inside : are_ranges_inside (ranges_of cert handler) (ranges_of cert n.procedure) ≡ true
   pub depth : length n.state.items + 2 + need_of cert handler ≤ need_of cert n.procedure
   pub resumes :
       (exit : AbsState) → exit_of cert handler ≡ Some exit
-      → covered_at cert.nodes n.procedure n.address (resumed (rules_of cert.version) (ranges_of cert handler) (dispatched n.state) exit) ≡ true
+      → IfSome (resumed Simple (taken_by cert handler) (ranges_of cert handler) (left_by_dispatch Simple n.address n.state) exit)
+      (λ after. covered_at Simple cert.nodes n.procedure n.address after ≡ true)
 
-provided : (cert : Certificate) (n : Node) (i : ℕ) (o : Option ℕ) → handler_of cert i n.state ≡ o → is_stack_limited cert.region n.state.core ≡ false
-    → is_unhandled cert n o ≡ false → is_over cert (need_of cert n.procedure) (length n.state.items) o ≡ false → IsProvided cert n i
+pub covered_if : (cert : Certificate) (procedure a : ℕ) (o : Option AbsState) → is_uncovered_if Simple cert procedure a o ≡ false → IfSome o (λ s. covered_at Simple cert.nodes procedure a s ≡ true)
+covered_if cert procedure a None h = tt
+covered_if cert procedure a (Some s) h = not-false _ (or_parts _ _ h).1
+
+provided : (cert : Certificate) (n : Node) (i : ℕ) (o : Option ℕ) → handler_of cert (simple_at cert n) i n.address n.state ≡ o → is_stack_limited cert.region n.state.core ≡ false
+    → is_unhandled (simple_at cert n) cert n i o ≡ false → is_over Simple cert (need_of cert n.procedure) (length n.state.items) o ≡ false → IsProvided cert n i
 provided cert n i None e clear handled over = absurd (none_out (not n.state.core.stack_set) handled)
   where
     none_out : (a : Bool) → (a || true || false) ≡ false → ⊥
@@ -450,16 +538,20 @@ provided cert n i (Some q) e clear handled over =
       is_handler = e;
       inside = not-false _ r.1;
       depth = held (length n.state.items + 2 + need_of cert q) (need_of cert n.procedure) over;
-      resumes = λ exit is. not-false _ (subst (λ o. is_resumed_uncovered cert n.procedure n.address (dispatched n.state) (ranges_of cert q) o ≡ false) is p.1);
+      resumes = λ exit is.
+          covered_if cert n.procedure n.address _
+          (subst (λ o. is_resumed_uncovered Simple cert n.procedure n.address (left_by_dispatch Simple n.address n.state) q o ≡ false) is p.1);
     }
   where
     held : (m need : ℕ) → nat_lt need m ≡ false → m ≤ need
     held m need h = grind (arith, nat_tests)
 
 pub IsProvided-passed : (rom : List ℕ) (cert : Certificate) (n : Node) (p : Passes rom cert n) (i : ℕ) → lacks_handler cert n ≡ false → i < 5 → may_come i n.state.core ≡ true → IsProvided cert n i
-unfolding grows_too_deep meets_transfer handles_too_deep is_dispatch_limited lacks_handler
+unfolding handles_too_deep is_dispatch_limited lacks_handler
 IsProvided-passed rom cert n p i handled lt may =
-    provided cert n i (handler_of cert i n.state) refl
-    (one_interrupt (λ i. is_stack_limited cert.region n.state.core) n i (or_parts _ _ p.oam_transfer).1 lt may)
-    (one_interrupt (λ i. is_unhandled cert n (handler_of cert i n.state)) n i handled lt may)
-    (one_interrupt (λ i. is_over cert (need_of cert n.procedure) (length n.state.items) (handler_of cert i n.state)) n i (or_parts _ _ p.depth).1 lt may)
+    provided cert n i (handler_of cert (simple_at cert n) i n.address n.state) refl
+    (one_interrupt (λ i. is_stack_limited cert.region n.state.core) n i (unlimited rom cert n p).dispatches lt may)
+    (subst (λ (z : Setting). is_unhandled z cert n i (handler_of cert z i n.address n.state) ≡ false) (simply cert n p.rules)
+    (one_interrupt (λ i. is_unhandled (setting_of cert n.procedure) cert n i (handler_of cert (setting_of cert n.procedure) i n.address n.state)) n i handled lt may))
+    (subst (λ (z : Setting). is_dispatch_deep z cert (need_of cert n.procedure) n.state (handler_of cert z i n.address n.state) ≡ false) (simply cert n p.rules)
+    (one_interrupt (λ i. is_dispatch_deep (setting_of cert n.procedure) cert (need_of cert n.procedure) n.state (handler_of cert (setting_of cert n.procedure) i n.address n.state)) n i (shallow rom cert n p).handles lt may))

@@ -9,12 +9,14 @@ use Rattle.gb_abs.specs.Stack.{AreInRegion}
 use Rattle.gb_code.specs.Below.gb_abs_memory.Sound.{IsRom}
 use Rattle.gb_code.proofs.CodeLaws.{IsKnown, IsAt as IsAtCode}
 use Rattle.gb_successors.specs.Way.{Successor}
+use Rattle.gb_successors.specs.declared.stacks.Stack.{Stack}
 use Rattle.gb_successors.specs.Sound.{IsOneOf, Stands, AreSoundSuccessors}
 use Rattle.gb_successors.proofs.WayLaws.{successors_of_sound}
 use Rattle.gb_states.specs.Rules.{IsCertificate}
-use Rattle.gb_rules.specs.Procedures.{ranges_of, need_of, setting_of}
+use Rattle.gb_rules.specs.Procedures.{ranges_of, need_of, setting_of, stack_of}
+use Rattle.gb_rules.specs.Rules.{ways_of}
 use Rattle.gb_rules.proofs.ProcedureLaws.{based_setting}
-use Rattle.gb_rules.proofs.NodeLaws.{IsNodeState, Passes, ways_of, simple_setting, ruled, known_by, fewer_bytes}
+use Rattle.gb_rules.proofs.NodeLaws.{IsNodeState, Passes, simple_setting, ruled, known_by, fewer_bytes}
 
 -- the machine stands at a node that passes
 pub record OnNode (rom : List ℕ) (cert : Certificate) (n : Node) (entry : MState) (base : ℕ) (x : MState) : Type 0 where
@@ -36,6 +38,8 @@ stands rom cert n entry base x k = record {
   is_region = k.state.is_region;
   core = k.state.core;
   placed = k.state.placed;
+  free = k.state.free;
+  pairs = k.state.pairs;
   vals = k.state.vals;
   items = k.state.items;
   room = fewer_bytes cert.region base (need_of cert n.procedure) (length n.state.items) k.room k.depth;
@@ -45,9 +49,14 @@ stands rom cert n entry base x k = record {
   at = k.address;
 }
 
+-- where its procedure's states stand, and how much it may have on the stack
+abbrev pub whole_stack : Certificate → ℕ → Stack
+whole_stack cert procedure = record { setting = setting_of cert procedure; region = cert.region; need = need_of cert procedure; main_need = need_of cert 0 }
+
 pub sound_ways : (rom : List ℕ) (cert : Certificate) (n : Node) (entry : MState) (base : ℕ) (x : MState) (k : OnNode rom cert n entry base x)
-    → AreSoundSuccessors (setting_of cert n.procedure) rom cert.region k.passes.row n.address n.state (ways_of rom cert n k.passes.row)
-sound_ways rom cert n entry base x k = successors_of_sound (setting_of cert n.procedure) rom cert.region k.passes.row n.address n.state (ways_of rom cert n k.passes.row) refl
+    → AreSoundSuccessors (whole_stack cert n.procedure) rom k.passes.row n.address n.state (ways_of rom cert n k.passes.row)
+unfolding ways_of stack_of
+sound_ways rom cert n entry base x k = successors_of_sound (whole_stack cert n.procedure) rom k.passes.row n.address n.state (ways_of rom cert n k.passes.row) refl
 
 -- the same machine without the HALT mark
 abbrev pub unmarked : MState → MState

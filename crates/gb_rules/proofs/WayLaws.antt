@@ -1,5 +1,6 @@
 -- What a successor of a node that passes leads to: a node of the procedure, a callee, or the procedure's exit.
 use Rattle.std.proofs.Common.{◌≡◌, ℕ, zero, suc, ◌+◌, ◌≤◌, ◌<◌, Bool, true, false, cond, ◌&&◌, ◌||◌, ◌==◌, nat_lt, inl, inr, List, [], ◌∷◌, length, slice_get, Option, Some, None, refl, sym, ◌∙◌, subst, arith}
+use Rattle.std.specs.Prelude.{IfSome}
 use Rattle.std.proofs.lemmas.Bool.{not-false, and_parts, or_parts, eqb-true}
 use Rattle.std.proofs.lemmas.Bool.Decides.{nat_tests}
 use Rattle.std.proofs.lemmas.Option.{same_Some}
@@ -13,26 +14,28 @@ use Rattle.gb_product.specs.Meaning.{AreRelated, Means}
 use Rattle.gb_abs.specs.Stack.{AreInRegion, pushed}
 use Rattle.gb_abs.specs.Meaning.{MeansParts}
 use Rattle.gb_domain.specs.declared.types.Halves.{Halves}
+use Rattle.gb_domain.specs.declared.rules.Rules.{Rules}
 use Rattle.gb_domain.specs.declared.rules.Rules.TheVariants.{Simple}
-use Rattle.gb_domain.specs.Limits.{rules_of}
+use Rattle.gb_product.specs.Covering.{covers}
+use Rattle.gb_domain.specs.Limits.{rules_of, item_room}
 use Rattle.gb_successors.specs.Below.gb_abs_effects.Pairs.{known_word}
 use Rattle.gb_product.proofs.CoveringLaws.{Means-covered}
 use Rattle.gb_successors.specs.Below.gb_abs_effects.declared.targets.Target.{Target}
 use Rattle.gb_successors.specs.Below.gb_abs_effects.declared.targets.Target.TheVariants as target
 use Rattle.gb_successors.specs.Below.gb_abs_effects.Targets.{is_push}
-use Rattle.gb_calls.specs.Calls.{entered, callee_of, are_ranges_inside, resumed}
+use Rattle.gb_calls.specs.Calls.{entered_by, callee_of, are_ranges_inside}
+use Rattle.gb_calls.specs.Resuming.{resumed}
 use Rattle.gb_calls.proofs.CalleeLaws.{IsCallee-found, IsEntryNode-entry}
 use Rattle.gb_successors.specs.Way.{Successor}
-use Rattle.gb_successors.specs.Refused.{is_unknown}
-use Rattle.gb_successors.specs.Sound.{bytes_behind, IsOneOf, StaysAt, CallsAt, ReturnsTo, LeadsTo}
+use Rattle.gb_successors.specs.Sound.{bytes_behind, is_followed, IsOneOf, StaysAt, CallsAt, ReturnsTo, LeadsTo}
 use Rattle.gb_successors.specs.Sound as successors
 use Rattle.gb_rules.specs.Covered.{covered_at}
-use Rattle.gb_rules.specs.Procedures.{ranges_of, need_of, exit_of}
-use Rattle.gb_rules.specs.Rules.{pushes_too_deep, callee_by, callee_at, is_over, calls_too_deep, is_resumed_uncovered, is_back_uncovered, is_uncovered, is_uncovered_at, is_outside_of, is_uncallable, is_uncallable_at, is_exit_missed, is_unreturnable, is_unreturnable_at, grows_too_deep}
+use Rattle.gb_rules.specs.Procedures.{ranges_of, need_of, setting_of, exit_of, taken_by}
+use Rattle.gb_rules.specs.Rules.{ways_of, pushes_too_deep, callee_by, callee_at, is_over, calls_too_deep, is_resumed_uncovered, is_back_uncovered, is_call_uncovered, is_uncovered, is_uncovered_at, is_outside_of, is_uncallable, is_uncallable_at, is_exit_missed, is_unreturnable, is_unreturnable_at}
 use Rattle.gb_rules.specs.Safety.{IsMeant, Calls, Returns, Leads}
 use Rattle.gb_rules.proofs.SearchLaws.{Contains-slice_get}
 use Rattle.gb_rules.proofs.CoveringLaws.{found_at}
-use Rattle.gb_rules.proofs.NodeLaws.{ways_of, not_unknown, not_uncovered, not_uncallable, not_too_deep, not_unreturnable}
+use Rattle.gb_rules.proofs.NodeLaws.{simple_at, covered_if, shallow, followed, not_uncovered, not_uncallable, not_too_deep, not_unreturnable}
 use Rattle.gb_rules.proofs.StandLaws.{OnNode}
 
 not_so : {X : Type 0} → true ≡ false → X
@@ -41,7 +44,7 @@ not_so h = cc
 -- ---- the bytes that are held
 
 bytes_fit : (o : Op) (need held : ℕ) (n : Node) → length n.state.items ≡ held → held ≤ need → pushes_too_deep need n o ≡ false → bytes_behind o held ≤ need
-unfolding pushes_too_deep bytes_behind
+unfolding pushes_too_deep bytes_behind item_room
 bytes_fit o need held n e least h = by (is_push o) h
   where
     fits : (m : ℕ) → m ≡ held → (nat_lt need (m + 2) || nat_lt 32 (m + 2)) ≡ false → held + 2 ≤ need
@@ -53,9 +56,8 @@ bytes_fit o need held n e least h = by (is_push o) h
 
 -- behind an instruction of a node that passes no more bytes are held than the need
 pub bytes_within : (rom : List ℕ) (cert : Certificate) (n : Node) (entry : MState) (base : ℕ) (x : MState) (k : OnNode rom cert n entry base x) → bytes_behind k.passes.row.op (length n.state.items) ≤ need_of cert n.procedure
-unfolding grows_too_deep
 bytes_within rom cert n entry base x k =
-    bytes_fit k.passes.row.op (need_of cert n.procedure) (length n.state.items) n refl k.depth (or_parts _ _ (or_parts _ _ k.passes.depth).0).0
+    bytes_fit k.passes.row.op (need_of cert n.procedure) (length n.state.items) n refl k.depth (shallow rom cert n k.passes).pushes
 
 -- ---- the callee's entry
 
@@ -84,25 +86,32 @@ not_over cert need held q h = by (held + 2 + need_of cert q) h
     by : (m : ℕ) → nat_lt need m ≡ false → m ≤ need
     by m h = grind (arith, nat_tests)
 
-resumed_covered : (cert : Certificate) (procedure back : ℕ) (s : AbsState) (q : ℕ) → is_back_uncovered cert procedure back s (Some q) ≡ false → (exit : AbsState) → exit_of cert q ≡ Some exit
-    → covered_at cert.nodes procedure back (resumed (rules_of cert.version) (ranges_of cert q) s exit) ≡ true
-resumed_covered cert procedure back s q h exit is = not-false _ (subst (λ o. is_resumed_uncovered cert procedure back s (ranges_of cert q) o ≡ false) is h)
+resumed_covered : (cert : Certificate) (procedure back : ℕ) (s : AbsState) (q : ℕ) → is_back_uncovered Simple cert procedure back s q ≡ false → (exit : AbsState) → exit_of cert q ≡ Some exit
+    → IfSome (resumed Simple (taken_by cert q) (ranges_of cert q) s exit) (λ after. covered_at Simple cert.nodes procedure back after ≡ true)
+resumed_covered cert procedure back s q h exit is = covered_if cert procedure back _ (subst (λ o. is_resumed_uncovered Simple cert procedure back s q o ≡ false) is h)
+
+-- what is said by the rules of versions 1 and 2, in a certificate of theirs
+pub covered_by_version : (cert : Certificate) (procedure back q : ℕ) (s exit : AbsState) → rules_of cert.version ≡ Simple
+    → IfSome (resumed Simple (taken_by cert q) (ranges_of cert q) s exit) (λ after. covered_at Simple cert.nodes procedure back after ≡ true)
+    → IfSome (resumed (rules_of cert.version) (taken_by cert q) (ranges_of cert q) s exit) (λ after. covered_at (rules_of cert.version) cert.nodes procedure back after ≡ true)
+covered_by_version cert procedure back q s exit simple h =
+    subst (λ (r : Rules). IfSome (resumed r (taken_by cert q) (ranges_of cert q) s exit) (λ after. covered_at r cert.nodes procedure back after ≡ true)) (sym simple) h
 
 means_pushed : (w : Halves) (s : AbsState) (entry : MState) (base : ℕ) (x : MState) → MeansParts (pushed w s) entry base x → AreRelated s.relations x → Means (pushed w s) entry base x
 unfolding pushed
 means_pushed w s entry base x parts related = record { parts = parts; related = related }
 
 calls_at : (rom : List ℕ) (cert : Certificate) (n : Node) (t : Successor) (a : ℕ) (entry : MState) (base : ℕ) (y : MState) → IsCertificate cert → rules_of cert.version ≡ Simple → CallsAt cert.region a t entry base y → AreRelated t.state.relations y
-    → y.processor.halt_mark ≡ false → is_outside_of cert n.procedure (callee_of cert a t.state) ≡ false → is_over cert (need_of cert n.procedure) (length t.state.items) (callee_of cert a t.state) ≡ false
-    → is_back_uncovered cert n.procedure t.next t.state (callee_of cert a t.state) ≡ false → Calls cert n.procedure entry base y
-calls_at rom cert n t a entry base y certificate simple c related mark outside over uncovered = by (callee_of cert a t.state) refl outside over uncovered
+    → y.processor.halt_mark ≡ false → is_outside_of (simple_at cert n) cert n.procedure (callee_of cert (simple_at cert n) a t.state) ≡ false → is_over Simple cert (need_of cert n.procedure) (length t.state.items) (callee_of cert (simple_at cert n) a t.state) ≡ false
+    → is_call_uncovered Simple cert n.procedure a t.next t.state (callee_of cert (simple_at cert n) a t.state) ≡ false → Calls cert n.procedure entry base y
+calls_at rom cert n t a entry base y certificate simple c related mark outside over uncovered = by (callee_of cert (simple_at cert n) a t.state) refl outside over uncovered
   where
-    by : (o : Option ℕ) → callee_of cert a t.state ≡ o → is_outside_of cert n.procedure o ≡ false → is_over cert (need_of cert n.procedure) (length t.state.items) o ≡ false
-        → is_back_uncovered cert n.procedure t.next t.state o ≡ false → Calls cert n.procedure entry base y
+    by : (o : Option ℕ) → callee_of cert (simple_at cert n) a t.state ≡ o → is_outside_of (simple_at cert n) cert n.procedure o ≡ false → is_over Simple cert (need_of cert n.procedure) (length t.state.items) o ≡ false
+        → is_call_uncovered Simple cert n.procedure a t.next t.state o ≡ false → Calls cert n.procedure entry base y
     by None e out deep back = not_so out
     by (Some q) e out deep back =
-        let callee = IsCallee-found cert a t.state q e in
-        let begin = IsEntryNode-entry cert a (entered t.state) callee.procedure callee.begins in
+        let callee = IsCallee-found cert (simple_at cert n) a t.state q e in
+        let begin = IsEntryNode-entry cert (simple_at cert n) a t.state callee.procedure callee.begins in
         let number : begin.node.procedure ≡ q = same_number begin.node.procedure q (is_own 0 cert.procedures cert.nodes q callee.procedure begin.node certificate.entries callee.is_procedure begin.is_node) in
         record {
           state = t.state;
@@ -116,24 +125,25 @@ calls_at rom cert n t a entry base y certificate simple c related mark outside o
           is_node = Contains-slice_get cert.nodes callee.procedure.entry begin.node begin.is_node;
           not_main = subst (λ m. 0 < m) (sym number) callee.not_main;
           address = c.goes ∙ sym begin.address;
-          begins = begin.covering;
+          begins = subst (λ (r : Rules). covers (entered_by r (length begin.node.state.items) t.state) begin.node.state ≡ true) (sym simple) begin.covering;
           mark = mark;
           depth = subst (λ m. length t.state.items + 2 + need_of cert m ≤ need_of cert n.procedure) (sym number) (not_over cert (need_of cert n.procedure) (length t.state.items) q deep);
           inside = subst (λ m. are_ranges_inside (ranges_of cert m) (ranges_of cert n.procedure) ≡ true) (sym number) (not-false _ out);
-          resumes = λ exit is. subst (λ m. covered_at cert.nodes n.procedure t.next (resumed (rules_of cert.version) (ranges_of cert m) t.state exit) ≡ true) (sym number)
-              (resumed_covered cert n.procedure t.next t.state q back exit (subst (λ m. exit_of cert m ≡ Some exit) number is));
+          resumes = λ exit is.
+              subst (λ m. IfSome (resumed (rules_of cert.version) (taken_by cert m) (ranges_of cert m) t.state exit) (λ after. covered_at (rules_of cert.version) cert.nodes n.procedure t.next after ≡ true)) (sym number)
+              (covered_by_version cert n.procedure t.next q t.state exit simple (resumed_covered cert n.procedure t.next t.state q back exit (subst (λ m. exit_of cert m ≡ Some exit) number is)));
         }
 
 -- ---- returns
 
 returns_to : (cert : Certificate) (n : Node) (t : Successor) (entry : MState) (base : ℕ) (x y : MState) → ReturnsTo t entry base x y → AreRelated t.state.relations y → y.processor.halt_mark ≡ false
-    → (n.procedure == 0 || is_exit_missed t.state (exit_of cert n.procedure)) ≡ false → Returns cert n.procedure entry base x y
+    → (n.procedure == 0 || is_exit_missed Simple t.state (exit_of cert n.procedure)) ≡ false → Returns cert n.procedure entry base x y
 returns_to cert n t entry base x y r related mark h = by (exit_of cert n.procedure) refl (or_parts _ _ h).1
   where
     not_zero : (m : ℕ) → (m == 0) ≡ false → 0 < m
     not_zero m h = grind (arith, nat_tests)
 
-    by : (o : Option AbsState) → exit_of cert n.procedure ≡ o → is_exit_missed t.state o ≡ false → Returns cert n.procedure entry base x y
+    by : (o : Option AbsState) → exit_of cert n.procedure ≡ o → is_exit_missed Simple t.state o ≡ false → Returns cert n.procedure entry base x y
     by None e missed = not_so missed
     by (Some exit) e missed = record {
       not_main = not_zero n.procedure (or_parts _ _ h).0;
@@ -159,7 +169,7 @@ pub record IsMarked (rom : List ℕ) (w : Target) (y : MState) : Type 0 where
 
 -- a successor leads on in the same procedure
 stays_at : (rom : List ℕ) (cert : Certificate) (n : Node) (entry : MState) (base : ℕ) (x : MState) (k : OnNode rom cert n entry base x) (t : Successor) (a : ℕ) (y : MState)
-    → StaysAt cert.region a t entry base y → AreRelated t.state.relations y → length t.state.items ≤ need_of cert n.procedure → covered_at cert.nodes n.procedure a t.state ≡ true → IsMarkHarmless rom y → IsMeant rom cert n.procedure entry base y
+    → StaysAt cert.region a t entry base y → AreRelated t.state.relations y → length t.state.items ≤ need_of cert n.procedure → covered_at Simple cert.nodes n.procedure a t.state ≡ true → IsMarkHarmless rom y → IsMeant rom cert n.procedure entry base y
 stays_at rom cert n entry base x k t a y to related held covered mark =
     let f = found_at cert n.procedure a t.state entry base y covered (record { parts = to.means; related = related }) in
     record {
@@ -178,19 +188,21 @@ stays_at rom cert n entry base x k t a y to related held covered mark =
     }
 
 pub Leads-way : (rom : List ℕ) (cert : Certificate) (n : Node) (entry : MState) (base : ℕ) (x : MState) (k : OnNode rom cert n entry base x) (t : Successor) → IsOneOf (ways_of rom cert n k.passes.row) t → (y : MState)
-    → successors.Leads cert.region (ranges_of cert n.procedure) t entry base x y → length t.state.items ≤ need_of cert n.procedure → IsMarked rom t.target y → Leads rom cert n.procedure entry base x y
+    → successors.Leads (setting_of cert n.procedure) cert.region (ranges_of cert n.procedure) t entry base x y → length t.state.items ≤ need_of cert n.procedure → IsMarked rom t.target y → Leads rom cert n.procedure entry base x y
 unfolding is_uncovered is_uncallable is_unreturnable calls_too_deep callee_at
 Leads-way rom cert n entry base x k t is y leads held mark =
-    by t.target leads.to (not_unknown rom cert n k.passes t is) (not_uncovered rom cert n k.passes t is) (not_uncallable rom cert n k.passes t is) (not_too_deep rom cert n k.passes t is)
+    by t.target leads.to (followed rom cert n k.passes t is) (not_uncovered rom cert n k.passes t is) (not_uncallable rom cert n k.passes t is) (not_too_deep rom cert n k.passes t is)
     (not_unreturnable rom cert n k.passes t is) mark
   where
     related : AreRelated t.state.relations y
-    related = leads.related (not_unknown rom cert n k.passes t is)
+    related = leads.related (followed rom cert n k.passes t is)
 
-    by : (w : Target) → LeadsTo cert.region w t entry base x y → is_unknown w ≡ false → is_uncovered_at cert n.procedure w t.next t.state ≡ false → is_uncallable_at cert n.procedure w t.state ≡ false
-        → is_over cert (need_of cert n.procedure) (length t.state.items) (callee_by cert w t.state) ≡ false → is_unreturnable_at cert n.procedure w t.state ≡ false → IsMarked rom w y
-        → Leads rom cert n.procedure entry base x y
+    by : (w : Target) → LeadsTo cert.region w t entry base x y → is_followed w ≡ true → is_uncovered_at (simple_at cert n) cert n.procedure w t.next t.state ≡ false
+        → is_uncallable_at (simple_at cert n) cert n.procedure w t.state ≡ false → is_over Simple cert (need_of cert n.procedure) (length t.state.items) (callee_by cert (simple_at cert n) w t.state) ≡ false
+        → is_unreturnable_at Simple cert n.procedure w t.state ≡ false → IsMarked rom w y → Leads rom cert n.procedure entry base x y
     by (target.At a) to known covered callable shallow returnable marked = inl (stays_at rom cert n entry base x k t a y to related held (not-false _ covered) marked.harmless)
     by (target.Call a) to known covered callable shallow returnable marked = inr (inl (calls_at rom cert n t a entry base y k.certificate k.passes.rules to related (marked.clear tt) callable shallow covered))
     by target.Return to known covered callable shallow returnable marked = inr (inr (returns_to cert n t entry base x y to related (marked.clear tt) returnable))
-    by target.Unknown to known covered callable shallow returnable marked = not_so known
+    by (target.Main a) to known covered callable shallow returnable marked = not_so (sym known)
+    by target.Unknown to known covered callable shallow returnable marked = not_so (sym known)
+    by target.Lost to known covered callable shallow returnable marked = not_so (sym known)

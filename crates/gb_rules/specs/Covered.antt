@@ -1,15 +1,18 @@
 -- Covering at an address: by one node, or for one register value by value (abstract interpretation: inclusion in a
 -- disjunction; own).
-use Rattle.std.specs.Prelude.{ℕ, zero, suc, ◌+◌, ◌-◌, Bool, true, ◌&&◌, ◌||◌, ◌==◌, List, [], ◌∷◌}
+use Rattle.std.specs.Prelude.{ℕ, zero, suc, ◌+◌, ◌-◌, Bool, true, ◌&&◌, ◌||◌, ◌==◌, List, [], ◌∷◌, Option, Some, None, option_map}
 use Rattle.std.specs.List.{list_any}
 use Rattle.gb_ops.specs.declared.op.Register.{Register}
 use Rattle.gb_ops.specs.declared.op.Register.TheVariants.{A, B, C, D, E, H, L}
 use Rattle.gb_ops.specs.Registers.{get}
 use Rattle.gb_domain.specs.declared.relations.Relations.{Relations}
+use Rattle.gb_domain.specs.declared.rules.Rules.{Rules}
 use Rattle.gb_domain.specs.declared.types.Core.{Core}
 use Rattle.gb_domain.specs.declared.types.Val.{Val}
 use Rattle.gb_domain.specs.Types.{AbsState, Node}
+use Rattle.gb_product.specs.declared.parts.Product.{Product}
 use Rattle.gb_product.specs.Covering.{covers}
+use Rattle.gb_product.specs.Reduced.{reduced}
 use Rattle.gb_abs.specs.Operations.{core_with_value, with_core}
 use Rattle.gb_successors.specs.Behind.{with_relations}
 
@@ -38,15 +41,31 @@ all_from test first (suc n) = all_from test first n && test (first + n)
 abbrev pub count_of : Val → ℕ
 count_of v = v.hi + 1 - v.lo
 
+-- of one node's states, where nothing is meant none is asked for
+abbrev pub is_covered_if : List Node → ℕ → ℕ → Option AbsState → Bool
+is_covered_if nodes procedure a None = true
+is_covered_if nodes procedure a (Some s) = is_covered_by_one nodes procedure a s
+
+abbrev pub with_product : AbsState → Product → AbsState
+with_product s p = with_parts p.core p.relations s
+
+-- the states, reduced; none where nothing is meant
+unfoldable pub reduced_state : Rules → AbsState → Option AbsState
+reduced_state rules s = option_map (with_product s) (reduced rules s.core s.relations)
+
+-- one node stands for those of these states with a value in a register, reduced
+unfoldable pub is_value_covered : Rules → List Node → ℕ → ℕ → AbsState → Register → ℕ → Bool
+is_value_covered rules nodes procedure a s r v = is_covered_if nodes procedure a (reduced_state rules (with_value r s v))
+
 -- for each value of a register one node stands for the states with it
-unfoldable pub is_covered_by_values : List Node → ℕ → ℕ → AbsState → Register → Bool
-is_covered_by_values nodes procedure a s r =
-    all_from (λ v. is_covered_by_one nodes procedure a (with_value r s v)) (get r s.core.registers).lo (count_of (get r s.core.registers))
+unfoldable pub is_covered_by_values : Rules → List Node → ℕ → ℕ → AbsState → Register → Bool
+is_covered_by_values rules nodes procedure a s r =
+    all_from (is_value_covered rules nodes procedure a s r) (get r s.core.registers).lo (count_of (get r s.core.registers))
 
 abbrev pub registers : List Register
 registers = A ∷ B ∷ C ∷ D ∷ E ∷ H ∷ L ∷ []
 
 -- one node stands for these states, or for one register value by value some do
-unfoldable pub covered_at : List Node → ℕ → ℕ → AbsState → Bool
-covered_at nodes procedure a s =
-    is_covered_by_one nodes procedure a s || list_any (is_covered_by_values nodes procedure a s) registers
+unfoldable pub covered_at : Rules → List Node → ℕ → ℕ → AbsState → Bool
+covered_at rules nodes procedure a s =
+    is_covered_by_one nodes procedure a s || list_any (is_covered_by_values rules nodes procedure a s) registers

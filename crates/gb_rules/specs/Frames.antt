@@ -6,12 +6,12 @@ use Rattle.gb_domain.specs.Certificate.{Certificate}
 use Rattle.gb_abs.specs.Stack.{AreInRegion}
 use Rattle.gb_abs.specs.Storage.{peek}
 use Rattle.gb_code.specs.Below.gb_abs_memory.Kept.{IsKept}
-use Rattle.gb_rules.specs.Procedures.{ranges_of, need_of}
+use Rattle.gb_rules.specs.Procedures.{ranges_of, need_of, setting_of}
 use Rattle.gb_rules.specs.Safety.{IsMeant, Calls}
 
 -- from s to t each byte stays that a procedure with its return word at base has to keep
 pub record Keeps (cert : Certificate) (procedure base : ℕ) (s t : MState) : Type 0 where
-  pub byte : (b : ℕ) → IsKept cert.region (ranges_of cert procedure) base b → peek t.storage b ≡ peek s.storage b
+  pub byte : (b : ℕ) → IsKept (setting_of cert procedure) cert.region (ranges_of cert procedure) base b → peek t.storage b ≡ peek s.storage b
 
 -- a procedure that waits for the one that it called: its number, the state in which it was entered, and where its
 -- return word stands (main: the address behind the region)

@@ -1,10 +1,11 @@
 -- What a certificate claims of its procedures (own format).
-use Rattle.std.specs.Prelude.{ℕ, ◌==◌, List, [], slice_get, Option, Some, None}
+use Rattle.std.specs.Prelude.{ℕ, ◌==◌, List, [], length, slice_get, Option, Some, None}
 use Rattle.gb_domain.specs.declared.setting.Setting.{Setting}
 use Rattle.gb_domain.specs.declared.types.Range.{Range}
 use Rattle.gb_domain.specs.Limits.{rules_of}
-use Rattle.gb_domain.specs.Types.{AbsState, ProcedureParts}
+use Rattle.gb_domain.specs.Types.{AbsState, ProcedureParts, Node}
 use Rattle.gb_domain.specs.Certificate.{Certificate}
+use Rattle.gb_successors.specs.declared.stacks.Stack.{Stack}
 
 abbrev pub ranges_in : Option ProcedureParts → List Range
 ranges_in None = []
@@ -38,3 +39,21 @@ setting_of cert procedure =
 -- what it returns with, if it returns
 unfoldable pub exit_of : Certificate → ℕ → Option AbsState
 exit_of cert procedure = exit_in (slice_get cert.procedures procedure)
+
+-- where its states stand, and how much it may have on the stack
+unfoldable pub stack_of : Certificate → ℕ → Stack
+stack_of cert procedure =
+    record { setting = setting_of cert procedure; region = cert.region; need = need_of cert procedure; main_need = need_of cert 0 }
+
+-- how many bytes a procedure begins with
+abbrev pub items_in : Option Node → ℕ
+items_in None = 0
+items_in (Some n) = length n.state.items
+
+abbrev pub entry_in : Certificate → Option ProcedureParts → ℕ
+entry_in cert None = 0
+entry_in cert (Some p) = items_in (slice_get cert.nodes p.entry)
+
+-- how many of its caller's bytes a procedure takes over
+unfoldable pub taken_by : Certificate → ℕ → ℕ
+taken_by cert procedure = entry_in cert (slice_get cert.procedures procedure)

@@ -1,22 +1,26 @@
 -- When a node is right: the reasons against it, each a test, and the lowest that applies (own rules).
-use Rattle.std.specs.Prelude.{ℕ, ◌+◌, Bool, true, false, not, ◌&&◌, ◌||◌, ◌==◌, nat_lt, List, [], ◌∷◌, length, find, slice_get, Option, Some, None, is_none, option_and_then}
+use Rattle.std.specs.Prelude.{ℕ, ◌+◌, ◌-◌, Bool, true, false, not, ◌&&◌, ◌||◌, ◌==◌, if◌then◌else◌, nat_lt, List, [], ◌∷◌, length, find, slice_get, Option, Some, None, is_none, is_some, option_and_then}
 use Rattle.gb_ops.specs.declared.machine.Region.{Region}
 use Rattle.gb_ops.specs.declared.op.Pair.TheVariants as pair
 use Rattle.gb_ops.specs.declared.op.Op.{Op}
 use Rattle.gb_ops.specs.declared.op.Op.TheVariants as op
 use Rattle.gb_ops.specs.declared.op.Row.{Row}
 use Rattle.gb_ops.specs.Cartridge.{kind_of}
+use Rattle.gb_ops.specs.Machine.{vector}
 use Rattle.gb_ops.specs.Table.{decoded}
 use Rattle.gb_domain.specs.declared.types.Core.{Core}
 use Rattle.gb_domain.specs.declared.rules.Rules.{Rules}
 use Rattle.gb_domain.specs.declared.rules.Rules.TheVariants.{Simple, Extended}
-use Rattle.gb_domain.specs.declared.types.Range.{Range}
-use Rattle.gb_domain.specs.Limits.{rules_of}
+use Rattle.gb_domain.specs.declared.pairs.Bounds.{Bounds}
+use Rattle.gb_domain.specs.declared.setting.Setting.{Setting}
+use Rattle.gb_domain.specs.Limits.{rules_of, item_room}
 use Rattle.gb_domain.specs.Types.{AbsState, Node}
 use Rattle.gb_domain.specs.Certificate.{Certificate}
 use Rattle.gb_abs.specs.declared.reason.Reason.{Reason}
 use Rattle.gb_abs.specs.declared.reason.Reason.TheVariants as reason
+use Rattle.gb_product.specs.declared.parts.Product.{Product}
 use Rattle.gb_product.specs.Covering.{covers}
+use Rattle.gb_successors.specs.Below.gb_abs_effects.declared.writes.AbsWrite.TheVariants as write
 use Rattle.gb_successors.specs.Below.gb_abs_effects.declared.targets.Target.{Target}
 use Rattle.gb_successors.specs.Below.gb_abs_effects.declared.targets.Target.TheVariants as target
 use Rattle.gb_successors.specs.Below.gb_abs_effects.Targets.{moves_sp, is_push}
@@ -24,14 +28,19 @@ use Rattle.gb_code.specs.Below.gb_abs_memory.Shown.{known_bank}
 use Rattle.gb_code.specs.Code.{area_end, leaves_area, is_other_bank, lies_in_high_ram, known_byte, known_bytes}
 use Rattle.gb_successors.specs.Way.{Successor}
 use Rattle.gb_successors.specs.declared.successors.Successors.{Successors}
-use Rattle.gb_successors.specs.Successors.{successors_of, any_successor}
+use Rattle.gb_successors.specs.declared.stacks.Stack.{Stack}
+use Rattle.gb_successors.specs.declared.stacks.StackMove.{StackMove}
+use Rattle.gb_successors.specs.declared.stacks.StackMove.TheVariants as move
+use Rattle.gb_successors.specs.Stacks.{stack_move}
+use Rattle.gb_successors.specs.Successors.{pointer_in, product_before, successors_of, any_successor}
 use Rattle.gb_successors.specs.Refused.{is_unstorable, meets_closed, is_stack_limited, meets_oam_transfer, is_unknown}
 use Rattle.std.specs.List.{list_any}
-use Rattle.gb_calls.specs.Calls.{callee_of, are_ranges_inside, resumed}
-use Rattle.gb_calls.specs.Interrupts.{dispatched, may_come, handler_of}
+use Rattle.gb_calls.specs.Calls.{callee_of, are_ranges_inside}
+use Rattle.gb_calls.specs.Resuming.{resumed}
+use Rattle.gb_calls.specs.Interrupts.{left_by_dispatch, may_come, handler_of}
 use Rattle.gb_rules.specs.declared.procedures.Callees.{Callees}
 use Rattle.gb_rules.specs.Covered.{covered_at}
-use Rattle.gb_rules.specs.Procedures.{ranges_of, need_of, setting_of, exit_of}
+use Rattle.gb_rules.specs.Procedures.{ranges_of, need_of, setting_of, stack_of, exit_of, taken_by}
 
 -- ---- the instruction alone
 
@@ -65,23 +74,93 @@ may_read_twice rom n o = is_halt o && n.state.core.ime.off && not (is_nop_behind
 unfoldable pub is_unjudged : Certificate → Bool
 is_unjudged cert = is_extended (rules_of cert.version)
 
--- LD SP,n16 is main's, to the address behind the region; what pushes a word finds the stack set, POP a word on it; and
--- nothing else but returns moves SP. This is asked of the instruction, whether a side is possible or not.
-unfoldable pub breaks_stack : Region → Node → Op → Bool
-breaks_stack region n (op.LoadPair pair.Sp w) = not (n.procedure == 0) || not (w == region.last + 1)
-breaks_stack region n (op.Push from) = not n.state.core.stack_set
-breaks_stack region n (op.Pop to) = not n.state.core.stack_set || nat_lt (length n.state.items) 2
-breaks_stack region n (op.CallIf condition w) = not n.state.core.stack_set
-breaks_stack region n (op.Call w) = not n.state.core.stack_set
-breaks_stack region n (op.Restart w) = not n.state.core.stack_set
-breaks_stack region n (op.ReturnIf condition) = false
-breaks_stack region n op.Return = false
-breaks_stack region n op.ReturnFromInterrupt = false
-breaks_stack region n o = moves_sp o
+-- By the rules of versions 1 and 2: LD SP,n16 is main's, to the address behind the region; what pushes a word finds the stack
+-- set, POP a word on it; and nothing else but returns moves SP. This is asked of the instruction, whether a side is possible
+-- or not.
+unfoldable pub breaks_simple_stack : Region → Node → Op → Bool
+breaks_simple_stack region n (op.LoadPair pair.Sp w) = not (n.procedure == 0) || not (w == region.last + 1)
+breaks_simple_stack region n (op.Push from) = not n.state.core.stack_set
+breaks_simple_stack region n (op.Pop to) = not n.state.core.stack_set || nat_lt (length n.state.items) 2
+breaks_simple_stack region n (op.CallIf condition w) = not n.state.core.stack_set
+breaks_simple_stack region n (op.Call w) = not n.state.core.stack_set
+breaks_simple_stack region n (op.Restart w) = not n.state.core.stack_set
+breaks_simple_stack region n (op.ReturnIf condition) = false
+breaks_simple_stack region n op.Return = false
+breaks_simple_stack region n op.ReturnFromInterrupt = false
+breaks_simple_stack region n o = moves_sp o
 
--- PUSH of a word over the need, or over the 32 bytes that a state can hold
+abbrev pub is_lost_move : StackMove → Bool
+is_lost_move move.Lost = true
+is_lost_move _ = false
+
+-- SP is set to an address that is neither the procedure's nor main's
+abbrev pub sets_lost : Stack → Op → Option Bounds → Bool
+sets_lost k o hl = is_lost_move (stack_move k o write.Nothing hl)
+
+-- LD SP,HL from these states; where nothing is meant, nothing is asked
+abbrev pub sets_lost_from : Stack → Option Product → Bool
+sets_lost_from k None = false
+sets_lost_from k (Some p) = sets_lost k op.LoadSpHl (pointer_in k op.LoadSpHl p)
+
+-- the stack isn't set, or fewer bytes are held
+abbrev pub lacks_bytes : ℕ → AbsState → Bool
+lacks_bytes count s = not s.core.stack_set || nat_lt (length s.items) count
+
+-- By the rules of version 3: SP is set to a known address, one of the procedure's or of main's; what moves it otherwise finds
+-- the stack set, and as many bytes as it takes off.
+unfoldable pub breaks_extended_stack : Stack → Node → Op → Bool
+breaks_extended_stack k n (op.LoadPair pair.Sp w) = sets_lost k (op.LoadPair pair.Sp w) None
+breaks_extended_stack k n op.LoadSpHl = sets_lost_from k (product_before k.setting.rules n.state)
+breaks_extended_stack k n (op.Push from) = lacks_bytes 0 n.state
+breaks_extended_stack k n (op.Pop to) = lacks_bytes 2 n.state
+breaks_extended_stack k n (op.IncrementPair pair.Sp) = lacks_bytes 1 n.state
+breaks_extended_stack k n (op.DecrementPair pair.Sp) = lacks_bytes 0 n.state
+breaks_extended_stack k n (op.AddSp e8) = lacks_bytes (if nat_lt e8 128 then e8 else 0) n.state
+breaks_extended_stack k n (op.CallIf condition w) = lacks_bytes 0 n.state
+breaks_extended_stack k n (op.Call w) = lacks_bytes 0 n.state
+breaks_extended_stack k n (op.Restart w) = lacks_bytes 0 n.state
+breaks_extended_stack k n o = false
+
+abbrev pub breaks_stack_by : Rules → Stack → Node → Op → Bool
+breaks_stack_by Simple k n o = breaks_simple_stack k.region n o
+breaks_stack_by Extended k n o = breaks_extended_stack k n o
+
+-- an instruction moves SP as it may not
+abbrev pub breaks_stack : Stack → Node → Op → Bool
+breaks_stack k n o = breaks_stack_by k.setting.rules k n o
+
+-- ---- depth
+
+-- so many bytes are more than the need, or than a state can hold
+abbrev pub is_deep : Rules → ℕ → ℕ → Bool
+is_deep rules need bytes = nat_lt need bytes || nat_lt (item_room rules) bytes
+
+-- PUSH of a word over the need, or over the 32 bytes that a state of versions 1 and 2 can hold
 unfoldable pub pushes_too_deep : ℕ → Node → Op → Bool
-pushes_too_deep need n o = is_push o && (nat_lt need (length n.state.items + 2) || nat_lt 32 (length n.state.items + 2))
+pushes_too_deep need n o = is_push o && is_deep Simple need (length n.state.items + 2)
+
+-- how many bytes are held behind an instruction that puts some on, or adds a number to SP
+unfoldable pub bytes_after : Op → ℕ → Option ℕ
+bytes_after (op.Push from) held = Some (held + 2)
+bytes_after (op.DecrementPair pair.Sp) held = Some (held + 1)
+bytes_after (op.AddSp e8) held = Some (if nat_lt e8 128 then held - e8 else held + (256 - e8))
+bytes_after (op.CallIf condition w) held = Some (held + 2)
+bytes_after (op.Call w) held = Some (held + 2)
+bytes_after (op.Restart w) held = Some (held + 2)
+bytes_after _ held = None
+
+abbrev pub is_deep_if : ℕ → Option ℕ → Bool
+is_deep_if need None = false
+is_deep_if need (Some bytes) = is_deep Extended need bytes
+
+-- where the instruction is taken, more bytes are held behind it than the need, or than a state can hold
+abbrev pub grows_over : ℕ → Node → Op → Option Successor → Bool
+grows_over need n o taken = is_some taken && is_deep_if need (bytes_after o (length n.state.items))
+
+-- the stack grows too deep behind the instruction
+abbrev pub moves_too_deep : Rules → ℕ → Node → Op → Option Successor → Bool
+moves_too_deep Simple need n o taken = pushes_too_deep need n o
+moves_too_deep Extended need n o taken = grows_over need n o taken
 
 -- ---- its successors
 
@@ -91,71 +170,106 @@ is_code_limited core a n = not (core.bound == 0) && not (lies_in_high_ram a n)
 
 -- ---- calls and returns
 
-abbrev pub callee_by : Certificate → Target → AbsState → Option ℕ
-callee_by cert (target.Call a) s = callee_of cert a s
-callee_by cert _ s = None
+abbrev pub callee_by : Certificate → Setting → Target → AbsState → Option ℕ
+callee_by cert z (target.Call a) s = callee_of cert z a s
+callee_by cert z _ s = None
 
 -- the procedure that a successor calls
-unfoldable pub callee_at : Certificate → Successor → Option ℕ
-callee_at cert t = callee_by cert t.target t.state
+unfoldable pub callee_at : Certificate → Setting → Successor → Option ℕ
+callee_at cert z t = callee_by cert z t.target t.state
 
-abbrev pub callee_in : Certificate → Option Successor → Option ℕ
-callee_in cert None = None
-callee_in cert (Some t) = callee_at cert t
+abbrev pub callee_in : Certificate → Setting → Option Successor → Option ℕ
+callee_in cert z None = None
+callee_in cert z (Some t) = callee_at cert z t
 
 -- the procedures that the successors call
-unfoldable pub callees_of : Certificate → Successors → Callees
-callees_of cert ss = record { taken = callee_in cert ss.taken; not_taken = callee_in cert ss.not_taken; stays = callee_in cert ss.stays }
+unfoldable pub callees_of : Certificate → Setting → Successors → Callees
+callees_of cert z ss = record { taken = callee_in cert z ss.taken; not_taken = callee_in cert z ss.not_taken; stays = callee_in cert z ss.stays }
 
-abbrev pub is_over : Certificate → ℕ → ℕ → Option ℕ → Bool
-is_over cert need held None = false
-is_over cert need held (Some callee) = nat_lt need (held + 2 + need_of cert callee)
+-- the bytes of a caller that wait below a callee: those that were held and the return address, or, by the rules of version 3,
+-- those that the callee doesn't take over
+abbrev pub waiting_below : Rules → Certificate → ℕ → ℕ → ℕ
+waiting_below Simple cert held callee = held + 2
+waiting_below Extended cert held callee = held - taken_by cert callee
 
--- the bytes that are held, the return address and the callee's need are more than the procedure's need
-unfoldable pub calls_too_deep : Certificate → ℕ → Successor → Bool
-calls_too_deep cert need t = is_over cert need (length t.state.items) (callee_at cert t)
+abbrev pub is_over : Rules → Certificate → ℕ → ℕ → Option ℕ → Bool
+is_over rules cert need held None = false
+is_over rules cert need held (Some callee) = nat_lt need (waiting_below rules cert held callee + need_of cert callee)
 
-abbrev pub is_resumed_uncovered : Certificate → ℕ → ℕ → AbsState → List Range → Option AbsState → Bool
-is_resumed_uncovered cert procedure back s ranges None = false
-is_resumed_uncovered cert procedure back s ranges (Some exit) = not (covered_at cert.nodes procedure back (resumed (rules_of cert.version) ranges s exit))
+-- the bytes that wait and the callee's need are more than the procedure's need
+unfoldable pub calls_too_deep : Certificate → Setting → ℕ → Successor → Bool
+calls_too_deep cert z need t = is_over z.rules cert need (length t.state.items) (callee_at cert z t)
 
-abbrev pub is_back_uncovered : Certificate → ℕ → ℕ → AbsState → Option ℕ → Bool
-is_back_uncovered cert procedure back s None = false
-is_back_uncovered cert procedure back s (Some callee) = is_resumed_uncovered cert procedure back s (ranges_of cert callee) (exit_of cert callee)
+-- more bytes are on the stack than a state can hold
+abbrev pub is_overfull : AbsState → Bool
+is_overfull s = nat_lt (item_room Extended) (length s.items)
 
-abbrev pub is_uncovered_at : Certificate → ℕ → Target → ℕ → AbsState → Bool
-is_uncovered_at cert procedure (target.At a) back s = not (covered_at cert.nodes procedure a s)
-is_uncovered_at cert procedure (target.Call a) back s = is_back_uncovered cert procedure back s (callee_of cert a s)
-is_uncovered_at cert procedure _ back s = false
+-- where nothing is meant, no node is asked for; where more is on the stack than a state can hold, none stands for it
+abbrev pub is_uncovered_if : Rules → Certificate → ℕ → ℕ → Option AbsState → Bool
+is_uncovered_if rules cert procedure a None = false
+is_uncovered_if rules cert procedure a (Some s) = is_overfull s || not (covered_at rules cert.nodes procedure a s)
 
--- no node stands for the states behind, where they go on in the same procedure: at once, or when the callee returns
-unfoldable pub is_uncovered : Certificate → ℕ → Successor → Bool
-is_uncovered cert procedure t = is_uncovered_at cert procedure t.target t.next t.state
+abbrev pub is_resumed_uncovered : Rules → Certificate → ℕ → ℕ → AbsState → ℕ → Option AbsState → Bool
+is_resumed_uncovered rules cert procedure back s callee None = false
+is_resumed_uncovered rules cert procedure back s callee (Some exit) =
+    is_uncovered_if rules cert procedure back (resumed rules (taken_by cert callee) (ranges_of cert callee) s exit)
 
-abbrev pub is_outside_of : Certificate → ℕ → Option ℕ → Bool
-is_outside_of cert procedure None = true
-is_outside_of cert procedure (Some callee) = not (are_ranges_inside (ranges_of cert callee) (ranges_of cert procedure))
+-- no node stands for what the caller goes on with when the callee returns
+abbrev pub is_back_uncovered : Rules → Certificate → ℕ → ℕ → AbsState → ℕ → Bool
+is_back_uncovered rules cert procedure back s callee = is_resumed_uncovered rules cert procedure back s callee (exit_of cert callee)
 
-abbrev pub is_uncallable_at : Certificate → ℕ → Target → AbsState → Bool
-is_uncallable_at cert procedure (target.Call a) s = is_outside_of cert procedure (callee_of cert a s)
-is_uncallable_at cert procedure _ s = false
+-- By the rules of version 3 what is called goes on in the same procedure, where there is no callee.
+abbrev pub is_inlined_uncovered : Rules → Certificate → ℕ → ℕ → AbsState → Bool
+is_inlined_uncovered Simple cert procedure a s = false
+is_inlined_uncovered Extended cert procedure a s = not (covered_at Extended cert.nodes procedure a s)
+
+abbrev pub is_call_uncovered : Rules → Certificate → ℕ → ℕ → ℕ → AbsState → Option ℕ → Bool
+is_call_uncovered rules cert procedure a back s None = is_inlined_uncovered rules cert procedure a s
+is_call_uncovered rules cert procedure a back s (Some callee) = is_back_uncovered rules cert procedure back s callee
+
+abbrev pub is_uncovered_at : Setting → Certificate → ℕ → Target → ℕ → AbsState → Bool
+is_uncovered_at z cert procedure (target.At a) back s = not (covered_at z.rules cert.nodes procedure a s)
+is_uncovered_at z cert procedure (target.Call a) back s = is_call_uncovered z.rules cert procedure a back s (callee_of cert z a s)
+is_uncovered_at z cert procedure (target.Main a) back s = not (covered_at z.rules cert.nodes 0 a s)
+is_uncovered_at z cert procedure _ back s = false
+
+-- no node stands for the states behind, where they go on in the same procedure, at once or when the callee returns, or in main
+unfoldable pub is_uncovered : Setting → Certificate → ℕ → Successor → Bool
+is_uncovered z cert procedure t = is_uncovered_at z cert procedure t.target t.next t.state
+
+-- By the rules of versions 1 and 2 a callee is asked for, and that it writes where its caller may alone. By those of version 3
+-- main may write anywhere, and what has no callee is inlined.
+abbrev pub is_outside_of : Setting → Certificate → ℕ → Option ℕ → Bool
+is_outside_of z cert procedure None = not (is_extended z.rules)
+is_outside_of z cert procedure (Some callee) =
+    not (is_extended z.rules && z.is_main) && not (are_ranges_inside (ranges_of cert callee) (ranges_of cert procedure))
+
+abbrev pub is_uncallable_at : Setting → Certificate → ℕ → Target → AbsState → Bool
+is_uncallable_at z cert procedure (target.Call a) s = is_outside_of z cert procedure (callee_of cert z a s)
+is_uncallable_at z cert procedure _ s = false
 
 -- a call of no procedure, or of one that may write where its caller may not
-unfoldable pub is_uncallable : Certificate → ℕ → Successor → Bool
-is_uncallable cert procedure t = is_uncallable_at cert procedure t.target t.state
+unfoldable pub is_uncallable : Setting → Certificate → ℕ → Successor → Bool
+is_uncallable z cert procedure t = is_uncallable_at z cert procedure t.target t.state
 
-abbrev pub is_exit_missed : AbsState → Option AbsState → Bool
-is_exit_missed s None = true
-is_exit_missed s (Some exit) = not (length s.items == 0) || not (covers s exit)
+-- by the rules of versions 1 and 2 something is left on the stack; those of version 3 compare it with the exit's items
+abbrev pub leaves_items : Rules → AbsState → Bool
+leaves_items Simple s = not (length s.items == 0)
+leaves_items Extended s = false
 
-abbrev pub is_unreturnable_at : Certificate → ℕ → Target → AbsState → Bool
-is_unreturnable_at cert procedure target.Return s = procedure == 0 || is_exit_missed s (exit_of cert procedure)
-is_unreturnable_at cert procedure _ s = false
+abbrev pub is_exit_missed : Rules → AbsState → Option AbsState → Bool
+is_exit_missed rules s None = true
+is_exit_missed rules s (Some exit) = leaves_items rules s || not (covers s exit)
+
+abbrev pub is_unreturnable_at : Rules → Certificate → ℕ → Target → AbsState → Bool
+is_unreturnable_at rules cert procedure target.Return s = procedure == 0 || is_exit_missed rules s (exit_of cert procedure)
+is_unreturnable_at rules cert procedure target.Lost s = true
+is_unreturnable_at rules cert procedure _ s = false
 
 -- a return from main, from a procedure that doesn't return, with something on the stack, or in a state that the exit doesn't
--- stand for
-unfoldable pub is_unreturnable : Certificate → ℕ → Successor → Bool
-is_unreturnable cert procedure t = is_unreturnable_at cert procedure t.target t.state
+-- stand for; or one to a word that isn't known
+unfoldable pub is_unreturnable : Rules → Certificate → ℕ → Successor → Bool
+is_unreturnable rules cert procedure t = is_unreturnable_at rules cert procedure t.target t.state
 
 -- ---- interrupts
 
@@ -167,25 +281,40 @@ interrupts = 0 ∷ 1 ∷ 2 ∷ 3 ∷ 4 ∷ []
 abbrev pub any_interrupt : (ℕ → Bool) → Node → Bool
 any_interrupt test n = list_any (λ i. may_come i n.state.core && test i) interrupts
 
--- the bytes that are held, the word of the dispatch and a handler's need are more than the procedure's need
+-- the bytes that a dispatch leaves are too many, or those that wait and the handler's need are. By the rules of version 3 that
+-- is asked where the stack is set.
+abbrev pub is_dispatch_deep : Setting → Certificate → ℕ → AbsState → Option ℕ → Bool
+is_dispatch_deep z cert need s handler =
+    if is_extended z.rules
+    then s.core.stack_set && (is_deep Extended need (length s.items + 2) || is_over Extended cert need (length s.items + 2) handler)
+    else is_over Simple cert need (length s.items) handler
+
+-- an interrupt may come whose dispatch makes the stack too deep
 unfoldable pub handles_too_deep : Certificate → Node → Bool
 handles_too_deep cert n =
-    any_interrupt (λ i. is_over cert (need_of cert n.procedure) (length n.state.items) (handler_of cert i n.state)) n
+    let z = setting_of cert n.procedure in
+    any_interrupt (λ i. is_dispatch_deep z cert (need_of cert n.procedure) n.state (handler_of cert z i n.address n.state)) n
 
 -- a dispatch may come while an OAM transfer may close the stack region
 unfoldable pub is_dispatch_limited : Region → Node → Bool
 is_dispatch_limited region n = any_interrupt (λ i. is_stack_limited region n.state.core) n
 
+-- what a dispatch leaves isn't covered: at the vector, where it is inlined, or at the node, where its handler returns to
+abbrev pub is_dispatch_uncovered : Rules → Certificate → Node → ℕ → AbsState → Option ℕ → Bool
+is_dispatch_uncovered rules cert n i s handler = is_call_uncovered rules cert n.procedure (vector i) n.address s handler
+
 -- no handler is there, or one that may write where the procedure may not; or what the procedure goes on with behind it
 -- isn't covered where it was left
-abbrev pub is_unhandled : Certificate → Node → Option ℕ → Bool
-is_unhandled cert n handler =
-    not n.state.core.stack_set || is_outside_of cert n.procedure handler
-    || is_back_uncovered cert n.procedure n.address (dispatched n.state) handler
+abbrev pub is_unhandled : Setting → Certificate → Node → ℕ → Option ℕ → Bool
+is_unhandled z cert n i handler =
+    not n.state.core.stack_set || is_outside_of z cert n.procedure handler
+    || is_dispatch_uncovered z.rules cert n i (left_by_dispatch z.rules n.address n.state) handler
 
 -- an interrupt may come that isn't provided for
 unfoldable pub lacks_handler : Certificate → Node → Bool
-lacks_handler cert n = any_interrupt (λ i. is_unhandled cert n (handler_of cert i n.state)) n
+lacks_handler cert n =
+    let z = setting_of cert n.procedure in
+    any_interrupt (λ i. is_unhandled z cert n i (handler_of cert z i n.address n.state)) n
 
 -- ---- the reasons
 
@@ -205,19 +334,33 @@ is_undefined (Some bytes) = is_none (decoded bytes)
 unfoldable pub node_bytes : List ℕ → Node → Option (List ℕ)
 node_bytes rom n = known_bytes rom n.state n.address
 
--- a test of the successors of a node's instruction
+-- where the procedure of a node stands
+abbrev pub node_setting : Certificate → Node → Setting
+node_setting cert n = setting_of cert n.procedure
+
+-- the successors of a node's instruction
+unfoldable pub ways_of : List ℕ → Certificate → Node → Row → Successors
+ways_of rom cert n row = successors_of (stack_of cert n.procedure) rom row n.address n.state
+
+-- a test of them
 unfoldable pub any_of : (Successor → Bool) → List ℕ → Certificate → Node → Row → Bool
-any_of test rom cert n row = any_successor test (successors_of (setting_of cert n.procedure) rom cert.region row n.address n.state)
+any_of test rom cert n row = any_successor test (ways_of rom cert n row)
+
+-- something is meant before the instruction
+abbrev pub is_possible : Certificate → Node → Bool
+is_possible cert n = is_some (product_before (rules_of cert.version) n.state)
 
 -- the stack would grow over the procedure's need
 unfoldable pub grows_too_deep : List ℕ → Certificate → Node → Row → Bool
 grows_too_deep rom cert n row =
-    pushes_too_deep (need_of cert n.procedure) n row.op || any_of (calls_too_deep cert (need_of cert n.procedure)) rom cert n row
-    || handles_too_deep cert n
+    moves_too_deep (rules_of cert.version) (need_of cert n.procedure) n row.op (ways_of rom cert n row).taken
+    || any_of (calls_too_deep cert (node_setting cert n) (need_of cert n.procedure)) rom cert n row
+    || (is_possible cert n && handles_too_deep cert n)
 
 -- a successor may store where no store is allowed
 unfoldable pub stores_outside : List ℕ → Certificate → Node → Row → Bool
-stores_outside rom cert n row = any_of (λ t. is_unstorable (kind_of rom) cert.region (ranges_of cert n.procedure) t.write) rom cert n row
+stores_outside rom cert n row =
+    any_of (λ t. is_unstorable (node_setting cert n) (kind_of rom) cert.region (ranges_of cert n.procedure) t.write) rom cert n row
 
 -- one may meet closed cartridge RAM; asked for at the gate of the node's own state
 unfoldable pub meets_ram : List ℕ → Certificate → Node → Row → Bool
@@ -227,7 +370,7 @@ meets_ram rom cert n row = any_of (meets_closed rom n.state.core) rom cert n row
 unfoldable pub meets_transfer : List ℕ → Certificate → Node → Row → Bool
 meets_transfer rom cert n row =
     any_of (λ t. is_code_limited n.state.core n.address row.length || meets_oam_transfer cert.region n.state.core t) rom cert n row
-    || is_dispatch_limited cert.region n
+    || (is_possible cert n && is_dispatch_limited cert.region n)
 
 -- one may lead anywhere
 unfoldable pub leads_anywhere : List ℕ → Certificate → Node → Row → Bool
@@ -235,21 +378,21 @@ leads_anywhere rom cert n row = any_of (λ t. is_unknown t.target) rom cert n ro
 
 -- the states behind one aren't covered
 unfoldable pub leads_uncovered : List ℕ → Certificate → Node → Row → Bool
-leads_uncovered rom cert n row = any_of (is_uncovered cert n.procedure) rom cert n row
+leads_uncovered rom cert n row = any_of (is_uncovered (node_setting cert n) cert n.procedure) rom cert n row
 
 -- one calls what it may not
 unfoldable pub calls_wrongly : List ℕ → Certificate → Node → Row → Bool
-calls_wrongly rom cert n row = any_of (is_uncallable cert n.procedure) rom cert n row
+calls_wrongly rom cert n row = any_of (is_uncallable (node_setting cert n) cert n.procedure) rom cert n row
 
 -- one returns as it may not
 unfoldable pub returns_wrongly : List ℕ → Certificate → Node → Row → Bool
-returns_wrongly rom cert n row = any_of (is_unreturnable cert n.procedure) rom cert n row
+returns_wrongly rom cert n row = any_of (is_unreturnable (rules_of cert.version) cert n.procedure) rom cert n row
 
 -- whether a reason applies to a node whose instruction is known
 unfoldable pub applies_to_row : List ℕ → Certificate → Node → Row → Reason → Bool
 applies_to_row rom cert n row reason.Stop = is_stop row.op
 applies_to_row rom cert n row reason.Halt = may_read_twice rom n row.op
-applies_to_row rom cert n row reason.Stack = is_unjudged cert || breaks_stack cert.region n row.op
+applies_to_row rom cert n row reason.Stack = is_unjudged cert || breaks_stack (stack_of cert n.procedure) n row.op
 applies_to_row rom cert n row reason.Depth = grows_too_deep rom cert n row
 applies_to_row rom cert n row reason.Store = stores_outside rom cert n row
 applies_to_row rom cert n row reason.CartridgeRam = meets_ram rom cert n row

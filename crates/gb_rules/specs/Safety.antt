@@ -1,5 +1,5 @@
 -- What a certificate's nodes promise of one event.
-use Rattle.std.specs.Prelude.{◌≡◌, ℕ, ◌+◌, ◌≤◌, ◌<◌, ◌⊎◌, true, false, List, Some, length, slice_get}
+use Rattle.std.specs.Prelude.{◌≡◌, ℕ, ◌+◌, ◌≤◌, ◌<◌, ◌⊎◌, true, false, List, Some, IfSome, length, slice_get}
 use Rattle.std.specs.List.{All, Contains}
 use Rattle.gb_ops.specs.declared.machine.Event.{Event}
 use Rattle.gb_ops.specs.declared.machine.Event.TheVariants as event
@@ -17,11 +17,12 @@ use Rattle.gb_product.specs.Meaning.{Means}
 use Rattle.gb_abs.specs.Stack.{AreInRegion, pushed}
 use Rattle.gb_abs.specs.Storage.{peek}
 use Rattle.gb_code.specs.Below.gb_abs_memory.Kept.{IsKept}
-use Rattle.gb_calls.specs.Calls.{entered, are_ranges_inside, resumed}
+use Rattle.gb_calls.specs.Calls.{entered_by, are_ranges_inside}
+use Rattle.gb_calls.specs.Resuming.{resumed}
 use Rattle.gb_code.specs.Places.{IsCertified}
 use Rattle.gb_successors.specs.Below.gb_abs_effects.Pairs.{known_word}
 use Rattle.gb_rules.specs.Covered.{covered_at}
-use Rattle.gb_rules.specs.Procedures.{ranges_of, need_of, exit_of}
+use Rattle.gb_rules.specs.Procedures.{ranges_of, need_of, setting_of, exit_of, taken_by}
 
 -- ---- where the machine stands
 
@@ -60,13 +61,14 @@ pub record Calls (cert : Certificate) (procedure : ℕ) (entry : MState) (base :
   pub is_node : Contains cert.nodes node
   pub not_main : 0 < node.procedure
   pub address : s.processor.pc ≡ node.address
-  pub begins : covers (entered state) node.state ≡ true
+  pub begins : covers (entered_by (rules_of cert.version) (length node.state.items) state) node.state ≡ true
   pub mark : s.processor.halt_mark ≡ false
   pub depth : length state.items + 2 + need_of cert node.procedure ≤ need_of cert procedure
   pub inside : are_ranges_inside (ranges_of cert node.procedure) (ranges_of cert procedure) ≡ true
   pub resumes :
       (exit : AbsState) → exit_of cert node.procedure ≡ Some exit
-      → covered_at cert.nodes procedure back (resumed (rules_of cert.version) (ranges_of cert node.procedure) state exit) ≡ true
+      → IfSome (resumed (rules_of cert.version) (taken_by cert node.procedure) (ranges_of cert node.procedure) state exit)
+      (λ after. covered_at (rules_of cert.version) cert.nodes procedure back after ≡ true)
 
 -- from s to t the machine has returned: to the word at the base, in a state that the procedure's exit means
 pub record Returns (cert : Certificate) (procedure : ℕ) (entry : MState) (base : ℕ) (s t : MState) : Type 0 where
@@ -88,7 +90,7 @@ pub record IsSafeEvent (rom : List ℕ) (cert : Certificate) (procedure : ℕ) (
   pub faults : faults rom cert.region s e ≡ no_faults
   pub places : All (IsCertified rom cert) (places rom s e)
   pub leads : Leads rom cert procedure entry base s (next rom s e)
-  pub kept : (b : ℕ) → IsKept cert.region (ranges_of cert procedure) base b → peek (next rom s e).storage b ≡ peek s.storage b
+  pub kept : (b : ℕ) → IsKept (setting_of cert procedure) cert.region (ranges_of cert procedure) base b → peek (next rom s e).storage b ≡ peek s.storage b
 
 -- an event is no interrupt's dispatch
 abbrev pub IsNoDispatch : Event → Type 0

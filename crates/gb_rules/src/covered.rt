@@ -2,20 +2,24 @@
 
 ghost use Rattle.std.specs.Prelude.{◌≡◌, ◌<◌, ◌&&◌, ◌||◌, ℕ, false, nat_le, slice_index_or, IfSome, IfNone, map};
 ghost use Rattle.gb_calls.specs.Below.gb_rows.Rows.{IsFound};
+ghost use Rattle.gb_domain.specs.declared.rules.Rules.TheVariants.{Simple, Extended};
 ghost use Rattle.gb_states.specs.Rules.{key};
 ghost use Rattle.gb_abs.specs.Covering.{covers_items, covers_cells, covers_parts};
 ghost use Rattle.gb_abs.specs.Operations.{core_with_value};
 ghost use Rattle.gb_product.specs.Covering.{covers, covers_relations};
+ghost use Rattle.gb_product.specs.Reduced.{reduced};
 ghost use Rattle.gb_rules.specs.Covered as Covered;
 
 use gb_abs::covering::{covers_core, covers_lists};
 use gb_abs::operations::with_value;
 use gb_calls::{Cert, Found, NodeRef};
 use gb_domain::relations::Relations;
-use gb_domain::types::{Abs, Core, Val};
+use gb_domain::types::{Abs, Core, Rules, Val};
 use gb_ops::op::Register;
 use gb_ops::registers::Registers;
 use gb_product::covering::covers_relations;
+use gb_product::parts::Product;
+use gb_product::reduced::reduced;
 use gb_states::relations::test_alone;
 
 /// Whether the items and the cells of a node's state stand for those of others, where it may hold some: kept out of line,
@@ -169,9 +173,75 @@ fn covered_values(
     marks
 }
 
-/// Whether for each value of a register one node stands for the states with it.
+/// Those of these states with a value in a register, reduced; none where nothing is meant.
+fn with_value_reduced(register: Register, value: u8, states: &States<'_>) -> Option<Product>
+    ensures { result ≡ reduced Extended (core_with_value register value states.now.core.now) states.now.relations.now }
+{
+    reduced(
+        Rules::Extended,
+        &with_value(register, value, states.core),
+        states.relations,
+    )
+}
+
+/// Whether states that are claimed stand for those of these states with a value in a register, reduced, or nothing is meant by
+/// them.
+#[tactic(auto, unfolding(crate::specs::Covered::reduced_state, crate::specs::Covered::with_value, gb_product::specs::Covering::covers, gb_abs::specs::Covering::covers_parts))]
+fn covers_reduced(register: Register, value: u8, states: &States<'_>, claimed: &Abs) -> bool
+    ensures { IfSome (Covered.reduced_state Extended (Covered.with_value register (Covered.with_parts states.now.core.now states.now.relations.now states.now.lists.now) value)) (λ s. result ≡ covers s claimed.now) }
+{
+    match with_value_reduced(register, value, states) {
+        None => true,
+        Some(product) => {
+            covers_core(&product.core, claimed.core())
+                && covers_lists(states.lists, claimed)
+                && covers_relations(
+                    &product.core.registers,
+                    &product.relations,
+                    claimed.relations(),
+                )
+        }
+    }
+}
+
+/// Marks the values with which states that are claimed stand for these states, reduced: since that only cuts, the values lie in
+/// the interval that is claimed of the register.
+fn mark_reduced(marks: &mut [bool; 256], register: Register, states: &States<'_>, claimed: &Abs)
+    ensures { (v : ℕ) → IfSome (Covered.reduced_state Extended (Covered.with_value register (Covered.with_parts states.now.core.now states.now.relations.now states.now.lists.now) v)) (λ s. slice_index_or marks.new v false ≡ (slice_index_or marks.old v false || covers s claimed.now)) }
+{
+    let val = claimed.core().registers.get(register);
+    let after = u16::from(val.hi) + 1;
+    for value in u16::from(val.lo)..after {
+        if !marks[usize::from(value)] && covers_reduced(register, value as u8, states, claimed) {
+            marks[usize::from(value)] = true;
+        }
+    }
+}
+
+/// For each value of a register, whether one of the nodes that were found stands for those of these states that have it,
+/// reduced. Each node is read once.
+fn covered_values_reduced(
+    cert: &Cert<'_>,
+    found: &Found,
+    procedure: u8,
+    address: u16,
+    states: &States<'_>,
+    register: Register,
+) -> [bool; 256]
+    requires { IsFound (map key cert.now.nodes) (procedure, address) found.now.first found.now.after }
+    ensures { (v : ℕ) → v < 256 → IfSome (Covered.reduced_state Extended (Covered.with_value register (Covered.with_parts states.now.core.now states.now.relations.now states.now.lists.now) v)) (λ s. slice_index_or result v false ≡ Covered.is_covered_by_one cert.now.nodes procedure address s) }
+{
+    let mut marks = [false; 256];
+    for number in found.first..found.after {
+        let node = cert.node(number);
+        mark_reduced(&mut marks, register, states, &node.state());
+    }
+    marks
+}
+
+/// Whether for each value of a register one node stands for the states with it, by the rules of versions 1 and 2.
 #[tactic(auto, unfolding(crate::specs::Covered::is_covered_by_values))]
-fn is_covered_by_values(
+fn is_covered_simply(
     cert: &Cert<'_>,
     found: &Found,
     procedure: u8,
@@ -180,7 +250,7 @@ fn is_covered_by_values(
     register: Register,
 ) -> bool
     requires { IsFound (map key cert.now.nodes) (procedure, address) found.now.first found.now.after }
-    ensures { result ≡ Covered.is_covered_by_values cert.now.nodes procedure address (Covered.with_parts states.now.core.now states.now.relations.now states.now.lists.now) register }
+    ensures { result ≡ Covered.is_covered_by_values Simple cert.now.nodes procedure address (Covered.with_parts states.now.core.now states.now.relations.now states.now.lists.now) register }
 {
     let val = states.core.registers.get(register);
     let marks = covered_values(cert, found, procedure, address, states, register);
@@ -193,39 +263,86 @@ fn is_covered_by_values(
     true
 }
 
+/// The same by the rules of version 3: the states with a value are reduced first, and where nothing is meant no node is asked
+/// for.
+#[tactic(auto, unfolding(crate::specs::Covered::is_covered_by_values))]
+fn is_covered_reduced(
+    cert: &Cert<'_>,
+    found: &Found,
+    procedure: u8,
+    address: u16,
+    states: &States<'_>,
+    register: Register,
+) -> bool
+    requires { IsFound (map key cert.now.nodes) (procedure, address) found.now.first found.now.after }
+    ensures { result ≡ Covered.is_covered_by_values Extended cert.now.nodes procedure address (Covered.with_parts states.now.core.now states.now.relations.now states.now.lists.now) register }
+{
+    let val = states.core.registers.get(register);
+    let marks = covered_values_reduced(cert, found, procedure, address, states, register);
+    let after = u16::from(val.hi) + 1;
+    for value in u16::from(val.lo)..after {
+        if !marks[usize::from(value)]
+            && with_value_reduced(register, value as u8, states).is_some()
+        {
+            return false;
+        }
+    }
+    true
+}
+
+/// Whether for each value of a register one node stands for the states with it.
+fn is_covered_by_values(
+    rules: Rules,
+    cert: &Cert<'_>,
+    found: &Found,
+    procedure: u8,
+    address: u16,
+    states: &States<'_>,
+    register: Register,
+) -> bool
+    requires { IsFound (map key cert.now.nodes) (procedure, address) found.now.first found.now.after }
+    ensures { result ≡ Covered.is_covered_by_values rules cert.now.nodes procedure address (Covered.with_parts states.now.core.now states.now.relations.now states.now.lists.now) register }
+{
+    match rules {
+        Rules::Simple => is_covered_simply(cert, found, procedure, address, states, register),
+        Rules::Extended => is_covered_reduced(cert, found, procedure, address, states, register),
+    }
+}
+
 /// Whether one node of the procedure stands for these states at the address, or for one register value
 /// by value some do. Only the nodes of that procedure and address are looked at, and they are looked for from the node with
 /// the number `near` on.
 #[tactic(auto, unfolding(crate::specs::Covered::covered_at))]
 pub fn covered_near(
+    rules: Rules,
     cert: &Cert<'_>,
     near: u32,
     procedure: u8,
     address: u16,
     states: &States<'_>,
 ) -> bool
-    ensures { result ≡ Covered.covered_at cert.now.nodes procedure address (Covered.with_parts states.now.core.now states.now.relations.now states.now.lists.now) }
+    ensures { result ≡ Covered.covered_at rules cert.now.nodes procedure address (Covered.with_parts states.now.core.now states.now.relations.now states.now.lists.now) }
 {
     let found = cert.find_near(near, procedure, address).found;
     is_covered_by_one(cert, &found, procedure, address, states)
-        || is_covered_by_values(cert, &found, procedure, address, states, Register::A)
-        || is_covered_by_values(cert, &found, procedure, address, states, Register::B)
-        || is_covered_by_values(cert, &found, procedure, address, states, Register::C)
-        || is_covered_by_values(cert, &found, procedure, address, states, Register::D)
-        || is_covered_by_values(cert, &found, procedure, address, states, Register::E)
-        || is_covered_by_values(cert, &found, procedure, address, states, Register::H)
-        || is_covered_by_values(cert, &found, procedure, address, states, Register::L)
+        || is_covered_by_values(rules, cert, &found, procedure, address, states, Register::A)
+        || is_covered_by_values(rules, cert, &found, procedure, address, states, Register::B)
+        || is_covered_by_values(rules, cert, &found, procedure, address, states, Register::C)
+        || is_covered_by_values(rules, cert, &found, procedure, address, states, Register::D)
+        || is_covered_by_values(rules, cert, &found, procedure, address, states, Register::E)
+        || is_covered_by_values(rules, cert, &found, procedure, address, states, Register::H)
+        || is_covered_by_values(rules, cert, &found, procedure, address, states, Register::L)
 }
 
 /// Whether one node of the procedure stands for these states at the address, or for one register value
 /// by value some do. Only the nodes of that procedure and address are looked at.
-pub fn covered_at(cert: &Cert<'_>, procedure: u8, address: u16, state: &Abs) -> bool
-    ensures { result ≡ Covered.covered_at cert.now.nodes procedure address state.now }
+pub fn covered_at(rules: Rules, cert: &Cert<'_>, procedure: u8, address: u16, state: &Abs) -> bool
+    ensures { result ≡ Covered.covered_at rules cert.now.nodes procedure address state.now }
 {
     let states = States {
         core: state.core(),
         relations: state.relations(),
         lists: state,
     };
-    covered_near(cert, 0, procedure, address, &states)
+    covered_near(rules, cert, 0, procedure, address, &states)
 }

@@ -4,38 +4,76 @@ ghost use Rattle.std.specs.Prelude.{◌≡◌, ◌<◌, ◌&&◌, true, false, l
 ghost use Rattle.gb_abs.specs.declared.reason.Reason.TheVariants.{Interrupt};
 ghost use Rattle.gb_calls.specs.Interrupts.{may_come, handler_of};
 ghost use Rattle.gb_successors.specs.Refused as Refused;
-ghost use Rattle.gb_rules.specs.Rules as Rules;
+ghost use Rattle.gb_rules.specs.Rules as Ruled;
 ghost use Rattle.gb_rules.specs.Safety.{IsWhollySafeAt};
 
-use crate::procedures::{is_back_uncovered, is_outside_of, is_over, need_of};
+use crate::depth::is_deep;
+use crate::procedures::{Call, is_call_uncovered, is_outside_of, is_over, need_of, setting_of};
 use gb_abs::reason::Reason;
-use gb_calls::interrupts::{dispatched, handler, may_come};
+use gb_calls::interrupts::{handler, left_by_dispatch, may_come};
 use gb_calls::{Cert, NodeRef};
 use gb_code::{Rom, holds_bytes};
-use gb_domain::types::{Abs, Core};
+use gb_domain::types::{Abs, Core, Rules, Setting};
 use gb_ops::machine::Region;
 use gb_successors::refused::is_stack_limited;
 
-/// Whether interrupt `i`, 0 to 4, may come, and its handler would need more bytes than there are.
-fn is_deep_at(cert: &Cert<'_>, need: u16, state: &Abs, i: u8) -> bool
-    requires { i < 5 }
-    ensures { result ≡ (may_come i state.now.core && Rules.is_over cert.now need (length state.now.items) (handler_of cert.now i state.now)) }
+/// Whether the bytes that a dispatch leaves are too many, or those that wait and the handler's need are.
+fn is_dispatch_deep(
+    setting: Setting,
+    cert: &Cert<'_>,
+    need: u16,
+    state: &Abs,
+    handler: Option<u8>,
+) -> bool
+    ensures { result ≡ Ruled.is_dispatch_deep setting cert.now need state.now handler }
 {
-    may_come(i, state.core()) && is_over(cert, need, state, handler(cert, i, state))
+    let held = state.items().len();
+    match setting.rules {
+        Rules::Simple => is_over(Rules::Simple, cert, need, held, handler),
+        Rules::Extended => {
+            state.core().stack_set
+                && (is_deep(Rules::Extended, need, held + 2)
+                    || is_over(Rules::Extended, cert, need, held + 2, handler))
+        }
+    }
 }
 
-/// Whether an interrupt may come whose handler would need more bytes than the procedure has left.
+/// Whether interrupt `i`, 0 to 4, may come, and its dispatch makes the stack too deep.
+fn is_deep_at(
+    cert: &Cert<'_>,
+    setting: Setting,
+    need: u16,
+    address: u16,
+    state: &Abs,
+    i: u8,
+) -> bool
+    requires { i < 5 }
+    ensures { result ≡ (may_come i state.now.core && Ruled.is_dispatch_deep setting cert.now need state.now (handler_of cert.now setting i address state.now)) }
+{
+    may_come(i, state.core())
+        && is_dispatch_deep(
+            setting,
+            cert,
+            need,
+            state,
+            handler(cert, setting, i, address, state),
+        )
+}
+
+/// Whether an interrupt may come whose dispatch makes the stack too deep.
 #[tactic(auto, unfolding(crate::specs::Rules::handles_too_deep))]
 pub(crate) fn handles_too_deep(cert: &Cert<'_>, node: &NodeRef<'_>, state: &Abs) -> bool
     requires { state.now ≡ node.now.state }
-    ensures { result ≡ Rules.handles_too_deep cert.now node.now }
+    ensures { result ≡ Ruled.handles_too_deep cert.now node.now }
 {
-    let need = need_of(cert, node.procedure());
-    is_deep_at(cert, need, state, 0)
-        || is_deep_at(cert, need, state, 1)
-        || is_deep_at(cert, need, state, 2)
-        || is_deep_at(cert, need, state, 3)
-        || is_deep_at(cert, need, state, 4)
+    let procedure = node.procedure();
+    let (setting, need) = (setting_of(cert, procedure), need_of(cert, procedure));
+    let address = node.address();
+    is_deep_at(cert, setting, need, address, state, 0)
+        || is_deep_at(cert, setting, need, address, state, 1)
+        || is_deep_at(cert, setting, need, address, state, 2)
+        || is_deep_at(cert, setting, need, address, state, 3)
+        || is_deep_at(cert, setting, need, address, state, 4)
 }
 
 /// Whether interrupt `i`, 0 to 4, may come while an OAM transfer may close the stack region.
@@ -50,7 +88,7 @@ fn is_limited_at(region: Region, core: &Core, i: u8) -> bool
 #[tactic(auto, unfolding(crate::specs::Rules::is_dispatch_limited))]
 pub(crate) fn is_dispatch_limited(region: Region, node: &NodeRef<'_>, core: &Core) -> bool
     requires { core.now ≡ node.now.state.core }
-    ensures { result ≡ Rules.is_dispatch_limited region node.now }
+    ensures { result ≡ Ruled.is_dispatch_limited region node.now }
 {
     is_limited_at(region, core, 0)
         || is_limited_at(region, core, 1)
@@ -59,24 +97,61 @@ pub(crate) fn is_dispatch_limited(region: Region, node: &NodeRef<'_>, core: &Cor
         || is_limited_at(region, core, 4)
 }
 
-/// Whether a handler can't be entered from a node, or what its procedure goes on with behind it isn't covered there.
-fn is_unhandled(cert: &Cert<'_>, node: &NodeRef<'_>, state: &Abs, handler: Option<u8>) -> bool
-    requires { state.now ≡ node.now.state }
-    ensures { result ≡ Rules.is_unhandled cert.now node.now handler }
+/// The vector of interrupt 0; those of the others follow it, 8 bytes apart (Memory map: jump vectors).
+const FIRST_VECTOR: u16 = 0x40;
+
+/// Whether a handler can't be entered from a node, or what its procedure goes on with behind it isn't covered there; where an
+/// interrupt is handled in the procedure itself, whether that isn't covered at its vector.
+fn is_unhandled(
+    cert: &Cert<'_>,
+    setting: Setting,
+    node: &NodeRef<'_>,
+    state: &Abs,
+    i: u8,
+    handler: Option<u8>,
+) -> bool
+    requires small { i < 5 }
+    requires state { state.now ≡ node.now.state }
+    ensures { result ≡ Ruled.is_unhandled setting cert.now node.now i handler }
 {
     let procedure = node.procedure();
+    let call = Call {
+        address: FIRST_VECTOR + 8 * u16::from(i),
+        back: node.address(),
+    };
     !state.core().stack_set
-        || is_outside_of(cert, procedure, handler)
-        || is_back_uncovered(cert, procedure, node.address(), &dispatched(state), handler)
+        || is_outside_of(cert, setting, procedure, handler)
+        || is_call_uncovered(
+            setting.rules,
+            cert,
+            procedure,
+            call,
+            &left_by_dispatch(setting.rules, node.address(), state),
+            handler,
+        )
 }
 
 /// Whether interrupt `i`, 0 to 4, may come at a node and isn't provided for.
-fn is_unhandled_at(cert: &Cert<'_>, node: &NodeRef<'_>, state: &Abs, i: u8) -> bool
+fn is_unhandled_at(
+    cert: &Cert<'_>,
+    setting: Setting,
+    node: &NodeRef<'_>,
+    state: &Abs,
+    i: u8,
+) -> bool
     requires small { i < 5 }
     requires state { state.now ≡ node.now.state }
-    ensures { result ≡ (may_come i node.now.state.core && Rules.is_unhandled cert.now node.now (handler_of cert.now i node.now.state)) }
+    ensures { result ≡ (may_come i node.now.state.core && Ruled.is_unhandled setting cert.now node.now i (handler_of cert.now setting i node.now.address node.now.state)) }
 {
-    may_come(i, state.core()) && is_unhandled(cert, node, state, handler(cert, i, state))
+    may_come(i, state.core())
+        && is_unhandled(
+            cert,
+            setting,
+            node,
+            state,
+            i,
+            handler(cert, setting, i, node.address(), state),
+        )
 }
 
 /// Whether an interrupt may come at a node that isn't provided for (own rules): the stack isn't set, no procedure may
@@ -85,13 +160,14 @@ fn is_unhandled_at(cert: &Cert<'_>, node: &NodeRef<'_>, state: &Abs, i: u8) -> b
 #[tactic(auto, unfolding(crate::specs::Rules::lacks_handler))]
 pub fn lacks_handler(cert: &Cert<'_>, node: &NodeRef<'_>, state: &Abs) -> bool
     requires { state.now ≡ node.now.state }
-    ensures { result ≡ Rules.lacks_handler cert.now node.now }
+    ensures { result ≡ Ruled.lacks_handler cert.now node.now }
 {
-    is_unhandled_at(cert, node, state, 0)
-        || is_unhandled_at(cert, node, state, 1)
-        || is_unhandled_at(cert, node, state, 2)
-        || is_unhandled_at(cert, node, state, 3)
-        || is_unhandled_at(cert, node, state, 4)
+    let setting = setting_of(cert, node.procedure());
+    is_unhandled_at(cert, setting, node, state, 0)
+        || is_unhandled_at(cert, setting, node, state, 1)
+        || is_unhandled_at(cert, setting, node, state, 2)
+        || is_unhandled_at(cert, setting, node, state, 3)
+        || is_unhandled_at(cert, setting, node, state, 4)
 }
 
 /// Checks that each interrupt that may come at the node with a number is provided for.
@@ -102,11 +178,11 @@ pub fn lacks_handler(cert: &Cert<'_>, node: &NodeRef<'_>, state: &Abs) -> bool
 pub fn check_irqs(rom: &Rom<'_>, cert: &Cert<'_>, i: u32) -> Result<(), Reason>
     requires { i < length cert.now.nodes }
     // Ok exactly where each interrupt is provided for.
-    ensures exact { MatchResult result (λ _. Rules.lacks_handler_at cert.now i ≡ false) (λ r. (Rules.lacks_handler_at cert.now i ≡ true) × (r ≡ Interrupt)) }
+    ensures exact { MatchResult result (λ _. Ruled.lacks_handler_at cert.now i ≡ false) (λ r. (Ruled.lacks_handler_at cert.now i ≡ true) × (r ≡ Interrupt)) }
     // Where no other reason is against the node either, each event, a dispatch among them, from a state of
     // the node, has no fault, fetches certified places, leaves a state that some node of the procedure
     // means, or enters another one, or returns, and changes nothing that the procedure keeps.
-    ensures safe { Rules.reason_at rom.now cert.now i ≡ None → OnOk result (IsWhollySafeAt rom.now cert.now i) }
+    ensures safe { Ruled.reason_at rom.now cert.now i ≡ None → OnOk result (IsWhollySafeAt rom.now cert.now i) }
 {
     // Behind the promise stand that a cartridge holds bytes, and the rules of certificates.
     holds_bytes(rom);
@@ -116,7 +192,7 @@ pub fn check_irqs(rom: &Rom<'_>, cert: &Cert<'_>, i: u32) -> Result<(), Reason>
 
 fn provided_at(cert: &Cert<'_>, i: u32) -> Result<(), Reason>
     requires { i < length cert.now.nodes }
-    ensures { MatchResult result (λ _. Rules.lacks_handler_at cert.now i ≡ false) (λ r. (Rules.lacks_handler_at cert.now i ≡ true) × (r ≡ Interrupt)) }
+    ensures { MatchResult result (λ _. Ruled.lacks_handler_at cert.now i ≡ false) (λ r. (Ruled.lacks_handler_at cert.now i ≡ true) × (r ≡ Interrupt)) }
 {
     let node = cert.node(i);
     let state = node.state();

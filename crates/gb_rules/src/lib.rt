@@ -11,9 +11,11 @@
 #![tactic(auto)]
 
 pub mod covered;
+mod depth;
 pub mod interrupts;
 pub mod procedures;
 pub mod rules;
+mod stacks;
 
 // What lies below, for the crates above.
 pub use gb_abs::covering::cell_at;
@@ -23,15 +25,16 @@ pub use gb_abs::span::Span;
 pub use gb_abs::storage::is_ram;
 pub use gb_abs::{any, known, length_of};
 pub use gb_calls::entering::enter;
-pub use gb_calls::interrupts::{dispatched, may_come};
+pub use gb_calls::interrupts::{left_by_dispatch, may_come};
 pub use gb_calls::ranges::are_ranges_inside;
-pub use gb_calls::resuming::resume;
+pub use gb_calls::resuming::{Resumed, resume};
 pub use gb_calls::{Cert, NodeRef, ProcedureRef};
 pub use gb_code::code::{area_end, known_byte, known_bytes, leaves_area, lies_in_high_ram};
 pub use gb_code::{holds_bytes, is_limited, known_bank, meets_closed_ram};
 pub use gb_product::covering::covers;
 pub use gb_states::CertFault;
 pub use gb_successors::refused::is_stack_limited;
+pub use gb_successors::stacks::Stack;
 pub use gb_successors::successor::Successor;
 pub use gb_successors::successors::{Successors, successors_of};
 pub use gb_successors::{AbsRead, AbsWrite, Target};

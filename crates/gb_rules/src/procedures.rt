@@ -1,23 +1,24 @@
 //! The procedures of a certificate, and what successors ask of them: where they call, where they go on,
 //! and whether they may return.
 
-ghost use Rattle.std.specs.Prelude.{◌≡◌, length, slice_get, Option};
+ghost use Rattle.std.specs.Prelude.{◌≡◌, ◌<◌, length, slice_get, Option};
 ghost use Rattle.gb_domain.specs.Limits as Limits;
 ghost use Rattle.gb_calls.specs.Calls.{callee_of};
 ghost use Rattle.gb_successors.specs.Successors.{has};
 ghost use Rattle.gb_rules.specs.Covered as Covered;
 ghost use Rattle.gb_rules.specs.Procedures as Procedures;
-ghost use Rattle.gb_rules.specs.Rules as Rules;
+ghost use Rattle.gb_rules.specs.Rules as Ruled;
 
 use crate::covered::{States, covered_at, covered_near};
 use arrayvec::ArrayVec;
 use gb_calls::Cert;
 use gb_calls::callees::callee;
 use gb_calls::ranges::are_ranges_inside;
-use gb_calls::resuming::resume;
-use gb_domain::types::{Abs, Range, Rules as Form, Setting};
+use gb_calls::resuming::{Resumed, resume};
+use gb_domain::types::{Abs, Range, Rules, Setting};
 use gb_product::covering::covers;
 use gb_successors::Target;
+use gb_successors::stacks::Stack;
 use gb_successors::successor::Successor;
 use gb_successors::successors::Successors;
 
@@ -47,10 +48,10 @@ pub fn need_of(cert: &Cert<'_>, procedure: u8) -> u16
 }
 
 /// The rules of the certificate's version.
-pub(crate) fn rules_of(cert: &Cert<'_>) -> Form
+pub(crate) fn rules_of(cert: &Cert<'_>) -> Rules
     ensures { result ≡ Limits.rules_of cert.now.version }
 {
-    Form::of(cert.version())
+    Rules::of(cert.version())
 }
 
 /// The base that a procedure says; 0 where it says none, or there is none with the number.
@@ -73,6 +74,42 @@ pub fn setting_of(cert: &Cert<'_>, procedure: u8) -> Setting
         rules: rules_of(cert),
         is_main: procedure == 0,
         base: base_of(cert, procedure),
+    }
+}
+
+/// Where a procedure's states stand, and how much it may have on the stack.
+#[tactic(auto, unfolding(crate::specs::Procedures::stack_of))]
+pub fn stack_of(cert: &Cert<'_>, procedure: u8) -> Stack
+    ensures { result ≡ Procedures.stack_of cert.now procedure }
+{
+    Stack {
+        setting: setting_of(cert, procedure),
+        region: cert.region(),
+        need: need_of(cert, procedure),
+        main_need: need_of(cert, 0),
+    }
+}
+
+/// How many bytes a node's states hold.
+fn items_of(cert: &Cert<'_>, node: u32) -> u8
+    ensures { result ≡ Procedures.items_in (slice_get cert.now.nodes node) }
+{
+    if node < cert.nodes() {
+        cert.node(node).state().items().len() as u8
+    } else {
+        0
+    }
+}
+
+/// How many of its caller's bytes a procedure takes over: those of its entry node.
+#[tactic(auto, unfolding(crate::specs::Procedures::taken_by))]
+pub fn taken_by(cert: &Cert<'_>, procedure: u8) -> u8
+    ensures { result ≡ Procedures.taken_by cert.now procedure }
+{
+    if procedure < cert.procedures() {
+        items_of(cert, cert.procedure(procedure).entry())
+    } else {
+        0
     }
 }
 
@@ -102,129 +139,229 @@ pub(crate) struct Callees {
 
 /// The procedure that is called at an address.
 #[inline(never)]
-fn callee_from(cert: &Cert<'_>, address: u16, successor: &Successor<'_>) -> Option<u8>
-    ensures { result ≡ callee_of cert.now address successor.now.state }
+fn callee_from(
+    cert: &Cert<'_>,
+    setting: Setting,
+    address: u16,
+    successor: &Successor<'_>,
+) -> Option<u8>
+    ensures { result ≡ callee_of cert.now setting address successor.now.state }
 {
-    callee(cert, address, &successor.state())
+    callee(cert, setting, address, &successor.state())
 }
 
 /// The procedure that a successor calls.
 #[tactic(auto, unfolding(crate::specs::Rules::callee_at))]
-pub fn callee_at(cert: &Cert<'_>, successor: &Successor<'_>) -> Option<u8>
-    ensures { result ≡ Rules.callee_at cert.now successor.now }
+pub fn callee_at(cert: &Cert<'_>, setting: Setting, successor: &Successor<'_>) -> Option<u8>
+    ensures { result ≡ Ruled.callee_at cert.now setting successor.now }
 {
     match successor.target {
-        Target::Call(address) => callee_from(cert, address, successor),
-        Target::At(_) | Target::Return | Target::Unknown => None,
+        Target::Call(address) => callee_from(cert, setting, address, successor),
+        Target::At(_) | Target::Main(_) | Target::Return | Target::Unknown | Target::Lost => None,
     }
 }
 
-fn callee_in(cert: &Cert<'_>, way: &Option<Successor<'_>>) -> Option<u8>
-    ensures { result ≡ Rules.callee_in cert.now way.now }
+fn callee_in(cert: &Cert<'_>, setting: Setting, way: &Option<Successor<'_>>) -> Option<u8>
+    ensures { result ≡ Ruled.callee_in cert.now setting way.now }
 {
     match way {
         None => None,
-        Some(successor) => callee_at(cert, successor),
+        Some(successor) => callee_at(cert, setting, successor),
     }
 }
 
 /// The procedures that the successors call.
 #[tactic(auto, unfolding(crate::specs::Rules::callees_of))]
-pub(crate) fn callees_of(cert: &Cert<'_>, ways: &Successors<'_>) -> Callees
-    ensures { result ≡ Rules.callees_of cert.now ways.now }
+pub(crate) fn callees_of(cert: &Cert<'_>, setting: Setting, ways: &Successors<'_>) -> Callees
+    ensures { result ≡ Ruled.callees_of cert.now setting ways.now }
 {
     Callees {
-        taken: callee_in(cert, &ways.taken),
-        not_taken: callee_in(cert, &ways.not_taken),
-        stays: callee_in(cert, &ways.stays),
+        taken: callee_in(cert, setting, &ways.taken),
+        not_taken: callee_in(cert, setting, &ways.not_taken),
+        stays: callee_in(cert, setting, &ways.stays),
     }
 }
 
 // ---- depth
 
-/// Whether the bytes that are held, the return address and the callee's need are more than the need.
-pub(crate) fn is_over(cert: &Cert<'_>, need: u16, state: &Abs, callee: Option<u8>) -> bool
-    ensures { result ≡ Rules.is_over cert.now need (length state.now.items) callee }
+/// The bytes of a caller that wait below a callee.
+fn waiting_below(rules: Rules, cert: &Cert<'_>, held: usize, callee: u8) -> usize
+    requires { held < 65536 }
+    ensures { result ≡ Ruled.waiting_below rules cert.now held callee }
 {
-    let held = state.items().len();
+    match rules {
+        Rules::Simple => held + 2,
+        Rules::Extended => held.saturating_sub(usize::from(taken_by(cert, callee))),
+    }
+}
+
+/// Whether the bytes that wait and the callee's need are more than the need.
+pub(crate) fn is_over(
+    rules: Rules,
+    cert: &Cert<'_>,
+    need: u16,
+    held: usize,
+    callee: Option<u8>,
+) -> bool
+    requires { held < 65536 }
+    ensures { result ≡ Ruled.is_over rules cert.now need held callee }
+{
     match callee {
         None => false,
-        Some(callee) => usize::from(need) < held + 2 + usize::from(need_of(cert, callee)),
+        Some(callee) => {
+            let waiting = waiting_below(rules, cert, held, callee);
+            usize::from(need) < waiting + usize::from(need_of(cert, callee))
+        }
     }
 }
 
 /// Whether a successor and its callee hold more bytes than the need.
 #[inline(never)]
-fn is_deep_from(cert: &Cert<'_>, need: u16, successor: &Successor<'_>, callee: Option<u8>) -> bool
-    ensures { result ≡ Rules.is_over cert.now need (length successor.now.state.items) callee }
+fn is_deep_from(
+    rules: Rules,
+    cert: &Cert<'_>,
+    need: u16,
+    successor: &Successor<'_>,
+    callee: Option<u8>,
+) -> bool
+    ensures { result ≡ Ruled.is_over rules cert.now need (length successor.now.state.items) callee }
 {
-    is_over(cert, need, &successor.state(), callee)
+    is_over(rules, cert, need, successor.state().items().len(), callee)
 }
 
-fn is_deep(cert: &Cert<'_>, need: u16, successor: &Successor<'_>, callee: Option<u8>) -> bool
-    ensures { result ≡ Rules.is_over cert.now need (length successor.now.state.items) callee }
+fn is_deep(
+    rules: Rules,
+    cert: &Cert<'_>,
+    need: u16,
+    successor: &Successor<'_>,
+    callee: Option<u8>,
+) -> bool
+    ensures { result ≡ Ruled.is_over rules cert.now need (length successor.now.state.items) callee }
 {
-    callee.is_some() && is_deep_from(cert, need, successor, callee)
+    callee.is_some() && is_deep_from(rules, cert, need, successor, callee)
 }
 
 #[tactic(auto, unfolding(crate::specs::Rules::calls_too_deep))]
 pub(crate) fn has_deep(
     cert: &Cert<'_>,
+    setting: Setting,
     need: u16,
     way: &Option<Successor<'_>>,
     callee: Option<u8>,
 ) -> bool
-    requires { callee ≡ Rules.callee_in cert.now way.now }
-    ensures { result ≡ has (Rules.calls_too_deep cert.now need) way.now }
+    requires { callee ≡ Ruled.callee_in cert.now setting way.now }
+    ensures { result ≡ has (Ruled.calls_too_deep cert.now setting need) way.now }
 {
     match way {
         None => false,
-        Some(successor) => is_deep(cert, need, successor, callee),
+        Some(successor) => is_deep(setting.rules, cert, need, successor, callee),
     }
 }
 
 // ---- covering
 
+/// Whether more bytes are on the stack than a state can hold.
+#[tactic(auto, unfolding(gb_domain::specs::Limits::item_room))]
+fn is_overfull(state: &Abs) -> bool
+    ensures { result ≡ Ruled.is_overfull state.now }
+{
+    Rules::Extended.item_room() < state.items().len()
+}
+
 /// Whether no node stands for what the caller goes on with when the callee returns.
 pub(crate) fn is_back_uncovered(
+    rules: Rules,
     cert: &Cert<'_>,
     procedure: u8,
     back: u16,
     state: &Abs,
-    callee: Option<u8>,
+    callee: u8,
 ) -> bool
-    ensures { result ≡ Rules.is_back_uncovered cert.now procedure back state.now callee }
+    ensures { result ≡ Ruled.is_back_uncovered rules cert.now procedure back state.now callee }
 {
-    let Some(callee) = callee else { return false };
     let Some(exit) = exit_of(cert, callee) else {
         return false;
     };
     let ranges = ranges_of(cert, callee);
-    let resumed = resume(rules_of(cert), ranges.as_slice(), state, &exit);
-    !covered_at(cert, procedure, back, &resumed)
+    let taken = taken_by(cert, callee);
+    match resume(rules, taken, ranges.as_slice(), state, &exit) {
+        Resumed::Nothing => false,
+        Resumed::TooDeep => true,
+        Resumed::States(resumed) => {
+            is_overfull(&resumed) || !covered_at(rules, cert, procedure, back, &resumed)
+        }
+    }
+}
+
+/// Whether what is called, and has no callee, isn't covered in the same procedure either.
+fn is_inlined_uncovered(
+    rules: Rules,
+    cert: &Cert<'_>,
+    procedure: u8,
+    address: u16,
+    state: &Abs,
+) -> bool
+    ensures { result ≡ Ruled.is_inlined_uncovered rules cert.now procedure address state.now }
+{
+    match rules {
+        Rules::Simple => false,
+        Rules::Extended => !covered_at(rules, cert, procedure, address, state),
+    }
+}
+
+/// Whether no node stands for what a call at an address leads to: where the callee returns to, or where it is inlined.
+pub(crate) fn is_call_uncovered(
+    rules: Rules,
+    cert: &Cert<'_>,
+    procedure: u8,
+    call: Call,
+    state: &Abs,
+    callee: Option<u8>,
+) -> bool
+    ensures { result ≡ Ruled.is_call_uncovered rules cert.now procedure call.address call.back state.now callee }
+{
+    match callee {
+        None => is_inlined_uncovered(rules, cert, procedure, call.address, state),
+        Some(callee) => is_back_uncovered(rules, cert, procedure, call.back, state, callee),
+    }
+}
+
+/// The address that is called, and the one that is returned to.
+#[derive(Clone, Copy)]
+pub(crate) struct Call {
+    pub address: u16,
+    pub back: u16,
 }
 
 /// Whether a node of the procedure at the address stands for the states behind an instruction that changed items or
 /// cells.
 #[inline(never)]
-fn is_covered_moved(cert: &Cert<'_>, procedure: u8, address: u16, successor: &Successor<'_>) -> bool
-    ensures { result ≡ Covered.covered_at cert.now.nodes procedure address successor.now.state }
+fn is_covered_moved(
+    rules: Rules,
+    cert: &Cert<'_>,
+    procedure: u8,
+    address: u16,
+    successor: &Successor<'_>,
+) -> bool
+    ensures { result ≡ Covered.covered_at rules cert.now.nodes procedure address successor.now.state }
 {
-    covered_at(cert, procedure, address, &successor.state())
+    covered_at(rules, cert, procedure, address, &successor.state())
 }
 
 /// Whether a node of the procedure at the address stands for the states behind an instruction.
 fn is_covered(
+    rules: Rules,
     cert: &Cert<'_>,
     near: u32,
     procedure: u8,
     address: u16,
     successor: &Successor<'_>,
 ) -> bool
-    ensures { result ≡ Covered.covered_at cert.now.nodes procedure address successor.now.state }
+    ensures { result ≡ Covered.covered_at rules cert.now.nodes procedure address successor.now.state }
 {
     match successor.unmoved() {
         Some(lists) => covered_near(
+            rules,
             cert,
             near,
             procedure,
@@ -235,66 +372,89 @@ fn is_covered(
                 lists,
             },
         ),
-        None => is_covered_moved(cert, procedure, address, successor),
+        None => is_covered_moved(rules, cert, procedure, address, successor),
     }
 }
 
-/// Whether no node stands for what a successor's caller goes on with when the callee returns.
+/// Whether no node stands for what a successor's call leads to.
 #[inline(never)]
-fn is_back_missed(
+fn is_call_missed(
+    rules: Rules,
     cert: &Cert<'_>,
     procedure: u8,
+    address: u16,
     successor: &Successor<'_>,
     callee: Option<u8>,
 ) -> bool
-    ensures { result ≡ Rules.is_back_uncovered cert.now procedure successor.now.next successor.now.state callee }
+    ensures { result ≡ Ruled.is_call_uncovered rules cert.now procedure address successor.now.next successor.now.state callee }
 {
-    is_back_uncovered(cert, procedure, successor.next, &successor.state(), callee)
+    let call = Call {
+        address,
+        back: successor.next,
+    };
+    is_call_uncovered(rules, cert, procedure, call, &successor.state(), callee)
 }
 
-/// Whether no node of the procedure stands for the states behind an instruction, where they go on in
-/// it: at once, or when the callee returns.
+/// Whether no node stands for the states behind an instruction, where they go on in the same procedure, at once or when the
+/// callee returns, or in main.
 #[tactic(auto, unfolding(crate::specs::Rules::is_uncovered, crate::specs::Rules::callee_at))]
 fn is_uncovered(
     cert: &Cert<'_>,
+    setting: Setting,
     near: u32,
     procedure: u8,
     successor: &Successor<'_>,
     callee: Option<u8>,
 ) -> bool
-    requires { callee ≡ Rules.callee_at cert.now successor.now }
-    ensures { result ≡ Rules.is_uncovered cert.now procedure successor.now }
+    requires { callee ≡ Ruled.callee_at cert.now setting successor.now }
+    ensures { result ≡ Ruled.is_uncovered setting cert.now procedure successor.now }
 {
+    let rules = setting.rules;
     match successor.target {
-        Target::At(address) => !is_covered(cert, near, procedure, address, successor),
-        Target::Call(_) => is_back_missed(cert, procedure, successor, callee),
-        Target::Return | Target::Unknown => false,
+        Target::At(address) => !is_covered(rules, cert, near, procedure, address, successor),
+        Target::Call(address) => {
+            is_call_missed(rules, cert, procedure, address, successor, callee)
+        }
+        Target::Main(address) => !is_covered(rules, cert, near, 0, address, successor),
+        Target::Return | Target::Unknown | Target::Lost => false,
     }
 }
 
 pub(crate) fn has_uncovered(
     cert: &Cert<'_>,
+    setting: Setting,
     near: u32,
     procedure: u8,
     way: &Option<Successor<'_>>,
     callee: Option<u8>,
 ) -> bool
-    requires { callee ≡ Rules.callee_in cert.now way.now }
-    ensures { result ≡ has (Rules.is_uncovered cert.now procedure) way.now }
+    requires { callee ≡ Ruled.callee_in cert.now setting way.now }
+    ensures { result ≡ has (Ruled.is_uncovered setting cert.now procedure) way.now }
 {
     match way {
         None => false,
-        Some(successor) => is_uncovered(cert, near, procedure, successor, callee),
+        Some(successor) => is_uncovered(cert, setting, near, procedure, successor, callee),
     }
 }
 
 // ---- calls and returns
 
-/// Whether there is no callee, or one that may write where its caller may not.
-pub(crate) fn is_outside_of(cert: &Cert<'_>, procedure: u8, callee: Option<u8>) -> bool
-    ensures { result ≡ Rules.is_outside_of cert.now procedure callee }
+/// Whether there is no callee where one is asked for, or one that may write where its caller may not.
+pub(crate) fn is_outside_of(
+    cert: &Cert<'_>,
+    setting: Setting,
+    procedure: u8,
+    callee: Option<u8>,
+) -> bool
+    ensures { result ≡ Ruled.is_outside_of setting cert.now procedure callee }
 {
-    let Some(callee) = callee else { return true };
+    let is_extended = setting.rules == Rules::Extended;
+    let Some(callee) = callee else {
+        return !is_extended;
+    };
+    if is_extended && setting.is_main {
+        return false;
+    }
     let inner = ranges_of(cert, callee);
     let outer = ranges_of(cert, procedure);
     !are_ranges_inside(inner.as_slice(), outer.as_slice())
@@ -303,69 +463,92 @@ pub(crate) fn is_outside_of(cert: &Cert<'_>, procedure: u8, callee: Option<u8>) 
 #[tactic(auto, unfolding(crate::specs::Rules::is_uncallable, crate::specs::Rules::callee_at))]
 fn is_uncallable(
     cert: &Cert<'_>,
+    setting: Setting,
     procedure: u8,
     successor: &Successor<'_>,
     callee: Option<u8>,
 ) -> bool
-    requires { callee ≡ Rules.callee_at cert.now successor.now }
-    ensures { result ≡ Rules.is_uncallable cert.now procedure successor.now }
+    requires { callee ≡ Ruled.callee_at cert.now setting successor.now }
+    ensures { result ≡ Ruled.is_uncallable setting cert.now procedure successor.now }
 {
     match successor.target {
-        Target::Call(_) => is_outside_of(cert, procedure, callee),
-        Target::At(_) | Target::Return | Target::Unknown => false,
+        Target::Call(_) => is_outside_of(cert, setting, procedure, callee),
+        Target::At(_) | Target::Main(_) | Target::Return | Target::Unknown | Target::Lost => false,
     }
 }
 
 pub(crate) fn has_uncallable(
     cert: &Cert<'_>,
+    setting: Setting,
     procedure: u8,
     way: &Option<Successor<'_>>,
     callee: Option<u8>,
 ) -> bool
-    requires { callee ≡ Rules.callee_in cert.now way.now }
-    ensures { result ≡ has (Rules.is_uncallable cert.now procedure) way.now }
+    requires { callee ≡ Ruled.callee_in cert.now setting way.now }
+    ensures { result ≡ has (Ruled.is_uncallable setting cert.now procedure) way.now }
 {
     match way {
         None => false,
-        Some(successor) => is_uncallable(cert, procedure, successor, callee),
+        Some(successor) => is_uncallable(cert, setting, procedure, successor, callee),
+    }
+}
+
+/// Whether something is left on the stack that an exit of versions 1 and 2 can't say.
+fn leaves_items(rules: Rules, state: &Abs) -> bool
+    ensures { result ≡ Ruled.leaves_items rules state.now }
+{
+    match rules {
+        Rules::Simple => state.items().len() != 0,
+        Rules::Extended => false,
     }
 }
 
 /// Whether a procedure returns with something on the stack, in a state that its exit doesn't stand for, or
 /// doesn't return at all.
-fn is_exit_missed(state: &Abs, exit: Option<Abs>) -> bool
-    ensures { result ≡ Rules.is_exit_missed state.now exit }
+fn is_exit_missed(rules: Rules, state: &Abs, exit: Option<Abs>) -> bool
+    ensures { result ≡ Ruled.is_exit_missed rules state.now exit }
 {
     match exit {
         None => true,
-        Some(exit) => state.items().len() != 0 || !covers(state, &exit),
+        Some(exit) => leaves_items(rules, state) || !covers(state, &exit),
     }
 }
 
 /// Whether a successor returns as its procedure's exit doesn't say.
 #[inline(never)]
-fn is_exit_missed_from(cert: &Cert<'_>, procedure: u8, successor: &Successor<'_>) -> bool
-    ensures { result ≡ Rules.is_exit_missed successor.now.state (Procedures.exit_of cert.now procedure) }
+fn is_exit_missed_from(
+    rules: Rules,
+    cert: &Cert<'_>,
+    procedure: u8,
+    successor: &Successor<'_>,
+) -> bool
+    ensures { result ≡ Ruled.is_exit_missed rules successor.now.state (Procedures.exit_of cert.now procedure) }
 {
-    is_exit_missed(&successor.state(), exit_of(cert, procedure))
+    is_exit_missed(rules, &successor.state(), exit_of(cert, procedure))
 }
 
 /// Whether a successor returns as its procedure may not. Main may not at all.
 #[tactic(auto, unfolding(crate::specs::Rules::is_unreturnable))]
-fn is_unreturnable(cert: &Cert<'_>, procedure: u8, successor: &Successor<'_>) -> bool
-    ensures { result ≡ Rules.is_unreturnable cert.now procedure successor.now }
+fn is_unreturnable(rules: Rules, cert: &Cert<'_>, procedure: u8, successor: &Successor<'_>) -> bool
+    ensures { result ≡ Ruled.is_unreturnable rules cert.now procedure successor.now }
 {
     match successor.target {
-        Target::Return => procedure == 0 || is_exit_missed_from(cert, procedure, successor),
-        Target::At(_) | Target::Call(_) | Target::Unknown => false,
+        Target::Return => procedure == 0 || is_exit_missed_from(rules, cert, procedure, successor),
+        Target::Lost => true,
+        Target::At(_) | Target::Call(_) | Target::Main(_) | Target::Unknown => false,
     }
 }
 
-pub(crate) fn has_unreturnable(cert: &Cert<'_>, procedure: u8, way: &Option<Successor<'_>>) -> bool
-    ensures { result ≡ has (Rules.is_unreturnable cert.now procedure) way.now }
+pub(crate) fn has_unreturnable(
+    rules: Rules,
+    cert: &Cert<'_>,
+    procedure: u8,
+    way: &Option<Successor<'_>>,
+) -> bool
+    ensures { result ≡ has (Ruled.is_unreturnable rules cert.now procedure) way.now }
 {
     match way {
         None => false,
-        Some(successor) => is_unreturnable(cert, procedure, successor),
+        Some(successor) => is_unreturnable(rules, cert, procedure, successor),
     }
 }

@@ -1,45 +1,45 @@
 //! The rules of one node.
 
-ghost use Rattle.std.specs.Prelude.{◌≡◌, ◌<◌, length, find, Option, Some, None, MatchResult, OnOk};
-ghost use Rattle.gb_successors.specs.Below.gb_abs_effects.Targets as Targets;
-ghost use Rattle.gb_successors.specs.Successors.{successors_of};
-ghost use Rattle.gb_rules.specs.Procedures.{setting_of};
-ghost use Rattle.gb_rules.specs.Rules as Rules;
-ghost use Rattle.gb_rules.specs.Rules.{callees_of, row_reasons, way_reasons, target_reasons, reason_at};
+ghost use Rattle.std.specs.Prelude.{◌≡◌, ◌<◌, ◌&&◌, length, find, is_some, Option, Some, None, MatchResult, OnOk};
+ghost use Rattle.gb_domain.specs.Limits.{rules_of};
+ghost use Rattle.gb_successors.specs.Successors.{product_before, any_successor};
+ghost use Rattle.gb_rules.specs.Rules as Ruled;
+ghost use Rattle.gb_rules.specs.Rules.{ways_of, node_setting, callees_of, row_reasons, way_reasons, target_reasons, reason_at};
 ghost use Rattle.gb_rules.specs.Safety.{IsSafeAt};
 
+use crate::depth::moves_too_deep;
 use crate::interrupts::{handles_too_deep, is_dispatch_limited};
 use crate::procedures::{
     Callees, callees_of, has_deep, has_uncallable, has_uncovered, has_unreturnable, need_of,
-    ranges_of, rules_of, setting_of,
+    ranges_of, rules_of, setting_of, stack_of,
 };
+use crate::stacks::breaks_stack;
 use gb_abs::reason::Reason;
 use gb_calls::{Cert, NodeRef};
 use gb_code::code::{
     area_end, is_other_bank, known_byte, known_bytes, leaves_area, lies_in_high_ram,
 };
 use gb_code::{Rom, holds_bytes, known_bank};
-use gb_domain::types::{Abs, Core, Rules as Form};
+use gb_domain::types::{Abs, Core, Rules, Setting};
 use gb_ops::decode::decode;
-use gb_ops::machine::Region;
-use gb_ops::op::{Op, Pair, Row};
-use gb_successors::successors::{Successors, successors_of};
+use gb_ops::op::{Op, Row};
+use gb_successors::successors::{Successors, product_before, successors_of};
 
 fn is_stop(op: Op) -> bool
-    ensures { result ≡ Rules.is_stop op }
+    ensures { result ≡ Ruled.is_stop op }
 {
     matches!(op, Op::Stop)
 }
 
 fn is_halt(op: Op) -> bool
-    ensures { result ≡ Rules.is_halt op }
+    ensures { result ≡ Ruled.is_halt op }
 {
     matches!(op, Op::Halt)
 }
 
 /// Whether the byte behind an address is known to be NOP's, in the area that ends there.
 pub fn is_nop_behind(rom: &Rom<'_>, state: &Abs, address: u16, end: Option<u16>) -> bool
-    ensures { result ≡ Rules.is_nop_behind rom.now state.now address end }
+    ensures { result ≡ Ruled.is_nop_behind rom.now state.now address end }
 {
     let Some(end) = end else { return false };
     if u32::from(address) + 1 >= u32::from(end) {
@@ -56,66 +56,24 @@ pub fn is_nop_behind(rom: &Rom<'_>, state: &Abs, address: u16, end: Option<u16>)
 #[tactic(auto, unfolding(crate::specs::Rules::may_read_twice))]
 fn may_read_twice(rom: &Rom<'_>, node: &NodeRef<'_>, state: &Abs, op: Op) -> bool
     requires { state.now ≡ node.now.state }
-    ensures { result ≡ Rules.may_read_twice rom.now node.now op }
+    ensures { result ≡ Ruled.may_read_twice rom.now node.now op }
 {
     let address = node.address();
     is_halt(op) && state.core().ime.off && !is_nop_behind(rom, state, address, area_end(address))
 }
 
-fn is_sp(pair: Pair) -> bool
-    ensures { result ≡ Targets.is_sp pair }
-{
-    matches!(pair, Pair::Sp)
-}
-
 /// Whether the certificate is of version 3, which isn't judged yet: each of its nodes is refused.
 #[tactic(auto, unfolding(crate::specs::Rules::is_unjudged))]
 fn is_unjudged(cert: &Cert<'_>) -> bool
-    ensures { result ≡ Rules.is_unjudged cert.now }
+    ensures { result ≡ Ruled.is_unjudged cert.now }
 {
-    matches!(rules_of(cert), Form::Extended)
-}
-
-/// Whether an instruction finds a stack that it can't work with: a word is pushed without a known stack,
-/// POP finds none, or SP would be another one than what is known of it. LD SP,n16 is main's, to the
-/// address behind the region.
-#[tactic(auto, unfolding(crate::specs::Rules::breaks_stack))]
-fn breaks_stack(region: Region, node: &NodeRef<'_>, state: &Abs, op: Op) -> bool
-    requires { state.now ≡ node.now.state }
-    ensures { result ≡ Rules.breaks_stack region node.now op }
-{
-    match op {
-        Op::LoadPair(Pair::Sp, word) => {
-            node.procedure() != 0 || u32::from(word) != u32::from(region.last) + 1
-        }
-        Op::Push(_) | Op::CallIf(_, _) | Op::Call(_) | Op::Restart(_) => !state.core().stack_set,
-        Op::Pop(_) => !state.core().stack_set || state.items().len() < 2,
-        Op::IncrementPair(pair) | Op::DecrementPair(pair) => is_sp(pair),
-        Op::AddSp(_) | Op::LoadSpHl => true,
-        _ => false,
-    }
-}
-
-fn is_push(op: Op) -> bool
-    ensures { result ≡ Targets.is_push op }
-{
-    matches!(op, Op::Push(_))
-}
-
-/// Whether PUSH pushes a word over the need, or over the bytes that a state of versions 1 and 2 can hold.
-#[tactic(auto, unfolding(crate::specs::Rules::pushes_too_deep, gb_domain::specs::Limits::item_room))]
-fn pushes_too_deep(need: u16, node: &NodeRef<'_>, state: &Abs, op: Op) -> bool
-    requires { state.now ≡ node.now.state }
-    ensures { result ≡ Rules.pushes_too_deep need node.now op }
-{
-    let bytes = state.items().len() + 2;
-    is_push(op) && (usize::from(need) < bytes || Form::Simple.item_room() < bytes)
+    matches!(rules_of(cert), Rules::Extended)
 }
 
 /// Whether an OAM transfer may close a byte of an instruction of so many bytes.
 #[tactic(auto, unfolding(crate::specs::Rules::is_code_limited))]
 fn is_code_limited(core: &Core, address: u16, length: u8) -> bool
-    ensures { result ≡ Rules.is_code_limited core.now address length }
+    ensures { result ≡ Ruled.is_code_limited core.now address length }
 {
     core.bound != 0 && !lies_in_high_ram(address, length)
 }
@@ -129,11 +87,12 @@ fn stores_outside(
     row: Row,
     ways: &Successors<'_>,
 ) -> bool
-    requires { ways.now ≡ successors_of (setting_of cert.now node.now.procedure) rom.now cert.now.region row node.now.address node.now.state }
-    ensures { result ≡ Rules.stores_outside rom.now cert.now node.now row }
+    requires { ways.now ≡ ways_of rom.now cert.now node.now row }
+    ensures { result ≡ Ruled.stores_outside rom.now cert.now node.now row }
 {
     let ranges = ranges_of(cert, node.procedure());
-    ways.store_outside(rom.kind(), cert.region(), ranges.as_slice())
+    let setting = setting_of(cert, node.procedure());
+    ways.store_outside(setting, rom.kind(), cert.region(), ranges.as_slice())
 }
 
 /// Whether one of them may meet cartridge RAM while it is closed.
@@ -147,10 +106,17 @@ fn meets_ram(
     ways: &Successors<'_>,
 ) -> bool
     requires state { state.now ≡ node.now.state }
-    requires ways { ways.now ≡ successors_of (setting_of cert.now node.now.procedure) rom.now cert.now.region row node.now.address node.now.state }
-    ensures { result ≡ Rules.meets_ram rom.now cert.now node.now row }
+    requires ways { ways.now ≡ ways_of rom.now cert.now node.now row }
+    ensures { result ≡ Ruled.meets_ram rom.now cert.now node.now row }
 {
     ways.meet_closed_ram(rom, state.core())
+}
+
+/// Whether something is meant before the instruction.
+fn is_possible(cert: &Cert<'_>, state: &Abs) -> bool
+    ensures { result ≡ is_some (product_before (rules_of cert.now.version) state.now) }
+{
+    product_before(rules_of(cert), state).is_some()
 }
 
 /// Whether an OAM transfer may close a byte of the instruction, or an access of one of its successors,
@@ -165,8 +131,8 @@ fn meets_transfer(
     ways: &Successors<'_>,
 ) -> bool
     requires state { state.now ≡ node.now.state }
-    requires ways { ways.now ≡ successors_of (setting_of cert.now node.now.procedure) rom.now cert.now.region row node.now.address node.now.state }
-    ensures { result ≡ Rules.meets_transfer rom.now cert.now node.now row }
+    requires ways { ways.now ≡ ways_of rom.now cert.now node.now row }
+    ensures { result ≡ Ruled.meets_transfer rom.now cert.now node.now row }
 {
     let region = cert.region();
     let limited = if is_code_limited(state.core(), node.address(), row.length) {
@@ -174,7 +140,7 @@ fn meets_transfer(
     } else {
         ways.meet_oam_transfer(region, state.core())
     };
-    limited || is_dispatch_limited(region, node, state.core())
+    limited || (is_possible(cert, state) && is_dispatch_limited(region, node, state.core()))
 }
 
 /// Whether one of them may lead anywhere.
@@ -186,14 +152,39 @@ fn leads_anywhere(
     row: Row,
     ways: &Successors<'_>,
 ) -> bool
-    requires { ways.now ≡ successors_of (setting_of cert.now node.now.procedure) rom.now cert.now.region row node.now.address node.now.state }
-    ensures { result ≡ Rules.leads_anywhere rom.now cert.now node.now row }
+    requires { ways.now ≡ ways_of rom.now cert.now node.now row }
+    ensures { result ≡ Ruled.leads_anywhere rom.now cert.now node.now row }
 {
     ways.lead_anywhere()
 }
 
+/// Whether one of the successors and its callee hold more bytes than the need.
+#[tactic(auto, unfolding(crate::specs::Rules::callees_of, gb_successors::specs::Successors::any_successor))]
+fn call_too_deep(
+    cert: &Cert<'_>,
+    setting: Setting,
+    need: u16,
+    ways: &Successors<'_>,
+    callees: Callees,
+) -> bool
+    requires { callees ≡ callees_of cert.now setting ways.now }
+    ensures { result ≡ any_successor (Ruled.calls_too_deep cert.now setting need) ways.now }
+{
+    has_deep(cert, setting, need, &ways.taken, callees.taken)
+        || has_deep(cert, setting, need, &ways.not_taken, callees.not_taken)
+        || has_deep(cert, setting, need, &ways.stays, callees.stays)
+}
+
+/// Whether something is meant before the instruction, and an interrupt may come whose dispatch makes the stack too deep.
+fn dispatches_too_deep(cert: &Cert<'_>, node: &NodeRef<'_>, state: &Abs) -> bool
+    requires { state.now ≡ node.now.state }
+    ensures { result ≡ (Ruled.is_possible cert.now node.now && Ruled.handles_too_deep cert.now node.now) }
+{
+    is_possible(cert, state) && handles_too_deep(cert, node, state)
+}
+
 /// Whether the stack would grow over the procedure's need.
-#[tactic(auto, unfolding(crate::specs::Rules::grows_too_deep, crate::specs::Rules::callees_of, crate::specs::Rules::any_of, gb_successors::specs::Successors::any_successor))]
+#[tactic(auto, unfolding(crate::specs::Rules::grows_too_deep, crate::specs::Rules::any_of, crate::specs::Procedures::setting_of))]
 fn grows_too_deep(
     rom: &Rom<'_>,
     cert: &Cert<'_>,
@@ -204,16 +195,15 @@ fn grows_too_deep(
     callees: Callees,
 ) -> bool
     requires state { state.now ≡ node.now.state }
-    requires ways { ways.now ≡ successors_of (setting_of cert.now node.now.procedure) rom.now cert.now.region row node.now.address node.now.state }
-    requires callees { callees ≡ callees_of cert.now ways.now }
-    ensures { result ≡ Rules.grows_too_deep rom.now cert.now node.now row }
+    requires ways { ways.now ≡ ways_of rom.now cert.now node.now row }
+    requires callees { callees ≡ callees_of cert.now (node_setting cert.now node.now) ways.now }
+    ensures { result ≡ Ruled.grows_too_deep rom.now cert.now node.now row }
 {
-    let need = need_of(cert, node.procedure());
-    pushes_too_deep(need, node, state, row.op)
-        || has_deep(cert, need, &ways.taken, callees.taken)
-        || has_deep(cert, need, &ways.not_taken, callees.not_taken)
-        || has_deep(cert, need, &ways.stays, callees.stays)
-        || handles_too_deep(cert, node, state)
+    let procedure = node.procedure();
+    let (setting, need) = (setting_of(cert, procedure), need_of(cert, procedure));
+    moves_too_deep(rules_of(cert), need, node, state, row.op, &ways.taken)
+        || call_too_deep(cert, setting, need, ways, callees)
+        || dispatches_too_deep(cert, node, state)
 }
 
 /// Whether the states behind one of them are not covered.
@@ -227,14 +217,22 @@ fn leads_uncovered(
     ways: &Successors<'_>,
     callees: Callees,
 ) -> bool
-    requires ways { ways.now ≡ successors_of (setting_of cert.now node.now.procedure) rom.now cert.now.region row node.now.address node.now.state }
-    requires callees { callees ≡ callees_of cert.now ways.now }
-    ensures { result ≡ Rules.leads_uncovered rom.now cert.now node.now row }
+    requires ways { ways.now ≡ ways_of rom.now cert.now node.now row }
+    requires callees { callees ≡ callees_of cert.now (node_setting cert.now node.now) ways.now }
+    ensures { result ≡ Ruled.leads_uncovered rom.now cert.now node.now row }
 {
     let procedure = node.procedure();
-    has_uncovered(cert, near, procedure, &ways.taken, callees.taken)
-        || has_uncovered(cert, near, procedure, &ways.not_taken, callees.not_taken)
-        || has_uncovered(cert, near, procedure, &ways.stays, callees.stays)
+    let setting = setting_of(cert, procedure);
+    has_uncovered(cert, setting, near, procedure, &ways.taken, callees.taken)
+        || has_uncovered(
+            cert,
+            setting,
+            near,
+            procedure,
+            &ways.not_taken,
+            callees.not_taken,
+        )
+        || has_uncovered(cert, setting, near, procedure, &ways.stays, callees.stays)
 }
 
 /// Whether one of them calls what it may not.
@@ -247,14 +245,15 @@ fn calls_wrongly(
     ways: &Successors<'_>,
     callees: Callees,
 ) -> bool
-    requires ways { ways.now ≡ successors_of (setting_of cert.now node.now.procedure) rom.now cert.now.region row node.now.address node.now.state }
-    requires callees { callees ≡ callees_of cert.now ways.now }
-    ensures { result ≡ Rules.calls_wrongly rom.now cert.now node.now row }
+    requires ways { ways.now ≡ ways_of rom.now cert.now node.now row }
+    requires callees { callees ≡ callees_of cert.now (node_setting cert.now node.now) ways.now }
+    ensures { result ≡ Ruled.calls_wrongly rom.now cert.now node.now row }
 {
     let procedure = node.procedure();
-    has_uncallable(cert, procedure, &ways.taken, callees.taken)
-        || has_uncallable(cert, procedure, &ways.not_taken, callees.not_taken)
-        || has_uncallable(cert, procedure, &ways.stays, callees.stays)
+    let setting = setting_of(cert, procedure);
+    has_uncallable(cert, setting, procedure, &ways.taken, callees.taken)
+        || has_uncallable(cert, setting, procedure, &ways.not_taken, callees.not_taken)
+        || has_uncallable(cert, setting, procedure, &ways.stays, callees.stays)
 }
 
 /// Whether one of them returns as it may not.
@@ -266,13 +265,13 @@ fn returns_wrongly(
     row: Row,
     ways: &Successors<'_>,
 ) -> bool
-    requires { ways.now ≡ successors_of (setting_of cert.now node.now.procedure) rom.now cert.now.region row node.now.address node.now.state }
-    ensures { result ≡ Rules.returns_wrongly rom.now cert.now node.now row }
+    requires { ways.now ≡ ways_of rom.now cert.now node.now row }
+    ensures { result ≡ Ruled.returns_wrongly rom.now cert.now node.now row }
 {
-    let procedure = node.procedure();
-    has_unreturnable(cert, procedure, &ways.taken)
-        || has_unreturnable(cert, procedure, &ways.not_taken)
-        || has_unreturnable(cert, procedure, &ways.stays)
+    let (rules, procedure) = (rules_of(cert), node.procedure());
+    has_unreturnable(rules, cert, procedure, &ways.taken)
+        || has_unreturnable(rules, cert, procedure, &ways.not_taken)
+        || has_unreturnable(rules, cert, procedure, &ways.stays)
 }
 
 /// The lowest reason against where the successors of a node's instruction go on.
@@ -286,9 +285,9 @@ fn reason_of_targets(
     ways: &Successors<'_>,
     callees: Callees,
 ) -> Option<Reason>
-    requires ways { ways.now ≡ successors_of (setting_of cert.now node.now.procedure) rom.now cert.now.region row node.now.address node.now.state }
-    requires callees { callees ≡ callees_of cert.now ways.now }
-    ensures { result ≡ find (Rules.applies_to_row rom.now cert.now node.now row) target_reasons }
+    requires ways { ways.now ≡ ways_of rom.now cert.now node.now row }
+    requires callees { callees ≡ callees_of cert.now (node_setting cert.now node.now) ways.now }
+    ensures { result ≡ find (Ruled.applies_to_row rom.now cert.now node.now row) target_reasons }
 {
     if leads_anywhere(rom, cert, node, row, ways) {
         Some(Reason::JumpHl)
@@ -315,10 +314,10 @@ fn reason_of_ways(
     ways: &Successors<'_>,
 ) -> Option<Reason>
     requires state { state.now ≡ node.now.state }
-    requires ways { ways.now ≡ successors_of (setting_of cert.now node.now.procedure) rom.now cert.now.region row node.now.address node.now.state }
-    ensures { result ≡ find (Rules.applies_to_row rom.now cert.now node.now row) way_reasons }
+    requires ways { ways.now ≡ ways_of rom.now cert.now node.now row }
+    ensures { result ≡ find (Ruled.applies_to_row rom.now cert.now node.now row) way_reasons }
 {
-    let callees = callees_of(cert, ways);
+    let callees = callees_of(cert, setting_of(cert, node.procedure()), ways);
     if grows_too_deep(rom, cert, node, state, row, ways, callees) {
         Some(Reason::Depth)
     } else if stores_outside(rom, cert, node, row, ways) {
@@ -333,7 +332,7 @@ fn reason_of_ways(
 }
 
 /// The lowest reason against a node whose instruction is known.
-#[tactic(auto, unfolding(crate::specs::Rules::applies_to_row))]
+#[tactic(auto, unfolding(crate::specs::Rules::applies_to_row, crate::specs::Rules::ways_of, crate::specs::Procedures::stack_of, crate::specs::Procedures::setting_of))]
 fn reason_of_row(
     rom: &Rom<'_>,
     cert: &Cert<'_>,
@@ -343,7 +342,7 @@ fn reason_of_row(
     row: Row,
 ) -> Option<Reason>
     requires { state.now ≡ node.now.state }
-    ensures { result ≡ find (Rules.applies_to_row rom.now cert.now node.now row) row_reasons }
+    ensures { result ≡ find (Ruled.applies_to_row rom.now cert.now node.now row) row_reasons }
 {
     if is_stop(row.op) {
         return Some(Reason::Stop);
@@ -351,11 +350,11 @@ fn reason_of_row(
     if may_read_twice(rom, node, state, row.op) {
         return Some(Reason::Halt);
     }
-    if is_unjudged(cert) || breaks_stack(cert.region(), node, state, row.op) {
+    let stack = stack_of(cert, node.procedure());
+    if is_unjudged(cert) || breaks_stack(stack, node, state, row.op) {
         return Some(Reason::Stack);
     }
-    let setting = setting_of(cert, node.procedure());
-    let ways = successors_of(setting, rom, cert.region(), row, node.address(), state);
+    let ways = successors_of(stack, rom, row, node.address(), state);
     reason_of_ways(rom, cert, near, node, state, row, &ways)
 }
 
@@ -371,7 +370,7 @@ pub fn reason_near(
     state: &Abs,
 ) -> Option<Reason>
     requires { state.now ≡ node.now.state }
-    ensures { result ≡ Rules.reason_of rom.now cert.now node.now }
+    ensures { result ≡ Ruled.reason_of rom.now cert.now node.now }
 {
     let address = node.address();
     if leaves_area(address, known_byte(rom, state, address), area_end(address)) {
@@ -392,7 +391,7 @@ pub fn reason_near(
 /// The same, with no node to look from.
 pub fn reason_of(rom: &Rom<'_>, cert: &Cert<'_>, node: &NodeRef<'_>, state: &Abs) -> Option<Reason>
     requires { state.now ≡ node.now.state }
-    ensures { result ≡ Rules.reason_of rom.now cert.now node.now }
+    ensures { result ≡ Ruled.reason_of rom.now cert.now node.now }
 {
     reason_near(rom, cert, 0, node, state)
 }

@@ -2,7 +2,6 @@
 use Rattle.std.proofs.Common.{◌≡◌, ℕ, ◌%◌, ◌/◌, ◌≤◌, ◌<◌, Bool, true, false, not, ◌&&◌, ◌||◌, ◌==◌, nat_le, ◌⊎◌, List, length, slice_index, refl, sym, ◌∙◌, ap, subst, arith}
 use Rattle.std.proofs.lemmas.Bool.{not-false, eqb-true}
 use Rattle.std.proofs.lemmas.Bool.Decides.{nat_tests}
-use Rattle.std.specs.List.{list_any}
 use Rattle.gb_ops.specs.declared.machine.Region.{Region}
 use Rattle.gb_ops.specs.declared.machine.Read.{Read}
 use Rattle.gb_ops.specs.declared.machine.Read.TheVariants as machine_read
@@ -13,6 +12,7 @@ use Rattle.gb_ops.specs.Memory.{View, wrote, stored}
 use Rattle.gb_ops.specs.Machine.{loaded}
 use Rattle.gb_ops.specs.Faults.{no_faults, either_faults, write_faults, load_faults, store_faults}
 use Rattle.gb_ops.specs.Play.{MState}
+use Rattle.gb_domain.specs.declared.rules.Rules.TheVariants.{Simple}
 use Rattle.gb_domain.specs.declared.setting.Setting.{Setting}
 use Rattle.gb_domain.specs.Settings.{IsBase}
 use Rattle.gb_domain.specs.declared.types.Val.{Val}
@@ -24,7 +24,7 @@ use Rattle.gb_domain.specs.Rules.{IsVal}
 use Rattle.gb_abs.specs.Below.gb_vals.Vals.{any_val}
 use Rattle.gb_abs.specs.declared.span.Span.{Span}
 use Rattle.gb_abs.specs.Span.{IsIn, one}
-use Rattle.gb_abs.specs.Storage.{is_ram, peek}
+use Rattle.gb_abs.specs.Storage.{peek}
 use Rattle.gb_abs.specs.Cells.{ArePlaced}
 use Rattle.gb_abs.specs.Stack.{AreInRegion}
 use Rattle.gb_abs.specs.Meaning.{Holds, MeansParts}
@@ -34,7 +34,7 @@ use Rattle.gb_abs_effects.specs.declared.writes.AbsWrite.{AbsWrite}
 use Rattle.gb_abs_effects.specs.declared.writes.AbsWrite.TheVariants as write
 use Rattle.gb_abs_effects.specs.Sound.{HoldsRead, HoldsWrite, IsWrite}
 use Rattle.gb_abs_memory.specs.declared.store.Stored.{Stored}
-use Rattle.gb_abs_memory.specs.Access.{is_range, is_storable, may_be_closed, meets_closed_ram, may_copy_closed_ram, store_meets_closed_ram, is_limited, is_store_limited, stored_state, starts_oam_transfer}
+use Rattle.gb_abs_memory.specs.Access.{is_storable, may_be_closed, meets_closed_ram, may_copy_closed_ram, store_meets_closed_ram, is_limited, is_store_limited, stored_state, starts_oam_transfer}
 use Rattle.gb_abs_memory.specs.Sound.{IsRom, IsStored, view}
 use Rattle.gb_abs_memory.proofs.LoadLaws.{IsLoaded-loaded_val}
 use Rattle.gb_abs_memory.proofs.StoreLaws.{IsSoundStore-stored_state, stored-view}
@@ -121,39 +121,39 @@ Loads-read z rom region s entry base x reads sp (read.Byte span) (machine_read.W
 
 -- what an instruction writes, without a fault
 pub record Stores (z : Setting) (rom : List ℕ) (region : Region) (ranges : List Range) (s : AbsState) (w : AbsWrite) (entry : MState) (base : ℕ) (x : MState) (m : View) (mw : Write) : Type 0 where
-  pub means : MeansParts (written z (kind_of rom) w s) entry base (record x { storage = (stored m mw).storage })
-  pub items : (written z (kind_of rom) w s).items ≡ s.items
+  pub means : MeansParts (written z region (kind_of rom) w s) entry base (record x { storage = (stored m mw).storage })
+  pub items : (written z region (kind_of rom) w s).items ≡ s.items
   pub starting : (stored m mw).starting ≡ starts w
   pub faults : store_faults region m mw ≡ no_faults
-  pub kept : (b : ℕ) → IsKept region ranges base b → peek (stored m mw).storage b ≡ peek x.storage b
+  pub kept : (b : ℕ) → IsKept z region ranges base b → peek (stored m mw).storage b ≡ peek x.storage b
 
 -- the state at a store, and where it may be
-pub record AtWrite (region : Region) (s : AbsState) (entry : MState) (base : ℕ) (x : MState) : Type 0 where
+pub record AtWrite (z : Setting) (region : Region) (s : AbsState) (entry : MState) (base : ℕ) (x : MState) : Type 0 where
   pub means : MeansParts s entry base x
   pub placed : ArePlaced region s.cells
   pub room : AreInRegion region base (length s.items)
   pub is_region : IsRegion region
+  pub based : IsBase z base
+  pub rules : z.rules ≡ Simple
 
 -- a byte that is kept isn't stored to
-is_other : (m : View) (a n : ℕ) (region : Region) (ranges : List Range) (s : AbsState) (entry : MState) (base : ℕ) (x : MState) (o : Stored) (b : ℕ)
-    → IsStored m a n region ranges s entry base x o → IsKept region ranges base b → (b == a) ≡ false
-is_other m a n region ranges s entry base x o b st k = choose (b == a) refl
+is_other : (z : Setting) (m : View) (a n : ℕ) (region : Region) (ranges : List Range) (s : AbsState) (entry : MState) (base : ℕ) (x : MState) (o : Stored) (b : ℕ)
+    → IsStored z m a n region ranges s entry base x o → IsKept z region ranges base b → (b == a) ≡ false
+is_other z m a n region ranges s entry base x o b st k = choose (b == a) refl
   where
     choose : (t : Bool) → (b == a) ≡ t → (b == a) ≡ false
     choose true e =
         let same : b ≡ a = eqb-true b a e in
-        let inside = st.inside (subst (λ c. is_ram c ≡ true) same k.ram) in
-        let bad : true ≡ false = sym (subst (λ c. list_any (is_range (one c)) ranges ≡ true) (sym same) inside.inside) ∙ k.outside in
-        cc
+        absurd (st.spared (subst (IsKept z region ranges base) same k))
     choose false e = e
 
 store_one :
-    (z : Setting) (rom : List ℕ) (region : Region) (ranges : List Range) (s : AbsState) (span : Span) (v : Val) (entry : MState) (base : ℕ) (x : MState) (starting : Bool) (a n : ℕ) → AtWrite region s entry base x
-    → is_storable (kind_of rom) region ranges span ≡ true → store_meets_closed_ram rom s.core span v ≡ false → is_store_limited s.core span ≡ false
+    (z : Setting) (rom : List ℕ) (region : Region) (ranges : List Range) (s : AbsState) (span : Span) (v : Val) (entry : MState) (base : ℕ) (x : MState) (starting : Bool) (a n : ℕ) → AtWrite z region s entry base x
+    → is_storable z (kind_of rom) region ranges span ≡ true → store_meets_closed_ram rom s.core span v ≡ false → is_store_limited s.core span ≡ false
     → IsIn span a → a < 65536 → Holds v entry n → n ≤ 255
-    → IsStored (view rom x starting) a n region ranges s entry base x (record { state = stored_state z (kind_of rom) span v s; starts = starts_oam_transfer span })
+    → IsStored z (view rom x starting) a n region ranges s entry base x (record { state = stored_state z region (kind_of rom) span v s; starts = starts_oam_transfer span })
 store_one z rom region ranges s span v entry base x starting a n w storable ram limited i lt h le =
-    (IsSoundStore-stored_state z rom region ranges s span v storable ram limited).gives entry base x starting a n w.means w.placed w.room w.is_region i lt h le
+    (IsSoundStore-stored_state z rom region ranges s span v storable ram limited).gives entry base x starting a n w.based w.means w.placed w.room w.is_region i lt h le
 
 or_false : (b c : Bool) → (b || c) ≡ false → (b ≡ false) × (c ≡ false)
 or_false true c h = cc
@@ -163,8 +163,8 @@ at_one : (a : ℕ) → IsIn (one a) a
 at_one a = record { first = omega arith; last = omega arith }
 
 Stores-byte :
-    (z : Setting) (rom : List ℕ) (region : Region) (ranges : List Range) (s : AbsState) (span : Span) (v : Val) (entry : MState) (base : ℕ) (x : MState) (a n : ℕ) → AtWrite region s entry base x
-    → is_storable (kind_of rom) region ranges span ≡ true → store_meets_closed_ram rom s.core span v ≡ false → is_store_limited s.core span ≡ false
+    (z : Setting) (rom : List ℕ) (region : Region) (ranges : List Range) (s : AbsState) (span : Span) (v : Val) (entry : MState) (base : ℕ) (x : MState) (a n : ℕ) → AtWrite z region s entry base x
+    → is_storable z (kind_of rom) region ranges span ≡ true → store_meets_closed_ram rom s.core span v ≡ false → is_store_limited s.core span ≡ false
     → IsIn span a → a < 65536 → Holds v entry n → n ≤ 255
     → Stores z rom region ranges s (write.Byte span v) entry base x (view rom x false) (machine_write.Byte a n)
 unfolding written starts stored store_faults
@@ -172,10 +172,10 @@ Stores-byte z rom region ranges s span v entry base x a n w storable ram limited
     let st = store_one z rom region ranges s span v entry base x false a n w storable ram limited i lt h le in
     record {
       means = st.means;
-      items = st.items;
+      items = st.items w.rules;
       starting = st.starting;
       faults = st.faults;
-      kept = λ b k. st.others b k.ram (is_other _ a n region ranges s entry base x _ b st k);
+      kept = λ b k. st.others b k.ram (is_other z _ a n region ranges s entry base x _ b st k);
     }
 
 word_byte : (v : Val) (entry : MState) (n : ℕ) → IsVal v → Holds v entry n → n ≤ 255
@@ -185,8 +185,8 @@ word_byte v entry n is h =
     omega arith
 
 Stores-word :
-    (z : Setting) (rom : List ℕ) (region : Region) (ranges : List Range) (s : AbsState) (a : ℕ) (low high : Val) (entry : MState) (base : ℕ) (x : MState) (n : ℕ) → AtWrite region s entry base x
-    → is_storable (kind_of rom) region ranges (one a) ≡ true → is_storable (kind_of rom) region ranges (one (behind a)) ≡ true
+    (z : Setting) (rom : List ℕ) (region : Region) (ranges : List Range) (s : AbsState) (a : ℕ) (low high : Val) (entry : MState) (base : ℕ) (x : MState) (n : ℕ) → AtWrite z region s entry base x
+    → is_storable z (kind_of rom) region ranges (one a) ≡ true → is_storable z (kind_of rom) region ranges (one (behind a)) ≡ true
     → store_meets_closed_ram rom s.core (one a) low ≡ false → store_meets_closed_ram rom s.core (one (behind a)) high ≡ false
     → is_store_limited s.core (one a) ≡ false → is_store_limited s.core (one (behind a)) ≡ false
     → a < 65536 → IsVal low → IsVal high → Holds low entry (n % 256) → Holds high entry (n / 256)
@@ -195,34 +195,36 @@ unfolding written starts stored store_faults either_faults
 Stores-word z rom region ranges s a low high entry base x n w here there ram_here ram_there clear_here clear_there lt is_low is_high l h =
     let first = store_one z rom region ranges s (one a) low entry base x false a (n % 256) w here ram_here clear_here (at_one a) lt l (word_byte low entry _ is_low l) in
     let y : MState = record x { storage = (wrote (view rom x false) a (n % 256)).storage } in
-    let middle : AbsState = stored_state z (kind_of rom) (one a) low s in
+    let middle : AbsState = stored_state z region (kind_of rom) (one a) low s in
     let begun : Bool = starts_oam_transfer (one a) in
-    let seen : wrote (view rom x false) a (n % 256) ≡ view rom y begun = stored-view rom region ranges s entry base x false a (n % 256) _ first in
+    let seen : wrote (view rom x false) a (n % 256) ≡ view rom y begun = stored-view z rom region ranges s entry base x false a (n % 256) _ first in
     let second = store_one z rom region ranges middle (one (behind a)) high entry base y begun (behind a) (n / 256)
     (record {
       means = first.means;
       placed = first.placed;
-      room = subst (λ items. AreInRegion region base (length items)) (sym first.items) w.room;
+      room = subst (λ items. AreInRegion region base (length items)) (sym (first.items w.rules)) w.room;
       is_region = w.is_region;
+      based = w.based;
+      rules = w.rules;
     })
     there
-    (store_meets_closed_ram-stored z rom (kind_of rom) a low s high ∙ ram_there)
-    (is_store_limited-stored z (kind_of rom) (one a) (one (behind a)) low s ∙ clear_there)
+    (store_meets_closed_ram-stored z rom region (kind_of rom) a low s high ∙ ram_there)
+    (is_store_limited-stored z region (kind_of rom) (one a) (one (behind a)) low s ∙ clear_there)
     (at_one (behind a)) (omega arith) h (word_byte high entry _ is_high h) in
     record {
-      means = subst (λ (m : View). MeansParts (stored_state z (kind_of rom) (one (behind a)) high middle) entry base (record x { storage = (wrote m (behind a) (n / 256)).storage })) (sym seen) second.means;
-      items = second.items ∙ first.items;
+      means = subst (λ (m : View). MeansParts (stored_state z region (kind_of rom) (one (behind a)) high middle) entry base (record x { storage = (wrote m (behind a) (n / 256)).storage })) (sym seen) second.means;
+      items = second.items w.rules ∙ first.items w.rules;
       starting = ap (λ (m : View). (wrote m (behind a) (n / 256)).starting) seen ∙ second.starting;
       faults = rw (first.faults, ap (λ (m : View). write_faults m (behind a) (n / 256)) seen ∙ second.faults) refl;
       kept = λ b k.
           ap (λ (m : View). peek (wrote m (behind a) (n / 256)).storage b) seen
-          ∙ (second.others b k.ram (is_other _ (behind a) (n / 256) region ranges middle entry base y _ b second k)
-          ∙ first.others b k.ram (is_other _ a (n % 256) region ranges s entry base x _ b first k));
+          ∙ (second.others b k.ram (is_other z _ (behind a) (n / 256) region ranges middle entry base y _ b second k)
+          ∙ first.others b k.ram (is_other z _ a (n % 256) region ranges s entry base x _ b first k));
     }
 
 pub Stores-write :
-    (z : Setting) (rom : List ℕ) (region : Region) (ranges : List Range) (s : AbsState) (entry : MState) (base : ℕ) (x : MState) (sp : ℕ) (w : AbsWrite) (mw : Write) → AtWrite region s entry base x
-    → IsPlainWrite w → IsWrite w → HoldsWrite w entry sp mw → is_unstorable (kind_of rom) region ranges w ≡ false → writes_closed_ram rom s.core w ≡ false → is_write_limited region s.core w ≡ false
+    (z : Setting) (rom : List ℕ) (region : Region) (ranges : List Range) (s : AbsState) (entry : MState) (base : ℕ) (x : MState) (sp : ℕ) (w : AbsWrite) (mw : Write) → AtWrite z region s entry base x
+    → IsPlainWrite w → IsWrite w → HoldsWrite w entry sp mw → is_unstorable z (kind_of rom) region ranges w ≡ false → writes_closed_ram rom s.core w ≡ false → is_write_limited region s.core w ≡ false
     → Stores z rom region ranges s w entry base x (view rom x false) mw
 unfolding written starts stored store_faults is_unstorable writes_closed_ram is_write_limited
 Stores-write z rom region ranges s entry base x sp write.Nothing machine_write.Nothing at plain is h allowed ram limited =

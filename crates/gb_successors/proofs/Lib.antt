@@ -1,4 +1,6 @@
+pub mod StackMoveLaws
 pub mod MovedLaws
+pub mod SimpleLaws
 pub mod PlainLaws
 pub mod AccessLaws
 pub mod WordLaws
@@ -6,5 +8,6 @@ pub mod SuccessorLaws
 pub mod StackWayLaws
 pub mod RelatedLaws
 pub mod MarkLaws
+pub mod ToldLaws
 pub mod WayLaws
 pub mod Below

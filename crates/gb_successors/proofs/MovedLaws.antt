@@ -1,102 +1,126 @@
 -- The states behind an instruction are those before, with another core, and moved where it moves items or cells.
-use Rattle.std.proofs.Common.{◌≡◌, ℕ, ◌+◌, Bool, true, false, ◌||◌, nat_lt, if◌then◌else◌, length, Option, Some, None, refl, sym, ap, ◌∙◌}
+use Rattle.std.proofs.Common.{◌≡◌, ℕ, Bool, true, false, ◌||◌, if◌then◌else◌, Option, Some, None, refl, sym, ap, ◌∙◌}
+use Rattle.std.specs.Prelude.{is_some}
 use Rattle.gb_ops.specs.declared.machine.Kind.{Kind}
-use Rattle.gb_ops.specs.declared.op.Pair.TheVariants as pair
-use Rattle.gb_ops.specs.declared.op.Op.{Op}
-use Rattle.gb_ops.specs.declared.op.Op.TheVariants as op
+use Rattle.gb_ops.specs.declared.machine.Region.{Region}
 use Rattle.gb_domain.specs.declared.relations.Relations.{Relations}
+use Rattle.gb_domain.specs.declared.rules.Rules.TheVariants.{Simple}
 use Rattle.gb_domain.specs.declared.setting.Setting.{Setting}
 use Rattle.gb_domain.specs.declared.types.Val.{Val}
-use Rattle.gb_domain.specs.declared.types.Halves.{Halves}
+use Rattle.gb_domain.specs.declared.types.Cell.{Cell}
 use Rattle.gb_domain.specs.declared.types.Core.{Core}
 use Rattle.gb_domain.specs.Types.{AbsState}
-use Rattle.gb_domain.specs.Limits.{item_room}
 use Rattle.gb_abs.specs.declared.span.Span.{Span}
 use Rattle.gb_abs.specs.Span.{one}
 use Rattle.gb_abs.specs.Operations.{core_end, with_core}
-use Rattle.gb_abs.specs.Stack.{pushed, popped}
 use Rattle.gb_abs_effects.specs.declared.writes.AbsWrite.{AbsWrite}
 use Rattle.gb_abs_effects.specs.declared.writes.AbsWrite.TheVariants as write
 use Rattle.gb_abs_memory.specs.declared.store.Area.{Area}
 use Rattle.gb_abs_memory.specs.declared.store.Area.TheVariants as area
 use Rattle.gb_abs_memory.specs.Access.{area_of, ram_stored, stored_in, stored_state, stored_core_in, stored_core}
-use Rattle.gb_successors.specs.Behind.{behind, written, starts, pushed_if_room, with_stack_of, ended, moves_stack, is_in_ram, changes_cells, move_of, moved_by, with_relations, state_behind, stack_core, written_core, core_behind}
+use Rattle.gb_abs_memory.specs.Items.{items_stored}
+use Rattle.gb_successors.specs.declared.stacks.Stack.{Stack}
+use Rattle.gb_successors.specs.declared.stacks.StackMove.{StackMove}
+use Rattle.gb_successors.specs.declared.stacks.StackMove.TheVariants as move
+use Rattle.gb_successors.specs.Stacks.{with_stack_moved}
+use Rattle.gb_successors.specs.Behind.{behind, written, ended, moves_stack, is_in_ram, changes_cells, move_of, with_cell_if, moved_state, moved_by, with_relations, state_behind, written_core}
 
 -- ---- the core apart
 
-stored_by : (z : Setting) (a : Option Area) (k : Kind) (span : Span) (v : Val) (s : AbsState) (c : Core) → stored_in z a k span v (with_core s c) ≡ with_core (stored_in z a k span v s) (stored_core_in a k span v c)
-unfolding ram_stored
-stored_by z (Some (area.Controller (Some r))) k span v s c = refl
-stored_by z (Some area.Ram) k span v s c = refl
-stored_by z (Some area.InterruptEnable) k span v s c = refl
-stored_by z _ k span v s c = refl
+stored_by :
+    (z : Setting) (region : Region) (a : Option Area) (k : Kind) (span : Span) (v : Val) (s : AbsState) (c : Core)
+    → z.rules ≡ Simple → stored_in z region a k span v (with_core s c) ≡ with_core (stored_in z region a k span v s) (stored_core_in a k span v c)
+unfolding ram_stored items_stored
+stored_by z region (Some (area.Controller (Some r))) k span v s c h = refl
+stored_by z region (Some area.Ram) k span v s c h = rw h refl
+stored_by z region (Some area.InterruptEnable) k span v s c h = refl
+stored_by z region _ k span v s c h = refl
 
-apart_stored : (z : Setting) (k : Kind) (span : Span) (v : Val) (s : AbsState) (c : Core) → stored_state z k span v (with_core s c) ≡ with_core (stored_state z k span v s) (stored_core k span v c)
+apart_stored :
+    (z : Setting) (region : Region) (k : Kind) (span : Span) (v : Val) (s : AbsState) (c : Core)
+    → z.rules ≡ Simple → stored_state z region k span v (with_core s c) ≡ with_core (stored_state z region k span v s) (stored_core k span v c)
 unfolding stored_state stored_core
-apart_stored z k span v s c = stored_by z (area_of k span) k span v s c
+apart_stored z region k span v s c h = stored_by z region (area_of k span) k span v s c h
 
-written_by : (z : Setting) (k : Kind) (w : AbsWrite) (s : AbsState) (c : Core) → written z k w (with_core s c) ≡ with_core (written z k w s) (written_core k w c)
+pub written_by :
+    (z : Setting) (region : Region) (k : Kind) (w : AbsWrite) (s : AbsState) (c : Core)
+    → z.rules ≡ Simple → written z region k w (with_core s c) ≡ with_core (written z region k w s) (written_core k w c)
 unfolding written written_core
-written_by z k (write.Byte span v) s c = apart_stored z k span v s c
-written_by z k (write.Word a low high) s c =
-    ap (λ (t : AbsState). stored_state z k (one (behind a)) high t) (apart_stored z k (one a) low s c)
-    ∙ apart_stored z k (one (behind a)) high (stored_state z k (one a) low s) (stored_core k (one a) low c)
-written_by z k _ s c = refl
-
-pushed_by : (z : Setting) (i : Halves) (s : AbsState) (c : Core) → pushed_if_room z i (with_core s c) ≡ with_core (pushed_if_room z i s) c
-unfolding pushed_if_room pushed
-pushed_by z i s c = by (nat_lt (item_room z.rules) (length s.items + 2))
-  where
-    by : (b : Bool) → (if b then with_core s c else pushed i (with_core s c)) ≡ with_core (if b then s else pushed i s) c
-    by true = refl
-    by false = refl
-
-stacked_by : (z : Setting) (o : Op) (w : AbsWrite) (s : AbsState) (c : Core) → with_stack_of z o w (with_core s c) ≡ with_core (with_stack_of z o w s) (stack_core o c)
-unfolding with_stack_of stack_core popped
-stacked_by z (op.LoadPair pair.Sp n) w s c = refl
-stacked_by z (op.Push from) (write.Push high low) s c = pushed_by z (record { high = high; low = low }) s c
-stacked_by z (op.Pop to) w s c = refl
-stacked_by z _ w s c = refl
+written_by z region k (write.Byte span v) s c h = apart_stored z region k span v s c h
+written_by z region k (write.Word a low high) s c h =
+    ap (λ (t : AbsState). stored_state z region k (one (behind a)) high t) (apart_stored z region k (one a) low s c h)
+    ∙ apart_stored z region k (one (behind a)) high (stored_state z region k (one a) low s) (stored_core k (one a) low c) h
+written_by z region k _ s c h = refl
 
 -- ---- items and cells that stay
 
-same_stack : (z : Setting) (o : Op) (w : AbsWrite) (s : AbsState) → moves_stack o w ≡ false → with_stack_of z o w s ≡ s
-unfolding with_stack_of moves_stack
-same_stack z (op.LoadPair pair.Sp n) w s h = absurd cc
-same_stack z (op.Push from) (write.Push high low) s h = absurd cc
-same_stack z (op.Pop to) w s h = absurd cc
-same_stack z _ w s h = refl
+same_stack : (z : Setting) (m : StackMove) (s : AbsState) → moves_stack m ≡ false → with_stack_moved z m s ≡ s
+unfolding with_stack_moved
+same_stack z move.Stay s h = refl
+same_stack z (move.Push i) s h = absurd cc
+same_stack z (move.Take n) s h = absurd cc
+same_stack z (move.Append n) s h = absurd cc
+same_stack z (move.Set n) s h = absurd cc
+same_stack z (move.Restart n) s h = absurd cc
+same_stack z move.Lost s h = absurd cc
 
-same_stored : (z : Setting) (a : Option Area) (k : Kind) (span : Span) (v : Val) (s : AbsState) (c : Core) → is_in_ram a ≡ false → with_core (stored_in z a k span v s) c ≡ with_core s c
-same_stored z (Some (area.Controller (Some r))) k span v s c h = refl
-same_stored z (Some area.Ram) k span v s c h = absurd cc
-same_stored z (Some area.InterruptEnable) k span v s c h = refl
-same_stored z _ k span v s c h = refl
+same_cell : (z : Setting) (cell : Option Cell) (s : AbsState) → is_some cell ≡ false → with_cell_if z cell s ≡ s
+unfolding with_cell_if
+same_cell z None s h = refl
+same_cell z (Some c) s h = absurd cc
 
-same_cells : (z : Setting) (k : Kind) (w : AbsWrite) (s : AbsState) (c : Core) → changes_cells k w ≡ false → with_core (written z k w s) c ≡ with_core s c
+same_stored :
+    (z : Setting) (region : Region) (a : Option Area) (k : Kind) (span : Span) (v : Val) (s : AbsState) (c : Core)
+    → is_in_ram a ≡ false → with_core (stored_in z region a k span v s) c ≡ with_core s c
+same_stored z region (Some (area.Controller (Some r))) k span v s c h = refl
+same_stored z region (Some area.Ram) k span v s c h = absurd cc
+same_stored z region (Some area.InterruptEnable) k span v s c h = refl
+same_stored z region _ k span v s c h = refl
+
+same_written : (z : Setting) (region : Region) (k : Kind) (w : AbsWrite) (s : AbsState) (c : Core) → changes_cells k w ≡ false → with_core (written z region k w s) c ≡ with_core s c
 unfolding written changes_cells stored_state
-same_cells z k (write.Byte span v) s c h = same_stored z (area_of k span) k span v s c h
-same_cells z k (write.Word a low high) s c h = absurd cc
-same_cells z k _ s c h = refl
+same_written z region k (write.Byte span v) s c h = same_stored z region (area_of k span) k span v s c h
+same_written z region k (write.Word a low high) s c h = absurd cc
+same_written z region k _ s c h = refl
 
-neither : (a b : Bool) → (a || b) ≡ false → (a ≡ false) × (b ≡ false)
-neither true b h = absurd cc
-neither false b h = (refl, h)
+neither : (a b c : Bool) → (a || b || c) ≡ false → (a ≡ false) × ((b ≡ false) × (c ≡ false))
+neither true b c h = absurd cc
+neither false true c h = absurd cc
+neither false false c h = (refl, (refl, h))
 
-moved_is : (z : Setting) (k : Kind) (o : Op) (w : AbsWrite) (s : AbsState) (c : Core) → with_core (written z k w (with_stack_of z o w s)) c ≡ with_core (moved_by (move_of z k o w) w s) c
+unmoved :
+    (k : Stack) (kind : Kind) (cell : Option Cell) (m : StackMove) (w : AbsWrite) (s : AbsState) (c : Core)
+    → is_some cell ≡ false → moves_stack m ≡ false → changes_cells kind w ≡ false → with_core s c ≡ with_core (moved_state k kind cell m w s) c
+unfolding moved_state
+unmoved k kind cell m w s c no_cell no_move no_write =
+    sym (ap (λ (t : AbsState). with_core (written k.setting k.region kind w (with_stack_moved k.setting m t)) c) (same_cell k.setting cell s no_cell)
+    ∙ (ap (λ (t : AbsState). with_core (written k.setting k.region kind w t) c) (same_stack k.setting m s no_move) ∙ same_written k.setting k.region kind w s c no_write))
+
+-- where nothing is moved, items and cells are those before
+pub moved_is :
+    (k : Stack) (kind : Kind) (cell : Option Cell) (m : StackMove) (w : AbsWrite) (s : AbsState) (c : Core)
+    → with_core (moved_by (move_of k kind cell m w) w s) c ≡ with_core (moved_state k kind cell m w s) c
 unfolding move_of
-moved_is z k o w s c = by (moves_stack o w || changes_cells k w) refl
+moved_is k kind cell m w s c = by (is_some cell || moves_stack m || changes_cells kind w) refl
   where
-    by : (b : Bool) → (moves_stack o w || changes_cells k w) ≡ b → with_core (written z k w (with_stack_of z o w s)) c ≡ with_core (moved_by (if b then Some (record { setting = z; kind = k; op = o }) else None) w s) c
+    by :
+        (b : Bool) → (is_some cell || moves_stack m || changes_cells kind w) ≡ b
+        → with_core (moved_by (if b then Some (record { stack = k; kind = kind; cell = cell; stack_move = m }) else None) w s) c ≡ with_core (moved_state k kind cell m w s) c
     by true e = refl
-    by false e =
-        let h = neither (moves_stack o w) (changes_cells k w) e in
-        ap (λ (t : AbsState). with_core (written z k w t) c) (same_stack z o w s h.0) ∙ same_cells z k w s c h.1
+    by false e = let h = neither (is_some cell) (moves_stack m) (changes_cells kind w) e in unmoved k kind cell m w s c h.0 h.1.0 h.1.1
 
-pub taken_state : (z : Setting) (k : Kind) (o : Op) (w : AbsWrite) (n : ℕ) (s : AbsState) (c : Core) (r : Relations)
-    → state_behind (move_of z k o w) w (core_behind k o n w c) r s ≡ with_relations r (ended (starts w) n (written z k w (with_stack_of z o w (with_core s c))))
-unfolding ended core_behind
-taken_state z k o w n s c r =
-    let parts : written z k w (with_stack_of z o w (with_core s c)) ≡ with_core (written z k w (with_stack_of z o w s)) (written_core k w (stack_core o c)) =
-    ap (λ (t : AbsState). written z k w t) (stacked_by z o w s c) ∙ written_by z k w (with_stack_of z o w s) (stack_core o c) in
-    ap (with_relations r) (sym (ap (λ (t : AbsState). ended (starts w) n t) parts ∙ moved_is z k o w s (core_end (starts w) n (written_core k w (stack_core o c)))))
+pub taken_state :
+    (k : Stack) (kind : Kind) (cell : Option Cell) (m : StackMove) (w : AbsWrite) (s : AbsState) (c : Core) (r : Relations)
+    → state_behind (move_of k kind cell m w) w c r s ≡ with_relations r (with_core (moved_state k kind cell m w s) c)
+taken_state k kind cell m w s c r = ap (with_relations r) (moved_is k kind cell m w s c)
+
+pub untaken_state :
+    (k : Stack) (kind : Kind) (cell : Option Cell) (n : ℕ) (s : AbsState) (c : Core) (r : Relations)
+    → state_behind (move_of k kind cell move.Stay write.Nothing) write.Nothing (core_end false n c) r s
+    ≡ with_relations r (ended false n (with_cell_if k.setting cell (with_core s c)))
+unfolding moved_state written with_stack_moved with_cell_if ended
+untaken_state k kind cell n s c r = ap (with_relations r) (moved_is k kind cell move.Stay write.Nothing s (core_end false n c) ∙ alone k.setting cell)
+  where
+    alone : (z : Setting) (cell : Option Cell) → with_core (moved_state k kind cell move.Stay write.Nothing s) (core_end false n c) ≡ ended false n (with_cell_if k.setting cell (with_core s c))
+    alone z None = refl
+    alone z (Some d) = refl

@@ -1,9 +1,7 @@
 -- Instructions that leave SP, or set it: what they leave of a core, and that they neither push nor pop.
-use Rattle.std.proofs.Common.{◌≡◌, ℕ, ◌<◌, Bool, true, false, cond, ◌⊎◌, inl, inr, Option, Some, None, refl, sym, ◌∙◌, subst, arith}
-use Rattle.std.proofs.lemmas.Option.{same_Some}
+use Rattle.std.proofs.Common.{◌≡◌, ℕ, ◌<◌, Bool, true, false, cond, ◌⊎◌, inl, inr, refl, sym, ◌∙◌, subst, arith}
 use Rattle.gb_ops.specs.declared.op.Register.{Register}
 use Rattle.gb_ops.specs.declared.op.Register.TheVariants.{A, B, C, D, E, H, L}
-use Rattle.gb_ops.specs.declared.op.Condition.{Condition}
 use Rattle.gb_ops.specs.declared.op.Pair.{Pair}
 use Rattle.gb_ops.specs.declared.op.Pair.TheVariants as pair
 use Rattle.gb_ops.specs.declared.op.StackPair.{StackPair}
@@ -18,8 +16,6 @@ use Rattle.gb_ops.specs.declared.op.Op.TheVariants as op
 use Rattle.gb_domain.specs.declared.types.Val.{Val}
 use Rattle.gb_domain.specs.declared.types.Core.{Core}
 use Rattle.gb_domain.specs.Rules.{IsVal, IsCore}
-use Rattle.gb_domain.specs.declared.types.Flg.{Flg}
-use Rattle.gb_domain.specs.Types.{AbsState}
 use Rattle.gb_abs.specs.declared.span.Span.{Span}
 use Rattle.gb_abs.specs.Span.{pair_span}
 use Rattle.gb_abs.specs.Operations.{core_set_register, core_settle}
@@ -28,13 +24,9 @@ use Rattle.gb_abs_effects.specs.declared.reads.AbsRead.{AbsRead}
 use Rattle.gb_abs_effects.specs.declared.reads.AbsRead.TheVariants as read
 use Rattle.gb_abs_effects.specs.declared.writes.AbsWrite.{AbsWrite}
 use Rattle.gb_abs_effects.specs.declared.writes.AbsWrite.TheVariants as write
-use Rattle.gb_abs_effects.specs.declared.writes.AbsEffect.{AbsEffect}
 use Rattle.gb_abs_effects.specs.Accesses.{hl_span, indirect_span, high_span, operand_read, read_of}
 use Rattle.gb_abs_effects.specs.Pairs.{is_word_known, pair_halves, with_pair, with_indirect, with_stack_pair}
-use Rattle.gb_abs_effects.specs.Sides.{with_flags_if, side_of}
-use Rattle.gb_abs_effects.specs.Sides as Flags
-use Rattle.gb_product.specs.Below.gb_places.declared.sides.Contents.{Contents}
-use Rattle.gb_product.specs.Sides.{with_contents_if, narrowed_core, narrowed_if, narrowed_by, sides_of}
+use Rattle.gb_product.specs.Sound.{IsCutCore}
 use Rattle.gb_abs_effects.specs.declared.targets.Target.{Target}
 use Rattle.gb_abs_effects.specs.declared.targets.Target.TheVariants as target
 use Rattle.gb_abs_effects.specs.Targets.{moves_sp, target_of}
@@ -60,41 +52,8 @@ pub Keeps-settle : (s : Core) → Keeps s (core_settle s)
 unfolding core_settle
 Keeps-settle s = record { ctl = refl; bound = refl; ie = refl; stack = refl }
 
-Keeps-with_flags_if : (s c : Core) (o : Option Flg) → with_flags_if s o ≡ Some c → Keeps s c
-Keeps-with_flags_if s c None h = cc
-Keeps-with_flags_if s c (Some f) h = subst (λ k. Keeps s k) (same_Some _ c h) (record { ctl = refl; bound = refl; ie = refl; stack = refl })
-
-Keeps-side_of : (k : Condition) (s c : Core) → side_of k s ≡ Some c → Keeps s c
-unfolding side_of
-Keeps-side_of k s c h = Keeps-with_flags_if s c _ h
-
-Keeps-narrowed : (s c : Core) (o : Option Contents) → with_contents_if s o ≡ Some c → Keeps s c
-Keeps-narrowed s c None h = cc
-Keeps-narrowed s c (Some o) h = subst (λ k. Keeps s k) (same_Some _ c h) (record { ctl = refl; bound = refl; ie = refl; stack = refl })
-
-Keeps-narrowed_if : (k : Condition) (t : AbsState) (s c : Core) (o : Option Core) → ((d : Core) → o ≡ Some d → Keeps s d) → narrowed_if k t o ≡ Some c → Keeps s c
-unfolding narrowed_core
-Keeps-narrowed_if k t s c None before h = cc
-Keeps-narrowed_if k t s c (Some d) before h = Keeps-both s d c (before d refl) (Keeps-narrowed d c _ h)
-
-Keeps-by : (k : Condition) (s d : Core) → side_of k s ≡ Some d → Keeps s d
-Keeps-by k s d h = Keeps-side_of k s d h
-
-pub Keeps-taken : (o : Op) (t : AbsState) (s c : Core) → (sides_of o t s).taken ≡ Some c → Keeps s c
-unfolding sides_of Flags.sides_of
-Keeps-taken o t s c h = choose (Flags.condition_of o) h
-  where
-    choose : (k : Option Condition) → (narrowed_by k t (Flags.sides_by k s)).taken ≡ Some c → Keeps s c
-    choose None e = subst (λ k. Keeps s k) (same_Some s c e) (Keeps-itself s)
-    choose (Some k) e = Keeps-narrowed_if k t s c _ (λ d. Keeps-by k s d) e
-
-pub Keeps-not_taken : (o : Op) (t : AbsState) (s c : Core) → (sides_of o t s).not_taken ≡ Some c → Keeps s c
-unfolding sides_of Flags.sides_of
-Keeps-not_taken o t s c h = choose (Flags.condition_of o) h
-  where
-    choose : (k : Option Condition) → (narrowed_by k t (Flags.sides_by k s)).not_taken ≡ Some c → Keeps s c
-    choose None e = cc
-    choose (Some k) e = Keeps-narrowed_if _ t s c _ (λ d. Keeps-by _ s d) e
+pub Keeps-cut : (s c : Core) → IsCutCore s c → Keeps s c
+Keeps-cut s c h = record { ctl = h.ctl; bound = h.bound; ie = h.ie; stack = h.stack_set }
 
 Keeps-set : (r : Register) (v : Val) (s c : Core) → Keeps s c → Keeps s (core_set_register r v c)
 unfolding core_set_register
@@ -125,9 +84,6 @@ Keeps-store : (to : Operand) (v : Val) (s c : Core) → Keeps s c → Keeps s (s
 unfolding store_operand
 Keeps-store (operand.Register r) v s c h = Keeps-set r v s c h
 Keeps-store operand.AtHl v s c h = h
-
-Keeps-update_a : (o : AbsEffect) (s : Core) → o.core.ctl ≡ s.ctl → o.core.bound ≡ s.bound → o.core.ie ≡ s.ie → o.core.stack_set ≡ s.stack_set → Keeps s o.core
-Keeps-update_a o s a b c d = record { ctl = a; bound = b; ie = c; stack = d }
 
 Keeps-alu : (how : AluOp) (from : Operand) (s : Core) (low : Val) → Keeps s (apply_alu how from s low).core
 unfolding apply_alu update_a

@@ -8,7 +8,6 @@ use Rattle.gb_ops.specs.declared.op.Op.TheVariants as op
 use Rattle.gb_ops.specs.declared.op.Row.{Row}
 use Rattle.gb_ops.specs.declared.registers.Registers.{Registers}
 use Rattle.gb_ops.specs.declared.registers.Flags.{Flags}
-use Rattle.gb_ops.specs.Registers.{get}
 use Rattle.gb_ops.specs.Machine.{executed, advanced}
 use Rattle.gb_ops.specs.Play.{MState, within, outside}
 use Rattle.gb_domain.specs.declared.pairs.Bounds.{Bounds}
@@ -21,12 +20,12 @@ use Rattle.gb_domain.specs.declared.types.Core.{Core}
 use Rattle.gb_domain.specs.declared.types.Range.{Range}
 use Rattle.gb_domain.specs.Types.{AbsState}
 use Rattle.gb_domain.specs.Rules.{IsCore}
-use Rattle.gb_abs.specs.Located.{sp_halves, sp_bounds}
-use Rattle.gb_abs.specs.Operations.{core_end, with_core}
+use Rattle.gb_abs.specs.Located.{sp_halves}
+use Rattle.gb_abs.specs.Operations.{core_end}
 use Rattle.gb_abs.specs.Span.{one}
 use Rattle.gb_abs.specs.Stack.{pushed, popped}
 use Rattle.gb_abs.specs.Storage.{peek}
-use Rattle.gb_abs.specs.Meaning.{Holds, MeansCore, MeansParts}
+use Rattle.gb_abs.specs.Meaning.{MeansCore, MeansParts}
 use Rattle.gb_abs_effects.specs.declared.targets.Target.{Target}
 use Rattle.gb_abs_effects.specs.declared.targets.Target.TheVariants as target
 use Rattle.gb_abs_effects.specs.declared.writes.AbsWrite.{AbsWrite}
@@ -45,13 +44,15 @@ use Rattle.gb_product.specs.Below.gb_relations.Sound as relations
 use Rattle.gb_product.proofs.Below.gb_relations_laws.ComparedLaws.{HoldOneByte-compared_after}
 use Rattle.gb_product.proofs.Below.gb_relations_laws.TransferLaws.{HoldPairs-nothing}
 use Rattle.gb_product.specs.Meaning.{AreRelated}
-use Rattle.gb_abs_effects.specs.Accesses.{read_of}
-use Rattle.gb_successors.specs.Behind.{behind, read_word, written, starts, pushed_if_room, with_stack_of, ended, with_relations}
-use Rattle.gb_successors.specs.Refused.{is_unknown, meets_closed, meets_oam_transfer}
-use Rattle.gb_successors.specs.Successors.{taken_parts, related_successor, relations_behind, taken_successor}
+use Rattle.gb_product.proofs.MeaningLaws.{AreBytes-core}
+use Rattle.gb_successors.specs.Behind.{behind, written, starts, ended, with_relations}
+use Rattle.gb_successors.specs.Stacks.{pushed_if_room}
+use Rattle.gb_successors.specs.Refused.{meets_closed, meets_oam_transfer}
+use Rattle.gb_successors.specs.Successors.{related_successor}
 use Rattle.gb_successors.specs.Way.{Successor}
-use Rattle.gb_successors.specs.Sound.{IsAllowed, IsStackFit, LeadsTo, LeadsParts, Leads}
-use Rattle.gb_successors.proofs.SuccessorLaws.{begun, given, effect, behind_row, left_by, abs_effect, low_of, high_of, is_word, IsWord-sp, state_is, executed_taken, IsTaken, is_write}
+use Rattle.gb_successors.specs.Sound.{is_followed, IsAllowed, IsStackFit, LeadsTo, LeadsParts, Leads}
+use Rattle.gb_successors.proofs.SimpleLaws.{behind_row, low_of, high_of, abs_effect, with_stack_of, simple_parts}
+use Rattle.gb_successors.proofs.SuccessorLaws.{begun, given, effect, left_by, is_word, IsWord-sp, state_is, executed_taken, IsTaken, is_write}
 
 -- ---- other things known together
 
@@ -60,17 +61,19 @@ MeansParts-related r s entry base x m =
     record { core = m.core; memory = m.memory; sp = m.sp; stack = m.stack; items = m.items; cells = m.cells }
 
 pub IsAllowed-parts :
-    (rom : List ℕ) (region : Region) (ranges : List Range) (s : AbsState) (base : ℕ) (r : Relations) (t : Successor)
-    → IsAllowed rom region ranges s base (related_successor r t) → IsAllowed rom region ranges s base t
+    (z : Setting) (rom : List ℕ) (region : Region) (ranges : List Range) (s : AbsState) (base : ℕ) (r : Relations) (t : Successor)
+    → IsAllowed z rom region ranges s base (related_successor r t) → IsAllowed z rom region ranges s base t
 unfolding meets_closed meets_oam_transfer
-IsAllowed-parts rom region ranges s base r t h =
+IsAllowed-parts z rom region ranges s base r t h =
     record { stores = h.stores; ram = h.ram; oam_transfer = h.oam_transfer; stack = fit t.target h.stack }
   where
     fit : (w : Target) → IsStackFit region w s (related_successor r t) base → IsStackFit region w s t base
     fit (target.At a) k = k
     fit (target.Call a) k = k
     fit target.Return k = record { stack_set = k.stack_set; held = k.held; return_word = k.return_word }
+    fit (target.Main a) k = k
     fit target.Unknown k = k
+    fit target.Lost k = k
 
 pub LeadsTo-related :
     (region : Region) (w : Target) (r : Relations) (t : Successor) (entry : MState) (base : ℕ) (x y : MState)
@@ -80,20 +83,20 @@ LeadsTo-related region (target.At a) r t entry base x y h = record { means = Mea
 LeadsTo-related region (target.Call a) r t entry base x y h =
     record { means = MeansParts-related r _ entry base y h.means; next = h.next; goes = h.goes; stack_set = h.stack_set; placed = h.placed }
 LeadsTo-related region target.Return r t entry base x y h = record { means = MeansParts-related r t.state entry (base + 2) y h.means; goes = h.goes }
+LeadsTo-related region (target.Main a) r t entry base x y h = tt
 LeadsTo-related region target.Unknown r t entry base x y h = tt
+LeadsTo-related region target.Lost r t entry base x y h = tt
 
--- ---- registers are bytes
+-- ---- the core behind it
 
-pub AreBytes-core : (c : Core) (entry x : MState) → IsCore c → MeansCore c entry x → AreBytes x.processor.registers
-AreBytes-core c entry x is m =
-    record { each = λ r. let k : Holds (get r c.registers) entry (get r x.processor.registers) = m.registers r in let v = is.registers r in let most = k.most in let hi = v.hi in omega arith }
-
-core_led : (region : Region) (w : Target) (t : Successor) (entry : MState) (base : ℕ) (x y : MState) → is_unknown w ≡ false → LeadsTo region w t entry base x y → MeansCore t.state.core entry y
+core_led : (region : Region) (w : Target) (t : Successor) (entry : MState) (base : ℕ) (x y : MState) → is_followed w ≡ true → LeadsTo region w t entry base x y → MeansCore t.state.core entry y
 unfolding pushed
 core_led region (target.At a) t entry base x y known h = h.means.core
 core_led region (target.Call a) t entry base x y known h = h.means.core
 core_led region target.Return t entry base x y known h = h.means.core
+core_led region (target.Main a) t entry base x y known h = cc
 core_led region target.Unknown t entry base x y known h = cc
+core_led region target.Lost t entry base x y known h = cc
 
 IsCore-set : (c : Core) → IsCore c → IsCore (record c { stack_set = true })
 IsCore-set c h = record { ime = h.ime; bound = h.bound; ctl = h.ctl; flags = h.flags; ie = h.ie; registers = h.registers }
@@ -113,13 +116,13 @@ IsCore-stacked z (op.Push from) (write.Push high low) s h = IsCore-pushed z high
 IsCore-stacked z (op.Pop to) w s h = h
 IsCore-stacked z o w s h = h
 
-IsCore-written : (z : Setting) (k : Kind) (w : AbsWrite) (s : AbsState) → IsWrite w → IsCore s.core → IsCore (written z k w s).core
+IsCore-written : (z : Setting) (region : Region) (k : Kind) (w : AbsWrite) (s : AbsState) → IsWrite w → IsCore s.core → IsCore (written z region k w s).core
 unfolding written
-IsCore-written z k write.Nothing s is h = h
-IsCore-written z k (write.Byte span v) s is h = IsCore-stored_state z k span v s is h
-IsCore-written z k (write.Word a low high) s is h =
-    IsCore-stored_state z k (one (behind a)) high (stored_state z k (one a) low s) is.1 (IsCore-stored_state z k (one a) low s is.0 h)
-IsCore-written z k (write.Push high low) s is h = h
+IsCore-written z region k write.Nothing s is h = h
+IsCore-written z region k (write.Byte span v) s is h = IsCore-stored_state z region k span v s is h
+IsCore-written z region k (write.Word a low high) s is h =
+    IsCore-stored_state z region k (one (behind a)) high (stored_state z region k (one a) low s) is.1 (IsCore-stored_state z region k (one a) low s is.0 h)
+IsCore-written z region k (write.Push high low) s is h = h
 
 IsCore-ended : (b : Bool) (n : ℕ) (c : Core) → IsCore c → IsCore (core_end b n c)
 unfolding core_end
@@ -128,13 +131,13 @@ IsCore-ended false n c h = record { ime = h.ime; bound = let b = h.bound in omeg
 
 IsCore-taken :
     (z : Setting) (rom : List ℕ) (region : Region) (ranges : List Range) (row : Row) (a : ℕ) (s : AbsState) (entry : MState) (base : ℕ) (x : MState) (reads : List ℕ) (c : Core)
-    → IsTaken z rom region ranges row a s entry base x reads c → IsCore (taken_parts z rom row (behind_row a row) s c).state.core
+    → IsTaken z rom region ranges row a s entry base x reads c → IsCore (simple_parts z rom region row (behind_row a row) s c).state.core
 unfolding ended
 IsCore-taken z rom region ranges row a s entry base x reads c k =
     let w : AbsWrite = (abs_effect z rom row a s c).write in
-    subst (λ (t : AbsState). IsCore t.core) (sym (state_is z rom row a s c))
+    subst (λ (t : AbsState). IsCore t.core) (sym (state_is z rom region row a s c))
     (IsCore-ended (starts w) row.cycles _
-    (IsCore-written z _ w _ (is_write z rom region ranges row a s entry base x reads c k)
+    (IsCore-written z region _ w _ (is_write z rom region ranges row a s entry base x reads c k)
     (IsCore-stacked z row.op w _ (core_of k))))
   where
     core_of : IsTaken z rom region ranges row a s entry base x reads c → IsCore (abs_effect z rom row a s c).core
@@ -168,36 +171,35 @@ related_begun row x r h = h
 
 pub related_taken :
     (z : Setting) (rom : List ℕ) (region : Region) (ranges : List Range) (row : Row) (a : ℕ) (s : AbsState) (entry : MState) (base : ℕ) (x : MState) (reads : List ℕ) (c : Core) (w : Target)
-    → IsTaken z rom region ranges row a s entry base x reads c → is_unknown w ≡ false
-    → LeadsTo region w (taken_parts z rom row (behind_row a row) s c) entry base x (outside (executed (within rom x) row reads))
-    → AreRelated (relations_behind z rom region row.op s c) (outside (executed (within rom x) row reads))
-unfolding relations_behind
-related_taken z rom region ranges row a s entry base x reads c w k known led =
-    let t = taken_parts z rom row (behind_row a row) s c in
+    → IsTaken z rom region ranges row a s entry base x reads c → is_followed w ≡ true
+    → LeadsTo region w (simple_parts z rom region row (behind_row a row) s c) entry base x (outside (executed (within rom x) row reads))
+    → (sp : Bounds) (low : Val) (r : Relations) → AreRelated r (begun row x)
+    → AreRelated (relations_after z.rules region row.op sp c.registers low r) (outside (executed (within rom x) row reads))
+related_taken z rom region ranges row a s entry base x reads c w k known led sp low r before =
+    let t = simple_parts z rom region row (behind_row a row) s c in
     let e = effect rom row x reads in
     let y = outside (executed (within rom x) row reads) in
     let bytes : AreBytes y.processor.registers = AreBytes-core t.state.core entry y (IsCore-taken z rom region ranges row a s entry base x reads c k) (core_led region w t entry base x y known led) in
     let is : y ≡ left_by rom x e row.cycles = executed_taken z rom region ranges row a s entry base x reads c k in
-    let before : AreRelated s.relations (begun row x) = related_begun row x s.relations k.stands.means.related in
-    let byte : HoldOneByte (compared_after row.op s.relations.byte) e.processor.registers (peek (left_by rom x e row.cycles).storage) e.processor.flags =
-    HoldOneByte-compared_after row.op s.relations.byte (begun row x).processor (peek x.storage) (peek (left_by rom x e row.cycles).storage)
+    let byte : HoldOneByte (compared_after row.op r.byte) e.processor.registers (peek (left_by rom x e row.cycles).storage) e.processor.flags =
+    HoldOneByte-compared_after row.op r.byte (begun row x).processor (peek x.storage) (peek (left_by rom x e row.cycles).storage)
     (given rom row x reads).low (given rom row x reads).high (has_operands row.op k.ruled.operands) (AreBytes-core c entry (begun row x) k.core k.means) before.byte in
-    let low : Val = (read_word z rom (with_core s c) (read_of row.op c)).low in
-    subst (λ (v : MState). AreRelated (relations_after z.rules region row.op (sp_bounds z s) c.registers low s.relations) v) (sym is)
-    (by_rules z.rules region row.op (sp_bounds z s) c.registers low s.relations _ _ _ k.stands.rules byte (subst (λ (v : MState). AreBytes v.processor.registers) is bytes))
+    subst (λ (v : MState). AreRelated (relations_after z.rules region row.op sp c.registers low r) v) (sym is)
+    (by_rules z.rules region row.op sp c.registers low r _ _ _ k.stands.rules byte (subst (λ (v : MState). AreBytes v.processor.registers) is bytes))
 
 pub Leads-taken :
     (z : Setting) (rom : List ℕ) (region : Region) (ranges : List Range) (row : Row) (a : ℕ) (s : AbsState) (entry : MState) (base : ℕ) (x : MState) (reads : List ℕ) (c : Core)
     → IsTaken z rom region ranges row a s entry base x reads c
-    → LeadsParts region ranges (taken_parts z rom row (behind_row a row) s c) entry base x (outside (executed (within rom x) row reads))
-    → Leads region ranges (taken_successor z rom region row (behind_row a row) s c) entry base x (outside (executed (within rom x) row reads))
-unfolding taken_successor
-Leads-taken z rom region ranges row a s entry base x reads c k led =
-    let t = taken_parts z rom row (behind_row a row) s c in
+    → LeadsParts z region ranges (simple_parts z rom region row (behind_row a row) s c) entry base x (outside (executed (within rom x) row reads))
+    → (sp : Bounds) (low : Val) (r : Relations) → AreRelated r (begun row x)
+    → Leads z region ranges (related_successor (relations_after z.rules region row.op sp c.registers low r) (simple_parts z rom region row (behind_row a row) s c)) entry base x
+    (outside (executed (within rom x) row reads))
+Leads-taken z rom region ranges row a s entry base x reads c k led sp low r before =
+    let t = simple_parts z rom region row (behind_row a row) s c in
     record {
-      to = LeadsTo-related region t.target (relations_behind z rom region row.op s c) t entry base x _ led.to;
+      to = LeadsTo-related region t.target (relations_after z.rules region row.op sp c.registers low r) t entry base x _ led.to;
       kept = led.kept;
-      related = λ known. related_taken z rom region ranges row a s entry base x reads c t.target k known led.to;
+      related = λ known. related_taken z rom region ranges row a s entry base x reads c t.target k known led.to sp low r before;
     }
 
 -- ---- memory that stays

@@ -51,34 +51,34 @@ use Rattle.gb_abs_effects.proofs.ReadLaws.{read_of_sound}
 use Rattle.gb_abs_effects.proofs.TargetLaws.{sp-pushed, sp-popped, pc-returned}
 use Rattle.gb_abs_memory.specs.Sound.{view}
 use Rattle.gb_abs_memory.specs.Kept.{IsKept}
-use Rattle.gb_successors.specs.Behind.{read_word, written, starts, with_stack_of, ended}
-use Rattle.gb_successors.specs.Successors.{taken_parts}
+use Rattle.gb_successors.specs.Behind.{read_word, written, starts, ended}
 use Rattle.gb_successors.specs.Refused.{reads_closed_ram, is_stack_limited, is_read_limited, is_write_limited}
 use Rattle.gb_successors.specs.Sound.{bytes_behind, IsPushable, IsPoppable, IsReturnable, IsStackKnown, IsStackFit, IsAllowed, LeadsParts, LeadsTo}
 use Rattle.gb_successors.specs.Words.{word_or_any}
+use Rattle.gb_successors.proofs.SimpleLaws.{behind_row, known_read, low_of, high_of, abs_effect, with_stack_of, simple_parts}
 use Rattle.gb_successors.proofs.PlainLaws.{IsPlainRead}
 use Rattle.gb_successors.proofs.AccessLaws.{Loads, clear_stack}
 use Rattle.gb_successors.proofs.WordLaws.{IsPush-is_push, IsCall-is_call, IsPop-is_pop, IsReturn-is_return, pushed-if_room}
-use Rattle.gb_successors.proofs.SuccessorLaws.{begun, begun_sp, given, effect, behind_row, left_by, faults_are, MeansParts-ended, passed_peek, IsTaken, keeps_side, means_begun, known_read, low_of, high_of, abs_effect, acted, loads, follows, keeps_effect, is_write, allowed_read, allowed_write, read_is, write_is, target_is, state_is, executed_taken, goes_to, Done, bytes-least, Done-plain}
+use Rattle.gb_successors.proofs.SuccessorLaws.{begun, begun_sp, given, effect, left_by, faults_are, MeansParts-ended, passed_peek, IsTaken, means_begun, acted, loads, follows, keeps_effect, is_write, allowed_read, allowed_write, read_is, write_is, target_is, state_is, executed_taken, goes_to, Done, bytes-least, Done-plain}
 
 -- ---- the parts of the successor, where its write is known
 
-state_by : (z : Setting) (rom : List ℕ) (row : Row) (a : ℕ) (s : AbsState) (c : Core) (v : AbsWrite) → (abs_effect z rom row a s c).write ≡ v → (taken_parts z rom row (behind_row a row) s c).state
-    ≡ ended (starts v) row.cycles (written z (kind_of rom) v (with_stack_of z row.op v (with_core s (abs_effect z rom row a s c).core)))
-state_by z rom row a s c v e =
-    state_is z rom row a s c ∙ ap (λ w. ended (starts w) row.cycles (written z (kind_of rom) w (with_stack_of z row.op w (with_core s (abs_effect z rom row a s c).core)))) e
+state_by : (z : Setting) (rom : List ℕ) (region : Region) (row : Row) (a : ℕ) (s : AbsState) (c : Core) (v : AbsWrite) → (abs_effect z rom row a s c).write ≡ v → (simple_parts z rom region row (behind_row a row) s c).state
+    ≡ ended (starts v) row.cycles (written z region (kind_of rom) v (with_stack_of z row.op v (with_core s (abs_effect z rom row a s c).core)))
+state_by z rom region row a s c v e =
+    state_is z rom region row a s c ∙ ap (λ w. ended (starts w) row.cycles (written z region (kind_of rom) w (with_stack_of z row.op w (with_core s (abs_effect z rom row a s c).core)))) e
 
-next_is : (z : Setting) (rom : List ℕ) (row : Row) (a : ℕ) (s : AbsState) (c : Core) → (taken_parts z rom row (behind_row a row) s c).next ≡ behind_row a row
-unfolding taken_parts
-next_is z rom row a s c = refl
+next_is : (z : Setting) (rom : List ℕ) (region : Region) (row : Row) (a : ℕ) (s : AbsState) (c : Core) → (simple_parts z rom region row (behind_row a row) s c).next ≡ behind_row a row
+unfolding simple_parts
+next_is z rom region row a s c = refl
 
-ended_push : (z : Setting) (k : Kind) (high low : Val) (n : ℕ) (s : AbsState) → ended (starts (write.Push high low)) n (written z k (write.Push high low) s) ≡ ended false n s
+ended_push : (z : Setting) (region : Region) (k : Kind) (high low : Val) (n : ℕ) (s : AbsState) → ended (starts (write.Push high low)) n (written z region k (write.Push high low) s) ≡ ended false n s
 unfolding starts written
-ended_push z k high low n s = refl
+ended_push z region k high low n s = refl
 
-ended_nothing : (z : Setting) (k : Kind) (n : ℕ) (s : AbsState) → ended (starts write.Nothing) n (written z k write.Nothing s) ≡ ended false n s
+ended_nothing : (z : Setting) (region : Region) (k : Kind) (n : ℕ) (s : AbsState) → ended (starts write.Nothing) n (written z region k write.Nothing s) ≡ ended false n s
 unfolding starts written
-ended_nothing z k n s = refl
+ended_nothing z region k n s = refl
 
 -- ---- a word is pushed
 
@@ -120,11 +120,11 @@ not_pushed region base sp bytes a b room stack at above = choose (b == a) refl
     choose false e = e
 
 -- what is left of the machine, whose word stands on the stack
-record Pushed (rom : List ℕ) (region : Region) (ranges : List Range) (s : AbsState) (core : Core) (i : Halves) (entry : MState) (base : ℕ) (x : MState) (e : Effect) : Type 0 where
+record Pushed (z : Setting) (rom : List ℕ) (region : Region) (ranges : List Range) (s : AbsState) (core : Core) (i : Halves) (entry : MState) (base : ℕ) (x : MState) (e : Effect) : Type 0 where
   pub means : MeansParts (pushed i (with_core s core)) entry base (record { processor = e.processor; storage = (stored (view rom x false) e.write).storage })
   pub faults : store_faults region (view rom x false) e.write ≡ no_faults
   pub starting : (stored (view rom x false) e.write).starting ≡ false
-  pub kept : (b : ℕ) → IsKept region ranges base b → peek (stored (view rom x false) e.write).storage b ≡ peek x.storage b
+  pub kept : (b : ℕ) → IsKept z region ranges base b → peek (stored (view rom x false) e.write).storage b ≡ peek x.storage b
 
 same_but_sp : (core : Core) (entry x y : MState) (sp : ℕ) → MeansCore core entry x → y ≡ record { processor = with_sp x.processor sp; storage = x.storage } → MeansCore core entry y
 same_but_sp core entry x y sp m e = subst (λ z. MeansCore core entry z) (sym e) (record {
@@ -142,7 +142,7 @@ pushes : (z : Setting) (rom : List ℕ) (region : Region) (ranges : List Range) 
     → IsTaken z rom region ranges row a s entry base x reads c → (high low : Val) → (abs_effect z rom row a s c).write ≡ write.Push high low
     → s.core.stack_set ≡ true → AreInRegion region base (length s.items + 2) → is_stack_limited region s.core ≡ false
     → Follows (abs_effect z rom row a s c) entry (begun row x) (effect rom row x reads)
-    → Pushed rom region ranges s (abs_effect z rom row a s c).core (record { high = high; low = low }) entry base x (effect rom row x reads)
+    → Pushed z rom region ranges s (abs_effect z rom row a s c).core (record { high = high; low = low }) entry base x (effect rom row x reads)
 pushes z rom region ranges row a s entry base x reads c k high low is set room limited f =
     let e = effect rom row x reads in
     let core = (abs_effect z rom row a s c).core in
@@ -198,29 +198,29 @@ bytes_popped o n s =
 -- PUSH
 pub Done-push :
     (z : Setting) (rom : List ℕ) (region : Region) (ranges : List Range) (row : Row) (a : ℕ) (s : AbsState) (entry : MState) (base : ℕ) (x : MState) (reads : List ℕ) (c : Core)
-    → IsTaken z rom region ranges row a s entry base x reads c → is_push row.op ≡ true → IsPushable z region s base → IsAllowed rom region ranges s base (taken_parts z rom row (behind_row a row) s c)
-    → Done rom region ranges row s (taken_parts z rom row (behind_row a row) s c) entry base x reads
+    → IsTaken z rom region ranges row a s entry base x reads c → is_push row.op ≡ true → IsPushable z region s base → IsAllowed z rom region ranges s base (simple_parts z rom region row (behind_row a row) s c)
+    → Done z rom region ranges row s (simple_parts z rom region row (behind_row a row) s c) entry base x reads
 unfolding is_write_limited
 Done-push z rom region ranges row a s entry base x reads c k is able allowed =
     let p = IsPush-is_push z row.op (behind_row a row) (sp_halves z s) c (low_of z rom row s c) (high_of z rom row s c) is in
-    let t = taken_parts z rom row (behind_row a row) s c in
+    let t = simple_parts z rom region row (behind_row a row) s c in
     let e = effect rom row x reads in
     let core = (abs_effect z rom row a s c).core in
     let i : Halves = record { high = p.first; low = p.second } in
-    let may = allowed_read rom region ranges s base _ allowed in
+    let may = allowed_read z rom region ranges s base _ allowed in
     let l = loads z rom region ranges row a s entry base x reads c k (subst IsPlainRead (sym p.read_is) tt)
-    (subst (λ v. reads_closed_ram rom s.core v ≡ false) (read_is z rom row a s c) may.0) (subst (λ v. is_read_limited region s.core v ≡ false) (read_is z rom row a s c) may.1) in
+    (subst (λ v. reads_closed_ram rom s.core v ≡ false) (read_is z rom region row a s c) may.0) (subst (λ v. is_read_limited region s.core v ≡ false) (read_is z rom region row a s c) may.1) in
     let f = follows z rom region ranges row a s entry base x reads c k l in
     let limited : is_stack_limited region s.core ≡ false =
-    subst (λ v. is_write_limited region s.core v ≡ false) (write_is z rom row a s c ∙ p.write_is) (allowed_write rom region ranges s base _ allowed).1 in
+    subst (λ v. is_write_limited region s.core v ≡ false) (write_is z rom region row a s c ∙ p.write_is) (allowed_write z rom region ranges s base _ allowed).1 in
     let w = pushes z rom region ranges row a s entry base x reads c k p.first p.second p.write_is able.stack_set able.room limited f.0 in
     let state : t.state ≡ ended false row.cycles (pushed i (with_core s core)) =
-    state_by z rom row a s c _ p.write_is ∙ (ended_push z (kind_of rom) p.first p.second row.cycles _ ∙ ap (ended false row.cycles) (p.leaves (with_core s core) ∙ pushed-if_room z i (with_core s core) able.held)) in
+    state_by z rom region row a s c _ p.write_is ∙ (ended_push z region (kind_of rom) p.first p.second row.cycles _ ∙ ap (ended false row.cycles) (p.leaves (with_core s core) ∙ pushed-if_room z i (with_core s core) able.held)) in
     record {
       held = subst (λ (z : AbsState). length z.items ≤ bytes_behind row.op (length s.items)) (sym state) (bytes_pushed row.op row.cycles i (with_core s core) is);
-      leads = subst (λ y. LeadsParts region ranges t entry base x y) (sym (executed_taken z rom region ranges row a s entry base x reads c k))
+      leads = subst (λ y. LeadsParts z region ranges t entry base x y) (sym (executed_taken z rom region ranges row a s entry base x reads c k))
           (record {
-            to = subst (λ v. LeadsTo region v t entry base x (left_by rom x e row.cycles)) (sym (target_is z rom row a s c ∙ p.target_is))
+            to = subst (λ v. LeadsTo region v t entry base x (left_by rom x e row.cycles)) (sym (target_is z rom region row a s c ∙ p.target_is))
                 (record {
                   means = subst (λ z. MeansParts z entry base (left_by rom x e row.cycles)) (sym state)
                       (MeansParts-ended rom (pushed i (with_core s core)) entry base e.processor (stored (view rom x false) e.write) false row.cycles w.starting w.means);
@@ -252,39 +252,39 @@ ended_cells n s = refl
 
 pub Done-call :
     (z : Setting) (rom : List ℕ) (region : Region) (ranges : List Range) (row : Row) (a : ℕ) (s : AbsState) (entry : MState) (base : ℕ) (x : MState) (reads : List ℕ) (c : Core)
-    → IsTaken z rom region ranges row a s entry base x reads c → is_call row.op ≡ true → s.core.stack_set ≡ true → IsAllowed rom region ranges s base (taken_parts z rom row (behind_row a row) s c)
-    → Done rom region ranges row s (taken_parts z rom row (behind_row a row) s c) entry base x reads
+    → IsTaken z rom region ranges row a s entry base x reads c → is_call row.op ≡ true → s.core.stack_set ≡ true → IsAllowed z rom region ranges s base (simple_parts z rom region row (behind_row a row) s c)
+    → Done z rom region ranges row s (simple_parts z rom region row (behind_row a row) s c) entry base x reads
 unfolding is_write_limited
 Done-call z rom region ranges row a s entry base x reads c k is set allowed =
     let next = behind_row a row in
     let p = IsCall-is_call z row.op next (sp_halves z s) c (low_of z rom row s c) (high_of z rom row s c) is in
-    let t = taken_parts z rom row next s c in
+    let t = simple_parts z rom region row next s c in
     let e = effect rom row x reads in
     let core = (abs_effect z rom row a s c).core in
-    let may = allowed_read rom region ranges s base _ allowed in
+    let may = allowed_read z rom region ranges s base _ allowed in
     let l = loads z rom region ranges row a s entry base x reads c k (subst IsPlainRead (sym p.read_is) tt)
-    (subst (λ v. reads_closed_ram rom s.core v ≡ false) (read_is z rom row a s c) may.0) (subst (λ v. is_read_limited region s.core v ≡ false) (read_is z rom row a s c) may.1) in
+    (subst (λ v. reads_closed_ram rom s.core v ≡ false) (read_is z rom region row a s c) may.0) (subst (λ v. is_read_limited region s.core v ≡ false) (read_is z rom region row a s c) may.1) in
     let f = follows z rom region ranges row a s entry base x reads c k l in
     let limited : is_stack_limited region s.core ≡ false =
-    subst (λ v. is_write_limited region s.core v ≡ false) (write_is z rom row a s c ∙ p.write_is) (allowed_write rom region ranges s base _ allowed).1 in
-    let target : t.target ≡ target.Call p.address = target_is z rom row a s c ∙ p.target_is in
+    subst (λ v. is_write_limited region s.core v ≡ false) (write_is z rom region row a s c ∙ p.write_is) (allowed_write z rom region ranges s base _ allowed).1 in
+    let target : t.target ≡ target.Call p.address = target_is z rom region row a s c ∙ p.target_is in
     let keeps = keeps_effect z rom region ranges row a s entry base x reads c k in
     let state : t.state ≡ ended false row.cycles (with_core s core) =
-    state_by z rom row a s c _ p.write_is ∙ (ended_push z (kind_of rom) (single (next / 256)) (single (next % 256)) row.cycles _ ∙ ap (ended false row.cycles) (p.leaves _ (with_core s core))) in
+    state_by z rom region row a s c _ p.write_is ∙ (ended_push z region (kind_of rom) (single (next / 256)) (single (next % 256)) row.cycles _ ∙ ap (ended false row.cycles) (p.leaves _ (with_core s core))) in
     let fits : AreInRegion region base (length t.state.items + 2) = subst (λ v. IsStackFit region v s t base) target allowed.stack in
     let room : AreInRegion region base (length s.items + 2) = subst (λ items. AreInRegion region base (length items + 2)) (ap (λ (z : AbsState). z.items) state ∙ ended_items row.cycles (with_core s core)) fits in
     let w = pushes z rom region ranges row a s entry base x reads c k (single (next / 256)) (single (next % 256)) p.write_is set room limited f.0 in
     record {
       held = subst (λ (z : AbsState). length z.items ≤ bytes_behind row.op (length s.items)) (sym state) (bytes_same row.op row.cycles (with_core s core));
-      leads = subst (λ y. LeadsParts region ranges t entry base x y) (sym (executed_taken z rom region ranges row a s entry base x reads c k))
+      leads = subst (λ y. LeadsParts z region ranges t entry base x y) (sym (executed_taken z rom region ranges row a s entry base x reads c k))
           (record {
             to = subst (λ v. LeadsTo region v t entry base x (left_by rom x e row.cycles)) (sym target)
                 (record {
-                  means = subst (λ n. MeansParts (pushed (known_word n) t.state) entry base (left_by rom x e row.cycles)) (sym (next_is z rom row a s c))
+                  means = subst (λ n. MeansParts (pushed (known_word n) t.state) entry base (left_by rom x e row.cycles)) (sym (next_is z rom region row a s c))
                       (subst (λ z. MeansParts (pushed (known_word next) z) entry base (left_by rom x e row.cycles)) (sym state)
                       (subst (λ z. MeansParts z entry base (left_by rom x e row.cycles)) (ended_pushed row.cycles (known_word next) (with_core s core))
                       (MeansParts-ended rom (pushed (known_word next) (with_core s core)) entry base e.processor (stored (view rom x false) e.write) false row.cycles w.starting w.means)));
-                  next = subst (λ n. n < 65536) (sym (next_is z rom row a s c)) (wrapped (a + row.length));
+                  next = subst (λ n. n < 65536) (sym (next_is z rom region row a s c)) (wrapped (a + row.length));
                   goes = subst (λ v. HoldsTarget v e.processor.pc) p.target_is (goes_to z rom region ranges row a s entry base x reads c k);
                   stack_set = ap (λ (z : AbsState). z.core.stack_set) state ∙ (ended_set row.cycles (with_core s core) ∙ (keeps.stack ∙ set));
                   placed = subst (λ cells. ArePlaced region cells) (sym (ap (λ (z : AbsState). z.cells) state ∙ ended_cells row.cycles (with_core s core))) k.stands.placed;
@@ -306,12 +306,12 @@ popped_set s h = h
 -- the stack is set on the side too
 set_of : (z : Setting) (rom : List ℕ) (region : Region) (ranges : List Range) (row : Row) (a : ℕ) (s : AbsState) (entry : MState) (base : ℕ) (x : MState) (reads : List ℕ) (c : Core)
     → IsTaken z rom region ranges row a s entry base x reads c → s.core.stack_set ≡ true → c.stack_set ≡ true
-set_of z rom region ranges row a s entry base x reads c k set = (keeps_side row.op s c k.side).stack ∙ set
+set_of z rom region ranges row a s entry base x reads c k set = k.keeps.stack ∙ set
 
 -- the state before its reads is meant
 means_begun_taken : (z : Setting) (rom : List ℕ) (region : Region) (ranges : List Range) (row : Row) (a : ℕ) (s : AbsState) (entry : MState) (base : ℕ) (x : MState) (reads : List ℕ) (c : Core)
     → IsTaken z rom region ranges row a s entry base x reads c → MeansParts (with_core s c) entry base (begun row x)
-means_begun_taken z rom region ranges row a s entry base x reads c k = means_begun rom row s entry base x c (keeps_side row.op s c k.side) k.stands.means.parts k.means
+means_begun_taken z rom region ranges row a s entry base x reads c k = means_begun rom row s entry base x c k.keeps k.stands.means.parts k.means
 
 is_word_read : (sp : ℕ) (r : Read) → HoldsRead read.Top sp r → r ≡ machine_read.Word sp
 is_word_read sp machine_read.Nothing h = absurd h
@@ -409,17 +409,17 @@ popped_room region base n s room =
 -- POP
 pub Done-pop :
     (z : Setting) (rom : List ℕ) (region : Region) (ranges : List Range) (row : Row) (a : ℕ) (s : AbsState) (entry : MState) (base : ℕ) (x : MState) (reads : List ℕ) (c : Core)
-    → IsTaken z rom region ranges row a s entry base x reads c → is_pop row.op ≡ true → IsPoppable s → IsAllowed rom region ranges s base (taken_parts z rom row (behind_row a row) s c)
-    → Done rom region ranges row s (taken_parts z rom row (behind_row a row) s c) entry base x reads
+    → IsTaken z rom region ranges row a s entry base x reads c → is_pop row.op ≡ true → IsPoppable s → IsAllowed z rom region ranges s base (simple_parts z rom region row (behind_row a row) s c)
+    → Done z rom region ranges row s (simple_parts z rom region row (behind_row a row) s c) entry base x reads
 unfolding is_read_limited
 Done-pop z rom region ranges row a s entry base x reads c k is able allowed =
     let next = behind_row a row in
     let p = IsPop-is_pop z row.op next (sp_halves z s) c (low_of z rom row s c) (high_of z rom row s c) is in
-    let t = taken_parts z rom row next s c in
+    let t = simple_parts z rom region row next s c in
     let e = effect rom row x reads in
     let core = (abs_effect z rom row a s c).core in
     let limited : is_stack_limited region s.core ≡ false =
-    subst (λ v. is_read_limited region s.core v ≡ false) (read_is z rom row a s c ∙ p.read_is) (allowed_read rom region ranges s base _ allowed).1 in
+    subst (λ v. is_read_limited region s.core v ≡ false) (read_is z rom region row a s c ∙ p.read_is) (allowed_read z rom region ranges s base _ allowed).1 in
     let set : c.stack_set ≡ true = set_of z rom region ranges row a s entry base x reads c k able.stack_set in
     let top = top_held s c able.held in
     let word = pops z rom region ranges row a s entry base x reads c k (with_core s c) top.0 base (means_begun_taken z rom region ranges row a s entry base x reads c k) top.1 set k.stands.room limited in
@@ -428,12 +428,12 @@ Done-pop z rom region ranges row a s entry base x reads c k is able allowed =
     let f = follows z rom region ranges row a s entry base x reads c k l in
     let left = leaves_word z rom region ranges row a s entry base x reads c k (popped (with_core s c)) top.0 base word (popped_set (with_core s c) set) p.read_is p.write_is f.0 in
     let state : t.state ≡ ended false row.cycles (popped (with_core s core)) =
-    state_by z rom row a s c _ p.write_is ∙ (ended_nothing z (kind_of rom) row.cycles _ ∙ ap (ended false row.cycles) (p.leaves _ (with_core s core))) in
+    state_by z rom region row a s c _ p.write_is ∙ (ended_nothing z region (kind_of rom) row.cycles _ ∙ ap (ended false row.cycles) (p.leaves _ (with_core s core))) in
     record {
       held = subst (λ (z : AbsState). length z.items ≤ bytes_behind row.op (length s.items)) (sym state) (bytes_popped row.op row.cycles (with_core s core));
-      leads = subst (λ y. LeadsParts region ranges t entry base x y) (sym (executed_taken z rom region ranges row a s entry base x reads c k))
+      leads = subst (λ y. LeadsParts z region ranges t entry base x y) (sym (executed_taken z rom region ranges row a s entry base x reads c k))
           (record {
-            to = subst (λ v. LeadsTo region v t entry base x (left_by rom x e row.cycles)) (sym (target_is z rom row a s c ∙ p.target_is))
+            to = subst (λ v. LeadsTo region v t entry base x (left_by rom x e row.cycles)) (sym (target_is z rom region row a s c ∙ p.target_is))
                 (record {
                   means = subst (λ z. MeansParts z entry base (left_by rom x e row.cycles)) (sym (state ∙ popped_ended row.cycles s c core)) left.means;
                   goes = subst (λ v. HoldsTarget v e.processor.pc) p.target_is (goes_to z rom region ranges row a s entry base x reads c k);
@@ -495,23 +495,23 @@ return_youngest s c low high = refl
 
 pub Done-return :
     (z : Setting) (rom : List ℕ) (region : Region) (ranges : List Range) (row : Row) (a : ℕ) (s : AbsState) (entry : MState) (base : ℕ) (x : MState) (reads : List ℕ) (c : Core)
-    → IsTaken z rom region ranges row a s entry base x reads c → is_return row.op ≡ true → IsAllowed rom region ranges s base (taken_parts z rom row (behind_row a row) s c)
-    → Done rom region ranges row s (taken_parts z rom row (behind_row a row) s c) entry base x reads
+    → IsTaken z rom region ranges row a s entry base x reads c → is_return row.op ≡ true → IsAllowed z rom region ranges s base (simple_parts z rom region row (behind_row a row) s c)
+    → Done z rom region ranges row s (simple_parts z rom region row (behind_row a row) s c) entry base x reads
 unfolding is_read_limited
 Done-return z rom region ranges row a s entry base x reads c k is allowed =
     let next = behind_row a row in
     let p = IsReturn-is_return z row.op next (sp_halves z s) c (low_of z rom row s c) (high_of z rom row s c) is in
-    let t = taken_parts z rom row next s c in
+    let t = simple_parts z rom region row next s c in
     let e = effect rom row x reads in
     let core = (abs_effect z rom row a s c).core in
     let low = peek x.storage base in
     let high = peek x.storage (base + 1) in
     let limited : is_stack_limited region s.core ≡ false =
-    subst (λ v. is_read_limited region s.core v ≡ false) (read_is z rom row a s c ∙ p.read_is) (allowed_read rom region ranges s base _ allowed).1 in
-    let target : t.target ≡ target.Return = target_is z rom row a s c ∙ p.target_is in
+    subst (λ v. is_read_limited region s.core v ≡ false) (read_is z rom region row a s c ∙ p.read_is) (allowed_read z rom region ranges s base _ allowed).1 in
+    let target : t.target ≡ target.Return = target_is z rom region row a s c ∙ p.target_is in
     let able : IsReturnable region s t base = subst (λ v. IsStackFit region v s t base) target allowed.stack in
     let state : t.state ≡ ended false row.cycles (with_core s core) =
-    state_by z rom row a s c _ p.write_is ∙ (ended_nothing z (kind_of rom) row.cycles _ ∙ ap (ended false row.cycles) (p.leaves _ (with_core s core))) in
+    state_by z rom region row a s c _ p.write_is ∙ (ended_nothing z region (kind_of rom) row.cycles _ ∙ ap (ended false row.cycles) (p.leaves _ (with_core s core))) in
     let none : s.items ≡ [] = sym (ap (λ (z : AbsState). z.items) state ∙ ended_items row.cycles (with_core s core)) ∙ able.held in
     let set : c.stack_set ≡ true = set_of z rom region ranges row a s entry base x reads c k able.stack_set in
     let means = return_word_means s c entry base x k.stands.means.parts able.stack_set none (begun row x) refl (begun_sp row x) k.means in
@@ -528,7 +528,7 @@ Done-return z rom region ranges row a s entry base x reads c k is allowed =
     pc-returned row.op next c (advanced x.processor row) (given rom row x reads).low (given rom row x reads).high p.target_is k.taken in
     record {
       held = subst (λ (z : AbsState). length z.items ≤ bytes_behind row.op (length s.items)) (sym state) (bytes_same row.op row.cycles (with_core s core));
-      leads = subst (λ y. LeadsParts region ranges t entry base x y) (sym (executed_taken z rom region ranges row a s entry base x reads c k))
+      leads = subst (λ y. LeadsParts z region ranges t entry base x y) (sym (executed_taken z rom region ranges row a s entry base x reads c k))
           (record {
             to = subst (λ v. LeadsTo region v t entry base x (left_by rom x e row.cycles)) (sym target)
                 (record {
@@ -544,11 +544,11 @@ Done-return z rom region ranges row a s entry base x reads c k is allowed =
 
 pub taken_executes :
     (z : Setting) (rom : List ℕ) (region : Region) (ranges : List Range) (row : Row) (a : ℕ) (s : AbsState) (entry : MState) (base : ℕ) (x : MState) (reads : List ℕ) (c : Core)
-    → IsTaken z rom region ranges row a s entry base x reads c → IsAllowed rom region ranges s base (taken_parts z rom row (behind_row a row) s c)
-    → Done rom region ranges row s (taken_parts z rom row (behind_row a row) s c) entry base x reads
+    → IsTaken z rom region ranges row a s entry base x reads c → IsAllowed z rom region ranges s base (simple_parts z rom region row (behind_row a row) s c)
+    → Done z rom region ranges row s (simple_parts z rom region row (behind_row a row) s c) entry base x reads
 taken_executes z rom region ranges row a s entry base x reads c k allowed = by k.ruled.stack
   where
-    by : IsStackKnown z region row.op s base → Done rom region ranges row s (taken_parts z rom row (behind_row a row) s c) entry base x reads
+    by : IsStackKnown z region row.op s base → Done z rom region ranges row s (simple_parts z rom region row (behind_row a row) s c) entry base x reads
     by (inl still) = Done-plain z rom region ranges row a s entry base x reads c k (inl still) allowed
     by (inr (inl loaded)) = Done-plain z rom region ranges row a s entry base x reads c k (inr loaded) allowed
     by (inr (inr (inl push))) = Done-push z rom region ranges row a s entry base x reads c k push.0 push.1 allowed

@@ -17,6 +17,7 @@ use Rattle.gb_ops.specs.Effects as Effects
 use Rattle.gb_ops.specs.Machine.{executed, advanced, way_of, mark_of, loaded, cycles_of}
 use Rattle.gb_ops.specs.Faults.{no_faults, either_faults, row_faults, load_faults, store_faults}
 use Rattle.gb_ops.specs.Play.{MState, within, outside}
+use Rattle.gb_domain.specs.declared.rules.Rules.TheVariants.{Simple}
 use Rattle.gb_domain.specs.declared.setting.Setting.{Setting}
 use Rattle.gb_domain.specs.declared.types.Val.{Val}
 use Rattle.gb_domain.specs.declared.types.Core.{Core}
@@ -39,12 +40,10 @@ use Rattle.gb_abs.proofs.StackLaws.{MeansParts-with_core}
 use Rattle.gb_abs_effects.specs.declared.reads.AbsRead.{AbsRead}
 use Rattle.gb_abs_effects.specs.declared.reads.AbsRead.TheVariants as read
 use Rattle.gb_abs_effects.specs.declared.writes.AbsWrite.{AbsWrite}
-use Rattle.gb_abs_effects.specs.declared.writes.AbsEffect.{AbsEffect}
 use Rattle.gb_abs_effects.specs.declared.targets.Target.{Target}
 use Rattle.gb_abs_effects.specs.declared.targets.Target.TheVariants as target
 use Rattle.gb_abs_effects.specs.Pairs.{any_word}
 use Rattle.gb_abs_effects.specs.Accesses.{read_of}
-use Rattle.gb_product.specs.Sides.{sides_of}
 use Rattle.gb_abs_effects.specs.Targets.{target_of, moves_sp, is_sp, is_push}
 use Rattle.gb_abs_effects.specs.Transfer.{transfer}
 use Rattle.gb_abs_effects.specs.Sound.{HasBytes, HoldsTarget, IsWrite, Follows, Begins}
@@ -55,12 +54,12 @@ use Rattle.gb_abs_effects.proofs.TransferLaws.{transfer_sound}
 use Rattle.gb_abs_memory.specs.Sound.{view, AreVals}
 use Rattle.gb_abs_memory.proofs.LoadLaws.{IsVal-loaded_val}
 use Rattle.gb_successors.specs.Way.{Successor}
-use Rattle.gb_successors.specs.Behind.{read_word, written, starts, with_stack_of, ended}
-use Rattle.gb_successors.specs.Successors.{taken_parts}
+use Rattle.gb_successors.specs.Behind.{read_word, written, starts, ended}
 use Rattle.gb_successors.specs.Refused.{is_unstorable, meets_closed, meets_oam_transfer, reads_closed_ram, writes_closed_ram, is_read_limited, is_write_limited}
 use Rattle.gb_successors.specs.Sound.{bytes_behind, IsAllowed, LeadsParts, LeadsTo, Stands, IsRuled}
 use Rattle.gb_successors.specs.Words.{word_or_any}
-use Rattle.gb_successors.proofs.PlainLaws.{Keeps, Keeps-both, Keeps-settle, Keeps-taken, Keeps-transfer, IsPlainRead, IsPlainWrite, IsPlainTarget, IsPlainRead-read_of, IsPlainWrite-transfer, plain_target}
+use Rattle.gb_successors.proofs.SimpleLaws.{behind_row, low_of, high_of, abs_effect, with_stack_of, simple_parts}
+use Rattle.gb_successors.proofs.PlainLaws.{Keeps, Keeps-both, Keeps-transfer, IsPlainRead, IsPlainWrite, IsPlainTarget, IsPlainRead-read_of, IsPlainWrite-transfer, plain_target}
 use Rattle.gb_successors.proofs.AccessLaws.{IsSameGate, closed_same, limited_same, writes_same, write_limited_same, Loads, Loads-read, Stores, AtWrite, Stores-write}
 
 -- ---- the machine as an instruction begins its work
@@ -75,10 +74,6 @@ given rom row x reads = loaded (view rom x false) (Effects.read_of row.op (advan
 
 abbrev pub effect : List ℕ → Row → MState → List ℕ → Effect
 effect rom row x reads = Effects.effect_of row.op (advanced x.processor row) (given rom row x reads).low (given rom row x reads).high
-
--- the address behind an instruction
-abbrev pub behind_row : ℕ → Row → ℕ
-behind_row a row = (a + row.length) % 65536
 
 way_runs : (o : Op) (n m : ℕ) → (o ≡ op.Stop → ⊥) → way_of o n m ≡ n - m
 unfolding way_of
@@ -150,13 +145,10 @@ pub record IsTaken (z : Setting) (rom : List ℕ) (region : Region) (ranges : Li
   pub ruled : IsRuled z region row s base
   pub mark : x.processor.halt_mark ≡ false
   pub byte : slice_index reads 0 ≤ 255
-  pub side : (sides_of row.op s (core_settle s.core)).taken ≡ Some c
+  pub keeps : Keeps s.core c
   pub means : MeansCore c entry (begun row x)
   pub core : IsCore c
   pub taken : (effect rom row x reads).is_taken ≡ true
-
-pub keeps_side : (o : Op) (s : AbsState) (c : Core) → (sides_of o s (core_settle s.core)).taken ≡ Some c → Keeps s.core c
-keeps_side o s c h = Keeps-both s.core (core_settle s.core) c (Keeps-settle s.core) (Keeps-taken o s (core_settle s.core) c h)
 
 -- SP stays, or LD SP,n16 sets it to the base
 abbrev IsPlain : Op → ℕ → Type 0
@@ -182,23 +174,12 @@ pub loads : (z : Setting) (rom : List ℕ) (region : Region) (ranges : List Rang
     → IsTaken z rom region ranges row a s entry base x reads c → IsPlainRead (read_of row.op c) → reads_closed_ram rom s.core (read_of row.op c) ≡ false → is_read_limited region s.core (read_of row.op c) ≡ false
     → Loads z rom (with_core s c) (read_of row.op c) entry (view rom x false) (Effects.read_of row.op (advanced x.processor row)) reads
 loads z rom region ranges row a s entry base x reads c k plain ram limited =
-    let keeps = keeps_side row.op s c k.side in
     Loads-read z rom region (with_core s c) entry base (begun row x) reads (begun row x).processor.sp (read_of row.op c) (Effects.read_of row.op (advanced x.processor row))
-    k.stands.cartridge k.stands.based (means_begun rom row s entry base x c keeps k.stands.means.parts k.means) k.core.ie k.byte
+    k.stands.cartridge k.stands.based (means_begun rom row s entry base x c k.keeps k.stands.means.parts k.means) k.core.ie k.byte
     plain
     ((read_of_sound row.op c (read_of row.op c) refl).gives entry (begun row x) (given rom row x reads).low (given rom row x reads).high k.means k.taken)
-    (closed_same rom s.core c (read_of row.op c) keeps ∙ ram)
-    (limited_same region s.core c (read_of row.op c) keeps ∙ limited)
-
--- what is known of what it reads
-abbrev pub known_read : Setting → List ℕ → Row → AbsState → Core → Halves
-known_read z rom row s c = read_word z rom (with_core s c) (read_of row.op c)
-
-abbrev pub low_of : Setting → List ℕ → Row → AbsState → Core → Val
-low_of z rom row s c = (known_read z rom row s c).low
-
-abbrev pub high_of : Setting → List ℕ → Row → AbsState → Core → Val
-high_of z rom row s c = (known_read z rom row s c).high
+    (closed_same rom s.core c (read_of row.op c) k.keeps ∙ ram)
+    (limited_same region s.core c (read_of row.op c) k.keeps ∙ limited)
 
 IsVal-any : IsVal any_val
 IsVal-any = record { order = omega arith; hi = omega arith }
@@ -218,10 +199,6 @@ IsWord-sp z s entry base x right m =
         let least = h.least in
         let less = l.least in
         record { high = record { order = omega arith; hi = omega arith }; low = record { order = omega arith; hi = omega arith } }
-
--- the transfer function's effect
-abbrev pub abs_effect : Setting → List ℕ → Row → ℕ → AbsState → Core → AbsEffect
-abs_effect z rom row a s c = transfer row.op (behind_row a row) (sp_halves z s) c (low_of z rom row s c) (high_of z rom row s c)
 
 IsWord-any : IsWord any_word
 IsWord-any = record { high = IsVal-any; low = IsVal-any }
@@ -299,28 +276,30 @@ unfolding with_stack_of
 stack_loaded z o a w t e = ap (λ q. with_stack_of z q w t) e
 
 -- what a write may rely on
-record IsActed (region : Region) (s t : AbsState) (entry : MState) (base : ℕ) (y : MState) : Type 0 where
-  pub at : AtWrite region t entry base y
+record IsActed (z : Setting) (region : Region) (s t : AbsState) (entry : MState) (base : ℕ) (y : MState) : Type 0 where
+  pub at : AtWrite z region t entry base y
   pub gate : IsSameGate s.core t.core
 
-acted_still : (region : Region) (s : AbsState) (core : Core) (entry : MState) (base : ℕ) (x y : MState) → MeansParts s entry base x → Keeps s.core core → MeansCore core entry y
-    → y.storage ≡ x.storage → y.processor.sp ≡ x.processor.sp → ArePlaced region s.cells → AreInRegion region base (length s.items) → IsRegion region
-    → IsActed region s (with_core s core) entry base y
-acted_still region s core entry base x y m k h storage sp placed room is = record {
+acted_still : (z : Setting) (region : Region) (s : AbsState) (core : Core) (entry : MState) (base : ℕ) (x y : MState) → MeansParts s entry base x → Keeps s.core core → MeansCore core entry y
+    → y.storage ≡ x.storage → y.processor.sp ≡ x.processor.sp → ArePlaced region s.cells → AreInRegion region base (length s.items) → IsRegion region → IsBase z base → z.rules ≡ Simple
+    → IsActed z region s (with_core s core) entry base y
+acted_still z region s core entry base x y m k h storage sp placed room is based rules = record {
   at = record {
     means = MeansParts-with_core s core entry base x y m h (ap (λ t. t.work) storage) (ap (λ t. t.high) storage) sp (λ set. sym k.stack ∙ set);
     placed = placed;
     room = room;
     is_region = is;
+    based = based;
+    rules = rules;
   };
   gate = record { ctl = k.ctl; bound = k.bound };
 }
 
 -- LD SP,n16: the stack is set, with nothing on it
 acted_set : (z : Setting) (region : Region) (s : AbsState) (core : Core) (entry : MState) (base : ℕ) (x y : MState) → MeansParts s entry base x → Keeps s.core core → MeansCore core entry y
-    → y.storage ≡ x.storage → y.processor.sp ≡ base → y.processor.sp < 65536 → ArePlaced region s.cells → AreInRegion region base (length s.items) → IsRegion region
-    → IsActed region s (record (with_core s core) { core = record core { stack_set = true }; items = [] }) entry base y
-acted_set z region s core entry base x y m k h storage sp small placed room is = record {
+    → y.storage ≡ x.storage → y.processor.sp ≡ base → y.processor.sp < 65536 → ArePlaced region s.cells → AreInRegion region base (length s.items) → IsRegion region → IsBase z base → z.rules ≡ Simple
+    → IsActed z region s (record (with_core s core) { core = record core { stack_set = true }; items = [] }) entry base y
+acted_set z region s core entry base x y m k h storage sp small placed room is based rules = record {
   at = record {
     means = record {
       core = record {
@@ -342,6 +321,8 @@ acted_set z region s core entry base x y m k h storage sp small placed room is =
     placed = placed;
     room = record { first = let first = room.first in omega arith; last = room.last };
     is_region = is;
+    based = based;
+    rules = rules;
   };
   gate = record { ctl = k.ctl; bound = k.bound };
 }
@@ -355,27 +336,27 @@ acted_set z region s core entry base x y m k h storage sp small placed room is =
 pub keeps_effect : (z : Setting) (rom : List ℕ) (region : Region) (ranges : List Range) (row : Row) (a : ℕ) (s : AbsState) (entry : MState) (base : ℕ) (x : MState) (reads : List ℕ) (c : Core)
     → IsTaken z rom region ranges row a s entry base x reads c → Keeps s.core (abs_effect z rom row a s c).core
 keeps_effect z rom region ranges row a s entry base x reads c k =
-    Keeps-both s.core c _ (keeps_side row.op s c k.side) (Keeps-transfer row.op (behind_row a row) (sp_halves z s) c (low_of z rom row s c) (high_of z rom row s c))
+    Keeps-both s.core c _ k.keeps (Keeps-transfer row.op (behind_row a row) (sp_halves z s) c (low_of z rom row s c) (high_of z rom row s c))
 
 acts : (z : Setting) (rom : List ℕ) (region : Region) (ranges : List Range) (row : Row) (a : ℕ) (s : AbsState) (entry : MState) (base : ℕ) (x : MState) (reads : List ℕ) (c : Core)
     → IsTaken z rom region ranges row a s entry base x reads c → IsPlain row.op base → Follows (abs_effect z rom row a s c) entry (begun row x) (effect rom row x reads) → (effect rom row x reads).processor.sp < 65536
-    → IsActed region s (effect_state z rom row a s c) entry base (acted rom row x reads)
+    → IsActed z region s (effect_state z rom row a s c) entry base (acted rom row x reads)
 acts z rom region ranges row a s entry base x reads c k plain f small = choose plain
   where
     keeps : Keeps s.core (abs_effect z rom row a s c).core
     keeps = keeps_effect z rom region ranges row a s entry base x reads c k
 
-    choose : IsPlain row.op base → IsActed region s (effect_state z rom row a s c) entry base (acted rom row x reads)
+    choose : IsPlain row.op base → IsActed z region s (effect_state z rom row a s c) entry base (acted rom row x reads)
     choose (inl still) =
-        subst (λ t. IsActed region s t entry base (acted rom row x reads)) (sym (stack_still z row.op (abs_effect z rom row a s c).write (with_core s (abs_effect z rom row a s c).core) still))
-        (acted_still region s (abs_effect z rom row a s c).core entry base x (acted rom row x reads) k.stands.means.parts keeps f.core refl
-        (sp-kept row.op (advanced x.processor row) (given rom row x reads).low (given rom row x reads).high still ∙ begun_sp row x) k.stands.placed k.stands.room k.stands.is_region)
+        subst (λ t. IsActed z region s t entry base (acted rom row x reads)) (sym (stack_still z row.op (abs_effect z rom row a s c).write (with_core s (abs_effect z rom row a s c).core) still))
+        (acted_still z region s (abs_effect z rom row a s c).core entry base x (acted rom row x reads) k.stands.means.parts keeps f.core refl
+        (sp-kept row.op (advanced x.processor row) (given rom row x reads).low (given rom row x reads).high still ∙ begun_sp row x) k.stands.placed k.stands.room k.stands.is_region k.stands.based k.stands.rules)
     choose (inr e) =
         let sp : (effect rom row x reads).processor.sp ≡ base =
         ap (λ o. (Effects.effect_of o (advanced x.processor row) (given rom row x reads).low (given rom row x reads).high).processor.sp) e
         ∙ sp-loaded base (advanced x.processor row) (given rom row x reads).low (given rom row x reads).high in
-        subst (λ t. IsActed region s t entry base (acted rom row x reads)) (sym (stack_loaded z row.op base (abs_effect z rom row a s c).write (with_core s (abs_effect z rom row a s c).core) e))
-        (acted_set z region s (abs_effect z rom row a s c).core entry base x (acted rom row x reads) k.stands.means.parts keeps f.core refl sp small k.stands.placed k.stands.room k.stands.is_region)
+        subst (λ t. IsActed z region s t entry base (acted rom row x reads)) (sym (stack_loaded z row.op base (abs_effect z rom row a s c).write (with_core s (abs_effect z rom row a s c).core) e))
+        (acted_set z region s (abs_effect z rom row a s c).core entry base x (acted rom row x reads) k.stands.means.parts keeps f.core refl sp small k.stands.placed k.stands.room k.stands.is_region k.stands.based k.stands.rules)
 
 -- ---- the way on
 
@@ -383,33 +364,33 @@ or_parts_of : (b c : Bool) → (b || c) ≡ false → (b ≡ false) × (c ≡ fa
 or_parts_of true c h = cc
 or_parts_of false c h = (refl, h)
 
-pub allowed_read : (rom : List ℕ) (region : Region) (ranges : List Range) (s : AbsState) (base : ℕ) (t : Successor) → IsAllowed rom region ranges s base t
+pub allowed_read : (z : Setting) (rom : List ℕ) (region : Region) (ranges : List Range) (s : AbsState) (base : ℕ) (t : Successor) → IsAllowed z rom region ranges s base t
     → (reads_closed_ram rom s.core t.read ≡ false) × (is_read_limited region s.core t.read ≡ false)
 unfolding meets_closed meets_oam_transfer
-allowed_read rom region ranges s base t h = ((or_parts_of _ _ h.ram).0, (or_parts_of _ _ h.oam_transfer).0)
+allowed_read z rom region ranges s base t h = ((or_parts_of _ _ h.ram).0, (or_parts_of _ _ h.oam_transfer).0)
 
-pub allowed_write : (rom : List ℕ) (region : Region) (ranges : List Range) (s : AbsState) (base : ℕ) (t : Successor) → IsAllowed rom region ranges s base t
+pub allowed_write : (z : Setting) (rom : List ℕ) (region : Region) (ranges : List Range) (s : AbsState) (base : ℕ) (t : Successor) → IsAllowed z rom region ranges s base t
     → (writes_closed_ram rom s.core t.write ≡ false) × (is_write_limited region s.core t.write ≡ false)
 unfolding meets_closed meets_oam_transfer
-allowed_write rom region ranges s base t h = ((or_parts_of _ _ h.ram).1, (or_parts_of _ _ h.oam_transfer).1)
+allowed_write z rom region ranges s base t h = ((or_parts_of _ _ h.ram).1, (or_parts_of _ _ h.oam_transfer).1)
 
 -- the parts of the successor
-pub read_is : (z : Setting) (rom : List ℕ) (row : Row) (a : ℕ) (s : AbsState) (c : Core) → (taken_parts z rom row (behind_row a row) s c).read ≡ read_of row.op c
-unfolding taken_parts
-read_is z rom row a s c = refl
+pub read_is : (z : Setting) (rom : List ℕ) (region : Region) (row : Row) (a : ℕ) (s : AbsState) (c : Core) → (simple_parts z rom region row (behind_row a row) s c).read ≡ read_of row.op c
+unfolding simple_parts
+read_is z rom region row a s c = refl
 
-pub write_is : (z : Setting) (rom : List ℕ) (row : Row) (a : ℕ) (s : AbsState) (c : Core) → (taken_parts z rom row (behind_row a row) s c).write ≡ (abs_effect z rom row a s c).write
-unfolding taken_parts
-write_is z rom row a s c = refl
+pub write_is : (z : Setting) (rom : List ℕ) (region : Region) (row : Row) (a : ℕ) (s : AbsState) (c : Core) → (simple_parts z rom region row (behind_row a row) s c).write ≡ (abs_effect z rom row a s c).write
+unfolding simple_parts
+write_is z rom region row a s c = refl
 
-pub target_is : (z : Setting) (rom : List ℕ) (row : Row) (a : ℕ) (s : AbsState) (c : Core) → (taken_parts z rom row (behind_row a row) s c).target ≡ target_of row.op (behind_row a row) c
-unfolding taken_parts
-target_is z rom row a s c = refl
+pub target_is : (z : Setting) (rom : List ℕ) (region : Region) (row : Row) (a : ℕ) (s : AbsState) (c : Core) → (simple_parts z rom region row (behind_row a row) s c).target ≡ target_of row.op (behind_row a row) c
+unfolding simple_parts
+target_is z rom region row a s c = refl
 
-pub state_is : (z : Setting) (rom : List ℕ) (row : Row) (a : ℕ) (s : AbsState) (c : Core) → (taken_parts z rom row (behind_row a row) s c).state
-    ≡ ended (starts (abs_effect z rom row a s c).write) row.cycles (written z (kind_of rom) (abs_effect z rom row a s c).write (effect_state z rom row a s c))
-unfolding taken_parts
-state_is z rom row a s c = refl
+pub state_is : (z : Setting) (rom : List ℕ) (region : Region) (row : Row) (a : ℕ) (s : AbsState) (c : Core) → (simple_parts z rom region row (behind_row a row) s c).state
+    ≡ ended (starts (abs_effect z rom row a s c).write) row.cycles (written z region (kind_of rom) (abs_effect z rom row a s c).write (effect_state z rom row a s c))
+unfolding simple_parts
+state_is z rom region row a s c = refl
 
 -- what it writes are bytes
 pub is_write : (z : Setting) (rom : List ℕ) (region : Region) (ranges : List Range) (row : Row) (a : ℕ) (s : AbsState) (entry : MState) (base : ℕ) (x : MState) (reads : List ℕ) (c : Core)
@@ -420,19 +401,19 @@ is_write z rom region ranges row a s entry base x reads c k =
 
 -- its write
 stores : (z : Setting) (rom : List ℕ) (region : Region) (ranges : List Range) (row : Row) (a : ℕ) (s : AbsState) (entry : MState) (base : ℕ) (x : MState) (reads : List ℕ) (c : Core)
-    → IsTaken z rom region ranges row a s entry base x reads c → IsPlain row.op base → IsAllowed rom region ranges s base (taken_parts z rom row (behind_row a row) s c)
+    → IsTaken z rom region ranges row a s entry base x reads c → IsPlain row.op base → IsAllowed z rom region ranges s base (simple_parts z rom region row (behind_row a row) s c)
     → Follows (abs_effect z rom row a s c) entry (begun row x) (effect rom row x reads) → (effect rom row x reads).processor.sp < 65536
     → Stores z rom region ranges (effect_state z rom row a s c) (abs_effect z rom row a s c).write entry base (acted rom row x reads) (view rom x false) (effect rom row x reads).write
 stores z rom region ranges row a s entry base x reads c k plain allowed f small =
     let acted_at = acts z rom region ranges row a s entry base x reads c k plain f small in
     let w : AbsWrite = (abs_effect z rom row a s c).write in
-    let may = allowed_write rom region ranges s base _ allowed in
+    let may = allowed_write z rom region ranges s base _ allowed in
     Stores-write z rom region ranges (effect_state z rom row a s c) entry base (acted rom row x reads) (begun row x).processor.sp w (effect rom row x reads).write acted_at.at
     (plain_write row.op base (behind_row a row) (sp_halves z s) c (low_of z rom row s c) (high_of z rom row s c) plain k.ruled.operands k.core)
     (is_write z rom region ranges row a s entry base x reads c k) f.write
-    (subst (λ v. is_unstorable (kind_of rom) region ranges v ≡ false) (write_is z rom row a s c) allowed.stores)
-    (writes_same rom s.core (effect_state z rom row a s c).core w acted_at.gate ∙ subst (λ v. writes_closed_ram rom s.core v ≡ false) (write_is z rom row a s c) may.0)
-    (write_limited_same region s.core (effect_state z rom row a s c).core w acted_at.gate ∙ subst (λ v. is_write_limited region s.core v ≡ false) (write_is z rom row a s c) may.1)
+    (subst (λ v. is_unstorable z (kind_of rom) region ranges v ≡ false) (write_is z rom region row a s c) allowed.stores)
+    (writes_same rom s.core (effect_state z rom row a s c).core w acted_at.gate ∙ subst (λ v. writes_closed_ram rom s.core v ≡ false) (write_is z rom region row a s c) may.0)
+    (write_limited_same region s.core (effect_state z rom row a s c).core w acted_at.gate ∙ subst (λ v. is_write_limited region s.core v ≡ false) (write_is z rom region row a s c) may.1)
 
 -- where the machine goes on in the same procedure, it stays; of a jump to somewhere nothing is said
 leads_plain : (region : Region) (w : Target) (t : Successor) (entry : MState) (base : ℕ) (x y : MState) → IsPlainTarget w → MeansParts t.state entry base y → HoldsTarget w y.processor.pc
@@ -440,7 +421,7 @@ leads_plain : (region : Region) (w : Target) (t : Successor) (entry : MState) (b
 leads_plain region (target.At a) t entry base x y plain means goes room = record { means = means; goes = goes; room = room }
 leads_plain region (target.Call a) t entry base x y plain means goes room = absurd plain
 leads_plain region target.Return t entry base x y plain means goes room = absurd plain
-leads_plain region target.Unknown t entry base x y plain means goes room = tt
+leads_plain region _ t entry base x y plain means goes room = tt
 
 -- the machine behind it
 pub executed_taken : (z : Setting) (rom : List ℕ) (region : Region) (ranges : List Range) (row : Row) (a : ℕ) (s : AbsState) (entry : MState) (base : ℕ) (x : MState) (reads : List ℕ) (c : Core)
@@ -456,9 +437,9 @@ goes_to z rom region ranges row a s entry base x reads c k =
     k.means (begun_pc row x a k.ruled.runs k.mark k.stands.at) k.taken
 
 -- an instruction leads by a successor, and has no fault
-pub record Done (rom : List ℕ) (region : Region) (ranges : List Range) (row : Row) (s : AbsState) (t : Successor) (entry : MState) (base : ℕ) (x : MState) (reads : List ℕ) : Type 0 where
+pub record Done (z : Setting) (rom : List ℕ) (region : Region) (ranges : List Range) (row : Row) (s : AbsState) (t : Successor) (entry : MState) (base : ℕ) (x : MState) (reads : List ℕ) : Type 0 where
   pub held : length t.state.items ≤ bytes_behind row.op (length s.items)
-  pub leads : LeadsParts region ranges t entry base x (outside (executed (within rom x) row reads))
+  pub leads : LeadsParts z region ranges t entry base x (outside (executed (within rom x) row reads))
   pub faults : row_faults (Some row) region (within rom x) reads ≡ no_faults
 
 pub bytes-least : (o : Op) (n : ℕ) → n ≤ bytes_behind o n
@@ -479,29 +460,29 @@ bytes_plain z rom row a s c base (inr e) =
 -- one that leaves SP, or sets it
 pub Done-plain :
     (z : Setting) (rom : List ℕ) (region : Region) (ranges : List Range) (row : Row) (a : ℕ) (s : AbsState) (entry : MState) (base : ℕ) (x : MState) (reads : List ℕ) (c : Core)
-    → IsTaken z rom region ranges row a s entry base x reads c → IsPlain row.op base → IsAllowed rom region ranges s base (taken_parts z rom row (behind_row a row) s c)
-    → Done rom region ranges row s (taken_parts z rom row (behind_row a row) s c) entry base x reads
+    → IsTaken z rom region ranges row a s entry base x reads c → IsPlain row.op base → IsAllowed z rom region ranges s base (simple_parts z rom region row (behind_row a row) s c)
+    → Done z rom region ranges row s (simple_parts z rom region row (behind_row a row) s c) entry base x reads
 Done-plain z rom region ranges row a s entry base x reads c k plain allowed =
-    let may = allowed_read rom region ranges s base _ allowed in
+    let may = allowed_read z rom region ranges s base _ allowed in
     let l = loads z rom region ranges row a s entry base x reads c k (plain_read row.op base c plain k.ruled.operands k.core)
-    (subst (λ v. reads_closed_ram rom s.core v ≡ false) (read_is z rom row a s c) may.0) (subst (λ v. is_read_limited region s.core v ≡ false) (read_is z rom row a s c) may.1) in
+    (subst (λ v. reads_closed_ram rom s.core v ≡ false) (read_is z rom region row a s c) may.0) (subst (λ v. is_read_limited region s.core v ≡ false) (read_is z rom region row a s c) may.1) in
     let f = follows z rom region ranges row a s entry base x reads c k l in
     let st = stores z rom region ranges row a s entry base x reads c k plain allowed f.0 f.1 in
     let e = effect rom row x reads in
     let w : AbsWrite = (abs_effect z rom row a s c).write in
-    let after : AbsState = written z (kind_of rom) w (effect_state z rom row a s c) in
+    let after : AbsState = written z region (kind_of rom) w (effect_state z rom row a s c) in
     let means : MeansParts (ended (starts w) row.cycles after) entry base (left_by rom x e row.cycles) =
     MeansParts-ended rom after entry base e.processor (stored (view rom x false) e.write) (starts w) row.cycles st.starting st.means in
-    let items : (taken_parts z rom row (behind_row a row) s c).state.items ≡ (effect_state z rom row a s c).items =
-    ap (λ (t : AbsState). t.items) (state_is z rom row a s c) ∙ (ended_items (starts w) row.cycles after ∙ st.items) in
+    let items : (simple_parts z rom region row (behind_row a row) s c).state.items ≡ (effect_state z rom row a s c).items =
+    ap (λ (t : AbsState). t.items) (state_is z rom region row a s c) ∙ (ended_items (starts w) row.cycles after ∙ st.items) in
     record {
       held = subst (λ xs. length xs ≤ bytes_behind row.op (length s.items)) (sym items) (bytes_plain z rom row a s c base plain);
-      leads = subst (λ y. LeadsParts region ranges (taken_parts z rom row (behind_row a row) s c) entry base x y) (sym (executed_taken z rom region ranges row a s entry base x reads c k))
+      leads = subst (λ y. LeadsParts z region ranges (simple_parts z rom region row (behind_row a row) s c) entry base x y) (sym (executed_taken z rom region ranges row a s entry base x reads c k))
           (record {
-            to = subst (λ v. LeadsTo region v (taken_parts z rom row (behind_row a row) s c) entry base x (left_by rom x e row.cycles)) (sym (target_is z rom row a s c))
-                (leads_plain region (target_of row.op (behind_row a row) c) (taken_parts z rom row (behind_row a row) s c) entry base x (left_by rom x e row.cycles)
+            to = subst (λ v. LeadsTo region v (simple_parts z rom region row (behind_row a row) s c) entry base x (left_by rom x e row.cycles)) (sym (target_is z rom region row a s c))
+                (leads_plain region (target_of row.op (behind_row a row) c) (simple_parts z rom region row (behind_row a row) s c) entry base x (left_by rom x e row.cycles)
                 (plain_target row.op base (behind_row a row) c plain)
-                (subst (λ t. MeansParts t entry base (left_by rom x e row.cycles)) (sym (state_is z rom row a s c)) means)
+                (subst (λ t. MeansParts t entry base (left_by rom x e row.cycles)) (sym (state_is z rom region row a s c)) means)
                 (goes_to z rom region ranges row a s entry base x reads c k)
                 (subst (λ t. AreInRegion region base (length t)) (sym items) (acts z rom region ranges row a s entry base x reads c k plain f.0 f.1).at.room));
             kept = λ b kept. passed_peek (stored (view rom x false) e.write) row.cycles b ∙ st.kept b kept;

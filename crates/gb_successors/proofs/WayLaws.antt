@@ -1,5 +1,5 @@
 -- The ways on: taken, not taken, staying on HALT, and the halt bug.
-use Rattle.std.proofs.Common.{◌≡◌, ℕ, ◌+◌, ◌-◌, ◌%◌, ◌≤◌, Bool, true, false, cond, not, ◌==◌, inl, inr, List, length, slice_index, Option, Some, None, option_map, refl, sym, ◌∙◌, ap, subst, arith}
+use Rattle.std.proofs.Common.{◌≡◌, ℕ, ◌+◌, ◌-◌, ◌%◌, ◌≤◌, Bool, true, false, cond, not, ◌==◌, inl, inr, List, length, slice_index, Option, Some, None, option_map, option_and_then, refl, sym, ◌∙◌, ap, subst, arith}
 use Rattle.std.proofs.lemmas.Bool.Decides.{nat_tests}
 use Rattle.std.specs.Option.{IfSome}
 use Rattle.gb_ops.specs.declared.machine.Region.{Region}
@@ -16,26 +16,31 @@ use Rattle.gb_ops.specs.Memory.{View, stored, passed}
 use Rattle.gb_ops.specs.Machine.{executed, advanced, cycles_of, mark_of, halt_stay, halt_bug, has_enabled}
 use Rattle.gb_ops.specs.Faults.{no_faults, row_faults, load_faults}
 use Rattle.gb_ops.specs.Play.{MState, within, outside}
+use Rattle.gb_domain.specs.declared.relations.Relations.{Relations}
+use Rattle.gb_domain.specs.declared.rules.Rules.{Rules}
+use Rattle.gb_domain.specs.declared.rules.Rules.TheVariants.{Simple, Extended}
 use Rattle.gb_domain.specs.declared.setting.Setting.{Setting}
+use Rattle.gb_domain.specs.declared.types.Cell.{Cell}
 use Rattle.gb_domain.specs.declared.types.Val.{Val}
 use Rattle.gb_domain.specs.declared.types.ImeSet.{ImeSet}
 use Rattle.gb_domain.specs.declared.types.Core.{Core}
 use Rattle.gb_domain.specs.declared.types.Range.{Range}
 use Rattle.gb_domain.specs.Types.{AbsState}
-use Rattle.gb_domain.specs.Rules.{IsCore}
 use Rattle.gb_abs.specs.Below.gb_vals.Bits.{may_enable}
+use Rattle.gb_abs.specs.Located.{sp_bounds}
 use Rattle.gb_abs.specs.Operations.{core_settle, with_core, ime_set_after}
 use Rattle.gb_abs.specs.Meaning.{Holds, MeansCore, MeansParts, ime_may_be}
 use Rattle.gb_abs.specs.Stack.{AreInRegion}
 use Rattle.gb_abs.specs.Storage.{peek}
 use Rattle.gb_abs.proofs.OperationLaws.{IsCore-settle}
 use Rattle.gb_abs.proofs.StackLaws.{MeansParts-with_core}
-use Rattle.gb_abs_effects.specs.declared.sides.Sides.{Sides}
 use Rattle.gb_abs_effects.specs.Sides as Flags
 use Rattle.gb_abs_effects.specs.declared.targets.Target.TheVariants as target
+use Rattle.gb_abs_effects.specs.declared.reads.AbsRead.TheVariants as read
+use Rattle.gb_abs_effects.specs.declared.writes.AbsWrite.TheVariants as write
+use Rattle.gb_abs_effects.specs.Accesses.{read_of}
 use Rattle.gb_abs_effects.specs.Targets.{target_of}
 use Rattle.gb_abs_effects.specs.Transfer.{transfer, untaken}
-use Rattle.gb_abs_effects.specs.Sound.{IsMeant, side_by}
 use Rattle.gb_abs_effects.proofs.TransferLaws.{untaken_sound}
 use Rattle.gb_abs_memory.specs.Sound.{view}
 use Rattle.gb_product.specs.Below.gb_pairs.Meaning.{AreBytes}
@@ -45,16 +50,24 @@ use Rattle.gb_product.specs.Below.gb_relations.Written.{writes_flags}
 use Rattle.gb_product.specs.Below.gb_relations.Written.{written as written_registers}
 use Rattle.gb_product.proofs.Below.gb_relations_laws.ComparedLaws.{HoldOneByte-only_of_a}
 use Rattle.gb_product.specs.Meaning.{AreRelated}
-use Rattle.gb_product.specs.Sides.{narrowed_by, sides_of}
-use Rattle.gb_product.proofs.SideLaws.{sides_of_sound, sides_of_inhabited}
+use Rattle.gb_product.specs.declared.parts.Branch.{Branch}
+use Rattle.gb_product.specs.Reduced.{product_of, reduced}
+use Rattle.gb_product.specs.Sides.{side_where, taken_side, not_taken_side}
+use Rattle.gb_product.specs.Sound.{IsKnown, IsMeantBranch, IsSideOf}
+use Rattle.gb_product.proofs.MeaningLaws.{AreBytes-core}
+use Rattle.gb_product.proofs.SideLaws.{taken_side_sound, not_taken_side_sound, taken_side_cuts, not_taken_side_cuts}
+use Rattle.gb_successors.specs.declared.stacks.Stack.{Stack}
 use Rattle.gb_successors.specs.declared.successors.Successors.{Successors}
-use Rattle.gb_successors.specs.Behind.{starts, written, with_stack_of, ended}
-use Rattle.gb_successors.specs.Successors.{taken_parts, relations_behind, taken_successor, untaken_successor, staying_successor, woken, may_stay, stays, successors_of}
-use Rattle.gb_successors.specs.Sound.{bytes_behind, IsAllowed, Leads, LeadsTo, LeadsBy, IsHalt, Stands, IsRuled, Executes, AreSoundSuccessors}
-use Rattle.gb_successors.proofs.PlainLaws.{Keeps-both, Keeps-settle, Keeps-not_taken}
+use Rattle.gb_successors.specs.Behind.{starts, written, with_cell_if, with_relations, ended}
+use Rattle.gb_successors.specs.Way.{Successor}
+use Rattle.gb_successors.specs.Successors.{word_in, related_successor, relations_behind, taken_successor, untaken_successor, with_product, reduced_successor, product_before, taken_from, not_taken_from, staying_successor, woken, may_stay, stays, successors_of}
+use Rattle.gb_successors.specs.Sound.{bytes_behind, IsAllowed, Leads, LeadsTo, LeadsParts, LeadsBy, IsHalt, Stands, IsRuled, Executes, AreSoundSuccessors}
+use Rattle.gb_successors.proofs.SimpleLaws.{behind_row, with_stack_of, simple_parts, IsTold, taken_simply}
+use Rattle.gb_successors.proofs.ToldLaws.{told_core, told_items, told_with_core, IsToldCell, IsToldCell-side, Stands-told, IsRuled-told, IsAllowed-told, IsTold-taken}
+use Rattle.gb_successors.proofs.PlainLaws.{Keeps, Keeps-both, Keeps-settle, Keeps-cut}
 use Rattle.gb_successors.proofs.MarkLaws.{executed_mark}
-use Rattle.gb_successors.proofs.RelatedLaws.{IsAllowed-parts, LeadsTo-related, AreBytes-core, by_rules, related_begun, Leads-taken, HoldRelations-same}
-use Rattle.gb_successors.proofs.SuccessorLaws.{begun, given, effect, behind_row, begun_pc, begun_sp, begun_core, left_by, executed_is, faults_are, MeansParts-ended, passed_peek, bytes-least, IsTaken, Done}
+use Rattle.gb_successors.proofs.RelatedLaws.{MeansParts-related, IsAllowed-parts, LeadsTo-related, by_rules, related_begun, Leads-taken, HoldRelations-same}
+use Rattle.gb_successors.proofs.SuccessorLaws.{begun, given, effect, begun_pc, begun_sp, begun_core, left_by, executed_is, faults_are, MeansParts-ended, passed_peek, bytes-least, IsTaken, Done}
 use Rattle.gb_successors.proofs.StackWayLaws.{no_write, nothing_stored, no_store_faults, taken_executes}
 
 -- ---- not taken
@@ -71,39 +84,63 @@ bytes_ended : (n : ℕ) (s : AbsState) → length (ended false n s).items ≤ le
 unfolding ended
 bytes_ended n s = omega arith
 
-bytes_untaken : (row : Row) (next : ℕ) (s : AbsState) (c : Core) → length (untaken_successor row next s c).state.items ≤ bytes_behind row.op (length s.items)
-unfolding untaken_successor ended
-bytes_untaken row next s c = bytes-least row.op (length s.items)
+-- nothing happens but that time passes
+abbrev simple_untaken : Row → ℕ → AbsState → Core → Relations → Successor
+simple_untaken row next s c r =
+    record {
+      read = read.Nothing;
+      write = write.Nothing;
+      target = target.At next;
+      next = next;
+      state = with_relations r (ended false row.cycles_not_taken (with_core s c));
+    }
+
+untaken_simply :
+    (k : Stack) (row : Row) (next : ℕ) (s : AbsState) (b : Branch)
+    → untaken_successor k row next s b ≡ simple_untaken row next (with_cell_if k.setting b.cell s) b.core b.relations
+unfolding untaken_successor
+untaken_simply k row next s b =
+    ap (λ t. record {
+      read = read.Nothing;
+      write = write.Nothing;
+      target = target.At next;
+      next = next;
+      state = with_relations b.relations (ended false row.cycles_not_taken t);
+    }) (told_with_core k.setting b.cell s b.core)
+
+bytes_untaken : (row : Row) (next : ℕ) (s : AbsState) (c : Core) (r : Relations) → length (simple_untaken row next s c r).state.items ≤ bytes_behind row.op (length s.items)
+unfolding ended
+bytes_untaken row next s c r = bytes-least row.op (length s.items)
 
 untaken_executes :
-    (z : Setting) (rom : List ℕ) (region : Region) (ranges : List Range) (row : Row) (a : ℕ) (s : AbsState) (entry : MState) (base : ℕ) (x : MState) (reads : List ℕ) (c : Core)
+    (z : Setting) (rom : List ℕ) (region : Region) (ranges : List Range) (row : Row) (a : ℕ) (s : AbsState) (entry : MState) (base : ℕ) (x : MState) (reads : List ℕ) (c : Core) (r : Relations)
     → Stands z rom region row a s entry base x → IsRuled z region row s base → x.processor.halt_mark ≡ false
-    → (sides_of row.op s (core_settle s.core)).not_taken ≡ Some c → MeansCore c entry (begun row x) → (effect rom row x reads).is_taken ≡ false
-    → Leads region ranges (untaken_successor row (behind_row a row) s c) entry base x (outside (executed (within rom x) row reads)) × (row_faults (Some row) region (within rom x) reads ≡ no_faults)
-unfolding untaken_successor untaken ended
-untaken_executes z rom region ranges row a s entry base x reads c stands ruled mark side means not_taken =
+    → Keeps s.core c → MeansCore c entry (begun row x) → AreRelated r (begun row x) → (effect rom row x reads).is_taken ≡ false
+    → Leads z region ranges (simple_untaken row (behind_row a row) s c r) entry base x (outside (executed (within rom x) row reads)) × (row_faults (Some row) region (within rom x) reads ≡ no_faults)
+unfolding untaken ended
+untaken_executes z rom region ranges row a s entry base x reads c r stands ruled mark keeps means related not_taken =
     let e = effect rom row x reads in
     let v = given rom row x reads in
     let sound = untaken_sound c (untaken c) refl in
     let nothing : e.write ≡ machine_write.Nothing = no_write entry (begun row x).processor.sp e.write ((sound.gives row.op entry (begun row x) v.low v.high means not_taken).write) in
     let same : e.processor ≡ advanced x.processor row = sound.stays row.op (advanced x.processor row) v.low v.high not_taken in
-    let keeps = Keeps-both s.core (core_settle s.core) c (Keeps-settle s.core) (Keeps-not_taken row.op s (core_settle s.core) c side) in
     let cycles : cycles_of row e.is_taken ≡ row.cycles_not_taken = ap (λ b. cond b row.cycles row.cycles_not_taken) not_taken in
     let is : outside (executed (within rom x) row reads) ≡ record { processor = advanced x.processor row; storage = (passed (view rom x false) row.cycles_not_taken).storage } =
     executed_is rom x row reads
     ∙ (ap (left_by rom x e) cycles
     ∙ (ap (λ p. record { processor = p; storage = (passed (stored (view rom x false) e.write) row.cycles_not_taken).storage }) same
     ∙ ap (λ (m : View). record { processor = advanced x.processor row; storage = (passed m row.cycles_not_taken).storage }) (nothing_stored (view rom x false) e.write nothing))) in (
-      subst (λ y. Leads region ranges (untaken_successor row (behind_row a row) s c) entry base x y) (sym is)
+      subst (λ y. Leads z region ranges (simple_untaken row (behind_row a row) s c r) entry base x y) (sym is)
           (record {
             to = record {
-              means = MeansParts-ended rom (with_core s c) entry base (advanced x.processor row) (view rom x false) false row.cycles_not_taken refl
-                  (MeansParts-with_core s c entry base x (begun row x) stands.means.parts means refl refl (begun_sp row x) (λ set. sym keeps.stack ∙ set));
+              means = MeansParts-related r _ entry base _
+                  (MeansParts-ended rom (with_core s c) entry base (advanced x.processor row) (view rom x false) false row.cycles_not_taken refl
+                  (MeansParts-with_core s c entry base x (begun row x) stands.means.parts means refl refl (begun_sp row x) (λ set. sym keeps.stack ∙ set)));
               goes = begun_pc row x a ruled.runs mark stands.at;
               room = ended_room region base false row.cycles_not_taken (with_core s c) stands.room;
             };
             kept = λ b kept. passed_peek (view rom x false) row.cycles_not_taken b;
-            related = λ known. HoldRelations-same s.relations _ (peek x.storage) _ _ (λ b. passed_peek (view rom x false) row.cycles_not_taken b) (related_begun row x s.relations stands.means.related);
+            related = λ known. HoldRelations-same r _ (peek x.storage) _ _ (λ b. passed_peek (view rom x false) row.cycles_not_taken b) related;
           }),
       faults_are rom region x row reads
           (no_load_faults (view rom x false) _ (sound.reads row.op (advanced x.processor row) v.low v.high not_taken))
@@ -112,94 +149,138 @@ untaken_executes z rom region ranges row a s entry base x reads c stands ruled m
 
 -- ---- executed
 
-taken_way : (z : Setting) (rom : List ℕ) (region : Region) (row : Row) (a : ℕ) (s : AbsState) (c : Core) → (sides_of row.op s (core_settle s.core)).taken ≡ Some c
-    → (successors_of z rom region row a s).taken ≡ Some (taken_successor z rom region row (behind_row a row) s c)
-unfolding successors_of
-taken_way z rom region row a s c e = ap (option_map (taken_successor z rom region row (behind_row a row) s)) e
+reduced_simply : (rules : Rules) (c : Core) (r : Relations) → rules ≡ Simple → reduced rules c r ≡ Some (product_of c r)
+unfolding reduced
+reduced_simply Simple c r h = refl
+reduced_simply Extended c r h = absurd cc
 
-untaken_way : (z : Setting) (rom : List ℕ) (region : Region) (row : Row) (a : ℕ) (s : AbsState) (c : Core) → (sides_of row.op s (core_settle s.core)).not_taken ≡ Some c
-    → (successors_of z rom region row a s).not_taken ≡ Some (untaken_successor row (behind_row a row) s c)
-unfolding successors_of
-untaken_way z rom region row a s c e = ap (option_map (untaken_successor row (behind_row a row) s)) e
+-- nothing is cut behind it
+whole_successor : (rules : Rules) (t : Successor) → rules ≡ Simple → reduced_successor rules t ≡ Some t
+unfolding reduced_successor
+whole_successor rules t h = ap (option_map (with_product t)) (reduced_simply rules t.state.core t.state.relations h)
 
-core_in : (o : Option Core) (c : Core) → IfSome o IsCore → o ≡ Some c → IsCore c
-core_in None c h e = cc
-core_in (Some d) c h e = let same : d ≡ c = cc in subst IsCore same h
+taken_way : (k : Stack) (rom : List ℕ) (row : Row) (a : ℕ) (s : AbsState) (b : Branch) → k.setting.rules ≡ Simple
+    → taken_side row.op s.cells (core_settle s.core) s.relations ≡ Some b
+    → (successors_of k rom row a s).taken ≡ Some (taken_successor k rom row (behind_row a row) s b)
+unfolding successors_of product_before
+taken_way k rom row a s b h e =
+    let next = behind_row a row in
+    ap (option_and_then (taken_from k rom row next s)) (reduced_simply k.setting.rules (core_settle s.core) s.relations h)
+    ∙ (ap (option_and_then (λ (c : Branch). reduced_successor k.setting.rules (taken_successor k rom row next s c))) e
+    ∙ whole_successor k.setting.rules (taken_successor k rom row next s b) h)
 
-done_held :
-    (z : Setting) (rom : List ℕ) (region : Region) (ranges : List Range) (row : Row) (a : ℕ) (s : AbsState) (entry : MState) (base : ℕ) (x : MState) (reads : List ℕ) (c : Core)
-    → Done rom region ranges row s (taken_parts z rom row (behind_row a row) s c) entry base x reads
-    → length (taken_successor z rom region row (behind_row a row) s c).state.items ≤ bytes_behind row.op (length s.items)
+untaken_way : (k : Stack) (rom : List ℕ) (row : Row) (a : ℕ) (s : AbsState) (b : Branch) → k.setting.rules ≡ Simple
+    → not_taken_side row.op s.cells (core_settle s.core) s.relations ≡ Some b
+    → (successors_of k rom row a s).not_taken ≡ Some (untaken_successor k row (behind_row a row) s b)
+unfolding successors_of product_before
+untaken_way k rom row a s b h e =
+    let next = behind_row a row in
+    ap (option_and_then (not_taken_from k row next s)) (reduced_simply k.setting.rules (core_settle s.core) s.relations h)
+    ∙ (ap (option_and_then (λ (c : Branch). reduced_successor k.setting.rules (untaken_successor k row next s c))) e
+    ∙ whole_successor k.setting.rules (untaken_successor k row next s b) h)
+
+-- the successor where it is taken
+abbrev simple_taken : Stack → List ℕ → Row → ℕ → AbsState → Branch → Successor
+simple_taken k rom row next s b =
+    related_successor (relations_behind k rom row.op s (product_of b.core b.relations))
+    (simple_parts k.setting rom k.region row next (with_cell_if k.setting b.cell s) b.core)
+
+taken_is :
+    (k : Stack) (rom : List ℕ) (row : Row) (next : ℕ) (s : AbsState) (b : Branch) → k.setting.rules ≡ Simple → IsTold b.cell (read_of row.op b.core)
+    → taken_successor k rom row next s b ≡ simple_taken k rom row next s b
 unfolding taken_successor
-done_held z rom region ranges row a s entry base x reads c d = d.held
+taken_is k rom row next s b h told =
+    ap (related_successor (relations_behind k rom row.op s (product_of b.core b.relations))) (taken_simply k rom row next s (product_of b.core b.relations) b.cell h told)
 
-taken_allowed :
-    (z : Setting) (rom : List ℕ) (region : Region) (ranges : List Range) (row : Row) (a : ℕ) (s : AbsState) (base : ℕ) (c : Core)
-    → IsAllowed rom region ranges s base (taken_successor z rom region row (behind_row a row) s c) → IsAllowed rom region ranges s base (taken_parts z rom row (behind_row a row) s c)
-unfolding taken_successor
-taken_allowed z rom region ranges row a s base c h =
-    IsAllowed-parts rom region ranges s base (relations_behind z rom region row.op s c) (taken_parts z rom row (behind_row a row) s c) h
+-- a side keeps what its own core keeps
+keeps_side : (s settled : Core) (cells : List Cell) (r : Relations) (b : Branch) → Keeps s settled → IsSideOf cells settled r b → Keeps s b.core
+keeps_side s settled cells r b h is = Keeps-both s settled b.core h (Keeps-cut settled b.core is.core)
+
+side_facts : (o : Option Branch) (b : Branch) (cells : List Cell) (c : Core) (r : Relations) → o ≡ Some b → IfSome o (IsSideOf cells c r) → IsSideOf cells c r b
+side_facts o b cells c r e h = subst (λ (p : Option Branch). IfSome p (IsSideOf cells c r)) e h
+
+Leads-behind :
+    (k : Stack) (rom : List ℕ) (ranges : List Range) (row : Row) (a : ℕ) (s : AbsState) (entry : MState) (base : ℕ) (x : MState) (reads : List ℕ) (b : Branch)
+    → IsTaken k.setting rom k.region ranges row a (with_cell_if k.setting b.cell s) entry base x reads b.core → AreRelated b.relations (begun row x)
+    → LeadsParts k.setting k.region ranges (simple_parts k.setting rom k.region row (behind_row a row) (with_cell_if k.setting b.cell s) b.core) entry base x (outside (executed (within rom x) row reads))
+    → Leads k.setting k.region ranges (simple_taken k rom row (behind_row a row) s b) entry base x (outside (executed (within rom x) row reads))
+unfolding relations_behind
+Leads-behind k rom ranges row a s entry base x reads b taken related led =
+    Leads-taken k.setting rom k.region ranges row a (with_cell_if k.setting b.cell s) entry base x reads b.core taken led
+    (sp_bounds k.setting s) (word_in k rom row.op s (product_of b.core b.relations)).low b.relations related
 
 executes :
-    (z : Setting) (rom : List ℕ) (row : Row) (a : ℕ) (s : AbsState) (region : Region) (ranges : List Range) (entry : MState) (base : ℕ) (x : MState) (reads : List ℕ)
-    → Stands z rom region row a s entry base x → IsRuled z region row s base → x.processor.halt_mark ≡ false → slice_index reads 0 ≤ 255
-    → Executes rom region ranges row s (successors_of z rom region row a s) entry base x reads
-executes z rom row a s region ranges entry base x reads stands ruled mark byte =
+    (k : Stack) (rom : List ℕ) (row : Row) (a : ℕ) (s : AbsState) (ranges : List Range) (entry : MState) (base : ℕ) (x : MState) (reads : List ℕ)
+    → Stands k.setting rom k.region row a s entry base x → IsRuled k.setting k.region row s base → x.processor.halt_mark ≡ false → slice_index reads 0 ≤ 255
+    → Executes k.setting rom k.region ranges row s (successors_of k rom row a s) entry base x reads
+executes k rom row a s ranges entry base x reads stands ruled mark byte =
     choose (effect rom row x reads).is_taken refl
-    ((sides_of_sound row.op s settled sides refl).gives entry (begun row x) (given rom row x reads).low (given rom row x reads).high
-    (record { memory = stands.means.parts.memory; cells = stands.means.parts.cells; related = related_begun row x s.relations stands.means.related })
-    (begun_core row x s.core entry stands.means.parts.core))
   where
     settled : Core
     settled = core_settle s.core
 
-    sides : Sides
-    sides = sides_of row.op s settled
+    known : IsKnown s.cells s.relations entry (begun row x)
+    known = record { memory = stands.means.parts.memory; cells = stands.means.parts.cells; related = related_begun row x s.relations stands.means.related }
 
-    is_settled : IsCore settled
-    is_settled = IsCore-settle s.core stands.core
+    begins : MeansCore settled entry (begun row x)
+    begins = begun_core row x s.core entry stands.means.parts.core
 
-    by_taken : (o : Option Core) → sides.taken ≡ o → (effect rom row x reads).is_taken ≡ true → IsMeant o entry (begun row x)
-        → Executes rom region ranges row s (successors_of z rom region row a s) entry base x reads
+    by_taken : (o : Option Branch) → taken_side row.op s.cells settled s.relations ≡ o → (effect rom row x reads).is_taken ≡ true → IsMeantBranch o entry (begun row x)
+        → Executes k.setting rom k.region ranges row s (successors_of k rom row a s) entry base x reads
     by_taken None e taken h = absurd h
-    by_taken (Some c) e taken h =
-        let k : IsTaken z rom region ranges row a s entry base x reads c = record {
-          stands = stands;
-          ruled = ruled;
+    by_taken (Some b) e taken h =
+        let is = side_facts _ b s.cells settled s.relations e (taken_side_cuts row.op s.cells settled s.relations _ refl) in
+        let told = with_cell_if k.setting b.cell s in
+        let cell : IfSome b.cell (IsToldCell k.region entry x) = IsToldCell-side k.region s.cells settled s.relations b entry x stands.free stands.vals is h.cell in
+        let t : IsTaken k.setting rom k.region ranges row a told entry base x reads b.core = record {
+          stands = Stands-told k.setting rom k.region row a b.cell s entry base x cell stands;
+          ruled = IsRuled-told k.setting k.region row b.cell s base ruled;
           mark = mark;
           byte = byte;
-          side = e;
-          means = h;
-          core = core_in sides.taken c (sides_of_inhabited row.op s settled sides refl is_settled).taken e;
+          keeps = subst (λ c. Keeps c b.core) (sym (told_core k.setting b.cell s)) (keeps_side s.core settled s.cells s.relations b (Keeps-settle s.core) is);
+          means = h.core;
+          core = is.inhabited (IsCore-settle s.core stands.core);
           taken = taken;
         } in
+        let parts = simple_parts k.setting rom k.region row (behind_row a row) told b.core in
+        let done : IsAllowed k.setting rom k.region ranges s base (simple_taken k rom row (behind_row a row) s b) → Done k.setting rom k.region ranges row told parts entry base x reads =
+        λ allowed. taken_executes k.setting rom k.region ranges row a told entry base x reads b.core t
+        (IsAllowed-told k.setting rom k.region ranges b.cell s base parts
+        (IsAllowed-parts k.setting rom k.region ranges s base (relations_behind k rom row.op s (product_of b.core b.relations)) parts allowed)) in
         record {
-          successor = taken_successor z rom region row (behind_row a row) s c;
-          is_one = inl (taken_way z rom region row a s c e);
+          successor = simple_taken k rom row (behind_row a row) s b;
+          is_one = inl (taken_way k rom row a s b stands.rules e ∙ ap Some (taken_is k rom row (behind_row a row) s b stands.rules (IsTold-taken row.op s.cells settled b.core s.relations b e)));
           mark = executed_mark rom x row reads;
-          held = λ allowed. done_held z rom region ranges row a s entry base x reads c (taken_executes z rom region ranges row a s entry base x reads c k (taken_allowed z rom region ranges row a s base c allowed));
-          leads = λ allowed. Leads-taken z rom region ranges row a s entry base x reads c k (taken_executes z rom region ranges row a s entry base x reads c k (taken_allowed z rom region ranges row a s base c allowed)).leads;
-          faults = λ allowed. (taken_executes z rom region ranges row a s entry base x reads c k (taken_allowed z rom region ranges row a s base c allowed)).faults;
+          held = λ allowed. subst (λ items. length parts.state.items ≤ bytes_behind row.op (length items)) (told_items k.setting b.cell s) (done allowed).held;
+          leads = λ allowed. Leads-behind k rom ranges row a s entry base x reads b t h.related (done allowed).leads;
+          faults = λ allowed. (done allowed).faults;
         }
 
-    by_not_taken : (o : Option Core) → sides.not_taken ≡ o → (effect rom row x reads).is_taken ≡ false → IsMeant o entry (begun row x)
-        → Executes rom region ranges row s (successors_of z rom region row a s) entry base x reads
+    by_not_taken : (o : Option Branch) → not_taken_side row.op s.cells settled s.relations ≡ o → (effect rom row x reads).is_taken ≡ false → IsMeantBranch o entry (begun row x)
+        → Executes k.setting rom k.region ranges row s (successors_of k rom row a s) entry base x reads
     by_not_taken None e not_taken h = absurd h
-    by_not_taken (Some c) e not_taken h =
-        let done = untaken_executes z rom region ranges row a s entry base x reads c stands ruled mark e h not_taken in
+    by_not_taken (Some b) e not_taken h =
+        let is = side_facts _ b s.cells settled s.relations e (not_taken_side_cuts row.op s.cells settled s.relations _ refl) in
+        let told = with_cell_if k.setting b.cell s in
+        let cell : IfSome b.cell (IsToldCell k.region entry x) = IsToldCell-side k.region s.cells settled s.relations b entry x stands.free stands.vals is h.cell in
+        let keeps : Keeps told.core b.core = subst (λ c. Keeps c b.core) (sym (told_core k.setting b.cell s)) (keeps_side s.core settled s.cells s.relations b (Keeps-settle s.core) is) in
+        let done = untaken_executes k.setting rom k.region ranges row a told entry base x reads b.core b.relations (Stands-told k.setting rom k.region row a b.cell s entry base x cell stands)
+        (IsRuled-told k.setting k.region row b.cell s base ruled) mark keeps h.core h.related not_taken in
         record {
-          successor = untaken_successor row (behind_row a row) s c;
-          is_one = inr (inl (untaken_way z rom region row a s c e));
+          successor = simple_untaken row (behind_row a row) told b.core b.relations;
+          is_one = inr (inl (untaken_way k rom row a s b stands.rules e ∙ ap Some (untaken_simply k row (behind_row a row) s b)));
           mark = executed_mark rom x row reads;
-          held = λ allowed. bytes_untaken row (behind_row a row) s c;
+          held = λ allowed. subst (λ items. length (simple_untaken row (behind_row a row) told b.core b.relations).state.items ≤ bytes_behind row.op (length items)) (told_items k.setting b.cell s)
+              (bytes_untaken row (behind_row a row) told b.core b.relations);
           leads = λ allowed. done.0;
           faults = λ allowed. done.1;
         }
 
-    choose : (b : Bool) → (effect rom row x reads).is_taken ≡ b → IsMeant (side_by (effect rom row x reads).is_taken sides) entry (begun row x)
-        → Executes rom region ranges row s (successors_of z rom region row a s) entry base x reads
-    choose true e h = by_taken sides.taken refl e (subst (λ b. IsMeant (side_by b sides) entry (begun row x)) e h)
-    choose false e h = by_not_taken sides.not_taken refl e (subst (λ b. IsMeant (side_by b sides) entry (begun row x)) e h)
+    choose : (b : Bool) → (effect rom row x reads).is_taken ≡ b → Executes k.setting rom k.region ranges row s (successors_of k rom row a s) entry base x reads
+    choose true e =
+        by_taken _ refl e ((taken_side_sound row.op s.cells settled s.relations _ refl stands.pairs).gives entry (begun row x) (given rom row x reads).low (given rom row x reads).high known begins e)
+    choose false e =
+        by_not_taken _ refl e ((not_taken_side_sound row.op s.cells settled s.relations _ refl stands.pairs).gives entry (begun row x) (given rom row x reads).low (given rom row x reads).high known begins e)
 
 -- ---- HALT
 
@@ -218,9 +299,9 @@ stays_way : (row : Row) (a : ℕ) (s : AbsState) → row.op ≡ op.Halt → s.co
 unfolding stays may_stay
 stays_way row a s is pending enable = rw (is, pending, enable) refl
 
-stays_at : (z : Setting) (rom : List ℕ) (region : Region) (row : Row) (a : ℕ) (s : AbsState) → (successors_of z rom region row a s).stays ≡ stays row a s
+stays_at : (k : Stack) (rom : List ℕ) (row : Row) (a : ℕ) (s : AbsState) → (successors_of k rom row a s).stays ≡ stays row a s
 unfolding successors_of
-stays_at z rom region row a s = refl
+stays_at k rom row a s = refl
 
 -- interrupts are on
 woken_core : (s : Core) (entry x : MState) → MeansCore s entry x → MeansCore (woken s) entry (record x { processor = record x.processor { ime = ime.On } })
@@ -236,23 +317,23 @@ woken_core s entry x m = record {
 }
 
 halt_stays :
-    (z : Setting) (rom : List ℕ) (row : Row) (a : ℕ) (s : AbsState) (region : Region) (ranges : List Range) (entry : MState) (base : ℕ) (x : MState)
-    → Stands z rom region row a s entry base x → IsHalt row → x.processor.ime ≡ ime.Pending → has_enabled (within rom x) ≡ true
-    → LeadsBy region ranges (length s.items) (successors_of z rom region row a s).stays entry base x (outside (halt_stay (within rom x)))
+    (k : Stack) (rom : List ℕ) (row : Row) (a : ℕ) (s : AbsState) (ranges : List Range) (entry : MState) (base : ℕ) (x : MState)
+    → Stands k.setting rom k.region row a s entry base x → IsHalt row → x.processor.ime ≡ ime.Pending → has_enabled (within rom x) ≡ true
+    → LeadsBy k.setting k.region ranges (length s.items) (successors_of k rom row a s).stays entry base x (outside (halt_stay (within rom x)))
 unfolding halt_stay within outside staying_successor ended
-halt_stays z rom row a s region ranges entry base x stands halt pending enabled =
+halt_stays k rom row a s ranges entry base x stands halt pending enabled =
     let m = stands.means.parts in
     let woke : MState = record x { processor = record x.processor { ime = ime.On } } in
     record {
       successor = staying_successor a s;
       held = bytes_ended 1 (with_core s (woken s.core));
-      is_way = stays_at z rom region row a s ∙ stays_way row a s halt.op_is (pending_known s.core.ime x.processor.ime pending m.core.ime) (enabled_known s.core.ie entry x.storage.ie m.core.ie enabled);
+      is_way = stays_at k rom row a s ∙ stays_way row a s halt.op_is (pending_known s.core.ime x.processor.ime pending m.core.ime) (enabled_known s.core.ie entry x.storage.ie m.core.ie enabled);
       leads = record {
         to = record {
           means = MeansParts-ended rom (with_core s (woken s.core)) entry base woke.processor (view rom x false) false 1 refl
               (MeansParts-with_core s (woken s.core) entry base x woke m (woken_core s.core entry x m.core) refl refl refl (λ set. set));
           goes = stands.at;
-          room = ended_room region base false 1 (with_core s (woken s.core)) stands.room;
+          room = ended_room k.region base false 1 (with_core s (woken s.core)) stands.room;
         };
         kept = λ b kept. passed_peek (view rom x false) 1 b;
         related = λ known. HoldRelations-same s.relations _ (peek x.storage) _ _ (λ b. passed_peek (view rom x false) 1 b) stands.means.related;
@@ -279,68 +360,69 @@ repeated_core s entry x off m = record {
   stopped = m.stopped;
 }
 
-halt_side : (row : Row) (s : AbsState) (c : Core) → row.op ≡ op.Halt → (sides_of row.op s c).taken ≡ Some c
-unfolding sides_of Flags.sides_of
-halt_side row s c e = ap (λ (o : Op). (narrowed_by (Flags.condition_of o) s (Flags.sides_by (Flags.condition_of o) c)).taken) e
+halt_side : (row : Row) (cells : List Cell) (c : Core) (r : Relations) → row.op ≡ op.Halt → taken_side row.op cells c r ≡ Some (record { core = c; relations = r; cell = None })
+unfolding taken_side Flags.sides_of
+halt_side row cells c r e = ap (λ (o : Op). side_where (Flags.condition_of o) cells r (Flags.sides_by (Flags.condition_of o) c).taken) e
 
-halt_state : (z : Setting) (rom : List ℕ) (row : Row) (a : ℕ) (s : AbsState) (c : Core) → IsHalt row → (taken_parts z rom row (behind_row a row) s c).state ≡ ended false 1 (with_core s c)
-unfolding taken_parts transfer written starts with_stack_of
-halt_state z rom row a s c halt = rw (halt.op_is, halt.cycles_are) refl
+halt_state : (z : Setting) (rom : List ℕ) (region : Region) (row : Row) (a : ℕ) (s : AbsState) (c : Core) → IsHalt row → (simple_parts z rom region row (behind_row a row) s c).state ≡ ended false 1 (with_core s c)
+unfolding simple_parts transfer written starts with_stack_of
+halt_state z rom region row a s c halt = rw (halt.op_is, halt.cycles_are) refl
 
-halt_target : (z : Setting) (rom : List ℕ) (row : Row) (a : ℕ) (s : AbsState) (c : Core) → IsHalt row → (taken_parts z rom row (behind_row a row) s c).target ≡ target.At ((a + 1) % 65536)
-unfolding taken_parts target_of
-halt_target z rom row a s c halt = rw (halt.op_is, halt.length_is) refl
+halt_target : (z : Setting) (rom : List ℕ) (region : Region) (row : Row) (a : ℕ) (s : AbsState) (c : Core) → IsHalt row → (simple_parts z rom region row (behind_row a row) s c).target ≡ target.At ((a + 1) % 65536)
+unfolding simple_parts target_of
+halt_target z rom region row a s c halt = rw (halt.op_is, halt.length_is) refl
 
 -- what is known together stays
 halt_related :
-    (z : Setting) (rom : List ℕ) (region : Region) (row : Row) (a : ℕ) (s : AbsState) (entry : MState) (base : ℕ) (x y : MState)
-    → Stands z rom region row a s entry base x → IsHalt row → y.processor.registers ≡ x.processor.registers → y.processor.flags ≡ x.processor.flags
-    → AreRelated (relations_behind z rom region row.op s (core_settle s.core)) y
+    (k : Stack) (rom : List ℕ) (row : Row) (a : ℕ) (s : AbsState) (entry : MState) (base : ℕ) (x y : MState)
+    → Stands k.setting rom k.region row a s entry base x → IsHalt row → y.processor.registers ≡ x.processor.registers → y.processor.flags ≡ x.processor.flags
+    → AreRelated (relations_behind k rom row.op s (product_of (core_settle s.core) s.relations)) y
 unfolding relations_behind compared_after comparison_of writes_a writes_flags written_registers
-halt_related z rom region row a s entry base x y stands halt registers flags =
-    by_rules z.rules region row.op _ _ _ s.relations _ _ _ stands.rules
+halt_related k rom row a s entry base x y stands halt registers flags =
+    by_rules k.setting.rules k.region row.op _ _ _ s.relations _ _ _ stands.rules
     (subst (λ (o : Op). HoldOneByte (compared_after o s.relations.byte) y.processor.registers (peek y.storage) y.processor.flags) (sym halt.op_is)
     (HoldOneByte-only_of_a s.relations.byte x.processor.registers y.processor.registers (peek x.storage) (peek y.storage) x.processor.flags y.processor.flags
     (ap (λ (r : Registers ℕ). r.a) registers) flags stands.means.related.byte))
     (subst (λ r. AreBytes r) (sym registers) (AreBytes-core s.core entry x stands.core stands.means.parts.core))
 
 halt_repeats :
-    (z : Setting) (rom : List ℕ) (row : Row) (a : ℕ) (s : AbsState) (region : Region) (ranges : List Range) (entry : MState) (base : ℕ) (x : MState)
-    → Stands z rom region row a s entry base x → IsHalt row → x.processor.ime ≡ ime.Off → x.processor.halt_mark ≡ false
-    → LeadsBy region ranges (length s.items) (successors_of z rom region row a s).taken entry base x (outside (halt_bug (within rom x)))
-unfolding halt_bug within outside taken_successor
-halt_repeats z rom row a s region ranges entry base x stands halt off mark =
+    (k : Stack) (rom : List ℕ) (row : Row) (a : ℕ) (s : AbsState) (ranges : List Range) (entry : MState) (base : ℕ) (x : MState)
+    → Stands k.setting rom k.region row a s entry base x → IsHalt row → x.processor.ime ≡ ime.Off → x.processor.halt_mark ≡ false
+    → LeadsBy k.setting k.region ranges (length s.items) (successors_of k rom row a s).taken entry base x (outside (halt_bug (within rom x)))
+unfolding halt_bug within outside with_cell_if
+halt_repeats k rom row a s ranges entry base x stands halt off mark =
     let m = stands.means.parts in
     let c = core_settle s.core in
+    let b : Branch = record { core = c; relations = s.relations; cell = None } in
     let y : MState = record { processor = (repeated x).processor; storage = (passed (view rom x false) 1).storage } in
-    let t = taken_parts z rom row (behind_row a row) s c in
+    let t = simple_parts k.setting rom k.region row (behind_row a row) s c in
     let none : mark_of x.processor ≡ 0 = ap (λ b. cond b 1 0) mark in
     let pc : (x.processor.pc + (1 - mark_of x.processor)) % 65536 ≡ (a + 1) % 65536 = rw (none, stands.at) refl in
-    let to : LeadsTo region t.target t entry base x y =
-    subst (λ v. LeadsTo region v t entry base x y) (sym (halt_target z rom row a s c halt))
+    let to : LeadsTo k.region t.target t entry base x y =
+    subst (λ v. LeadsTo k.region v t entry base x y) (sym (halt_target k.setting rom k.region row a s c halt))
     (record {
-      means = subst (λ k. MeansParts k entry base y) (sym (halt_state z rom row a s c halt))
+      means = subst (λ u. MeansParts u entry base y) (sym (halt_state k.setting rom k.region row a s c halt))
           (MeansParts-ended rom (with_core s c) entry base (repeated x).processor (view rom x false) false 1 refl
           (MeansParts-with_core s c entry base x (repeated x) m (repeated_core s.core entry x off m.core) refl refl refl (λ set. sym (Keeps-settle s.core).stack ∙ set)));
       goes = pc;
-      room = subst (λ (k : AbsState). AreInRegion region base (length k.items)) (sym (halt_state z rom row a s c halt)) (ended_room region base false 1 (with_core s c) stands.room);
+      room = subst (λ (u : AbsState). AreInRegion k.region base (length u.items)) (sym (halt_state k.setting rom k.region row a s c halt)) (ended_room k.region base false 1 (with_core s c) stands.room);
     }) in
     record {
-      successor = taken_successor z rom region row (behind_row a row) s c;
-      is_way = taken_way z rom region row a s c (halt_side row s c halt.op_is);
-      held = subst (λ (k : AbsState). length k.items ≤ length s.items) (sym (halt_state z rom row a s c halt)) (bytes_ended 1 (with_core s c));
+      successor = simple_taken k rom row (behind_row a row) s b;
+      is_way = taken_way k rom row a s b stands.rules (halt_side row s.cells c s.relations halt.op_is) ∙ ap Some (taken_is k rom row (behind_row a row) s b stands.rules tt);
+      held = subst (λ (u : AbsState). length u.items ≤ length s.items) (sym (halt_state k.setting rom k.region row a s c halt)) (bytes_ended 1 (with_core s c));
       leads = record {
-        to = LeadsTo-related region t.target (relations_behind z rom region row.op s c) t entry base x y to;
+        to = LeadsTo-related k.region t.target (relations_behind k rom row.op s (product_of c s.relations)) t entry base x y to;
         kept = λ b kept. passed_peek (view rom x false) 1 b;
-        related = λ known. halt_related z rom region row a s entry base x y stands halt refl refl;
+        related = λ known. halt_related k rom row a s entry base x y stands halt refl refl;
       };
     }
 
-pub successors_of_sound : (z : Setting) (rom : List ℕ) (region : Region) (row : Row) (a : ℕ) (s : AbsState) (ss : Successors) → ss ≡ successors_of z rom region row a s → AreSoundSuccessors z rom region row a s ss
-successors_of_sound z rom region row a s ss e =
-    subst (AreSoundSuccessors z rom region row a s) (sym e)
+pub successors_of_sound : (k : Stack) (rom : List ℕ) (row : Row) (a : ℕ) (s : AbsState) (ss : Successors) → ss ≡ successors_of k rom row a s → AreSoundSuccessors k rom row a s ss
+successors_of_sound k rom row a s ss e =
+    subst (AreSoundSuccessors k rom row a s) (sym e)
     (record {
-      executes = λ ranges entry base x reads stands ruled mark byte. executes z rom row a s region ranges entry base x reads stands ruled mark byte;
-      stays = λ ranges entry base x stands halt pending enabled. halt_stays z rom row a s region ranges entry base x stands halt pending enabled;
-      repeats = λ ranges entry base x stands halt off mark. halt_repeats z rom row a s region ranges entry base x stands halt off mark;
+      executes = λ ranges entry base x reads stands ruled mark byte. executes k rom row a s ranges entry base x reads stands ruled mark byte;
+      stays = λ ranges entry base x stands halt pending enabled. halt_stays k rom row a s ranges entry base x stands halt pending enabled;
+      repeats = λ ranges entry base x stands halt off mark. halt_repeats k rom row a s ranges entry base x stands halt off mark;
     })

@@ -1,5 +1,5 @@
 -- The stack's instructions: what they read and write, where they go on, and what they make of the bytes that are held.
-use Rattle.std.proofs.Common.{◌≡◌, ℕ, ◌+◌, ◌/◌, ◌%◌, ◌≤◌, true, false, cond, nat_lt, ◌-◌, List, [], ◌∷◌, length, take, slice_index_or, refl, sym, ◌∙◌, ap, arith}
+use Rattle.std.proofs.Common.{◌≡◌, ℕ, ◌+◌, ◌/◌, ◌%◌, ◌≤◌, true, false, cond, nat_lt, ◌-◌, List, length, slice_index_or, refl, sym, ◌∙◌, ap, arith}
 use Rattle.std.proofs.lemmas.Bool.Decides.{nat_tests}
 use Rattle.gb_ops.specs.declared.op.Op.{Op}
 use Rattle.gb_ops.specs.declared.op.Op.TheVariants as op
@@ -20,8 +20,9 @@ use Rattle.gb_abs_effects.specs.Accesses.{read_of}
 use Rattle.gb_abs_effects.specs.Targets.{target_of, is_push, is_pop, is_call, is_return}
 use Rattle.gb_abs_effects.specs.Transfer.{transfer}
 use Rattle.gb_abs_effects.specs.Pairs.{any_word}
-use Rattle.gb_successors.specs.Behind.{with_stack_of, pushed_if_room}
+use Rattle.gb_successors.specs.Stacks.{pushed_if_room}
 use Rattle.gb_successors.specs.Words.{word_or_any}
+use Rattle.gb_successors.proofs.SimpleLaws.{with_stack_of}
 
 -- an instruction of another class
 no_other : false ≡ true → ⊥
@@ -86,16 +87,6 @@ IsReturn-is_return z o next sp c low high h = absurd (no_other h)
 pub pushed-if_room : (z : Setting) (i : Halves) (s : AbsState) → nat_lt (item_room z.rules) (length s.items + 2) ≡ false → pushed_if_room z i s ≡ pushed i s
 unfolding pushed_if_room
 pushed-if_room z i s h = ap (λ b. cond b s (pushed i s)) h
-
--- of fewer than two bytes none is left
-pub popped_few : (s : AbsState) → (2 ≤ length s.items → ⊥) → record s { items = [] } ≡ popped s
-unfolding popped
-popped_few s h = sym (ap (λ items. record s { items = items }) (nothing s.items h))
-  where
-    nothing : (xs : List Val) → (2 ≤ length xs → ⊥) → take (length xs - 2) xs ≡ []
-    nothing [] h = refl
-    nothing (x ∷ []) h = refl
-    nothing (x ∷ y ∷ xs) h = absurd (h (omega arith))
 
 -- ---- what is known of the word that was pushed last
 

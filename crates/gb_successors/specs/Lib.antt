@@ -1,3 +1,5 @@
+pub mod Stacks
+pub mod Refined
 pub mod Behind
 pub mod Successors
 pub mod Refused

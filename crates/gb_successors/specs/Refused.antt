@@ -3,6 +3,7 @@
 use Rattle.std.specs.Prelude.{ℕ, Bool, true, false, not, ◌&&◌, ◌||◌, ◌==◌, nat_le, List}
 use Rattle.gb_ops.specs.declared.machine.Kind.{Kind}
 use Rattle.gb_ops.specs.declared.machine.Region.{Region}
+use Rattle.gb_domain.specs.declared.setting.Setting.{Setting}
 use Rattle.gb_domain.specs.declared.types.Core.{Core}
 use Rattle.gb_domain.specs.declared.types.Range.{Range}
 use Rattle.gb_abs.specs.Span.{one}
@@ -17,10 +18,11 @@ use Rattle.gb_successors.specs.Way.{Successor}
 use Rattle.gb_successors.specs.Behind.{behind}
 
 -- a write that may lie where no store is allowed; both bytes of a word are asked for
-unfoldable pub is_unstorable : Kind → Region → List Range → AbsWrite → Bool
-is_unstorable k region ranges (write.Byte span v) = not (is_storable k region ranges span)
-is_unstorable k region ranges (write.Word a low high) = not (is_storable k region ranges (one a)) || not (is_storable k region ranges (one (behind a)))
-is_unstorable k region ranges _ = false
+unfoldable pub is_unstorable : Setting → Kind → Region → List Range → AbsWrite → Bool
+is_unstorable z k region ranges (write.Byte span v) = not (is_storable z k region ranges span)
+is_unstorable z k region ranges (write.Word a low high) =
+    not (is_storable z k region ranges (one a)) || not (is_storable z k region ranges (one (behind a)))
+is_unstorable z k region ranges _ = false
 
 -- a read that may meet closed cartridge RAM
 unfoldable pub reads_closed_ram : List ℕ → Core → AbsRead → Bool

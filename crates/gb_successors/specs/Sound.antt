@@ -1,5 +1,5 @@
 -- What successors promise of the machine (abstract interpretation: soundness; own).
-use Rattle.std.specs.Prelude.{◌≡◌, ℕ, ◌+◌, ◌≤◌, ◌<◌, ◌⊎◌, true, false, if◌then◌else◌, nat_lt, List, [], slice_index, length, Option, Some}
+use Rattle.std.specs.Prelude.{◌≡◌, ℕ, ◌+◌, ◌≤◌, ◌<◌, ◌⊎◌, Bool, true, false, if◌then◌else◌, nat_lt, List, [], slice_index, length, Option, Some}
 use Rattle.std.specs.List.{AllByRecursion}
 use Rattle.gb_ops.specs.declared.machine.Region.{Region}
 use Rattle.gb_ops.specs.declared.registers.Ime.TheVariants as ime
@@ -18,6 +18,7 @@ use Rattle.gb_domain.specs.declared.types.Range.{Range}
 use Rattle.gb_domain.specs.Types.{AbsState}
 use Rattle.gb_domain.specs.Areas.{IsRegion}
 use Rattle.gb_domain.specs.Limits.{item_room}
+use Rattle.gb_domain.specs.Pairs.{ArePairs}
 use Rattle.gb_domain.specs.Rules.{IsCore, IsVal}
 use Rattle.gb_domain.specs.Settings.{IsBase}
 use Rattle.gb_abs.specs.Storage.{peek}
@@ -30,10 +31,12 @@ use Rattle.gb_abs_effects.specs.Sound.{HasBytes}
 use Rattle.gb_abs_effects.specs.Targets.{moves_sp, is_push, is_pop, is_call, is_return}
 use Rattle.gb_abs_memory.specs.Kept.{IsKept}
 use Rattle.gb_abs_memory.specs.Sound.{IsRom, AreVals}
+use Rattle.gb_product.specs.Below.gb_relations.Sound.{IsByteFree}
 use Rattle.gb_product.specs.Meaning.{AreRelated, Means}
+use Rattle.gb_successors.specs.declared.stacks.Stack.{Stack}
 use Rattle.gb_successors.specs.Way.{Successor}
 use Rattle.gb_successors.specs.declared.successors.Successors.{Successors}
-use Rattle.gb_successors.specs.Refused.{is_unstorable, meets_closed, meets_oam_transfer, is_unknown}
+use Rattle.gb_successors.specs.Refused.{is_unstorable, meets_closed, meets_oam_transfer}
 use Rattle.gb_abs_effects.specs.Pairs.{known_word}
 
 -- one of the successors
@@ -81,8 +84,8 @@ unfoldable pub bytes_behind : Op → ℕ → ℕ
 bytes_behind o n = if is_push o then n + 2 else n
 
 -- nothing is against its accesses, in the state before it
-pub record IsAllowed (rom : List ℕ) (region : Region) (ranges : List Range) (s : AbsState) (base : ℕ) (t : Successor) : Type 0 where
-  pub stores : is_unstorable (kind_of rom) region ranges t.write ≡ false
+pub record IsAllowed (z : Setting) (rom : List ℕ) (region : Region) (ranges : List Range) (s : AbsState) (base : ℕ) (t : Successor) : Type 0 where
+  pub stores : is_unstorable z (kind_of rom) region ranges t.write ≡ false
   pub ram : meets_closed rom s.core t ≡ false
   pub oam_transfer : meets_oam_transfer region s.core t ≡ false
   pub stack : IsStackFit region t.target s t base
@@ -108,23 +111,32 @@ pub record ReturnsTo (t : Successor) (entry : MState) (base : ℕ) (x y : MState
   pub means : MeansParts t.state entry (base + 2) y
   pub goes : y.processor.pc ≡ word (peek x.storage (base + 1)) (peek x.storage base)
 
--- of a jump to somewhere nothing is said
+-- of a jump to somewhere nothing is said, nor of what the rules of version 3 alone follow
 abbrev pub LeadsTo : Region → Target → Successor → MState → ℕ → MState → MState → Type 0
 LeadsTo region (target.At a) t entry base x y = StaysAt region a t entry base y
 LeadsTo region (target.Call a) t entry base x y = CallsAt region a t entry base y
 LeadsTo region target.Return t entry base x y = ReturnsTo t entry base x y
+LeadsTo region (target.Main a) t entry base x y = Unit {0}
 LeadsTo region target.Unknown t entry base x y = Unit {0}
+LeadsTo region target.Lost t entry base x y = Unit {0}
+
+-- it is said where the machine is
+abbrev pub is_followed : Target → Bool
+is_followed (target.Main a) = false
+is_followed target.Unknown = false
+is_followed target.Lost = false
+is_followed _ = true
 
 -- each part of the states behind by itself: an event leads from x to y by the successor, and leaves what the procedure keeps
-pub record LeadsParts (region : Region) (ranges : List Range) (t : Successor) (entry : MState) (base : ℕ) (x y : MState) : Type 0 where
+pub record LeadsParts (z : Setting) (region : Region) (ranges : List Range) (t : Successor) (entry : MState) (base : ℕ) (x y : MState) : Type 0 where
   pub to : LeadsTo region t.target t entry base x y
-  pub kept : (b : ℕ) → IsKept region ranges base b → peek y.storage b ≡ peek x.storage b
+  pub kept : (b : ℕ) → IsKept z region ranges base b → peek y.storage b ≡ peek x.storage b
 
--- so it does, and what is known together of the states behind holds of y, but for a jump to somewhere
-pub record Leads (region : Region) (ranges : List Range) (t : Successor) (entry : MState) (base : ℕ) (x y : MState) : Type 0 where
+-- so it does, and what is known together of the states behind holds of y, where it is said where that is
+pub record Leads (z : Setting) (region : Region) (ranges : List Range) (t : Successor) (entry : MState) (base : ℕ) (x y : MState) : Type 0 where
   pub to : LeadsTo region t.target t entry base x y
-  pub kept : (b : ℕ) → IsKept region ranges base b → peek y.storage b ≡ peek x.storage b
-  pub related : is_unknown t.target ≡ false → AreRelated t.state.relations y
+  pub kept : (b : ℕ) → IsKept z region ranges base b → peek y.storage b ≡ peek x.storage b
+  pub related : is_followed t.target ≡ true → AreRelated t.state.relations y
 
 -- the machine stands before an instruction at an address, in a state that s means, by the rules of versions 1 and 2
 pub record Stands (z : Setting) (rom : List ℕ) (region : Region) (row : Row) (a : ℕ) (s : AbsState) (entry : MState) (base : ℕ) (x : MState) : Type 0 where
@@ -132,6 +144,8 @@ pub record Stands (z : Setting) (rom : List ℕ) (region : Region) (row : Row) (
   pub is_region : IsRegion region
   pub core : IsCore s.core
   pub placed : ArePlaced region s.cells
+  pub free : IsByteFree region s.relations.byte.address
+  pub pairs : ArePairs s.relations.pairs
   pub vals : AreVals s.cells
   pub items : AllByRecursion IsVal s.items
   pub room : AreInRegion region base (length s.items)
@@ -148,20 +162,20 @@ pub record IsRuled (z : Setting) (region : Region) (row : Row) (s : AbsState) (b
 
 -- where the HALT mark is clear, an instruction that is executed leads by one of the successors, if nothing is against that
 -- one's accesses, and then without a fault
-pub record Executes (rom : List ℕ) (region : Region) (ranges : List Range) (row : Row) (s : AbsState) (ss : Successors) (entry : MState) (base : ℕ) (x : MState) (reads : List ℕ) : Type 0 where
+pub record Executes (z : Setting) (rom : List ℕ) (region : Region) (ranges : List Range) (row : Row) (s : AbsState) (ss : Successors) (entry : MState) (base : ℕ) (x : MState) (reads : List ℕ) : Type 0 where
   pub successor : Successor
   pub is_one : IsOneOf ss successor
-  pub leads : IsAllowed rom region ranges s base successor → Leads region ranges successor entry base x (outside (executed (within rom x) row reads))
-  pub held : IsAllowed rom region ranges s base successor → length successor.state.items ≤ bytes_behind row.op (length s.items)
+  pub leads : IsAllowed z rom region ranges s base successor → Leads z region ranges successor entry base x (outside (executed (within rom x) row reads))
+  pub held : IsAllowed z rom region ranges s base successor → length successor.state.items ≤ bytes_behind row.op (length s.items)
   pub mark : (outside (executed (within rom x) row reads)).processor.halt_mark ≡ false
-  pub faults : IsAllowed rom region ranges s base successor → row_faults (Some row) region (within rom x) reads ≡ no_faults
+  pub faults : IsAllowed z rom region ranges s base successor → row_faults (Some row) region (within rom x) reads ≡ no_faults
 
 -- an event leads by a successor, which holds no more than so many bytes
-pub record LeadsBy (region : Region) (ranges : List Range) (bytes : ℕ) (way : Option Successor) (entry : MState) (base : ℕ) (x y : MState) : Type 0 where
+pub record LeadsBy (z : Setting) (region : Region) (ranges : List Range) (bytes : ℕ) (way : Option Successor) (entry : MState) (base : ℕ) (x y : MState) : Type 0 where
   pub successor : Successor
   pub is_way : way ≡ Some successor
   pub held : length successor.state.items ≤ bytes
-  pub leads : Leads region ranges successor entry base x y
+  pub leads : Leads z region ranges successor entry base x y
 
 -- HALT, as the table has it
 pub record IsHalt (row : Row) : Type 0 where
@@ -172,16 +186,16 @@ pub record IsHalt (row : Row) : Type 0 where
 -- Whatever an instruction but STOP does where the HALT mark is clear, it leads by one of the successors: executed, or HALT with an
 -- interrupt that is requested.
 -- Then, with IME pending, the processor stays on it; with IME off the byte behind it will be read twice.
-pub record AreSoundSuccessors (z : Setting) (rom : List ℕ) (region : Region) (row : Row) (a : ℕ) (s : AbsState) (ss : Successors) : Type 0 where
+pub record AreSoundSuccessors (k : Stack) (rom : List ℕ) (row : Row) (a : ℕ) (s : AbsState) (ss : Successors) : Type 0 where
   pub executes :
       (ranges : List Range) (entry : MState) (base : ℕ) (x : MState) (reads : List ℕ)
-      → Stands z rom region row a s entry base x → IsRuled z region row s base → x.processor.halt_mark ≡ false → slice_index reads 0 ≤ 255
-      → Executes rom region ranges row s ss entry base x reads
+      → Stands k.setting rom k.region row a s entry base x → IsRuled k.setting k.region row s base → x.processor.halt_mark ≡ false → slice_index reads 0 ≤ 255
+      → Executes k.setting rom k.region ranges row s ss entry base x reads
   pub stays :
       (ranges : List Range) (entry : MState) (base : ℕ) (x : MState)
-      → Stands z rom region row a s entry base x → IsHalt row → x.processor.ime ≡ ime.Pending → has_enabled (within rom x) ≡ true
-      → LeadsBy region ranges (length s.items) ss.stays entry base x (outside (halt_stay (within rom x)))
+      → Stands k.setting rom k.region row a s entry base x → IsHalt row → x.processor.ime ≡ ime.Pending → has_enabled (within rom x) ≡ true
+      → LeadsBy k.setting k.region ranges (length s.items) ss.stays entry base x (outside (halt_stay (within rom x)))
   pub repeats :
       (ranges : List Range) (entry : MState) (base : ℕ) (x : MState)
-      → Stands z rom region row a s entry base x → IsHalt row → x.processor.ime ≡ ime.Off → x.processor.halt_mark ≡ false
-      → LeadsBy region ranges (length s.items) ss.taken entry base x (outside (halt_bug (within rom x)))
+      → Stands k.setting rom k.region row a s entry base x → IsHalt row → x.processor.ime ≡ ime.Off → x.processor.halt_mark ≡ false
+      → LeadsBy k.setting k.region ranges (length s.items) ss.taken entry base x (outside (halt_bug (within rom x)))

@@ -1,18 +1,22 @@
 -- The possible successors of an instruction (abstract interpretation: abstract semantics; own).
-use Rattle.std.specs.Prelude.{ℕ, ◌+◌, ◌%◌, Bool, false, ◌&&◌, ◌||◌, if◌then◌else◌, List, Option, Some, None, option_map}
+use Rattle.std.specs.Prelude.{ℕ, ◌+◌, ◌%◌, Bool, false, ◌&&◌, ◌||◌, if◌then◌else◌, List, Option, Some, None, option_map, option_and_then}
 use Rattle.gb_ops.specs.declared.op.Op.{Op}
 use Rattle.gb_ops.specs.declared.op.Op.TheVariants as op
 use Rattle.gb_ops.specs.declared.op.Row.{Row}
-use Rattle.gb_ops.specs.declared.machine.Region.{Region}
 use Rattle.gb_ops.specs.Cartridge.{kind_of}
+use Rattle.gb_domain.specs.declared.pairs.Bounds.{Bounds}
 use Rattle.gb_domain.specs.declared.relations.Relations.{Relations}
-use Rattle.gb_domain.specs.declared.setting.Setting.{Setting}
+use Rattle.gb_domain.specs.declared.rules.Rules.{Rules}
+use Rattle.gb_domain.specs.declared.types.Cell.{Cell}
 use Rattle.gb_domain.specs.declared.types.Core.{Core}
+use Rattle.gb_domain.specs.declared.types.Halves.{Halves}
 use Rattle.gb_domain.specs.Types.{AbsState}
 use Rattle.gb_abs.specs.Below.gb_vals.Bits.{may_enable}
 use Rattle.gb_abs.specs.Located.{sp_halves, sp_bounds}
 use Rattle.gb_abs.specs.Operations.{core_settle, with_core}
+use Rattle.gb_abs_effects.specs.declared.reads.AbsRead.{AbsRead}
 use Rattle.gb_abs_effects.specs.declared.reads.AbsRead.TheVariants as read
+use Rattle.gb_abs_effects.specs.declared.writes.AbsEffect.{AbsEffect}
 use Rattle.gb_abs_effects.specs.declared.writes.AbsWrite.TheVariants as write
 use Rattle.gb_abs_effects.specs.declared.targets.Target.TheVariants as target
 use Rattle.gb_abs_effects.specs.Accesses.{read_of}
@@ -20,24 +24,51 @@ use Rattle.gb_abs_effects.specs.Targets.{target_of}
 use Rattle.gb_abs_effects.specs.Transfer.{transfer, only_on}
 use Rattle.gb_successors.specs.Way.{Successor}
 use Rattle.gb_successors.specs.declared.successors.Successors.{Successors}
-use Rattle.gb_product.specs.Sides.{sides_of}
+use Rattle.gb_successors.specs.declared.stacks.Stack.{Stack}
+use Rattle.gb_product.specs.declared.parts.Branch.{Branch}
+use Rattle.gb_product.specs.declared.parts.Product.{Product}
+use Rattle.gb_product.specs.Reduced.{product_of, reduced}
+use Rattle.gb_product.specs.Sides.{taken_side, not_taken_side}
+use Rattle.gb_product.specs.Below.gb_relations.Pointers.{pointer_bounds, known_carry}
 use Rattle.gb_product.specs.Below.gb_relations.Transfer.{relations_after}
-use Rattle.gb_successors.specs.Behind.{read_word, written, starts, with_stack_of, ended, with_relations}
+use Rattle.gb_successors.specs.Behind.{read_word, ended, with_relations, with_cell_if, moved_state, core_behind}
+use Rattle.gb_successors.specs.Refined.{cut_read, refined, refined_target}
+use Rattle.gb_successors.specs.Stacks.{stack_move}
 
 -- ---- successors
 
--- the instruction is taken, from a core that is settled; next is the address behind it; each part by itself
-unfoldable pub taken_parts : Setting → List ℕ → Row → ℕ → AbsState → Core → Successor
-taken_parts z rom row next s core =
-    let what = read_of row.op core in
-    let word = read_word z rom (with_core s core) what in
-    let effect = transfer row.op next (sp_halves z s) core word.low word.high in
+-- the address that an instruction takes from a pair has these bounds
+abbrev pub pointer_in : Stack → Op → Product → Option Bounds
+pointer_in k o p = pointer_bounds k.setting.rules o p.core.registers p.relations.pairs
+
+-- what it reads
+abbrev pub read_in : Stack → Op → Product → AbsRead
+read_in k o p = cut_read (pointer_in k o p) (read_of o p.core)
+
+-- what is known of that
+abbrev pub word_in : Stack → List ℕ → Op → AbsState → Product → Halves
+word_in k rom o s p = read_word k.setting rom (with_core s p.core) (read_in k o p)
+
+-- what it does, next being the address behind it
+unfoldable pub effect_in : Stack → List ℕ → Op → ℕ → AbsState → Product → AbsEffect
+effect_in k rom o next s p =
+    let word = word_in k rom o s p in
+    refined (pointer_in k o p) (known_carry k.setting.rules o (sp_bounds k.setting s) p.core.registers p.relations.pairs)
+    (transfer o next (sp_halves k.setting s) p.core word.low word.high)
+
+-- The instruction is taken, with the core and what is known together p, which are settled, and a cell that its condition
+-- tells; next is the address behind it; each part by itself.
+unfoldable pub taken_parts : Stack → List ℕ → Row → ℕ → AbsState → Product → Option Cell → Successor
+taken_parts k rom row next s p cell =
+    let effect = effect_in k rom row.op next s p in
+    let m = stack_move k row.op effect.write (pointer_in k row.op p) in
     record {
-      read = what;
+      read = read_in k row.op p;
       write = effect.write;
-      target = target_of row.op next core;
+      target =
+          refined_target k.setting.rules k.setting row.op next (word_in k rom row.op s p) p.core (pointer_in k row.op p) m (target_of row.op next p.core);
       next = next;
-      state = ended (starts effect.write) row.cycles (written z (kind_of rom) effect.write (with_stack_of z row.op effect.write (with_core s effect.core)));
+      state = with_core (moved_state k (kind_of rom) cell m effect.write s) (core_behind (kind_of rom) m row.cycles effect.write effect.core);
     }
 
 -- the same states, of which something else is known together
@@ -45,19 +76,33 @@ abbrev pub related_successor : Relations → Successor → Successor
 related_successor r t = record t { state = with_relations r t.state }
 
 -- what is known together behind it
-unfoldable pub relations_behind : Setting → List ℕ → Region → Op → AbsState → Core → Relations
-relations_behind z rom region o s core =
-    relations_after z.rules region o (sp_bounds z s) core.registers (read_word z rom (with_core s core) (read_of o core)).low s.relations
+unfoldable pub relations_behind : Stack → List ℕ → Op → AbsState → Product → Relations
+relations_behind k rom o s p =
+    relations_after k.setting.rules k.region o (sp_bounds k.setting s) p.core.registers (word_in k rom o s p).low p.relations
 
 -- all of it
-unfoldable pub taken_successor : Setting → List ℕ → Region → Row → ℕ → AbsState → Core → Successor
-taken_successor z rom region row next s core =
-    related_successor (relations_behind z rom region row.op s core) (taken_parts z rom row next s core)
+unfoldable pub taken_successor : Stack → List ℕ → Row → ℕ → AbsState → Branch → Successor
+taken_successor k rom row next s b =
+    let p = product_of b.core b.relations in
+    related_successor (relations_behind k rom row.op s p) (taken_parts k rom row next s p b.cell)
 
 -- it isn't taken: nothing happens but that time passes
-unfoldable pub untaken_successor : Row → ℕ → AbsState → Core → Successor
-untaken_successor row next s core =
-    record { read = read.Nothing; write = write.Nothing; target = target.At next; next = next; state = ended false row.cycles_not_taken (with_core s core) }
+unfoldable pub untaken_successor : Stack → Row → ℕ → AbsState → Branch → Successor
+untaken_successor k row next s b =
+    record {
+      read = read.Nothing;
+      write = write.Nothing;
+      target = target.At next;
+      next = next;
+      state = with_relations b.relations (ended false row.cycles_not_taken (with_cell_if k.setting b.cell (with_core s b.core)));
+    }
+
+abbrev pub with_product : Successor → Product → Successor
+with_product t p = record t { state = with_relations p.relations (with_core t.state p.core) }
+
+-- the states behind are reduced; where nothing is meant it isn't possible
+unfoldable pub reduced_successor : Rules → Successor → Option Successor
+reduced_successor rules t = option_map (with_product t) (reduced rules t.state.core t.state.relations)
 
 -- interrupts became on while the processor stays on HALT
 abbrev pub woken : Core → Core
@@ -75,14 +120,26 @@ may_stay _ core = false
 unfoldable pub stays : Row → ℕ → AbsState → Option Successor
 stays row a s = if may_stay row.op s.core then Some (staying_successor a s) else None
 
+-- the states before are settled and reduced; none where nothing is meant
+unfoldable pub product_before : Rules → AbsState → Option Product
+product_before rules s = reduced rules (core_settle s.core) s.relations
+
+abbrev pub taken_from : Stack → List ℕ → Row → ℕ → AbsState → Product → Option Successor
+taken_from k rom row next s p =
+    option_and_then (λ b. reduced_successor k.setting.rules (taken_successor k rom row next s b)) (taken_side row.op s.cells p.core p.relations)
+
+abbrev pub not_taken_from : Stack → Row → ℕ → AbsState → Product → Option Successor
+not_taken_from k row next s p =
+    option_and_then (λ b. reduced_successor k.setting.rules (untaken_successor k row next s b)) (not_taken_side row.op s.cells p.core p.relations)
+
 -- the possible successors of the instruction at an address
-unfoldable pub successors_of : Setting → List ℕ → Region → Row → ℕ → AbsState → Successors
-successors_of z rom region row a s =
+unfoldable pub successors_of : Stack → List ℕ → Row → ℕ → AbsState → Successors
+successors_of k rom row a s =
     let next = (a + row.length) % 65536 in
-    let sides = sides_of row.op s (core_settle s.core) in
+    let before = product_before k.setting.rules s in
     record {
-      taken = option_map (taken_successor z rom region row next s) sides.taken;
-      not_taken = option_map (untaken_successor row next s) sides.not_taken;
+      taken = option_and_then (taken_from k rom row next s) before;
+      not_taken = option_and_then (not_taken_from k row next s) before;
       stays = stays row a s;
     }
 

@@ -7,7 +7,9 @@
 //! Read `way`, `successor`, then `successors`, and `refused`: what refuses a successor.
 #![tactic(auto)]
 
+mod refined;
 pub mod refused;
+pub mod stacks;
 pub mod successor;
 pub mod successors;
 pub mod way;

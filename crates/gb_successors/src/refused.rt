@@ -15,19 +15,31 @@ use gb_abs_memory::refusals::{
     is_limited, is_store_limited, meets_closed_ram, store_meets_closed_ram,
 };
 use gb_abs_memory::store::is_storable;
-use gb_domain::types::{Core, Range};
+use gb_domain::types::{Core, Range, Setting};
 use gb_ops::machine::{Kind, Region};
 
 /// Whether a write may lie where no store is allowed. Both bytes of a word are asked for.
 #[tactic(auto, unfolding(crate::specs::Refused::is_unstorable))]
-fn is_unstorable(kind: Kind, region: Region, ranges: &[Range], write: AbsWrite) -> bool
-    ensures { result ≡ Refused.is_unstorable kind region ranges.now write }
+fn is_unstorable(
+    setting: Setting,
+    kind: Kind,
+    region: Region,
+    ranges: &[Range],
+    write: AbsWrite,
+) -> bool
+    ensures { result ≡ Refused.is_unstorable setting kind region ranges.now write }
 {
     match write {
-        AbsWrite::Byte(span, _) => !is_storable(kind, region, ranges, span),
+        AbsWrite::Byte(span, _) => !is_storable(setting, kind, region, ranges, span),
         AbsWrite::Word(address, _, _) => {
-            !is_storable(kind, region, ranges, Span::one(address))
-                || !is_storable(kind, region, ranges, Span::one(address.wrapping_add(1)))
+            !is_storable(setting, kind, region, ranges, Span::one(address))
+                || !is_storable(
+                    setting,
+                    kind,
+                    region,
+                    ranges,
+                    Span::one(address.wrapping_add(1)),
+                )
         }
         AbsWrite::Nothing | AbsWrite::Push { .. } => false,
     }
@@ -118,12 +130,18 @@ fn is_unknown(target: Target) -> bool
     matches!(target, Target::Unknown)
 }
 
-fn has_unstorable(kind: Kind, region: Region, ranges: &[Range], way: &Option<Successor<'_>>) -> bool
-    ensures { result ≡ has (λ t. Refused.is_unstorable kind region ranges.now t.write) way.now }
+fn has_unstorable(
+    setting: Setting,
+    kind: Kind,
+    region: Region,
+    ranges: &[Range],
+    way: &Option<Successor<'_>>,
+) -> bool
+    ensures { result ≡ has (λ t. Refused.is_unstorable setting kind region ranges.now t.write) way.now }
 {
     match way {
         None => false,
-        Some(successor) => is_unstorable(kind, region, ranges, successor.write),
+        Some(successor) => is_unstorable(setting, kind, region, ranges, successor.write),
     }
 }
 
@@ -158,15 +176,20 @@ impl<'a> Successors<'a> {
     ghost use Rattle.gb_successors.specs.Successors.{any_successor};
     ghost use Rattle.gb_successors.specs.Refused as Refused;
 
-    /// Whether one of them may store where no store is allowed: outside the procedure's ranges, or in
-    /// the stack region.
+    /// Whether one of them may store where the procedure may not.
     #[tactic(auto, unfolding(crate::specs::Successors::any_successor))]
-    pub fn store_outside(&self, kind: Kind, region: Region, ranges: &[Range]) -> bool
-        ensures { result ≡ any_successor (λ t. Refused.is_unstorable kind region ranges.now t.write) self.now }
+    pub fn store_outside(
+        &self,
+        setting: Setting,
+        kind: Kind,
+        region: Region,
+        ranges: &[Range],
+    ) -> bool
+        ensures { result ≡ any_successor (λ t. Refused.is_unstorable setting kind region ranges.now t.write) self.now }
     {
-        has_unstorable(kind, region, ranges, &self.taken)
-            || has_unstorable(kind, region, ranges, &self.not_taken)
-            || has_unstorable(kind, region, ranges, &self.stays)
+        has_unstorable(setting, kind, region, ranges, &self.taken)
+            || has_unstorable(setting, kind, region, ranges, &self.not_taken)
+            || has_unstorable(setting, kind, region, ranges, &self.stays)
     }
 
     /// Whether one of them may meet cartridge RAM while it is closed, at the gate of the state before.

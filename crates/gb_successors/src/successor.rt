@@ -3,10 +3,14 @@
 ghost use Rattle.std.specs.Prelude.{◌≡◌};
 ghost use Rattle.gb_abs.specs.Operations.{with_core};
 ghost use Rattle.gb_abs.specs.Stack.{youngest};
+ghost use Rattle.gb_abs_effects.specs.declared.writes.AbsWrite.TheVariants.{Nothing};
+ghost use Rattle.gb_successors.specs.declared.stacks.StackMove.TheVariants.{Stay};
 ghost use Rattle.gb_successors.specs.Behind as Behind;
 ghost use Rattle.gb_successors.specs.Successors as Succession;
 ghost use Rattle.gb_successors.specs.Words.{word_or_any};
 
+use crate::refined::{Going, cut_read, refined, refined_target};
+use crate::stacks::{Stack, StackMove, moved_core, stack_move};
 pub use crate::way::{Moved, Successor};
 use gb_abs::any;
 use gb_abs::located::{sp_bounds, sp_halves};
@@ -20,10 +24,13 @@ use gb_abs_effects::writes::AbsWrite;
 use gb_abs_memory::Rom;
 use gb_abs_memory::load::loaded_by;
 use gb_abs_memory::store::{Area, area_of, starts_oam_transfer, stored_core};
-use gb_domain::types::{Abs, Core, Halves, ImeSet, Setting};
-use gb_ops::machine::{Kind, Region};
-use gb_ops::op::{Op, Pair, Row};
-use gb_product::relations_after;
+use gb_domain::pairs::Bounds;
+use gb_domain::types::{Abs, Cell, Core, Halves, ImeSet, Rules, Setting};
+use gb_ops::machine::Kind;
+use gb_ops::op::{Op, Row};
+use gb_product::parts::{Branch, Product};
+use gb_product::reduced::reduced;
+use gb_product::{known_carry, pointer_bounds, relations_after};
 
 /// The word that was pushed last, as far as it is known.
 #[tactic(auto, using(crate::proofs::WordLaws::top_word_is, crate::proofs::WordLaws::no_word_is))]
@@ -69,17 +76,11 @@ fn starts(write: AbsWrite) -> bool
     }
 }
 
-/// Whether an instruction moves the stack.
-#[tactic(auto, unfolding(crate::specs::Behind::moves_stack))]
-fn moves_stack(op: Op, write: AbsWrite) -> bool
-    ensures { result ≡ Behind.moves_stack op write }
+/// Whether the stack's move may change items.
+fn moves_stack(stack_move: StackMove) -> bool
+    ensures { result ≡ Behind.moves_stack stack_move }
 {
-    match (op, write) {
-        (Op::LoadPair(Pair::Sp, _), _) => true,
-        (Op::Push(_), AbsWrite::Push { .. }) => true,
-        (Op::Pop(_), _) => true,
-        _ => false,
-    }
+    !matches!(stack_move, StackMove::Stay)
 }
 
 fn is_in_ram(area: Option<Area>) -> bool
@@ -102,27 +103,24 @@ fn changes_cells(kind: Kind, write: AbsWrite) -> bool
 
 /// What changes items or cells, if something does.
 #[tactic(auto, unfolding(crate::specs::Behind::move_of))]
-fn move_of(setting: Setting, kind: Kind, op: Op, write: AbsWrite) -> Option<Moved>
-    ensures { result ≡ Behind.move_of setting kind op write }
+fn move_of(
+    stack: Stack,
+    kind: Kind,
+    cell: Option<Cell>,
+    stack_move: StackMove,
+    write: AbsWrite,
+) -> Option<Moved>
+    ensures { result ≡ Behind.move_of stack kind cell stack_move write }
 {
-    if moves_stack(op, write) || changes_cells(kind, write) {
-        Some(Moved { setting, kind, op })
+    if cell.is_some() || moves_stack(stack_move) || changes_cells(kind, write) {
+        Some(Moved {
+            stack,
+            kind,
+            cell,
+            stack_move,
+        })
     } else {
         None
-    }
-}
-
-/// The core behind an instruction that may move the stack.
-#[tactic(auto, unfolding(crate::specs::Behind::stack_core))]
-fn stack_core(op: Op, core: Core) -> Core
-    ensures { result ≡ Behind.stack_core op core }
-{
-    match op {
-        Op::LoadPair(Pair::Sp, _) => Core {
-            stack_set: true,
-            ..core
-        },
-        _ => core,
     }
 }
 
@@ -143,70 +141,125 @@ fn written_core(kind: Kind, write: AbsWrite, core: Core) -> Core
 
 /// The core behind an instruction, of its effect.
 #[tactic(auto, unfolding(crate::specs::Behind::core_behind))]
-fn core_behind(kind: Kind, op: Op, cycles: u8, write: AbsWrite, core: Core) -> Core
-    ensures { result ≡ Behind.core_behind kind op cycles write core }
+fn core_behind(kind: Kind, stack_move: StackMove, cycles: u8, write: AbsWrite, core: Core) -> Core
+    ensures { result ≡ Behind.core_behind kind stack_move cycles write core }
 {
-    let written = written_core(kind, write, stack_core(op, core));
+    let written = written_core(kind, write, moved_core(stack_move, core));
     end(starts(write), cycles, &written)
 }
 
-/// The successor where the instruction is taken, from a settled core. The address behind it is given.
-#[tactic(auto, using(crate::proofs::MovedLaws::taken_state), unfolding(crate::specs::Successors::taken_successor, crate::specs::Successors::taken_parts, crate::specs::Successors::relations_behind))]
+/// The bounds of an address that an instruction takes from a pair.
+pub fn pointer_in(stack: Stack, op: Op, product: &Product) -> Option<Bounds>
+    ensures { result ≡ Succession.pointer_in stack op product.now }
+{
+    pointer_bounds(
+        stack.setting.rules,
+        op,
+        &product.core.registers,
+        &product.relations.pairs,
+    )
+}
+
+/// The states behind are reduced; where nothing is meant the successor isn't possible.
+#[tactic(auto, unfolding(crate::specs::Successors::reduced_successor))]
+pub(crate) fn reduced_successor<'a>(rules: Rules, successor: Successor<'a>) -> Option<Successor<'a>>
+    ensures { result ≡ Succession.reduced_successor rules successor.entry }
+{
+    let Product { core, relations } = reduced(rules, &successor.core, &successor.relations)?;
+    Some(Successor {
+        core,
+        relations,
+        ..successor
+    })
+}
+
+/// The successor where the instruction is taken, from a side that is settled. The address behind it is given.
+#[tactic(auto, using(crate::proofs::MovedLaws::taken_state), unfolding(crate::specs::Successors::taken_successor, crate::specs::Successors::taken_parts, crate::specs::Successors::effect_in, crate::specs::Successors::relations_behind))]
 pub(crate) fn taken_successor<'a>(
-    setting: Setting,
+    stack: Stack,
     rom: &Rom<'_>,
-    region: Region,
     row: Row,
     next: u16,
     state: &'a Abs,
-    core: Core,
+    side: &Branch,
 ) -> Successor<'a>
-    ensures { result ≡ Succession.taken_successor setting rom.now region row next state.now core }
+    ensures { result ≡ Succession.taken_successor stack rom.now row next state.now side.now }
 {
-    let read = read_of(row.op, &core);
-    let word = read_word(setting, rom, state, &core, read);
-    let effect = transfer(
-        row.op,
-        next,
-        sp_halves(setting, state),
-        &core,
-        word.low,
-        word.high,
+    let (op, setting) = (row.op, stack.setting);
+    let (core, relations) = (&side.core, &side.relations);
+    let pointer = pointer_bounds(setting.rules, op, &core.registers, &relations.pairs);
+    let sp = sp_bounds(setting, state);
+    let read = cut_read(pointer, read_of(op, core));
+    let word = read_word(setting, rom, state, core, read);
+    let effect = refined(
+        pointer,
+        known_carry(setting.rules, op, sp, &core.registers, &relations.pairs),
+        transfer(
+            op,
+            next,
+            sp_halves(setting, state),
+            core,
+            word.low,
+            word.high,
+        ),
     );
+    let stack_move = stack_move(stack, op, effect.write, pointer);
+    let going = Going {
+        op,
+        next,
+        word,
+        core,
+        pointer,
+        stack_move,
+    };
     let kind = rom.kind();
     Successor {
         read,
         write: effect.write,
-        target: target_of(row.op, next, &core),
+        target: refined_target(setting, going, target_of(op, next, core)),
         next,
-        core: core_behind(kind, row.op, row.cycles, effect.write, effect.core),
+        core: core_behind(kind, stack_move, row.cycles, effect.write, effect.core),
         relations: relations_after(
             setting.rules,
-            region,
-            row.op,
-            sp_bounds(setting, state),
+            stack.region,
+            op,
+            sp,
             &core.registers,
             word.low,
-            state.relations(),
+            relations,
         ),
-        moved: move_of(setting, kind, row.op, effect.write),
+        moved: move_of(stack, kind, side.cell, stack_move, effect.write),
         before: state,
     }
 }
 
+/// What a condition's cell changes, if there is one.
+fn cell_alone(stack: Stack, kind: Kind, cell: Option<Cell>) -> Option<Moved>
+    ensures { result ≡ Behind.move_of stack kind cell Stay Nothing }
+{
+    move_of(stack, kind, cell, StackMove::Stay, AbsWrite::Nothing)
+}
+
 /// The successor where the instruction isn't taken: nothing happens but that time passes.
-#[tactic(auto, unfolding(crate::specs::Successors::untaken_successor, crate::specs::Behind::ended))]
-pub(crate) fn untaken_successor(row: Row, next: u16, state: &Abs, core: Core) -> Successor<'_>
-    ensures { result ≡ Succession.untaken_successor row next state.now core }
+#[tactic(auto, using(crate::proofs::MovedLaws::untaken_state), unfolding(crate::specs::Successors::untaken_successor, crate::specs::Behind::ended))]
+pub(crate) fn untaken_successor<'a>(
+    stack: Stack,
+    kind: Kind,
+    row: Row,
+    next: u16,
+    state: &'a Abs,
+    side: &Branch,
+) -> Successor<'a>
+    ensures { result ≡ Succession.untaken_successor stack row next state.now side.now }
 {
     Successor {
         read: AbsRead::Nothing,
         write: AbsWrite::Nothing,
         target: Target::At(next),
         next,
-        core: end(false, row.cycles_not_taken, &core),
-        relations: *state.relations(),
-        moved: None,
+        core: end(false, row.cycles_not_taken, &side.core),
+        relations: side.relations,
+        moved: cell_alone(stack, kind, side.cell),
         before: state,
     }
 }

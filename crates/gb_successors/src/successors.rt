@@ -4,14 +4,19 @@ ghost use Rattle.std.specs.Prelude.{◌≡◌};
 ghost use Rattle.gb_successors.specs.Successors as Succession;
 ghost use Rattle.gb_successors.specs.Sound.{AreSoundSuccessors};
 
-use crate::successor::{Successor, staying_successor, taken_successor, untaken_successor};
+use crate::stacks::Stack;
+use crate::successor::{
+    Successor, reduced_successor, staying_successor, taken_successor, untaken_successor,
+};
 use gb_abs::may_enable;
 use gb_abs::operations::settle;
 use gb_abs_memory::Rom;
-use gb_domain::types::{Abs, Core, Setting};
-use gb_ops::machine::Region;
+use gb_domain::types::{Abs, Core, Rules};
+use gb_ops::machine::Kind;
 use gb_ops::op::{Op, Row};
-use gb_product::sides::sides_of;
+use gb_product::parts::Product;
+use gb_product::reduced::reduced;
+use gb_product::sides::{not_taken_side, taken_side};
 
 /// The possible successors of an instruction.
 #[derive(Drop)]
@@ -46,46 +51,79 @@ fn stays(row: Row, address: u16, state: &Abs) -> Option<Successor<'_>>
 
 /// The possible successors of the instruction at an address, from the states that one stands for.
 /// Where the HALT mark is clear and the instruction isn't STOP, executing it leads by one of them, if
-/// nothing refuses that one's accesses; so do staying on HALT and the halt bug.
+/// nothing refuses that one's accesses; so do staying on HALT and the halt bug. That is said of the rules of versions 1 and 2.
 #[tactic(auto, using(crate::proofs::WayLaws::successors_of_sound))]
 pub fn successors_of<'a>(
-    setting: Setting,
+    stack: Stack,
     rom: &Rom<'_>,
-    region: Region,
     row: Row,
     address: u16,
     state: &'a Abs,
 ) -> Successors<'a>
-    ensures exact { result ≡ Succession.successors_of setting rom.now region row address state.now }
-    ensures sound { AreSoundSuccessors setting rom.now region row address state.now result }
+    ensures exact { result ≡ Succession.successors_of stack rom.now row address state.now }
+    ensures sound { AreSoundSuccessors stack rom.now row address state.now result }
 {
-    ways(setting, rom, region, row, address, state)
+    ways(stack, rom, row, address, state)
+}
+
+/// What is known before the instruction, settled and reduced; none where nothing is meant.
+#[tactic(auto, unfolding(crate::specs::Successors::product_before))]
+pub fn product_before(rules: Rules, state: &Abs) -> Option<Product>
+    ensures { result ≡ Succession.product_before rules state.now }
+{
+    reduced(rules, &settle(state.core()), state.relations())
+}
+
+fn taken_from<'a>(
+    stack: Stack,
+    rom: &Rom<'_>,
+    row: Row,
+    next: u16,
+    state: &'a Abs,
+    product: &Product,
+) -> Option<Successor<'a>>
+    ensures { result ≡ Succession.taken_from stack rom.now row next state.now product.now }
+{
+    let side = taken_side(row.op, state.cells(), &product.core, &product.relations)?;
+    reduced_successor(
+        stack.setting.rules,
+        taken_successor(stack, rom, row, next, state, &side),
+    )
+}
+
+fn not_taken_from<'a>(
+    stack: Stack,
+    kind: Kind,
+    row: Row,
+    next: u16,
+    state: &'a Abs,
+    product: &Product,
+) -> Option<Successor<'a>>
+    ensures { result ≡ Succession.not_taken_from stack row next state.now product.now }
+{
+    let side = not_taken_side(row.op, state.cells(), &product.core, &product.relations)?;
+    reduced_successor(
+        stack.setting.rules,
+        untaken_successor(stack, kind, row, next, state, &side),
+    )
 }
 
 #[tactic(auto, unfolding(crate::specs::Successors::successors_of))]
-fn ways<'a>(
-    setting: Setting,
-    rom: &Rom<'_>,
-    region: Region,
-    row: Row,
-    address: u16,
-    state: &'a Abs,
-) -> Successors<'a>
-    ensures { result ≡ Succession.successors_of setting rom.now region row address state.now }
+fn ways<'a>(stack: Stack, rom: &Rom<'_>, row: Row, address: u16, state: &'a Abs) -> Successors<'a>
+    ensures { result ≡ Succession.successors_of stack rom.now row address state.now }
 {
     let next = address.wrapping_add(u16::from(row.length));
-    let sides = sides_of(row.op, state, &settle(state.core()));
-    let taken = match sides.taken {
-        Some(core) => Some(taken_successor(setting, rom, region, row, next, state, core)),
-        None => None,
-    };
-    let not_taken = match sides.not_taken {
-        Some(core) => Some(untaken_successor(row, next, state, core)),
-        None => None,
-    };
-    Successors {
-        taken,
-        not_taken,
-        stays: stays(row, address, state),
+    let stays = stays(row, address, state);
+    match product_before(stack.setting.rules, state) {
+        None => Successors {
+            taken: None,
+            not_taken: None,
+            stays,
+        },
+        Some(product) => Successors {
+            taken: taken_from(stack, rom, row, next, state, &product),
+            not_taken: not_taken_from(stack, rom.kind(), row, next, state, &product),
+            stays,
+        },
     }
 }

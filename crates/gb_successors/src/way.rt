@@ -1,22 +1,20 @@
 //! One successor of an instruction, and the states behind it.
 
-ghost use Rattle.std.specs.Prelude.{◌≡◌, [], true, IfSome};
+ghost use Rattle.std.specs.Prelude.{◌≡◌, IfSome};
 ghost use Rattle.gb_abs.specs.Operations.{with_core};
-ghost use Rattle.gb_abs.specs.Stack.{popped};
 ghost use Rattle.gb_successors.specs.Behind as Behind;
 ghost use Rattle.gb_successors.specs.Behind.{with_relations};
 
-use arrayvec::ArrayVec;
+use crate::stacks::{Stack, StackMove, move_stack};
+use gb_abs::cells::with_cell;
 use gb_abs::span::Span;
-use gb_abs::stack::{pop, push};
 use gb_abs_effects::reads::AbsRead;
 use gb_abs_effects::targets::Target;
 use gb_abs_effects::writes::AbsWrite;
 use gb_abs_memory::store::store_in;
 use gb_domain::relations::Relations;
-use gb_domain::types::{Abs, Core, Halves, Setting};
+use gb_domain::types::{Abs, Cell, Core, Setting};
 use gb_ops::machine::Kind;
-use gb_ops::op::{Op, Pair};
 use std::marker::Model;
 
 /// One way on from an instruction: what it reads and writes besides its own bytes, where it goes on,
@@ -35,12 +33,14 @@ pub struct Successor<'a> {
     pub(crate) before: &'a Abs,
 }
 
-/// The instruction that changes items or cells, and the cartridge's kind.
+/// What changes items or cells: what a condition tells of a byte of memory, the stack's move, and a write to a cartridge of a
+/// kind.
 #[derive(Clone, Copy)]
 pub struct Moved {
-    pub setting: Setting,
+    pub stack: Stack,
     pub kind: Kind,
-    pub op: Op,
+    pub cell: Option<Cell>,
+    pub stack_move: StackMove,
 }
 
 impl<'a> Model for Successor<'a> {
@@ -83,8 +83,7 @@ impl<'a> Successor<'a> {
     {
         let mut after = self.before.copied();
         if let Some(moved) = self.moved {
-            move_stack(moved.setting, moved.op, self.write, &mut after);
-            write(moved.setting, moved.kind, self.write, &mut after);
+            move_state(moved, self.write, &mut after);
         }
         after.set_core(self.core);
         after.set_relations(self.relations);
@@ -92,75 +91,40 @@ impl<'a> Successor<'a> {
     }
 }
 
+/// What a condition tells of a byte of memory is known of the states.
+#[tactic(auto, unfolding(crate::specs::Behind::with_cell_if))]
+fn set_cell(setting: Setting, cell: Option<Cell>, state: &mut Abs)
+    ensures { state.new ≡ Behind.with_cell_if setting cell state.old }
+{
+    if let Some(cell) = cell {
+        *state = with_cell(setting.rules, state, cell.address, cell.val);
+    }
+}
+
 /// A write changes the states. A word is two stores, the low byte first. A word that is
 /// pushed changes no cell.
 #[tactic(auto, unfolding(crate::specs::Behind::written))]
-fn write(setting: Setting, kind: Kind, write: AbsWrite, state: &mut Abs)
-    ensures { state.new ≡ Behind.written setting kind write state.old }
+fn write(stack: Stack, kind: Kind, write: AbsWrite, state: &mut Abs)
+    ensures { state.new ≡ Behind.written stack.setting stack.region kind write state.old }
 {
+    let (setting, region) = (stack.setting, stack.region);
     match write {
-        AbsWrite::Byte(span, val) => store_in(setting, kind, span, &val, state),
+        AbsWrite::Byte(span, val) => store_in(setting, region, kind, span, &val, state),
         AbsWrite::Word(address, low, high) => {
-            store_in(setting, kind, Span::one(address), &low, state);
-            store_in(
-                setting,
-                kind,
-                Span::one(address.wrapping_add(1)),
-                &high,
-                state,
-            );
+            let behind = Span::one(address.wrapping_add(1));
+            store_in(setting, region, kind, Span::one(address), &low, state);
+            store_in(setting, region, kind, behind, &high, state);
         }
         AbsWrite::Nothing | AbsWrite::Push { .. } => {}
     }
 }
 
-/// Its stack gets set, with nothing on it.
-fn set_stack(state: &mut Abs)
-    ensures { state.new ≡ record state.old { core = record state.old.core { stack_set = true }; items = [] } }
+/// The items and cells behind an instruction.
+#[tactic(auto, unfolding(crate::specs::Behind::moved_state))]
+pub(crate) fn move_state(moved: Moved, write: AbsWrite, state: &mut Abs)
+    ensures { state.new ≡ Behind.moved_state moved.stack moved.kind moved.cell moved.stack_move write state.old }
 {
-    state.set_core(Core {
-        stack_set: true,
-        ..*state.core()
-    });
-    state.set_items(ArrayVec::new());
-}
-
-/// The state with a word pushed, where there is room for it. PUSH is refused where there is none.
-#[tactic(auto, unfolding(crate::specs::Behind::pushed_if_room))]
-fn pushed_if_room(setting: Setting, word: Halves, state: &Abs) -> Abs
-    ensures { result ≡ Behind.pushed_if_room setting word state.now }
-{
-    match push(setting.rules, state, word) {
-        Some(pushed) => pushed,
-        None => state.copied(),
-    }
-}
-
-/// The state without the word that was pushed last. Of fewer than two bytes none is left.
-#[tactic(auto, using(crate::proofs::WordLaws::popped_few))]
-fn popped_state(state: &Abs) -> Abs
-    ensures { result ≡ popped state.now }
-{
-    if let Some(popped) = pop(state) {
-        return popped.state;
-    }
-    let mut left = state.copied();
-    left.set_items(ArrayVec::new());
-    left
-}
-
-/// What an instruction does to the stack: LD SP,n16 sets it, PUSH pushes what it writes, and POP pops.
-/// A return address belongs to the callee: it is no word of its caller's.
-#[tactic(auto, unfolding(crate::specs::Behind::with_stack_of))]
-fn move_stack(setting: Setting, op: Op, write: AbsWrite, state: &mut Abs)
-    ensures { state.new ≡ Behind.with_stack_of setting op write state.old }
-{
-    match (op, write) {
-        (Op::LoadPair(Pair::Sp, _), _) => set_stack(state),
-        (Op::Push(_), AbsWrite::Push { high, low }) => {
-            *state = pushed_if_room(setting, Halves { high, low }, state);
-        }
-        (Op::Pop(_), _) => *state = popped_state(state),
-        _ => {}
-    }
+    set_cell(moved.stack.setting, moved.cell, state);
+    move_stack(moved.stack.setting, moved.stack_move, state);
+    self::write(moved.stack, moved.kind, write, state);
 }

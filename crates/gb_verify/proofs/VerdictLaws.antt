@@ -1,8 +1,9 @@
 -- The verdict: step by step over the nodes, and what it says.
 use Rattle.std.proofs.Common.{◌≡◌, ℕ, zero, suc, ◌+◌, ◌≤◌, ◌<◌, Bool, true, false, not, ◌==◌, cond, ◌&&◌, ◌||◌, ◌⊎◌, inl, inr, List, [], ◌∷◌, Option, Some, None, length, drop, slice_get, refl, sym, ◌∙◌, ap, subst, arith}
-use Rattle.std.specs.Prelude.{option_and_then}
+use Rattle.std.specs.Prelude.{option_and_then, is_some}
 use Rattle.std.proofs.lemmas.Option.{slice_get-get_or}
 use Rattle.gb_domain.specs.declared.rules.Rules.{Rules}
+use Rattle.gb_domain.specs.declared.rules.Rules.TheVariants.{Simple, Extended}
 use Rattle.gb_domain.specs.declared.setting.Setting.{Setting}
 use Rattle.gb_domain.specs.Limits.{rules_of}
 use Rattle.gb_domain.specs.Types.{AbsState, ProcedureParts, Node}
@@ -11,19 +12,20 @@ use Rattle.gb_rules.specs.Below.gb_abs.declared.reason.Reason.{Reason}
 use Rattle.gb_rules.specs.Below.gb_abs.declared.reason.Reason.TheVariants as reason
 use Rattle.std.specs.List.{find, list_any}
 use Rattle.gb_ops.specs.Machine.{vector}
-use Rattle.gb_rules.specs.Below.gb_calls.Interrupts.{dispatched, may_come, handler_of}
+use Rattle.gb_rules.specs.Below.gb_calls.Interrupts.{left_by_dispatch, may_come, handler_of}
 use Rattle.gb_ops.specs.declared.op.Row.{Row}
 use Rattle.gb_ops.specs.Table.{decoded}
-use Rattle.gb_domain.specs.declared.types.Range.{Range}
+use Rattle.gb_ops.specs.Cartridge.{kind_of}
 use Rattle.gb_rules.specs.Below.gb_abs_effects.declared.targets.Target.{Target}
 use Rattle.gb_rules.specs.Below.gb_abs_effects.declared.targets.Target.TheVariants as target
-use Rattle.gb_rules.specs.Below.gb_calls.Calls.{entered, is_entry, or_later, entry_from, entry_behind_main, callee_of, resumed}
+use Rattle.gb_rules.specs.Below.gb_calls.Calls.{is_entry, or_later, entry_from, entry_behind_main, callee_of}
 use Rattle.gb_rules.specs.Below.gb_successors.Way.{Successor}
-use Rattle.gb_rules.specs.Below.gb_successors.Successors.{has, any_successor, successors_of}
-use Rattle.gb_rules.specs.Covered.{covered_at}
-use Rattle.gb_rules.specs.Procedures.{ranges_of, need_of, exit_of, base_in, setting_of}
-use Rattle.gb_rules.specs.Below.gb_successors.Refused.{meets_oam_transfer}
-use Rattle.gb_rules.specs.Rules.{is_extended, is_unjudged, breaks_stack, is_code_limited, is_dispatch_limited, meets_ram, meets_transfer, leads_anywhere, callee_by, callee_at, is_over, calls_too_deep, is_resumed_uncovered, is_back_uncovered, is_uncovered_at, is_uncovered, is_outside_of, is_uncallable_at, is_uncallable, is_unreturnable_at, is_unreturnable, interrupts, handles_too_deep, is_unhandled, lacks_handler, test_row, test_instruction, node_bytes, any_of, grows_too_deep, stores_outside, leads_uncovered, calls_wrongly, returns_wrongly, applies_to_row, applies, reasons, reason_of}
+use Rattle.gb_rules.specs.Below.gb_successors.declared.stacks.Stack.{Stack}
+use Rattle.gb_rules.specs.Below.gb_successors.declared.successors.Successors.{Successors}
+use Rattle.gb_rules.specs.Below.gb_successors.Successors.{product_before, has, any_successor, successors_of}
+use Rattle.gb_rules.specs.Procedures.{ranges_of, need_of, exit_of, base_in, setting_of, stack_of, taken_by}
+use Rattle.gb_rules.specs.Below.gb_successors.Refused.{is_unstorable, meets_oam_transfer}
+use Rattle.gb_rules.specs.Rules.{is_extended, is_unjudged, breaks_stack, is_code_limited, is_dispatch_limited, moves_too_deep, callee_by, callee_at, is_over, calls_too_deep, is_uncovered_if, is_resumed_uncovered, is_back_uncovered, is_inlined_uncovered, is_call_uncovered, is_uncovered_at, is_uncovered, is_outside_of, is_uncallable_at, is_uncallable, is_unreturnable_at, is_unreturnable, interrupts, is_dispatch_deep, handles_too_deep, is_unhandled, lacks_handler, test_row, test_instruction, node_bytes, ways_of, any_of, is_possible, grows_too_deep, stores_outside, meets_ram, meets_transfer, leads_anywhere, leads_uncovered, calls_wrongly, returns_wrongly, applies_to_row, applies, reasons, reason_of}
 use Rattle.gb_verify.specs.declared.verdict.Verdict.TheVariants.{Refused}
 use Rattle.gb_verify.specs.Verdict.{reason_against, reason_against_at, refusal_or, verdict_from, verdict_of, is_bad_entry, main_entry, IsVerdict, IgnoresVersion}
 
@@ -101,80 +103,118 @@ IsVerdict-verdict_of rom cert = by (is_bad_entry rom cert) refl
 abbrev other : Certificate → ℕ → Certificate
 other cert version = record cert { version = version }
 
-same_callee_from : (cert : Certificate) (version a : ℕ) (t : AbsState) (i : ℕ) (ps : List ProcedureParts) → entry_from (other cert version) a t i ps ≡ entry_from cert a t i ps
+same_callee_from :
+    (cert : Certificate) (version : ℕ) (z : Setting) (a : ℕ) (t : AbsState) (i : ℕ) (ps : List ProcedureParts)
+    → entry_from (other cert version) z a t i ps ≡ entry_from cert z a t i ps
 unfolding is_entry
-same_callee_from cert version a t i [] = refl
-same_callee_from cert version a t i (p ∷ ps) = ap (or_later (is_entry cert a t p) i) (same_callee_from cert version a t (i + 1) ps)
+same_callee_from cert version z a t i [] = refl
+same_callee_from cert version z a t i (p ∷ ps) = ap (or_later (is_entry cert z a t p) i) (same_callee_from cert version z a t (i + 1) ps)
 
-same_callee : (cert : Certificate) (version a : ℕ) (t : AbsState) → callee_of (other cert version) a t ≡ callee_of cert a t
+same_callee : (cert : Certificate) (version : ℕ) (z : Setting) (a : ℕ) (t : AbsState) → callee_of (other cert version) z a t ≡ callee_of cert z a t
 unfolding callee_of
-same_callee cert version a t = by cert.procedures
+same_callee cert version z a t = by cert.procedures
   where
-    by : (ps : List ProcedureParts) → entry_behind_main (other cert version) a (entered t) ps ≡ entry_behind_main cert a (entered t) ps
+    by : (ps : List ProcedureParts) → entry_behind_main (other cert version) z a t ps ≡ entry_behind_main cert z a t ps
     by [] = refl
-    by (main ∷ ps) = same_callee_from cert version a (entered t) 1 ps
+    by (main ∷ ps) = same_callee_from cert version z a t 1 ps
 
-same_callee_by : (cert : Certificate) (version : ℕ) (w : Target) (t : AbsState) → callee_by (other cert version) w t ≡ callee_by cert w t
-same_callee_by cert version (target.At a) t = refl
-same_callee_by cert version (target.Call a) t = same_callee cert version a t
-same_callee_by cert version target.Return t = refl
-same_callee_by cert version target.Unknown t = refl
+same_callee_by : (cert : Certificate) (version : ℕ) (z : Setting) (w : Target) (t : AbsState) → callee_by (other cert version) z w t ≡ callee_by cert z w t
+same_callee_by cert version z (target.Call a) t = same_callee cert version z a t
+same_callee_by cert version z (target.At a) t = refl
+same_callee_by cert version z (target.Main a) t = refl
+same_callee_by cert version z target.Return t = refl
+same_callee_by cert version z target.Unknown t = refl
+same_callee_by cert version z target.Lost t = refl
 
-same_over : (cert : Certificate) (version need held : ℕ) (o : Option ℕ) → is_over (other cert version) need held o ≡ is_over cert need held o
-unfolding need_of
-same_over cert version need held None = refl
-same_over cert version need held (Some q) = refl
+same_over :
+    (cert : Certificate) (version : ℕ) (rules : Rules) (need held : ℕ) (o : Option ℕ) → is_over rules (other cert version) need held o ≡ is_over rules cert need held o
+unfolding need_of taken_by
+same_over cert version rules need held None = refl
+same_over cert version Simple need held (Some q) = refl
+same_over cert version Extended need held (Some q) = refl
 
-same_depth : (cert : Certificate) (version need : ℕ) (t : Successor) → calls_too_deep (other cert version) need t ≡ calls_too_deep cert need t
+same_depth :
+    (cert : Certificate) (version : ℕ) (z : Setting) (need : ℕ) (t : Successor) → calls_too_deep (other cert version) z need t ≡ calls_too_deep cert z need t
 unfolding calls_too_deep callee_at
-same_depth cert version need t =
-    ap (is_over (other cert version) need (length t.state.items)) (same_callee_by cert version t.target t.state) ∙ same_over cert version need (length t.state.items) (callee_by cert t.target t.state)
+same_depth cert version z need t =
+    ap (is_over z.rules (other cert version) need (length t.state.items)) (same_callee_by cert version z t.target t.state)
+    ∙ same_over cert version z.rules need (length t.state.items) (callee_by cert z t.target t.state)
 
-same_exit : (cert : Certificate) (version procedure back : ℕ) (t : AbsState) (ranges : List Range) (exit : Option AbsState) → rules_of version ≡ rules_of cert.version
-    → is_resumed_uncovered (other cert version) procedure back t ranges exit ≡ is_resumed_uncovered cert procedure back t ranges exit
-same_exit cert version procedure back t ranges None e = refl
-same_exit cert version procedure back t ranges (Some exit) e = ap (λ rules. not (covered_at cert.nodes procedure back (resumed rules ranges t exit))) e
+same_after :
+    (cert : Certificate) (version : ℕ) (rules : Rules) (procedure a : ℕ) (o : Option AbsState)
+    → is_uncovered_if rules (other cert version) procedure a o ≡ is_uncovered_if rules cert procedure a o
+same_after cert version rules procedure a None = refl
+same_after cert version rules procedure a (Some t) = refl
 
-same_back : (cert : Certificate) (version procedure back : ℕ) (t : AbsState) (o : Option ℕ) → rules_of version ≡ rules_of cert.version
-    → is_back_uncovered (other cert version) procedure back t o ≡ is_back_uncovered cert procedure back t o
-unfolding ranges_of exit_of
-same_back cert version procedure back t None e = refl
-same_back cert version procedure back t (Some q) e = same_exit cert version procedure back t (ranges_of cert q) (exit_of cert q) e
+same_exit :
+    (cert : Certificate) (version : ℕ) (rules : Rules) (procedure back : ℕ) (t : AbsState) (q : ℕ) (exit : Option AbsState)
+    → is_resumed_uncovered rules (other cert version) procedure back t q exit ≡ is_resumed_uncovered rules cert procedure back t q exit
+unfolding taken_by ranges_of
+same_exit cert version rules procedure back t q None = refl
+same_exit cert version rules procedure back t q (Some exit) = same_after cert version rules procedure back _
 
-same_covering : (cert : Certificate) (version procedure : ℕ) (t : Successor) → rules_of version ≡ rules_of cert.version → is_uncovered (other cert version) procedure t ≡ is_uncovered cert procedure t
+same_back :
+    (cert : Certificate) (version : ℕ) (rules : Rules) (procedure back : ℕ) (t : AbsState) (q : ℕ)
+    → is_back_uncovered rules (other cert version) procedure back t q ≡ is_back_uncovered rules cert procedure back t q
+unfolding exit_of
+same_back cert version rules procedure back t q = same_exit cert version rules procedure back t q (exit_of cert q)
+
+same_inlined :
+    (cert : Certificate) (version : ℕ) (rules : Rules) (procedure a : ℕ) (t : AbsState)
+    → is_inlined_uncovered rules (other cert version) procedure a t ≡ is_inlined_uncovered rules cert procedure a t
+same_inlined cert version Simple procedure a t = refl
+same_inlined cert version Extended procedure a t = refl
+
+same_called :
+    (cert : Certificate) (version : ℕ) (rules : Rules) (procedure a back : ℕ) (t : AbsState) (o : Option ℕ)
+    → is_call_uncovered rules (other cert version) procedure a back t o ≡ is_call_uncovered rules cert procedure a back t o
+same_called cert version rules procedure a back t None = same_inlined cert version rules procedure a t
+same_called cert version rules procedure a back t (Some q) = same_back cert version rules procedure back t q
+
+same_covering :
+    (cert : Certificate) (version : ℕ) (z : Setting) (procedure : ℕ) (t : Successor) → is_uncovered z (other cert version) procedure t ≡ is_uncovered z cert procedure t
 unfolding is_uncovered
-same_covering cert version procedure t e = by t.target
+same_covering cert version z procedure t = by t.target
   where
-    by : (w : Target) → is_uncovered_at (other cert version) procedure w t.next t.state ≡ is_uncovered_at cert procedure w t.next t.state
+    by : (w : Target) → is_uncovered_at z (other cert version) procedure w t.next t.state ≡ is_uncovered_at z cert procedure w t.next t.state
     by (target.At a) = refl
-    by (target.Call a) = ap (is_back_uncovered (other cert version) procedure t.next t.state) (same_callee cert version a t.state) ∙ same_back cert version procedure t.next t.state (callee_of cert a t.state) e
+    by (target.Call a) =
+        ap (is_call_uncovered z.rules (other cert version) procedure a t.next t.state) (same_callee cert version z a t.state)
+        ∙ same_called cert version z.rules procedure a t.next t.state (callee_of cert z a t.state)
+    by (target.Main a) = refl
     by target.Return = refl
     by target.Unknown = refl
+    by target.Lost = refl
 
-same_outside : (cert : Certificate) (version procedure : ℕ) (o : Option ℕ) → is_outside_of (other cert version) procedure o ≡ is_outside_of cert procedure o
+same_outside : (cert : Certificate) (version : ℕ) (z : Setting) (procedure : ℕ) (o : Option ℕ) → is_outside_of z (other cert version) procedure o ≡ is_outside_of z cert procedure o
 unfolding ranges_of
-same_outside cert version procedure None = refl
-same_outside cert version procedure (Some q) = refl
+same_outside cert version z procedure None = refl
+same_outside cert version z procedure (Some q) = refl
 
-same_call : (cert : Certificate) (version procedure : ℕ) (t : Successor) → is_uncallable (other cert version) procedure t ≡ is_uncallable cert procedure t
+same_call : (cert : Certificate) (version : ℕ) (z : Setting) (procedure : ℕ) (t : Successor) → is_uncallable z (other cert version) procedure t ≡ is_uncallable z cert procedure t
 unfolding is_uncallable
-same_call cert version procedure t = by t.target
+same_call cert version z procedure t = by t.target
   where
-    by : (w : Target) → is_uncallable_at (other cert version) procedure w t.state ≡ is_uncallable_at cert procedure w t.state
+    by : (w : Target) → is_uncallable_at z (other cert version) procedure w t.state ≡ is_uncallable_at z cert procedure w t.state
     by (target.At a) = refl
-    by (target.Call a) = ap (is_outside_of (other cert version) procedure) (same_callee cert version a t.state) ∙ same_outside cert version procedure (callee_of cert a t.state)
+    by (target.Call a) =
+        ap (is_outside_of z (other cert version) procedure) (same_callee cert version z a t.state) ∙ same_outside cert version z procedure (callee_of cert z a t.state)
+    by (target.Main a) = refl
     by target.Return = refl
     by target.Unknown = refl
+    by target.Lost = refl
 
-same_return : (cert : Certificate) (version procedure : ℕ) (t : Successor) → is_unreturnable (other cert version) procedure t ≡ is_unreturnable cert procedure t
+same_return : (cert : Certificate) (version : ℕ) (rules : Rules) (procedure : ℕ) (t : Successor) → is_unreturnable rules (other cert version) procedure t ≡ is_unreturnable rules cert procedure t
 unfolding is_unreturnable exit_of
-same_return cert version procedure t = by t.target
+same_return cert version rules procedure t = by t.target
   where
-    by : (w : Target) → is_unreturnable_at (other cert version) procedure w t.state ≡ is_unreturnable_at cert procedure w t.state
+    by : (w : Target) → is_unreturnable_at rules (other cert version) procedure w t.state ≡ is_unreturnable_at rules cert procedure w t.state
     by (target.At a) = refl
     by (target.Call a) = refl
+    by (target.Main a) = refl
     by target.Return = refl
     by target.Unknown = refl
+    by target.Lost = refl
 
 same_setting : (cert : Certificate) (version procedure : ℕ) → rules_of version ≡ rules_of cert.version → setting_of (other cert version) procedure ≡ setting_of cert procedure
 unfolding setting_of
@@ -182,14 +222,23 @@ same_setting cert version procedure e =
     let with : Rules → Setting = λ rules. record { rules = rules; is_main = procedure == 0; base = base_in (slice_get cert.procedures procedure) } in
     ap with e
 
+same_stack : (cert : Certificate) (version procedure : ℕ) → rules_of version ≡ rules_of cert.version → stack_of (other cert version) procedure ≡ stack_of cert procedure
+unfolding stack_of need_of
+same_stack cert version procedure e =
+    let with : Setting → Stack = λ z. record { setting = z; region = cert.region; need = need_of cert procedure; main_need = need_of cert 0 } in
+    ap with (same_setting cert version procedure e)
+
+same_ways : (rom : List ℕ) (cert : Certificate) (version : ℕ) (n : Node) (row : Row) → rules_of version ≡ rules_of cert.version → ways_of rom (other cert version) n row ≡ ways_of rom cert n row
+unfolding ways_of
+same_ways rom cert version n row e = ap (λ k. successors_of k rom row n.address n.state) (same_stack cert version n.procedure e)
+
 -- tests that agree on each successor
 same_any : (test also : Successor → Bool) (rom : List ℕ) (cert : Certificate) (version : ℕ) (n : Node) (row : Row) → rules_of version ≡ rules_of cert.version
     → ((t : Successor) → test t ≡ also t) → any_of test rom (other cert version) n row ≡ any_of also rom cert n row
 unfolding any_of any_successor
 same_any test also rom cert version n row e same =
-    let ss = successors_of (setting_of cert n.procedure) rom cert.region row n.address n.state in
-    ap (λ setting. any_successor test (successors_of setting rom cert.region row n.address n.state)) (same_setting cert version n.procedure e)
-    ∙ rw (has_same ss.taken, has_same ss.not_taken, has_same ss.stays) refl
+    let ss = ways_of rom cert n row in
+    ap (any_successor test) (same_ways rom cert version n row e) ∙ rw (has_same ss.taken, has_same ss.not_taken, has_same ss.stays) refl
   where
     has_same : (o : Option Successor) → has test o ≡ has also o
     has_same None = refl
@@ -200,41 +249,80 @@ same_interrupts : (test also : ℕ → Bool) (n : Node) (is : List ℕ) → ((i 
 same_interrupts test also n [] same = refl
 same_interrupts test also n (i ∷ is) same = rw (same i, same_interrupts test also n is same) refl
 
-same_handler : (cert : Certificate) (version i : ℕ) (t : AbsState) → handler_of (other cert version) i t ≡ handler_of cert i t
+same_handler : (cert : Certificate) (version : ℕ) (z : Setting) (i a : ℕ) (t : AbsState) → handler_of (other cert version) z i a t ≡ handler_of cert z i a t
 unfolding handler_of
-same_handler cert version i t = same_callee cert version (vector i) (dispatched t)
+same_handler cert version z i a t = same_callee cert version z (vector i) (left_by_dispatch z.rules a t)
 
-same_handled_depth : (cert : Certificate) (version : ℕ) (n : Node) → handles_too_deep (other cert version) n ≡ handles_too_deep cert n
+same_deep :
+    (cert : Certificate) (version : ℕ) (z : Setting) (need : ℕ) (t : AbsState) (o : Option ℕ)
+    → is_dispatch_deep z (other cert version) need t o ≡ is_dispatch_deep z cert need t o
+same_deep cert version z need t o =
+    rw (same_over cert version Extended need (length t.items + 2) o, same_over cert version Simple need (length t.items) o) refl
+
+same_handled_depth : (cert : Certificate) (version : ℕ) (n : Node) → rules_of version ≡ rules_of cert.version → handles_too_deep (other cert version) n ≡ handles_too_deep cert n
 unfolding handles_too_deep need_of
-same_handled_depth cert version n = same_interrupts _ _ n interrupts (λ i.
-    ap (is_over (other cert version) (need_of cert n.procedure) (length n.state.items)) (same_handler cert version i n.state)
-    ∙ same_over cert version (need_of cert n.procedure) (length n.state.items) (handler_of cert i n.state))
+same_handled_depth cert version n e =
+    let z = setting_of cert n.procedure in
+    let need = need_of cert n.procedure in
+    let test : Setting → ℕ → Bool = λ k i. is_dispatch_deep k (other cert version) need n.state (handler_of (other cert version) k i n.address n.state) in
+    ap (λ k. list_any (λ i. may_come i n.state.core && test k i) interrupts) (same_setting cert version n.procedure e)
+    ∙ same_interrupts (test z) (λ i. is_dispatch_deep z cert need n.state (handler_of cert z i n.address n.state)) n interrupts (λ i.
+    ap (is_dispatch_deep z (other cert version) need n.state) (same_handler cert version z i n.address n.state)
+    ∙ same_deep cert version z need n.state (handler_of cert z i n.address n.state))
 
-same_unhandled : (cert : Certificate) (version : ℕ) (n : Node) (o : Option ℕ) → rules_of version ≡ rules_of cert.version
-    → is_unhandled (other cert version) n o ≡ is_unhandled cert n o
-same_unhandled cert version n o e =
-    rw (same_outside cert version n.procedure o, same_back cert version n.procedure n.address (dispatched n.state) o e) refl
+same_unhandled :
+    (cert : Certificate) (version : ℕ) (z : Setting) (n : Node) (i : ℕ) (o : Option ℕ) → is_unhandled z (other cert version) n i o ≡ is_unhandled z cert n i o
+same_unhandled cert version z n i o =
+    rw (same_outside cert version z n.procedure o, same_called cert version z.rules n.procedure (vector i) n.address (left_by_dispatch z.rules n.address n.state) o) refl
 
 same_lacking : (cert : Certificate) (version : ℕ) (n : Node) → rules_of version ≡ rules_of cert.version → lacks_handler (other cert version) n ≡ lacks_handler cert n
 unfolding lacks_handler
-same_lacking cert version n e = same_interrupts _ _ n interrupts (λ i.
-    ap (is_unhandled (other cert version) n) (same_handler cert version i n.state) ∙ same_unhandled cert version n (handler_of cert i n.state) e)
+same_lacking cert version n e =
+    let z = setting_of cert n.procedure in
+    let test : Setting → ℕ → Bool = λ k i. is_unhandled k (other cert version) n i (handler_of (other cert version) k i n.address n.state) in
+    ap (λ k. list_any (λ i. may_come i n.state.core && test k i) interrupts) (same_setting cert version n.procedure e)
+    ∙ same_interrupts (test z) (λ i. is_unhandled z cert n i (handler_of cert z i n.address n.state)) n interrupts (λ i.
+    ap (is_unhandled z (other cert version) n i) (same_handler cert version z i n.address n.state)
+    ∙ same_unhandled cert version z n i (handler_of cert z i n.address n.state))
+
+same_possible : (cert : Certificate) (version : ℕ) (n : Node) → rules_of version ≡ rules_of cert.version → is_possible (other cert version) n ≡ is_possible cert n
+same_possible cert version n e = ap (λ rules. is_some (product_before rules n.state)) e
+
+same_growth : (rom : List ℕ) (cert : Certificate) (version : ℕ) (n : Node) (row : Row) → rules_of version ≡ rules_of cert.version → grows_too_deep rom (other cert version) n row ≡ grows_too_deep rom cert n row
+unfolding grows_too_deep need_of
+same_growth rom cert version n row e =
+    let z = setting_of cert n.procedure in
+    let need = need_of cert n.procedure in
+    let moves : moves_too_deep (rules_of version) need n row.op (ways_of rom (other cert version) n row).taken
+    ≡ moves_too_deep (rules_of cert.version) need n row.op (ways_of rom cert n row).taken =
+    ap (λ rules. moves_too_deep rules need n row.op (ways_of rom (other cert version) n row).taken) e
+    ∙ ap (λ (ss : Successors). moves_too_deep (rules_of cert.version) need n row.op ss.taken) (same_ways rom cert version n row e) in
+    let calls : any_of (calls_too_deep (other cert version) (setting_of (other cert version) n.procedure) need) rom (other cert version) n row
+    ≡ any_of (calls_too_deep cert z need) rom cert n row =
+    same_any _ _ rom cert version n row e (λ t.
+    ap (λ k. calls_too_deep (other cert version) k need t) (same_setting cert version n.procedure e) ∙ same_depth cert version z need t) in
+    rw (moves, calls, same_possible cert version n e, same_handled_depth cert version n e) refl
 
 same_row : (rom : List ℕ) (cert : Certificate) (version : ℕ) (n : Node) (row : Row) (r : Reason) → rules_of version ≡ rules_of cert.version
     → applies_to_row rom (other cert version) n row r ≡ applies_to_row rom cert n row r
-unfolding applies_to_row is_unjudged grows_too_deep stores_outside meets_ram meets_transfer leads_anywhere leads_uncovered calls_wrongly returns_wrongly ranges_of need_of
-same_row rom cert version n row reason.Stack e = ap (λ rules. is_extended rules || breaks_stack cert.region n row.op) e
-same_row rom cert version n row reason.Depth e =
-    rw (same_any (calls_too_deep (other cert version) (need_of cert n.procedure)) (calls_too_deep cert (need_of cert n.procedure)) rom cert version n row e (same_depth cert version (need_of cert n.procedure)), same_handled_depth cert version n) refl
-same_row rom cert version n row reason.Store e = same_any _ _ rom cert version n row e (λ t. refl)
+unfolding applies_to_row is_unjudged stores_outside meets_ram meets_transfer leads_anywhere leads_uncovered calls_wrongly returns_wrongly ranges_of
+same_row rom cert version n row reason.Stack e =
+    ap (λ rules. is_extended rules || breaks_stack (stack_of (other cert version) n.procedure) n row.op) e
+    ∙ ap (λ k. is_extended (rules_of cert.version) || breaks_stack k n row.op) (same_stack cert version n.procedure e)
+same_row rom cert version n row reason.Depth e = same_growth rom cert version n row e
+same_row rom cert version n row reason.Store e =
+    same_any _ _ rom cert version n row e (λ t. ap (λ z. is_unstorable z (kind_of rom) cert.region (ranges_of cert n.procedure) t.write) (same_setting cert version n.procedure e))
 same_row rom cert version n row reason.CartridgeRam e = same_any _ _ rom cert version n row e (λ t. refl)
 same_row rom cert version n row reason.OamTransfer e =
     let limited : Successor → Bool = λ t. is_code_limited n.state.core n.address row.length || meets_oam_transfer cert.region n.state.core t in
-    ap (λ b. b || is_dispatch_limited cert.region n) (same_any limited limited rom cert version n row e (λ t. refl))
+    rw (same_any limited limited rom cert version n row e (λ t. refl), same_possible cert version n e) refl
 same_row rom cert version n row reason.JumpHl e = same_any _ _ rom cert version n row e (λ t. refl)
-same_row rom cert version n row reason.Uncovered e = same_any _ _ rom cert version n row e (λ t. same_covering cert version n.procedure t e)
-same_row rom cert version n row reason.Callee e = same_any _ _ rom cert version n row e (same_call cert version n.procedure)
-same_row rom cert version n row reason.Return e = same_any _ _ rom cert version n row e (same_return cert version n.procedure)
+same_row rom cert version n row reason.Uncovered e = same_any _ _ rom cert version n row e (λ t.
+    ap (λ z. is_uncovered z (other cert version) n.procedure t) (same_setting cert version n.procedure e) ∙ same_covering cert version (setting_of cert n.procedure) n.procedure t)
+same_row rom cert version n row reason.Callee e = same_any _ _ rom cert version n row e (λ t.
+    ap (λ z. is_uncallable z (other cert version) n.procedure t) (same_setting cert version n.procedure e) ∙ same_call cert version (setting_of cert n.procedure) n.procedure t)
+same_row rom cert version n row reason.Return e = same_any _ _ rom cert version n row e (λ t.
+    ap (λ rules. is_unreturnable rules (other cert version) n.procedure t) e ∙ same_return cert version (rules_of cert.version) n.procedure t)
 same_row rom cert version n row r e = refl
 
 same_instruction : (test also : Row → Bool) (bytes : Option (List ℕ)) → ((row : Row) → test row ≡ also row) → test_instruction test bytes ≡ test_instruction also bytes

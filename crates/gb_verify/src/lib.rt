@@ -18,13 +18,16 @@ pub use gb_domain::types::{
     Abs, Cell, Core, Ctl, Flg, ImeSet, May, Origin, RANGES, Range, Rules, Setting, Val,
 };
 pub use gb_rules::covered::covered_at;
-pub use gb_rules::procedures::{callee_at, exit_of, need_of, ranges_of};
+pub use gb_rules::procedures::{
+    callee_at, exit_of, need_of, ranges_of, setting_of, stack_of, taken_by,
+};
 pub use gb_rules::rules::{check_node, is_nop_behind};
 pub use gb_rules::{
-    AbsRead, AbsWrite, Cert, NodeRef, ProcedureRef, Reason, Span, Successor, Successors, Target,
-    any, are_ranges_inside, area_end, cell_at, covers, dispatched, enter, holds_bytes, is_limited,
-    is_ram, is_stack_limited, known_bank, known_byte, known_bytes, leaves_area, length_of,
-    lies_in_high_ram, may_come, meets_closed_ram, resume, successors_of, with_value,
+    AbsRead, AbsWrite, Cert, NodeRef, ProcedureRef, Reason, Resumed, Span, Stack, Successor,
+    Successors, Target, any, are_ranges_inside, area_end, cell_at, covers, enter, holds_bytes,
+    is_limited, is_ram, is_stack_limited, known_bank, known_byte, known_bytes, leaves_area,
+    left_by_dispatch, length_of, lies_in_high_ram, may_come, meets_closed_ram, resume,
+    successors_of, with_value,
 };
 pub use gb_states::CertFault;
 pub use gb_states::relations::test_alone;

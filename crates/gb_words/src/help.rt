@@ -36,11 +36,12 @@ ROM may be - for standard input.";
 
 /// Below the help of `show`.
 pub(crate) const SHOW: &str = "\
-It prints lines (status 0), of either version of a certificate:
+It prints lines (status 0):
   stack BBBB..TTTT procedures P nodes N                         the stack region and the two counts
   procedure I entry E need W ranges R returns yes               for each procedure (or returns no)
   node I procedure P address AAAA bank BBB                      for each node
-Addresses and banks are hexadecimal; E is the number of a node, W counts words of stack; numbers begin with 0.
+Addresses and banks are hexadecimal; E is the number of a node, W counts words of stack; numbers begin with 0. In
+version 3 `base BBBB`, the address above the procedure's items, stands before the need, and W counts bytes.
 Where CERT is no certificate it prints one line:
   CERTIFICATE Cn  what is wrong with it (C1 to C8, status 2), or memory ran out (C9, status 3)
 
@@ -48,9 +49,9 @@ CERT may be - for standard input.";
 
 /// Below the help of `upgrade`.
 pub(crate) const UPGRADE: &str = "\
-It writes the bytes of the same certificate in version 2 on standard output (status 0), so redirect it:
+It writes the bytes of a certificate of version 1 in version 2 on standard output (status 0), so redirect it:
   gulmyrek upgrade old.cert > new.cert
-A certificate of version 2 comes out as it is. The verdict doesn't depend on the version.
+A certificate of version 2 or 3 comes out as it is. The verdict on both files is the same.
 Where CERT is no certificate it prints one line:
   CERTIFICATE Cn  what is wrong with it (C1 to C8, status 2), or memory ran out (C9, status 3)
 

@@ -1,22 +1,27 @@
 use Rattle.std.proofs.Common.{refl}
-use Rattle.gb_successors.specs.Successors.{taken_successor, taken_parts, relations_behind}
+use Rattle.gb_successors.specs.Successors.{effect_in, taken_parts, relations_behind, taken_successor}
 use Rattle.gb_successors.proofs.MovedLaws.{taken_state}
 use Rattle.gb_successors.proofs.successor.taken_successor.Goals as goal
 
 pub returns : goal.returns
-unfolding taken_successor taken_parts relations_behind
+unfolding effect_in taken_parts relations_behind taken_successor
 returns c =
     rw (
       c.move_of.ensures,
+      taken_state c.args.stack c.kind-kind.result c.args.side.now.cell c.stack_move-stack_move.result c.refined-effect.result.write c.args.state.now c.core_behind.result c.relations_after.result,
       c.core_behind.ensures,
-      taken_state c.args.setting c.kind-kind.result c.args.row.op c.transfer-effect.result.write c.args.row.cycles c.args.state.now c.transfer-effect.result.core c.relations_after.result,
       c.relations_after.ensures.exact,
-      c.sp_bounds.ensures.exact,
-      c.relations.ensures,
+      c.refined_target.ensures,
       c.target_of.ensures.exact,
-      c.transfer-effect.ensures.exact,
+      c.stack_move-stack_move.ensures,
+      c.refined-effect.ensures,
+      c.transfer.ensures.exact,
+      c.known_carry.ensures.exact,
       c.sp_halves.ensures.exact,
       c.read_word-word.ensures,
-      c.read_of-read.ensures.exact,
+      c.cut_read-read.ensures,
+      c.read_of.ensures.exact,
+      c.sp_bounds-sp.ensures.exact,
+      c.pointer_bounds-pointer.ensures.exact,
       c.kind-kind.ensures.kind,
     ) refl

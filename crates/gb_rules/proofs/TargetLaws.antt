@@ -1,0 +1,122 @@
+-- Where the successors of an instruction go on by the rules of versions 1 and 2: where its row says.
+use Rattle.std.proofs.Common.{◌≡◌, ℕ, ◌+◌, ◌%◌, Bool, true, false, cond, List, Option, Some, None, inl, inr, refl, sym, ◌∙◌, ap, subst}
+use Rattle.std.proofs.lemmas.Option.{same_Some}
+use Rattle.std.specs.Prelude.{option_map, option_and_then}
+use Rattle.gb_ops.specs.declared.op.Pair.TheVariants as pair
+use Rattle.gb_ops.specs.declared.op.Op.{Op}
+use Rattle.gb_ops.specs.declared.op.Op.TheVariants as op
+use Rattle.gb_ops.specs.declared.op.Row.{Row}
+use Rattle.gb_domain.specs.declared.pairs.Bounds.{Bounds}
+use Rattle.gb_domain.specs.declared.rules.Rules.{Rules}
+use Rattle.gb_domain.specs.declared.rules.Rules.TheVariants.{Simple}
+use Rattle.gb_domain.specs.declared.setting.Setting.{Setting}
+use Rattle.gb_domain.specs.declared.types.Core.{Core}
+use Rattle.gb_domain.specs.declared.types.Halves.{Halves}
+use Rattle.gb_domain.specs.Types.{AbsState}
+use Rattle.gb_product.specs.declared.parts.Branch.{Branch}
+use Rattle.gb_product.specs.declared.parts.Product.{Product}
+use Rattle.gb_product.specs.Reduced.{reduced}
+use Rattle.gb_product.specs.Sides.{taken_side, not_taken_side}
+use Rattle.gb_successors.specs.Below.gb_abs_effects.declared.targets.Target.{Target}
+use Rattle.gb_successors.specs.Below.gb_abs_effects.declared.targets.Target.TheVariants as target
+use Rattle.gb_successors.specs.Below.gb_abs_effects.Pairs.{is_word_known, least_word, pair_halves}
+use Rattle.gb_successors.specs.Below.gb_abs_effects.Targets.{word_target, target_of}
+use Rattle.gb_successors.specs.declared.stacks.Stack.{Stack}
+use Rattle.gb_successors.specs.declared.stacks.StackMove.{StackMove}
+use Rattle.gb_successors.specs.Refined.{refined_target}
+use Rattle.gb_successors.specs.Refused.{is_unknown}
+use Rattle.gb_successors.specs.Sound.{IsOneOf, is_followed}
+use Rattle.gb_successors.specs.Successors.{with_product, taken_parts, taken_successor, untaken_successor, reduced_successor, taken_from, not_taken_from, product_before, staying_successor, may_stay, stays, successors_of}
+use Rattle.gb_successors.specs.Way.{Successor}
+
+-- reducing leaves the target
+reduced_target : (rules : Rules) (u t : Successor) → reduced_successor rules u ≡ Some t → t.target ≡ u.target
+unfolding reduced_successor
+reduced_target rules u t h = by (reduced rules u.state.core u.state.relations) h
+  where
+    by : (o : Option Product) → option_map (with_product u) o ≡ Some t → t.target ≡ u.target
+    by None e = cc
+    by (Some p) e = sym (ap (λ (w : Successor). w.target) (same_Some _ _ e))
+
+by_row : (rules : Rules) (z : Setting) (o : Op) (next : ℕ) (w : Halves) (core : Core) (hl : Option Bounds) (m : StackMove) → rules ≡ Simple
+    → refined_target rules z o next w core hl m (target_of o next core) ≡ target_of o next core
+unfolding refined_target
+by_row rules z o next w core hl m simple = subst (λ q. refined_target q z o next w core hl m (target_of o next core) ≡ target_of o next core) (sym simple) refl
+
+taken_goes : (k : Stack) (rom : List ℕ) (row : Row) (next : ℕ) (s : AbsState) (b : Branch) → k.setting.rules ≡ Simple → (taken_successor k rom row next s b).target ≡ target_of row.op next b.core
+unfolding taken_successor taken_parts
+taken_goes k rom row next s b simple = by_row k.setting.rules k.setting row.op next _ b.core _ _ simple
+
+-- a successor that is taken goes on where the row says
+pub taken_target : (k : Stack) (rom : List ℕ) (row : Row) (a : ℕ) (s : AbsState) (t : Successor) → k.setting.rules ≡ Simple → (successors_of k rom row a s).taken ≡ Some t
+    → (core : Core) × (t.target ≡ target_of row.op ((a + row.length) % 65536) core)
+unfolding successors_of
+taken_target k rom row a s t simple h = from (product_before k.setting.rules s) h
+  where
+    at_side : (o : Option Branch) → option_and_then (λ b. reduced_successor k.setting.rules (taken_successor k rom row ((a + row.length) % 65536) s b)) o ≡ Some t
+        → (core : Core) × (t.target ≡ target_of row.op ((a + row.length) % 65536) core)
+    at_side None e = cc
+    at_side (Some b) e =
+        (b.core, reduced_target k.setting.rules (taken_successor k rom row ((a + row.length) % 65536) s b) t e ∙ taken_goes k rom row ((a + row.length) % 65536) s b simple)
+
+    from : (o : Option Product) → option_and_then (taken_from k rom row ((a + row.length) % 65536) s) o ≡ Some t → (core : Core) × (t.target ≡ target_of row.op ((a + row.length) % 65536) core)
+    from None e = cc
+    from (Some p) e = at_side (taken_side row.op s.cells p.core p.relations) e
+
+-- one that isn't goes on behind the instruction
+untaken_target : (k : Stack) (rom : List ℕ) (row : Row) (a : ℕ) (s : AbsState) (t : Successor) → (successors_of k rom row a s).not_taken ≡ Some t → t.target ≡ target.At ((a + row.length) % 65536)
+unfolding successors_of untaken_successor
+untaken_target k rom row a s t h = from (product_before k.setting.rules s) h
+  where
+    at_side : (o : Option Branch) → option_and_then (λ b. reduced_successor k.setting.rules (untaken_successor k row ((a + row.length) % 65536) s b)) o ≡ Some t
+        → t.target ≡ target.At ((a + row.length) % 65536)
+    at_side None e = cc
+    at_side (Some b) e = reduced_target k.setting.rules (untaken_successor k row ((a + row.length) % 65536) s b) t e
+
+    from : (o : Option Product) → option_and_then (not_taken_from k row ((a + row.length) % 65536) s) o ≡ Some t → t.target ≡ target.At ((a + row.length) % 65536)
+    from None e = cc
+    from (Some p) e = at_side (not_taken_side row.op s.cells p.core p.relations) e
+
+staying_target : (k : Stack) (rom : List ℕ) (row : Row) (a : ℕ) (s : AbsState) (t : Successor) → (successors_of k rom row a s).stays ≡ Some t → t.target ≡ target.At a
+unfolding successors_of stays staying_successor
+staying_target k rom row a s t h = by (may_stay row.op s.core) h
+  where
+    by : (b : Bool) → cond b (Some (staying_successor a s)) None ≡ Some t → t.target ≡ target.At a
+    by true e = sym (ap (λ (w : Successor). w.target) (same_Some _ _ e))
+    by false e = cc
+
+-- ---- what goes somewhere is followed
+
+word_followed : (w : Halves) → is_unknown (word_target w) ≡ false → is_followed (word_target w) ≡ true
+word_followed w h = by (is_word_known w) h
+  where
+    by : (b : Bool) → is_unknown (cond b (target.At (least_word w)) target.Unknown) ≡ false → is_followed (cond b (target.At (least_word w)) target.Unknown) ≡ true
+    by true h = refl
+    by false h = cc
+
+row_followed : (o : Op) (next : ℕ) (core : Core) → is_unknown (target_of o next core) ≡ false → is_followed (target_of o next core) ≡ true
+unfolding target_of
+row_followed op.JumpHl next core h = word_followed (pair_halves pair.Hl core) h
+row_followed (op.JumpRelative e8) next core h = refl
+row_followed (op.JumpRelativeIf condition e8) next core h = refl
+row_followed (op.ReturnIf condition) next core h = refl
+row_followed op.Return next core h = refl
+row_followed op.ReturnFromInterrupt next core h = refl
+row_followed (op.JumpIf condition w) next core h = refl
+row_followed (op.Jump w) next core h = refl
+row_followed (op.CallIf condition w) next core h = refl
+row_followed (op.Call w) next core h = refl
+row_followed (op.Restart w) next core h = refl
+row_followed o next core h = refl
+
+at_followed : (w : Target) (a : ℕ) → w ≡ target.At a → is_followed w ≡ true
+at_followed w a e = ap is_followed e
+
+-- by the rules of versions 1 and 2 each successor that doesn't lead anywhere is followed: none goes on in main or gets lost
+pub way_followed : (k : Stack) (rom : List ℕ) (row : Row) (a : ℕ) (s : AbsState) (t : Successor) → k.setting.rules ≡ Simple → IsOneOf (successors_of k rom row a s) t
+    → is_unknown t.target ≡ false → is_followed t.target ≡ true
+way_followed k rom row a s t simple (inl e) known =
+    let goes = taken_target k rom row a s t simple e in
+    ap is_followed goes.1 ∙ row_followed row.op ((a + row.length) % 65536) goes.0 (sym (ap is_unknown goes.1) ∙ known)
+way_followed k rom row a s t simple (inr (inl e)) known = at_followed t.target _ (untaken_target k rom row a s t e)
+way_followed k rom row a s t simple (inr (inr e)) known = at_followed t.target _ (staying_target k rom row a s t e)

@@ -1,8 +1,0 @@
-use Rattle.std.proofs.Common.{◌≡◌, ◌-◌, true}
-use Rattle.gb_ops.specs.Registers.{get}
-use Rattle.gb_rules.specs.Covered.{with_parts, is_covered_by_one, with_value, all_from}
-use Rattle.gb_rules.proofs.covered.is_covered_by_values.Given as goal
-
-abbrev pub invariant-loop-value : goal.invariant-loop-value
-invariant-loop-value l =
-    all_from (λ v. is_covered_by_one l.cert.nodes l.procedure l.address (with_value l.fn.register (with_parts l.states.core.now l.states.relations.now l.states.lists.now) v)) (get l.fn.register (with_parts l.states.core.now l.states.relations.now l.states.lists.now).core.registers).lo (l.value - (get l.fn.register (with_parts l.states.core.now l.states.relations.now l.states.lists.now).core.registers).lo) ≡ true

@@ -1,0 +1,103 @@
+//! Whether an instruction finds a stack that it can work with.
+
+ghost use Rattle.std.specs.Prelude.{◌≡◌};
+ghost use Rattle.gb_successors.specs.Below.gb_abs_effects.Targets as Targets;
+ghost use Rattle.gb_rules.specs.Rules as Ruled;
+
+use gb_calls::NodeRef;
+use gb_domain::pairs::Bounds;
+use gb_domain::types::{Abs, Rules};
+use gb_ops::machine::Region;
+use gb_ops::op::{Op, Pair};
+use gb_product::parts::Product;
+use gb_successors::AbsWrite;
+use gb_successors::stacks::{Stack, StackMove, stack_move};
+use gb_successors::successor::pointer_in;
+use gb_successors::successors::product_before;
+
+fn is_sp(pair: Pair) -> bool
+    ensures { result ≡ Targets.is_sp pair }
+{
+    matches!(pair, Pair::Sp)
+}
+
+/// Whether an instruction finds a stack that it can't work with, by the rules of versions 1 and 2: a word is pushed without a
+/// known stack, POP finds none, or SP would be another one than what is known of it. LD SP,n16 is main's, to the
+/// address behind the region.
+#[tactic(auto, unfolding(crate::specs::Rules::breaks_simple_stack))]
+fn breaks_simple_stack(region: Region, node: &NodeRef<'_>, state: &Abs, op: Op) -> bool
+    requires { state.now ≡ node.now.state }
+    ensures { result ≡ Ruled.breaks_simple_stack region node.now op }
+{
+    match op {
+        Op::LoadPair(Pair::Sp, word) => {
+            node.procedure() != 0 || u32::from(word) != u32::from(region.last) + 1
+        }
+        Op::Push(_) | Op::CallIf(_, _) | Op::Call(_) | Op::Restart(_) => !state.core().stack_set,
+        Op::Pop(_) => !state.core().stack_set || state.items().len() < 2,
+        Op::IncrementPair(pair) | Op::DecrementPair(pair) => is_sp(pair),
+        Op::AddSp(_) | Op::LoadSpHl => true,
+        _ => false,
+    }
+}
+
+/// Whether SP is set to an address that is neither the procedure's nor main's.
+fn sets_lost(stack: Stack, op: Op, hl: Option<Bounds>) -> bool
+    ensures { result ≡ Ruled.sets_lost stack op hl }
+{
+    matches!(
+        stack_move(stack, op, AbsWrite::Nothing, hl),
+        StackMove::Lost
+    )
+}
+
+/// Whether LD SP,HL sets it so from these states. Where nothing is meant, nothing is asked.
+fn sets_lost_from(stack: Stack, product: &Option<Product>) -> bool
+    ensures { result ≡ Ruled.sets_lost_from stack product.now }
+{
+    match product {
+        None => false,
+        Some(product) => sets_lost(
+            stack,
+            Op::LoadSpHl,
+            pointer_in(stack, Op::LoadSpHl, product),
+        ),
+    }
+}
+
+/// Whether the stack isn't set, or fewer bytes are held.
+fn lacks_bytes(count: usize, state: &Abs) -> bool
+    ensures { result ≡ Ruled.lacks_bytes count state.now }
+{
+    !state.core().stack_set || state.items().len() < count
+}
+
+/// The same by the rules of version 3: SP is set to a known address, one of the procedure's or of main's; what moves it
+/// otherwise finds the stack set, and as many bytes as it takes off.
+#[tactic(auto, unfolding(crate::specs::Rules::breaks_extended_stack))]
+fn breaks_extended_stack(stack: Stack, node: &NodeRef<'_>, state: &Abs, op: Op) -> bool
+    requires { state.now ≡ node.now.state }
+    ensures { result ≡ Ruled.breaks_extended_stack stack node.now op }
+{
+    match op {
+        Op::LoadPair(Pair::Sp, _) => sets_lost(stack, op, None),
+        Op::LoadSpHl => sets_lost_from(stack, &product_before(stack.setting.rules, state)),
+        Op::Push(_) | Op::CallIf(_, _) | Op::Call(_) | Op::Restart(_) => lacks_bytes(0, state),
+        Op::Pop(_) => lacks_bytes(2, state),
+        Op::IncrementPair(Pair::Sp) => lacks_bytes(1, state),
+        Op::DecrementPair(Pair::Sp) => lacks_bytes(0, state),
+        Op::AddSp(e8) => lacks_bytes(if e8 < 128 { usize::from(e8) } else { 0 }, state),
+        _ => false,
+    }
+}
+
+/// Whether an instruction moves SP as it may not.
+pub(crate) fn breaks_stack(stack: Stack, node: &NodeRef<'_>, state: &Abs, op: Op) -> bool
+    requires { state.now ≡ node.now.state }
+    ensures { result ≡ Ruled.breaks_stack stack node.now op }
+{
+    match stack.setting.rules {
+        Rules::Simple => breaks_simple_stack(stack.region, node, state, op),
+        Rules::Extended => breaks_extended_stack(stack, node, state, op),
+    }
+}

@@ -1,0 +1,184 @@
+-- What a condition tells of a byte of memory is known of the states before the instruction too.
+use Rattle.std.proofs.Common.{◌≡◌, ℕ, Bool, true, false, cond, ◌||◌, ◌⊎◌, inl, inr, nat_lt, List, ◌∷◌, length, Option, Some, None, refl, sym, subst}
+use Rattle.std.specs.Prelude.{IfSome, is_some}
+use Rattle.std.specs.List.{AllByRecursion, filter, list_any}
+use Rattle.gb_ops.specs.declared.machine.Region.{Region}
+use Rattle.gb_ops.specs.declared.op.Condition.{Condition}
+use Rattle.gb_ops.specs.declared.op.Op.{Op}
+use Rattle.gb_ops.specs.declared.op.Op.TheVariants as op
+use Rattle.gb_ops.specs.declared.op.Row.{Row}
+use Rattle.gb_ops.specs.Play.{MState}
+use Rattle.gb_domain.specs.declared.relations.Relations.{Relations}
+use Rattle.gb_domain.specs.declared.setting.Setting.{Setting}
+use Rattle.gb_domain.specs.declared.types.Cell.{Cell}
+use Rattle.gb_domain.specs.declared.types.Core.{Core}
+use Rattle.gb_domain.specs.declared.types.Range.{Range}
+use Rattle.gb_domain.specs.Areas.{IsRegion}
+use Rattle.gb_domain.specs.Limits.{cell_room}
+use Rattle.gb_domain.specs.Rules.{IsVal}
+use Rattle.gb_domain.specs.Types.{AbsState}
+use Rattle.gb_abs.specs.Cells.{is_below, is_above, is_at, entered, with_cell, IsPlaced, ArePlaced}
+use Rattle.gb_abs.specs.Meaning.{MeansParts}
+use Rattle.gb_abs.specs.Operations.{with_core}
+use Rattle.gb_abs.specs.Stack.{AreInRegion}
+use Rattle.gb_abs.specs.Storage.{peek}
+use Rattle.gb_abs.proofs.CellLaws.{AllByRecursion-where, AllByRecursion-append, ArePlaced-with_cell}
+use Rattle.gb_abs.proofs.StorageLaws.{MeansParts-with_cell}
+use Rattle.gb_abs_effects.specs.declared.reads.AbsRead.{AbsRead}
+use Rattle.gb_abs_effects.specs.declared.reads.AbsRead.TheVariants as read
+use Rattle.gb_abs_effects.specs.declared.targets.Target.{Target}
+use Rattle.gb_abs_effects.specs.declared.targets.Target.TheVariants as target
+use Rattle.gb_abs_effects.specs.Accesses.{read_of}
+use Rattle.gb_abs_effects.specs.Sides as Flags
+use Rattle.gb_abs_memory.specs.Sound.{AreVals}
+use Rattle.gb_product.specs.declared.parts.Branch.{Branch}
+use Rattle.gb_product.specs.Below.gb_relations.Sound.{IsByteFree}
+use Rattle.gb_product.specs.Sides.{side_where, taken_side}
+use Rattle.gb_product.specs.Sound.{HoldsCell, IsSideOf}
+use Rattle.gb_product.proofs.SideLaws.{side_placed}
+use Rattle.gb_successors.specs.Behind.{with_cell_if}
+use Rattle.gb_successors.specs.Sound.{IsStackKnown, IsStackFit, IsAllowed, Stands, IsRuled}
+use Rattle.gb_successors.specs.Way.{Successor}
+use Rattle.gb_successors.proofs.SimpleLaws.{IsTold}
+
+-- ---- cells alone change
+
+pub told_core : (z : Setting) (cell : Option Cell) (s : AbsState) → (with_cell_if z cell s).core ≡ s.core
+unfolding with_cell_if
+told_core z None s = refl
+told_core z (Some c) s = refl
+
+pub told_items : (z : Setting) (cell : Option Cell) (s : AbsState) → (with_cell_if z cell s).items ≡ s.items
+unfolding with_cell_if
+told_items z None s = refl
+told_items z (Some c) s = refl
+
+pub told_with_core : (z : Setting) (cell : Option Cell) (s : AbsState) (core : Core) → with_cell_if z cell (with_core s core) ≡ with_core (with_cell_if z cell s) core
+unfolding with_cell_if
+told_with_core z None s core = refl
+told_with_core z (Some c) s core = refl
+
+-- ---- the cell
+
+-- it lies where a cell may, and what is said of its byte is right
+pub record IsToldCell (region : Region) (entry x : MState) (c : Cell) : Type 0 where
+  pub placed : IsPlaced region c
+  pub val : IsVal c.val
+  pub holds : HoldsCell entry x c
+
+IsToldCell-if :
+    (region : Region) (entry x : MState) (cell : Option Cell)
+    → IfSome cell (IsPlaced region) → IfSome cell (λ c. IsVal c.val) → IfSome cell (λ c. HoldsCell entry x c) → IfSome cell (IsToldCell region entry x)
+IsToldCell-if region entry x None p v h = tt
+IsToldCell-if region entry x (Some c) p v h = record { placed = p; val = v; holds = h }
+
+-- that of a side
+pub IsToldCell-side :
+    (region : Region) (cells : List Cell) (core : Core) (r : Relations) (b : Branch) (entry x : MState)
+    → IsByteFree region r.byte.address → AreVals cells → IsSideOf cells core r b → IfSome b.cell (λ c. HoldsCell entry x c) → IfSome b.cell (IsToldCell region entry x)
+IsToldCell-side region cells core r b entry x free vals is h = IsToldCell-if region entry x b.cell (side_placed region cells core r b free is) (is.val vals) h
+
+AllByRecursion-with_cell : (P : Cell → Type 0) (room : ℕ) (c : Cell) (cells : List Cell) → P c → AllByRecursion P cells → AllByRecursion P (with_cell room c cells)
+unfolding with_cell entered
+AllByRecursion-with_cell P room c cells p h = choose (list_any (is_at c.address) cells || nat_lt (length cells) room)
+  where
+    choose : (b : Bool) → AllByRecursion P (cond b (entered c cells) cells)
+    choose true =
+        AllByRecursion-append P (filter (is_below c.address) cells) (c ∷ filter (is_above c.address) cells)
+        (AllByRecursion-where P P P (is_below c.address) (λ d e q k. q) cells h h) (p, AllByRecursion-where P P P (is_above c.address) (λ d e q k. q) cells h h)
+    choose false = h
+
+-- ---- where the machine stands
+
+MeansParts-told :
+    (region : Region) (room : ℕ) (c : Cell) (s : AbsState) (entry : MState) (base : ℕ) (x : MState) → IsToldCell region entry x c
+    → ArePlaced region s.cells → AreInRegion region base (length s.items) → IsRegion region → MeansParts s entry base x
+    → MeansParts (record s { cells = with_cell room c s.cells }) entry base x
+MeansParts-told region room c s entry base x told placed room_left is m =
+    MeansParts-with_cell region room s entry base x x.storage c.address (peek x.storage c.address) c.val m
+    (record { memory = m.memory; banks = refl; ie = refl; count = refl; byte = refl; others = λ b r e. refl })
+    told.holds told.placed placed room_left is
+
+pub Stands-told :
+    (z : Setting) (rom : List ℕ) (region : Region) (row : Row) (a : ℕ) (cell : Option Cell) (s : AbsState) (entry : MState) (base : ℕ) (x : MState)
+    → IfSome cell (IsToldCell region entry x) → Stands z rom region row a s entry base x → Stands z rom region row a (with_cell_if z cell s) entry base x
+unfolding with_cell_if
+Stands-told z rom region row a None s entry base x told h = h
+Stands-told z rom region row a (Some c) s entry base x told h =
+    record {
+      cartridge = h.cartridge;
+      is_region = h.is_region;
+      core = h.core;
+      placed = ArePlaced-with_cell region (cell_room z.rules) c s.cells told.placed h.placed;
+      free = h.free;
+      pairs = h.pairs;
+      vals = AllByRecursion-with_cell (λ d. IsVal d.val) (cell_room z.rules) c s.cells told.val h.vals;
+      items = h.items;
+      room = h.room;
+      means = record { parts = MeansParts-told region (cell_room z.rules) c s entry base x told h.placed h.room h.is_region h.means.parts; related = h.means.related };
+      based = h.based;
+      rules = h.rules;
+      at = h.at;
+    }
+
+pub IsRuled-told :
+    (z : Setting) (region : Region) (row : Row) (cell : Option Cell) (s : AbsState) (base : ℕ) → IsRuled z region row s base → IsRuled z region row (with_cell_if z cell s) base
+unfolding with_cell_if
+IsRuled-told z region row None s base h = h
+IsRuled-told z region row (Some c) s base h = record { operands = h.operands; runs = h.runs; stack = known h.stack }
+  where
+    known : IsStackKnown z region row.op s base → IsStackKnown z region row.op (record s { cells = with_cell (cell_room z.rules) c s.cells }) base
+    known (inl still) = inl still
+    known (inr (inl loaded)) = inr (inl loaded)
+    known (inr (inr (inl push))) = inr (inr (inl (push.0, record { stack_set = push.1.stack_set; held = push.1.held; room = push.1.room })))
+    known (inr (inr (inr (inl pop)))) = inr (inr (inr (inl (pop.0, record { stack_set = pop.1.stack_set; held = pop.1.held }))))
+    known (inr (inr (inr (inr (inl call))))) = inr (inr (inr (inr (inl call))))
+    known (inr (inr (inr (inr (inr returns))))) = inr (inr (inr (inr (inr returns))))
+
+pub IsAllowed-told :
+    (z : Setting) (rom : List ℕ) (region : Region) (ranges : List Range) (cell : Option Cell) (s : AbsState) (base : ℕ) (t : Successor)
+    → IsAllowed z rom region ranges s base t → IsAllowed z rom region ranges (with_cell_if z cell s) base t
+unfolding with_cell_if
+IsAllowed-told z rom region ranges None s base t h = h
+IsAllowed-told z rom region ranges (Some c) s base t h = record { stores = h.stores; ram = h.ram; oam_transfer = h.oam_transfer; stack = fit t.target h.stack }
+  where
+    fit : (w : Target) → IsStackFit region w s t base → IsStackFit region w (record s { cells = with_cell (cell_room z.rules) c s.cells }) t base
+    fit (target.At a) k = k
+    fit (target.Call a) k = k
+    fit target.Return k = record { stack_set = k.stack_set; held = k.held; return_word = k.return_word }
+    fit (target.Main a) k = k
+    fit target.Unknown k = k
+    fit target.Lost k = k
+
+-- ---- an instruction with a condition reads no byte
+
+none_told : (k : Option Condition) (cells : List Cell) (r : Relations) (o : Option Core) (b : Branch) → side_where k cells r o ≡ Some b → is_some k ≡ false → b.cell ≡ None
+none_told None cells r None b e h = cc
+none_told None cells r (Some core) b e h = cc
+none_told (Some k) cells r o b e h = cc
+
+plain_told : (cell : Option Cell) (what : AbsRead) → (what ≡ read.Nothing) ⊎ (what ≡ read.Top) → IsTold cell what
+plain_told None what h = tt
+plain_told (Some c) read.Nothing h = tt
+plain_told (Some c) read.Top h = tt
+plain_told (Some c) (read.Byte span) (inl h) = absurd cc
+plain_told (Some c) (read.Byte span) (inr h) = absurd cc
+
+no_condition : false ≡ true → ⊥
+no_condition h = cc
+
+conditional_read : (o : Op) (c : Core) → is_some (Flags.condition_of o) ≡ true → (read_of o c ≡ read.Nothing) ⊎ (read_of o c ≡ read.Top)
+unfolding read_of
+conditional_read (op.JumpRelativeIf k e8) c h = inl refl
+conditional_read (op.JumpIf k w) c h = inl refl
+conditional_read (op.CallIf k w) c h = inl refl
+conditional_read (op.ReturnIf k) c h = inr refl
+conditional_read o c h = absurd (no_condition h)
+
+pub IsTold-taken : (o : Op) (cells : List Cell) (core c : Core) (r : Relations) (b : Branch) → taken_side o cells core r ≡ Some b → IsTold b.cell (read_of o c)
+unfolding taken_side
+IsTold-taken o cells core c r b e = choose (is_some (Flags.condition_of o)) refl
+  where
+    choose : (t : Bool) → is_some (Flags.condition_of o) ≡ t → IsTold b.cell (read_of o c)
+    choose true h = plain_told b.cell (read_of o c) (conditional_read o c h)
+    choose false h = subst (λ (cell : Option Cell). IsTold cell (read_of o c)) (sym (none_told (Flags.condition_of o) cells r _ b e h)) tt

@@ -1,0 +1,131 @@
+-- What an instruction does to the stack (CPU instruction set: stack manipulation instructions; own rules: SP, version 3).
+use Rattle.std.specs.Prelude.{ℕ, ◌+◌, ◌-◌, true, ◌&&◌, if◌then◌else◌, nat_lt, nat_le, [], map, length, Option, Some, None}
+use Rattle.gb_ops.specs.declared.op.Pair.TheVariants as pair
+use Rattle.gb_ops.specs.declared.op.Op.{Op}
+use Rattle.gb_ops.specs.declared.op.Op.TheVariants as op
+use Rattle.gb_domain.specs.declared.pairs.Bounds.{Bounds}
+use Rattle.gb_domain.specs.declared.rules.Rules.{Rules}
+use Rattle.gb_domain.specs.declared.rules.Rules.TheVariants.{Simple, Extended}
+use Rattle.gb_domain.specs.declared.setting.Setting.{Setting}
+use Rattle.gb_domain.specs.declared.types.Core.{Core}
+use Rattle.gb_domain.specs.declared.types.Halves.{Halves}
+use Rattle.gb_domain.specs.Types.{AbsState}
+use Rattle.gb_domain.specs.Limits.{item_room}
+use Rattle.gb_domain.specs.Settings.{known_base}
+use Rattle.gb_abs.specs.Bytes.{without_newest, with_any_bytes, resized}
+use Rattle.gb_abs.specs.Origins.{core_without_origins, cell_without_origin}
+use Rattle.gb_abs.specs.Stack.{pushed}
+use Rattle.gb_abs_effects.specs.declared.writes.AbsWrite.{AbsWrite}
+use Rattle.gb_abs_effects.specs.declared.writes.AbsWrite.TheVariants as write
+use Rattle.gb_successors.specs.declared.stacks.Stack.{Stack}
+use Rattle.gb_successors.specs.declared.stacks.StackMove.{StackMove}
+use Rattle.gb_successors.specs.declared.stacks.StackMove.TheVariants as move
+
+-- ---- setting SP
+
+-- the bytes from an address up to a base, where so many may be held
+abbrev pub bytes_to : ℕ → ℕ → ℕ → Option ℕ
+bytes_to base need a = if nat_le a base && nat_le (base - a) need && nat_le (base - a) 255 then Some (base - a) else None
+
+abbrev pub bytes_to_if : Option ℕ → ℕ → ℕ → Option ℕ
+bytes_to_if None need a = None
+bytes_to_if (Some base) need a = bytes_to base need a
+
+-- how many bytes of its own a procedure holds with SP at an address
+abbrev pub own_bytes : Stack → ℕ → Option ℕ
+own_bytes k a = bytes_to_if (known_base k.setting) k.need a
+
+-- how many main holds, seen from another procedure
+abbrev pub main_bytes : Stack → ℕ → Option ℕ
+main_bytes k a = if k.setting.is_main then None else bytes_to (k.region.last + 1) k.main_need a
+
+abbrev pub restart_by : Option ℕ → StackMove
+restart_by None = move.Lost
+restart_by (Some n) = move.Restart n
+
+abbrev pub set_by : Option ℕ → Option ℕ → StackMove
+set_by (Some n) main = move.Set n
+set_by None main = restart_by main
+
+-- SP becomes a known address: by the rules of versions 1 and 2 nothing is on the stack then; by those of version 3 it is one of
+-- the procedure's own, or one of main's, where all begins anew
+abbrev pub set_to : Rules → Stack → ℕ → StackMove
+set_to Simple k a = move.Set 0
+set_to Extended k a = set_by (own_bytes k a) (main_bytes k a)
+
+-- SP becomes an address with these bounds
+abbrev pub set_within : Stack → Option Bounds → StackMove
+set_within k None = move.Stay
+set_within k (Some b) = if nat_lt b.first b.last then move.Lost else set_to k.setting.rules k b.first
+
+-- ---- the move
+
+-- what the rules of version 3 alone follow
+abbrev pub extended : Rules → StackMove → StackMove
+extended Simple m = move.Stay
+extended Extended m = m
+
+-- the signed number e8 moves SP
+abbrev pub displaced_by : ℕ → StackMove
+displaced_by e8 = if nat_lt e8 128 then move.Take e8 else move.Append (256 - e8)
+
+-- a word that is written on the stack
+abbrev pub push_of : AbsWrite → StackMove
+push_of (write.Push high low) = move.Push (record { high = high; low = low })
+push_of _ = move.Stay
+
+-- what an instruction does to the stack that writes so; where it takes an address of HL, that has the bounds. By the rules of
+-- versions 1 and 2 a return address belongs to the callee, and SP is what PUSH, POP and LD SP,n16 make of it.
+unfoldable pub stack_move : Stack → Op → AbsWrite → Option Bounds → StackMove
+stack_move k (op.LoadPair pair.Sp w) what hl = set_to k.setting.rules k w
+stack_move k op.LoadSpHl what hl = set_within k hl
+stack_move k (op.Push from) what hl = push_of what
+stack_move k (op.Pop to) what hl = move.Take 2
+stack_move k (op.IncrementPair pair.Sp) what hl = extended k.setting.rules (move.Take 1)
+stack_move k (op.DecrementPair pair.Sp) what hl = extended k.setting.rules (move.Append 1)
+stack_move k (op.AddSp e8) what hl = extended k.setting.rules (displaced_by e8)
+stack_move k (op.CallIf condition w) what hl = extended k.setting.rules (push_of what)
+stack_move k (op.Call w) what hl = extended k.setting.rules (push_of what)
+stack_move k (op.Restart w) what hl = extended k.setting.rules (push_of what)
+stack_move k (op.ReturnIf condition) what hl = extended k.setting.rules (move.Take 2)
+stack_move k op.Return what hl = extended k.setting.rules (move.Take 2)
+stack_move k op.ReturnFromInterrupt what hl = extended k.setting.rules (move.Take 2)
+stack_move k _ what hl = move.Stay
+
+-- ---- what it leaves
+
+-- a word is pushed, where there is room for it; what pushes more is refused
+unfoldable pub pushed_if_room : Setting → Halves → AbsState → AbsState
+pushed_if_room z w s = if nat_lt (item_room z.rules) (length s.items + 2) then s else pushed w s
+
+-- bytes of any value are put on, where there is room for them
+unfoldable pub appended_if_room : Setting → ℕ → AbsState → AbsState
+appended_if_room z n s = if nat_lt (item_room z.rules) (length s.items + n) then s else with_any_bytes n s
+
+-- the stack is set with so many bytes, where there is room for them
+unfoldable pub set_if_room : Setting → ℕ → AbsState → AbsState
+set_if_room z n s = if nat_lt (item_room z.rules) n then s else resized n s
+
+-- nothing is on the stack, and nothing a copy of what a procedure held as it was entered
+abbrev pub begun_anew : AbsState → AbsState
+begun_anew s = record s { core = core_without_origins s.core; items = []; cells = map cell_without_origin s.cells }
+
+-- the stack and the states that it stands in, moved
+unfoldable pub with_stack_moved : Setting → StackMove → AbsState → AbsState
+with_stack_moved z move.Stay s = s
+with_stack_moved z (move.Push w) s = pushed_if_room z w s
+with_stack_moved z (move.Take n) s = without_newest n s
+with_stack_moved z (move.Append n) s = appended_if_room z n s
+with_stack_moved z (move.Set n) s = set_if_room z n s
+with_stack_moved z (move.Restart n) s = set_if_room z n (begun_anew s)
+with_stack_moved z move.Lost s = s
+
+-- the stack is set
+abbrev pub core_set : Core → Core
+core_set core = record core { stack_set = true }
+
+-- what it makes of the core
+unfoldable pub moved_core : StackMove → Core → Core
+moved_core (move.Set n) core = core_set core
+moved_core (move.Restart n) core = core_set (core_without_origins core)
+moved_core _ core = core

@@ -1,0 +1,164 @@
+//! What is known of an instruction by its pairs and its stack, beside what its registers say.
+
+ghost use Rattle.std.specs.Prelude.{◌≡◌};
+ghost use Rattle.gb_successors.specs.Refined as Refined;
+
+use crate::stacks::StackMove;
+use gb_abs::known;
+use gb_abs::origins::is_own;
+use gb_abs::span::Span;
+use gb_abs_effects::pairs::{is_word_known, least_word, pair_halves};
+use gb_abs_effects::reads::AbsRead;
+use gb_abs_effects::targets::Target;
+use gb_abs_effects::writes::{AbsEffect, AbsWrite};
+use gb_domain::pairs::Bounds;
+use gb_domain::types::{Core, Flg, Halves, Origin, Rules, Setting};
+use gb_ops::op::{Op, Pair};
+
+/// Where an address is taken from a pair, its bounds are the pair's.
+fn span_within(bounds: Option<Bounds>, span: Span) -> Span
+    ensures { result ≡ Refined.span_within bounds span }
+{
+    match bounds {
+        None => span,
+        Some(bounds) => Span {
+            first: bounds.first,
+            last: bounds.last,
+        },
+    }
+}
+
+pub(crate) fn cut_read(bounds: Option<Bounds>, read: AbsRead) -> AbsRead
+    ensures { result ≡ Refined.cut_read bounds read }
+{
+    match read {
+        AbsRead::Byte(span) => AbsRead::Byte(span_within(bounds, span)),
+        AbsRead::Nothing | AbsRead::Top => read,
+    }
+}
+
+fn cut_write(bounds: Option<Bounds>, write: AbsWrite) -> AbsWrite
+    ensures { result ≡ Refined.cut_write bounds write }
+{
+    match write {
+        AbsWrite::Byte(span, val) => AbsWrite::Byte(span_within(bounds, span), val),
+        AbsWrite::Nothing | AbsWrite::Word(_, _, _) | AbsWrite::Push { .. } => write,
+    }
+}
+
+fn with_carry(carry: Option<bool>, core: Core) -> Core
+    ensures { result ≡ Refined.with_carry carry core }
+{
+    match carry {
+        None => core,
+        Some(carry) => Core {
+            flags: Flg {
+                carry: known(carry),
+                ..core.flags
+            },
+            ..core
+        },
+    }
+}
+
+/// An effect whose address and whose carry are known so.
+#[tactic(auto, unfolding(crate::specs::Refined::refined))]
+pub(crate) fn refined(bounds: Option<Bounds>, carry: Option<bool>, effect: AbsEffect) -> AbsEffect
+    ensures { result ≡ Refined.refined bounds carry effect }
+{
+    AbsEffect {
+        core: with_carry(carry, effect.core),
+        write: cut_write(bounds, effect.write),
+    }
+}
+
+/// Whether a word is the one that was pushed as the procedure was entered.
+fn is_return_word(word: Halves) -> bool
+    ensures { result ≡ Refined.is_return_word word }
+{
+    is_own(Origin::ReturnHigh, word.high) && is_own(Origin::ReturnLow, word.low)
+}
+
+/// The word is popped: to return, or to go on where it says in the same procedure.
+fn popped_target(is_main: bool, word: Halves) -> Target
+    ensures { result ≡ Refined.popped_target is_main word }
+{
+    if !is_main && is_return_word(word) {
+        Target::Return
+    } else if is_word_known(word) {
+        Target::At(least_word(word))
+    } else {
+        Target::Lost
+    }
+}
+
+fn target_within(bounds: Option<Bounds>) -> Target
+    ensures { result ≡ Refined.target_within bounds }
+{
+    match bounds {
+        Some(bounds) if bounds.first >= bounds.last => Target::At(bounds.first),
+        _ => Target::Unknown,
+    }
+}
+
+/// JP HL: HL may hold the return word.
+fn jumped_target(is_main: bool, word: Halves, hl: Option<Bounds>) -> Target
+    ensures { result ≡ Refined.jumped_target is_main word hl }
+{
+    if !is_main && is_return_word(word) {
+        Target::Return
+    } else {
+        target_within(hl)
+    }
+}
+
+/// Where main begins anew it goes on in main.
+fn moved_target(stack_move: StackMove, next: u16, target: Target) -> Target
+    ensures { result ≡ Refined.moved_target stack_move next target }
+{
+    match stack_move {
+        StackMove::Restart(_) => Target::Main(next),
+        StackMove::Stay
+        | StackMove::Push(_)
+        | StackMove::Take(_)
+        | StackMove::Append(_)
+        | StackMove::Set(_)
+        | StackMove::Lost => target,
+    }
+}
+
+/// What is known of where an instruction goes on.
+#[derive(Clone, Copy)]
+pub(crate) struct Going<'a> {
+    pub op: Op,
+    /// The address behind it.
+    pub next: u16,
+    /// The word that it read.
+    pub word: Halves,
+    /// The core before it.
+    pub core: &'a Core,
+    /// The bounds of an address that it takes from a pair.
+    pub pointer: Option<Bounds>,
+    pub stack_move: StackMove,
+}
+
+/// Where an instruction goes on that read a word; by the rules of versions 1 and 2 where its registers say.
+#[tactic(auto, unfolding(crate::specs::Refined::refined_target))]
+pub(crate) fn refined_target(setting: Setting, going: Going<'_>, target: Target) -> Target
+    ensures { result ≡ Refined.refined_target setting.rules setting going.entry.op going.entry.next going.entry.word going.entry.core.now going.entry.pointer going.entry.stack_move target }
+{
+    if setting.rules == Rules::Simple {
+        return target;
+    }
+    match going.op {
+        Op::ReturnIf(_) | Op::Return | Op::ReturnFromInterrupt => {
+            popped_target(setting.is_main, going.word)
+        }
+        Op::JumpHl => jumped_target(
+            setting.is_main,
+            pair_halves(Pair::Hl, going.core),
+            going.pointer,
+        ),
+        _ => moved_target(going.stack_move, going.next, target),
+    }
+}

@@ -1,0 +1,267 @@
+//! What an instruction does to the stack.
+
+ghost use Rattle.std.specs.Prelude.{◌≡◌};
+ghost use Rattle.gb_abs.specs.Bytes as Bytes;
+ghost use Rattle.gb_successors.specs.Stacks as Stacks;
+
+use arrayvec::ArrayVec;
+use gb_abs::bytes::{append_bytes, resize, take_bytes};
+use gb_abs::origins::{cells_without_origins, core_without_origins};
+use gb_abs::stack::push;
+use gb_abs_effects::writes::AbsWrite;
+use gb_domain::pairs::Bounds;
+use gb_domain::types::{Abs, Core, Halves, Rules, Setting};
+use gb_ops::machine::Region;
+use gb_ops::op::{Op, Pair};
+
+/// Where the states of a procedure stand, and how much it may have on the stack.
+#[derive(Clone, Copy)]
+pub struct Stack {
+    pub setting: Setting,
+    /// The declared stack region; main's base is the address behind it.
+    pub region: Region,
+    /// The bytes that the procedure may have on the stack.
+    pub need: u16,
+    /// The bytes that main may have there.
+    pub main_need: u16,
+}
+
+/// What an instruction does to the stack.
+#[derive(Clone, Copy)]
+pub enum StackMove {
+    /// Nothing.
+    Stay,
+    /// A word is put on, its high byte first.
+    Push(Halves),
+    /// So many bytes are taken off.
+    Take(u8),
+    /// So many bytes of any value are put on.
+    Append(u8),
+    /// SP is set so that the procedure holds so many bytes.
+    Set(u8),
+    /// SP is set so that main holds so many bytes, and main begins anew.
+    Restart(u8),
+    /// SP is set to an address that isn't known, or that is neither the procedure's nor main's.
+    Lost,
+}
+
+/// The bytes from an address up to a base, where so many may be held.
+fn bytes_to(base: u32, need: u16, address: u16) -> Option<u8>
+    ensures { result ≡ Stacks.bytes_to base need address }
+{
+    let address = u32::from(address);
+    if address <= base && base - address <= u32::from(need) && base - address <= 255 {
+        Some((base - address) as u8)
+    } else {
+        None
+    }
+}
+
+/// How many bytes of its own a procedure holds with SP at an address.
+fn own_bytes(stack: Stack, address: u16) -> Option<u8>
+    ensures { result ≡ Stacks.own_bytes stack address }
+{
+    match stack.setting.known_base() {
+        None => None,
+        Some(base) => bytes_to(u32::from(base), stack.need, address),
+    }
+}
+
+/// How many bytes main holds with SP at an address, seen from another procedure.
+fn main_bytes(stack: Stack, address: u16) -> Option<u8>
+    ensures { result ≡ Stacks.main_bytes stack address }
+{
+    if stack.setting.is_main {
+        None
+    } else {
+        bytes_to(u32::from(stack.region.last) + 1, stack.main_need, address)
+    }
+}
+
+fn set_by(own: Option<u8>, main: Option<u8>) -> StackMove
+    ensures { result ≡ Stacks.set_by own main }
+{
+    match (own, main) {
+        (Some(count), _) => StackMove::Set(count),
+        (None, Some(count)) => StackMove::Restart(count),
+        (None, None) => StackMove::Lost,
+    }
+}
+
+/// SP becomes a known address.
+fn set_to(stack: Stack, address: u16) -> StackMove
+    ensures { result ≡ Stacks.set_to stack.setting.rules stack address }
+{
+    match stack.setting.rules {
+        Rules::Simple => StackMove::Set(0),
+        Rules::Extended => set_by(own_bytes(stack, address), main_bytes(stack, address)),
+    }
+}
+
+/// SP becomes an address with these bounds.
+fn set_within(stack: Stack, bounds: Option<Bounds>) -> StackMove
+    ensures { result ≡ Stacks.set_within stack bounds }
+{
+    match bounds {
+        None => StackMove::Stay,
+        Some(bounds) => {
+            if bounds.first < bounds.last {
+                StackMove::Lost
+            } else {
+                set_to(stack, bounds.first)
+            }
+        }
+    }
+}
+
+/// What the rules of version 3 alone follow.
+fn extended(rules: Rules, stack_move: StackMove) -> StackMove
+    ensures { result ≡ Stacks.extended rules stack_move }
+{
+    match rules {
+        Rules::Simple => StackMove::Stay,
+        Rules::Extended => stack_move,
+    }
+}
+
+/// A signed number moves SP.
+fn displaced_by(e8: u8) -> StackMove
+    ensures { result ≡ Stacks.displaced_by e8 }
+{
+    if e8 < 128 {
+        StackMove::Take(e8)
+    } else {
+        StackMove::Append(255 - e8 + 1)
+    }
+}
+
+/// A word that is written on the stack.
+fn push_of(write: AbsWrite) -> StackMove
+    ensures { result ≡ Stacks.push_of write }
+{
+    match write {
+        AbsWrite::Push { high, low } => StackMove::Push(Halves { high, low }),
+        AbsWrite::Nothing | AbsWrite::Byte(_, _) | AbsWrite::Word(_, _, _) => StackMove::Stay,
+    }
+}
+
+/// What an instruction does to the stack that writes so; where it takes an address of HL, that has the bounds.
+#[tactic(auto, unfolding(crate::specs::Stacks::stack_move))]
+pub fn stack_move(stack: Stack, op: Op, write: AbsWrite, hl: Option<Bounds>) -> StackMove
+    ensures { result ≡ Stacks.stack_move stack op write hl }
+{
+    let rules = stack.setting.rules;
+    match op {
+        Op::LoadPair(Pair::Sp, address) => set_to(stack, address),
+        Op::LoadSpHl => set_within(stack, hl),
+        Op::Push(_) => push_of(write),
+        Op::Pop(_) => StackMove::Take(2),
+        Op::IncrementPair(Pair::Sp) => extended(rules, StackMove::Take(1)),
+        Op::DecrementPair(Pair::Sp) => extended(rules, StackMove::Append(1)),
+        Op::AddSp(e8) => extended(rules, displaced_by(e8)),
+        Op::CallIf(_, _) | Op::Call(_) | Op::Restart(_) => extended(rules, push_of(write)),
+        Op::ReturnIf(_) | Op::Return | Op::ReturnFromInterrupt => {
+            extended(rules, StackMove::Take(2))
+        }
+        _ => StackMove::Stay,
+    }
+}
+
+/// The states with a word pushed, where there is room for it. What pushes more is refused.
+#[tactic(auto, unfolding(crate::specs::Stacks::pushed_if_room))]
+fn pushed_if_room(setting: Setting, word: Halves, state: &Abs) -> Abs
+    ensures { result ≡ Stacks.pushed_if_room setting word state.now }
+{
+    match push(setting.rules, state, word) {
+        Some(pushed) => pushed,
+        None => state.copied(),
+    }
+}
+
+/// The states with bytes of any value put on, where there is room for them.
+#[tactic(auto, unfolding(crate::specs::Stacks::appended_if_room))]
+fn appended_if_room(setting: Setting, count: u8, state: &Abs) -> Abs
+    ensures { result ≡ Stacks.appended_if_room setting count state.now }
+{
+    match append_bytes(setting.rules, state, count) {
+        Some(appended) => appended,
+        None => state.copied(),
+    }
+}
+
+/// The states without the newest bytes. Of fewer none is left.
+#[tactic(auto, using(crate::proofs::StackMoveLaws::taken_few))]
+fn without_newest(count: u8, state: &Abs) -> Abs
+    ensures { result ≡ Bytes.without_newest count state.now }
+{
+    if let Some(taken) = take_bytes(state, count) {
+        return taken;
+    }
+    let mut left = state.copied();
+    left.set_items(ArrayVec::new());
+    left
+}
+
+/// The states with the stack set and so many bytes held, where there is room for them.
+#[tactic(auto, unfolding(crate::specs::Stacks::set_if_room))]
+fn set_if_room(setting: Setting, count: u8, state: &Abs) -> Abs
+    ensures { result ≡ Stacks.set_if_room setting count state.now }
+{
+    match resize(setting.rules, state, usize::from(count)) {
+        Some(resized) => resized,
+        None => state.copied(),
+    }
+}
+
+/// Nothing is on the stack, and nothing a copy of what a procedure held as it was entered.
+fn begun_anew(state: &Abs) -> Abs
+    ensures { result ≡ Stacks.begun_anew state.now }
+{
+    Abs::of_parts(
+        core_without_origins(state.core()),
+        ArrayVec::new(),
+        cells_without_origins(state.cells()),
+        *state.relations(),
+    )
+}
+
+/// The stack and the states that it stands in, moved.
+#[tactic(auto, unfolding(crate::specs::Stacks::with_stack_moved))]
+pub(crate) fn move_stack(setting: Setting, stack_move: StackMove, state: &mut Abs)
+    ensures { state.new ≡ Stacks.with_stack_moved setting stack_move state.old }
+{
+    match stack_move {
+        StackMove::Stay | StackMove::Lost => {}
+        StackMove::Push(word) => *state = pushed_if_room(setting, word, state),
+        StackMove::Take(count) => *state = without_newest(count, state),
+        StackMove::Append(count) => *state = appended_if_room(setting, count, state),
+        StackMove::Set(count) => *state = set_if_room(setting, count, state),
+        StackMove::Restart(count) => *state = set_if_room(setting, count, &begun_anew(state)),
+    }
+}
+
+/// The core with the stack set.
+fn core_set(core: Core) -> Core
+    ensures { result ≡ Stacks.core_set core }
+{
+    Core {
+        stack_set: true,
+        ..core
+    }
+}
+
+/// What that makes of the core.
+#[tactic(auto, unfolding(crate::specs::Stacks::moved_core))]
+pub(crate) fn moved_core(stack_move: StackMove, core: Core) -> Core
+    ensures { result ≡ Stacks.moved_core stack_move core }
+{
+    match stack_move {
+        StackMove::Set(_) => core_set(core),
+        StackMove::Restart(_) => core_set(core_without_origins(&core)),
+        StackMove::Stay
+        | StackMove::Push(_)
+        | StackMove::Take(_)
+        | StackMove::Append(_)
+        | StackMove::Lost => core,
+    }
+}
