@@ -42,6 +42,8 @@ use Rattle.gb_abs_memory.proofs.AfterStoreLaws.{is_store_limited-stored, store_m
 use Rattle.gb_successors.specs.Behind.{read_word, behind, written, starts}
 use Rattle.gb_successors.specs.Refused.{is_unstorable, reads_closed_ram, writes_closed_ram, is_stack_limited, is_read_limited, is_write_limited}
 use Rattle.gb_abs_memory.specs.Kept.{IsKept}
+use Rattle.gb_product.specs.Below.gb_relations.Sound.{Writes}
+use Rattle.gb_successors.proofs.RamLaws.{ram_at, ram_same, differs, wrote_ram}
 use Rattle.gb_successors.proofs.PlainLaws.{Keeps, IsPlainRead, IsPlainWrite}
 
 -- ---- the tests ask the controller and the bound alone
@@ -122,10 +124,12 @@ Loads-read z rom region s entry base x reads sp (read.Byte span) (machine_read.W
 -- what an instruction writes, without a fault
 pub record Stores (z : Setting) (rom : List ℕ) (region : Region) (ranges : List Range) (s : AbsState) (w : AbsWrite) (entry : MState) (base : ℕ) (x : MState) (m : View) (mw : Write) : Type 0 where
   pub means : MeansParts (written z region (kind_of rom) w s) entry base (record x { storage = (stored m mw).storage })
-  pub items : (written z region (kind_of rom) w s).items ≡ s.items
+  pub count : length (written z region (kind_of rom) w s).items ≡ length s.items
+  pub items : z.rules ≡ Simple → (written z region (kind_of rom) w s).items ≡ s.items
   pub starting : (stored m mw).starting ≡ starts w
   pub faults : store_faults region m mw ≡ no_faults
   pub kept : (b : ℕ) → IsKept z region ranges base b → peek (stored m mw).storage b ≡ peek x.storage b
+  pub writes : Writes region mw (ram_at x.storage) (ram_at (stored m mw).storage)
 
 -- the state at a store, and where it may be
 pub record AtWrite (z : Setting) (region : Region) (s : AbsState) (entry : MState) (base : ℕ) (x : MState) : Type 0 where
@@ -134,7 +138,6 @@ pub record AtWrite (z : Setting) (region : Region) (s : AbsState) (entry : MStat
   pub room : AreInRegion region base (length s.items)
   pub is_region : IsRegion region
   pub based : IsBase z base
-  pub rules : z.rules ≡ Simple
 
 -- a byte that is kept isn't stored to
 is_other : (z : Setting) (m : View) (a n : ℕ) (region : Region) (ranges : List Range) (s : AbsState) (entry : MState) (base : ℕ) (x : MState) (o : Stored) (b : ℕ)
@@ -172,10 +175,15 @@ Stores-byte z rom region ranges s span v entry base x a n w storable ram limited
     let st = store_one z rom region ranges s span v entry base x false a n w storable ram limited i lt h le in
     record {
       means = st.means;
-      items = st.items w.rules;
+      count = st.count;
+      items = st.items;
       starting = st.starting;
       faults = st.faults;
       kept = λ b k. st.others b k.ram (is_other z _ a n region ranges s entry base x _ b st k);
+      writes = (
+        λ ram. wrote_ram (view rom x false) a n w.means.memory ram le st.faults,
+        λ b ne. ram_same x.storage _ b (λ ram. st.others b ram (differs b a ne)),
+      );
     }
 
 word_byte : (v : Val) (entry : MState) (n : ℕ) → IsVal v → Holds v entry n → n ≤ 255
@@ -202,10 +210,9 @@ Stores-word z rom region ranges s a low high entry base x n w here there ram_her
     (record {
       means = first.means;
       placed = first.placed;
-      room = subst (λ items. AreInRegion region base (length items)) (sym (first.items w.rules)) w.room;
+      room = subst (AreInRegion region base) (sym first.count) w.room;
       is_region = w.is_region;
       based = w.based;
-      rules = w.rules;
     })
     there
     (store_meets_closed_ram-stored z rom region (kind_of rom) a low s high ∙ ram_there)
@@ -213,13 +220,19 @@ Stores-word z rom region ranges s a low high entry base x n w here there ram_her
     (at_one (behind a)) (omega arith) h (word_byte high entry _ is_high h) in
     record {
       means = subst (λ (m : View). MeansParts (stored_state z region (kind_of rom) (one (behind a)) high middle) entry base (record x { storage = (wrote m (behind a) (n / 256)).storage })) (sym seen) second.means;
-      items = second.items w.rules ∙ first.items w.rules;
+      count = second.count ∙ first.count;
+      items = λ h. second.items h ∙ first.items h;
       starting = ap (λ (m : View). (wrote m (behind a) (n / 256)).starting) seen ∙ second.starting;
       faults = rw (first.faults, ap (λ (m : View). write_faults m (behind a) (n / 256)) seen ∙ second.faults) refl;
       kept = λ b k.
           ap (λ (m : View). peek (wrote m (behind a) (n / 256)).storage b) seen
           ∙ (second.others b k.ram (is_other z _ (behind a) (n / 256) region ranges middle entry base y _ b second k)
           ∙ first.others b k.ram (is_other z _ a (n % 256) region ranges s entry base x _ b first k));
+      writes = λ b ne more.
+          ram_same x.storage _ b
+          (λ ram.
+          ap (λ (m : View). peek (wrote m (behind a) (n / 256)).storage b) seen
+          ∙ (second.others b ram (differs b (behind a) more) ∙ first.others b ram (differs b a ne)));
     }
 
 pub Stores-write :
@@ -228,7 +241,7 @@ pub Stores-write :
     → Stores z rom region ranges s w entry base x (view rom x false) mw
 unfolding written starts stored store_faults is_unstorable writes_closed_ram is_write_limited
 Stores-write z rom region ranges s entry base x sp write.Nothing machine_write.Nothing at plain is h allowed ram limited =
-    record { means = at.means; items = refl; starting = refl; faults = refl; kept = λ b k. refl }
+    record { means = at.means; count = refl; items = λ e. refl; starting = refl; faults = refl; kept = λ b k. refl; writes = λ b. refl }
 Stores-write z rom region ranges s entry base x sp (write.Byte span v) (machine_write.Byte a n) at plain is h allowed ram limited =
     Stores-byte z rom region ranges s span v entry base x a n at (not-false _ allowed) ram limited h.0 (in_span span a h.0 plain) h.1 h.2
 Stores-write z rom region ranges s entry base x sp (write.Word a low high) (machine_write.Word b n) at plain is h allowed ram limited =

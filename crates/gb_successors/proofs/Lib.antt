@@ -1,3 +1,4 @@
+pub mod RamLaws
 pub mod StackMoveLaws
 pub mod MovedLaws
 pub mod SimpleLaws
@@ -9,5 +10,18 @@ pub mod StackWayLaws
 pub mod RelatedLaws
 pub mod MarkLaws
 pub mod ToldLaws
+pub mod Situations
+pub mod SituationLaws
+pub mod SpMoveLaws
+pub mod StackMovedLaws
+pub mod LandingLaws
+pub mod GoingLaws
+pub mod LeadingLaws
+pub mod LedLaws
+pub mod PossibleLaws
+pub mod UntakenLaws
+pub mod ExtendedWayLaws
+pub mod HaltBugLaws
 pub mod WayLaws
+pub mod FormedLaws
 pub mod Below

@@ -1,5 +1,5 @@
 -- The states behind an instruction are those before, with another core, and moved where it moves items or cells.
-use Rattle.std.proofs.Common.{◌≡◌, ℕ, Bool, true, false, ◌||◌, if◌then◌else◌, Option, Some, None, refl, sym, ap, ◌∙◌}
+use Rattle.std.proofs.Common.{◌≡◌, ℕ, Bool, true, false, ◌||◌, if◌then◌else◌, ◌⊎◌, inl, inr, Option, Some, None, refl, sym, ap, ◌∙◌}
 use Rattle.std.specs.Prelude.{is_some}
 use Rattle.gb_ops.specs.declared.machine.Kind.{Kind}
 use Rattle.gb_ops.specs.declared.machine.Region.{Region}
@@ -19,6 +19,7 @@ use Rattle.gb_abs_memory.specs.declared.store.Area.{Area}
 use Rattle.gb_abs_memory.specs.declared.store.Area.TheVariants as area
 use Rattle.gb_abs_memory.specs.Access.{area_of, ram_stored, stored_in, stored_state, stored_core_in, stored_core}
 use Rattle.gb_abs_memory.specs.Items.{items_stored}
+use Rattle.gb_abs.specs.Located.{stack_base}
 use Rattle.gb_successors.specs.declared.stacks.Stack.{Stack}
 use Rattle.gb_successors.specs.declared.stacks.StackMove.{StackMove}
 use Rattle.gb_successors.specs.declared.stacks.StackMove.TheVariants as move
@@ -27,29 +28,50 @@ use Rattle.gb_successors.specs.Behind.{behind, written, ended, moves_stack, is_i
 
 -- ---- the core apart
 
+-- where items stand doesn't hang on the core: by the rules of versions 1 and 2, or as the stack is set in both
+abbrev pub IsApartFrom : Setting → AbsState → Core → Type 0
+IsApartFrom z s c = (z.rules ≡ Simple) ⊎ (c.stack_set ≡ s.core.stack_set)
+
+ram_by : (z : Setting) (region : Region) (span : Span) (v : Val) (s : AbsState) (c : Core) → IsApartFrom z s c → ram_stored z region span v (with_core s c) ≡ with_core (ram_stored z region span v s) c
+unfolding ram_stored items_stored stack_base
+ram_by z region span v s c (inl h) = rw h refl
+ram_by z region span v s c (inr h) = rw h refl
+
 stored_by :
     (z : Setting) (region : Region) (a : Option Area) (k : Kind) (span : Span) (v : Val) (s : AbsState) (c : Core)
-    → z.rules ≡ Simple → stored_in z region a k span v (with_core s c) ≡ with_core (stored_in z region a k span v s) (stored_core_in a k span v c)
-unfolding ram_stored items_stored
+    → IsApartFrom z s c → stored_in z region a k span v (with_core s c) ≡ with_core (stored_in z region a k span v s) (stored_core_in a k span v c)
 stored_by z region (Some (area.Controller (Some r))) k span v s c h = refl
-stored_by z region (Some area.Ram) k span v s c h = rw h refl
+stored_by z region (Some area.Ram) k span v s c h = ram_by z region span v s c h
 stored_by z region (Some area.InterruptEnable) k span v s c h = refl
 stored_by z region _ k span v s c h = refl
 
 apart_stored :
     (z : Setting) (region : Region) (k : Kind) (span : Span) (v : Val) (s : AbsState) (c : Core)
-    → z.rules ≡ Simple → stored_state z region k span v (with_core s c) ≡ with_core (stored_state z region k span v s) (stored_core k span v c)
+    → IsApartFrom z s c → stored_state z region k span v (with_core s c) ≡ with_core (stored_state z region k span v s) (stored_core k span v c)
 unfolding stored_state stored_core
 apart_stored z region k span v s c h = stored_by z region (area_of k span) k span v s c h
 
+-- a store leaves the stack as it is set
+still_apart : (z : Setting) (region : Region) (k : Kind) (span : Span) (v : Val) (s : AbsState) (c : Core) → IsApartFrom z s c → IsApartFrom z (stored_state z region k span v s) (stored_core k span v c)
+unfolding stored_state stored_core ram_stored
+still_apart z region k span v s c (inl h) = inl h
+still_apart z region k span v s c (inr h) = inr (by (area_of k span))
+  where
+    by : (a : Option Area) → (stored_core_in a k span v c).stack_set ≡ (stored_in z region a k span v s).core.stack_set
+    by (Some (area.Controller (Some r))) = h
+    by (Some area.Ram) = h
+    by (Some area.InterruptEnable) = h
+    by (Some _) = h
+    by None = h
+
 pub written_by :
     (z : Setting) (region : Region) (k : Kind) (w : AbsWrite) (s : AbsState) (c : Core)
-    → z.rules ≡ Simple → written z region k w (with_core s c) ≡ with_core (written z region k w s) (written_core k w c)
+    → IsApartFrom z s c → written z region k w (with_core s c) ≡ with_core (written z region k w s) (written_core k w c)
 unfolding written written_core
 written_by z region k (write.Byte span v) s c h = apart_stored z region k span v s c h
 written_by z region k (write.Word a low high) s c h =
     ap (λ (t : AbsState). stored_state z region k (one (behind a)) high t) (apart_stored z region k (one a) low s c h)
-    ∙ apart_stored z region k (one (behind a)) high (stored_state z region k (one a) low s) (stored_core k (one a) low c) h
+    ∙ apart_stored z region k (one (behind a)) high (stored_state z region k (one a) low s) (stored_core k (one a) low c) (still_apart z region k (one a) low s c h)
 written_by z region k _ s c h = refl
 
 -- ---- items and cells that stay

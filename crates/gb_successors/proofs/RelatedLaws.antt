@@ -13,7 +13,7 @@ use Rattle.gb_ops.specs.Play.{MState, within, outside}
 use Rattle.gb_domain.specs.declared.pairs.Bounds.{Bounds}
 use Rattle.gb_domain.specs.declared.relations.Relations.{Relations}
 use Rattle.gb_domain.specs.declared.rules.Rules.{Rules}
-use Rattle.gb_domain.specs.declared.rules.Rules.TheVariants.{Simple}
+use Rattle.gb_domain.specs.declared.rules.Rules.TheVariants.{Simple, Extended}
 use Rattle.gb_domain.specs.declared.setting.Setting.{Setting}
 use Rattle.gb_domain.specs.declared.types.Val.{Val}
 use Rattle.gb_domain.specs.declared.types.Core.{Core}
@@ -50,9 +50,9 @@ use Rattle.gb_successors.specs.Stacks.{pushed_if_room}
 use Rattle.gb_successors.specs.Refused.{meets_closed, meets_oam_transfer}
 use Rattle.gb_successors.specs.Successors.{related_successor}
 use Rattle.gb_successors.specs.Way.{Successor}
-use Rattle.gb_successors.specs.Sound.{is_followed, IsAllowed, IsStackFit, LeadsTo, LeadsParts, Leads}
+use Rattle.gb_successors.specs.Sound.{is_followed, IsAllowed, IsStackFit, LeadsSimply, LeadsTo, LeadsParts, Leads}
 use Rattle.gb_successors.proofs.SimpleLaws.{behind_row, low_of, high_of, abs_effect, with_stack_of, simple_parts}
-use Rattle.gb_successors.proofs.SuccessorLaws.{begun, given, effect, left_by, is_word, IsWord-sp, state_is, executed_taken, IsTaken, is_write}
+use Rattle.gb_successors.proofs.SuccessorLaws.{begun, given, effect, left_by, is_word, IsWord-sp, state_is, executed_taken, IsTaken, is_write, leads_simply}
 
 -- ---- other things known together
 
@@ -65,31 +65,39 @@ pub IsAllowed-parts :
     → IsAllowed z rom region ranges s base (related_successor r t) → IsAllowed z rom region ranges s base t
 unfolding meets_closed meets_oam_transfer
 IsAllowed-parts z rom region ranges s base r t h =
-    record { stores = h.stores; ram = h.ram; oam_transfer = h.oam_transfer; stack = fit t.target h.stack }
+    record { stores = h.stores; ram = h.ram; oam_transfer = h.oam_transfer; stack = fit z.rules t.target h.stack }
   where
-    fit : (w : Target) → IsStackFit region w s (related_successor r t) base → IsStackFit region w s t base
-    fit (target.At a) k = k
-    fit (target.Call a) k = k
-    fit target.Return k = record { stack_set = k.stack_set; held = k.held; return_word = k.return_word }
-    fit (target.Main a) k = k
-    fit target.Unknown k = k
-    fit target.Lost k = k
+    fit : (q : Rules) (w : Target) → IsStackFit q region w s (related_successor r t) base → IsStackFit q region w s t base
+    fit Extended w k = k
+    fit Simple (target.At a) k = k
+    fit Simple (target.Call a) k = k
+    fit Simple target.Return k = record { stack_set = k.stack_set; held = k.held; return_word = k.return_word }
+    fit Simple (target.Main a) k = k
+    fit Simple target.Unknown k = k
+    fit Simple target.Lost k = k
 
-pub LeadsTo-related :
+pub LeadsSimply-related :
     (region : Region) (w : Target) (r : Relations) (t : Successor) (entry : MState) (base : ℕ) (x y : MState)
-    → LeadsTo region w t entry base x y → LeadsTo region w (related_successor r t) entry base x y
+    → LeadsSimply region w t entry base x y → LeadsSimply region w (related_successor r t) entry base x y
 unfolding pushed
-LeadsTo-related region (target.At a) r t entry base x y h = record { means = MeansParts-related r t.state entry base y h.means; goes = h.goes; room = h.room }
-LeadsTo-related region (target.Call a) r t entry base x y h =
+LeadsSimply-related region (target.At a) r t entry base x y h = record { means = MeansParts-related r t.state entry base y h.means; goes = h.goes; room = h.room }
+LeadsSimply-related region (target.Call a) r t entry base x y h =
     record { means = MeansParts-related r _ entry base y h.means; next = h.next; goes = h.goes; stack_set = h.stack_set; placed = h.placed }
-LeadsTo-related region target.Return r t entry base x y h = record { means = MeansParts-related r t.state entry (base + 2) y h.means; goes = h.goes }
-LeadsTo-related region (target.Main a) r t entry base x y h = tt
-LeadsTo-related region target.Unknown r t entry base x y h = tt
-LeadsTo-related region target.Lost r t entry base x y h = tt
+LeadsSimply-related region target.Return r t entry base x y h = record { means = MeansParts-related r t.state entry (base + 2) y h.means; goes = h.goes }
+LeadsSimply-related region (target.Main a) r t entry base x y h = tt
+LeadsSimply-related region target.Unknown r t entry base x y h = tt
+LeadsSimply-related region target.Lost r t entry base x y h = tt
+
+-- where it is said that it leads
+pub led_simply : (z : Setting) (region : Region) (w : Target) (t : Successor) (entry : MState) (base : ℕ) (x y : MState) → z.rules ≡ Simple → LeadsTo z.rules z region w t entry base x y → LeadsSimply region w t entry base x y
+led_simply z region w t entry base x y e h = subst (λ r. LeadsTo r z region w t entry base x y) e h
+
+followed_simply : (z : Setting) (w : Target) → z.rules ≡ Simple → is_followed z.rules w ≡ true → is_followed Simple w ≡ true
+followed_simply z w e h = subst (λ r. is_followed r w ≡ true) e h
 
 -- ---- the core behind it
 
-core_led : (region : Region) (w : Target) (t : Successor) (entry : MState) (base : ℕ) (x y : MState) → is_followed w ≡ true → LeadsTo region w t entry base x y → MeansCore t.state.core entry y
+core_led : (region : Region) (w : Target) (t : Successor) (entry : MState) (base : ℕ) (x y : MState) → is_followed Simple w ≡ true → LeadsSimply region w t entry base x y → MeansCore t.state.core entry y
 unfolding pushed
 core_led region (target.At a) t entry base x y known h = h.means.core
 core_led region (target.Call a) t entry base x y known h = h.means.core
@@ -124,7 +132,7 @@ IsCore-written z region k (write.Word a low high) s is h =
     IsCore-stored_state z region k (one (behind a)) high (stored_state z region k (one a) low s) is.1 (IsCore-stored_state z region k (one a) low s is.0 h)
 IsCore-written z region k (write.Push high low) s is h = h
 
-IsCore-ended : (b : Bool) (n : ℕ) (c : Core) → IsCore c → IsCore (core_end b n c)
+pub IsCore-ended : (b : Bool) (n : ℕ) (c : Core) → IsCore c → IsCore (core_end b n c)
 unfolding core_end
 IsCore-ended true n c h = record { ime = h.ime; bound = omega arith; ctl = h.ctl; flags = h.flags; ie = h.ie; registers = h.registers }
 IsCore-ended false n c h = record { ime = h.ime; bound = let b = h.bound in omega arith; ctl = h.ctl; flags = h.flags; ie = h.ie; registers = h.registers }
@@ -143,11 +151,11 @@ IsCore-taken z rom region ranges row a s entry base x reads c k =
     core_of : IsTaken z rom region ranges row a s entry base x reads c → IsCore (abs_effect z rom row a s c).core
     core_of k =
         let word = is_word z rom s c _ k.core.ie k.stands.vals k.stands.items k.stands.cartridge.bytes in
-        (transfer_inhabited row.op (behind_row a row) (sp_halves z s) c (low_of z rom row s c) (high_of z rom row s c) (abs_effect z rom row a s c) refl k.ruled.operands (omega arith) k.core word.low word.high (IsWord-sp z s entry base x k.stands.based k.stands.means.parts)).core
+        (transfer_inhabited row.op (behind_row a row) (sp_halves z s) c (low_of z rom row s c) (high_of z rom row s c) (abs_effect z rom row a s c) refl k.operands (omega arith) k.core word.low word.high (IsWord-sp z s entry base x k.stands.based k.stands.means.parts)).core
 
 -- ---- taken
 
-has_operands : (o : Op) → effects.HasBytes o → relations.HasBytes o
+pub has_operands : (o : Op) → effects.HasBytes o → relations.HasBytes o
 has_operands (op.LoadPair to w) h = h
 has_operands (op.LoadImmediate to v) h = h
 has_operands (op.AluImmediate how v) h = h
@@ -171,8 +179,8 @@ related_begun row x r h = h
 
 pub related_taken :
     (z : Setting) (rom : List ℕ) (region : Region) (ranges : List Range) (row : Row) (a : ℕ) (s : AbsState) (entry : MState) (base : ℕ) (x : MState) (reads : List ℕ) (c : Core) (w : Target)
-    → IsTaken z rom region ranges row a s entry base x reads c → is_followed w ≡ true
-    → LeadsTo region w (simple_parts z rom region row (behind_row a row) s c) entry base x (outside (executed (within rom x) row reads))
+    → IsTaken z rom region ranges row a s entry base x reads c → is_followed Simple w ≡ true
+    → LeadsSimply region w (simple_parts z rom region row (behind_row a row) s c) entry base x (outside (executed (within rom x) row reads))
     → (sp : Bounds) (low : Val) (r : Relations) → AreRelated r (begun row x)
     → AreRelated (relations_after z.rules region row.op sp c.registers low r) (outside (executed (within rom x) row reads))
 related_taken z rom region ranges row a s entry base x reads c w k known led sp low r before =
@@ -183,9 +191,9 @@ related_taken z rom region ranges row a s entry base x reads c w k known led sp 
     let is : y ≡ left_by rom x e row.cycles = executed_taken z rom region ranges row a s entry base x reads c k in
     let byte : HoldOneByte (compared_after row.op r.byte) e.processor.registers (peek (left_by rom x e row.cycles).storage) e.processor.flags =
     HoldOneByte-compared_after row.op r.byte (begun row x).processor (peek x.storage) (peek (left_by rom x e row.cycles).storage)
-    (given rom row x reads).low (given rom row x reads).high (has_operands row.op k.ruled.operands) (AreBytes-core c entry (begun row x) k.core k.means) before.byte in
+    (given rom row x reads).low (given rom row x reads).high (has_operands row.op k.operands) (AreBytes-core c entry (begun row x) k.core k.means) before.byte in
     subst (λ (v : MState). AreRelated (relations_after z.rules region row.op sp c.registers low r) v) (sym is)
-    (by_rules z.rules region row.op sp c.registers low r _ _ _ k.stands.rules byte (subst (λ (v : MState). AreBytes v.processor.registers) is bytes))
+    (by_rules z.rules region row.op sp c.registers low r _ _ _ k.rules byte (subst (λ (v : MState). AreBytes v.processor.registers) is bytes))
 
 pub Leads-taken :
     (z : Setting) (rom : List ℕ) (region : Region) (ranges : List Range) (row : Row) (a : ℕ) (s : AbsState) (entry : MState) (base : ℕ) (x : MState) (reads : List ℕ) (c : Core)
@@ -197,9 +205,10 @@ pub Leads-taken :
 Leads-taken z rom region ranges row a s entry base x reads c k led sp low r before =
     let t = simple_parts z rom region row (behind_row a row) s c in
     record {
-      to = LeadsTo-related region t.target (relations_after z.rules region row.op sp c.registers low r) t entry base x _ led.to;
+      to = leads_simply z region t.target _ entry base x _ k.rules
+          (LeadsSimply-related region t.target (relations_after z.rules region row.op sp c.registers low r) t entry base x _ (led_simply z region t.target t entry base x _ k.rules led.to));
       kept = led.kept;
-      related = λ known. related_taken z rom region ranges row a s entry base x reads c t.target k known led.to sp low r before;
+      related = λ known. related_taken z rom region ranges row a s entry base x reads c t.target k (followed_simply z t.target k.rules known) (led_simply z region t.target t entry base x _ k.rules led.to) sp low r before;
     }
 
 -- ---- memory that stays

@@ -1,5 +1,5 @@
 -- By the rules of versions 1 and 2 a successor is what the transfer function alone says.
-use Rattle.std.proofs.Common.{◌≡◌, ℕ, ◌+◌, ◌-◌, ◌%◌, Bool, true, false, nat_lt, cond, List, [], ◌++◌, length, take, replicate, Option, Some, None, refl, sym, ◌∙◌, ap, arith}
+use Rattle.std.proofs.Common.{inl, ◌≡◌, ℕ, ◌+◌, ◌-◌, ◌%◌, Bool, true, false, nat_lt, cond, List, [], ◌++◌, length, take, replicate, Option, Some, None, refl, sym, ◌∙◌, ap, arith}
 use Rattle.gb_ops.specs.declared.machine.Region.{Region}
 use Rattle.gb_ops.specs.declared.op.Pair.TheVariants as pair
 use Rattle.gb_ops.specs.declared.op.Op.{Op}
@@ -200,7 +200,7 @@ IsTold None what = Unit {0}
 IsTold (Some c) (read.Byte span) = ⊥
 IsTold (Some c) _ = Unit {0}
 
-same_word :
+pub same_word :
     (z : Setting) (rom : List ℕ) (cell : Option Cell) (s : AbsState) (c : Core) (what : AbsRead) → IsTold cell what
     → read_word z rom (with_core s c) what ≡ read_word z rom (with_core (with_cell_if z cell s) c) what
 unfolding read_word with_cell_if youngest
@@ -209,7 +209,7 @@ same_word z rom (Some d) s c (read.Byte span) h = absurd h
 same_word z rom (Some d) s c read.Top h = refl
 same_word z rom (Some d) s c read.Nothing h = refl
 
-same_sp : (z : Setting) (cell : Option Cell) (s : AbsState) → sp_halves z s ≡ sp_halves z (with_cell_if z cell s)
+pub same_sp : (z : Setting) (cell : Option Cell) (s : AbsState) → sp_halves z s ≡ sp_halves z (with_cell_if z cell s)
 unfolding sp_halves with_cell_if
 same_sp z None s = refl
 same_sp z (Some c) s = refl
@@ -252,7 +252,7 @@ state_simply k rom row s cell e h =
     let told = with_cell_if z cell s in
     sym (ap (λ t. ended (starts e.write) row.cycles t)
     (ap (written z k.region (kind_of rom) e.write) (sym (moved_simply k row.op e.write told e.core h))
-    ∙ written_by z k.region (kind_of rom) e.write (with_stack_moved z m told) (moved_core m e.core) h))
+    ∙ written_by z k.region (kind_of rom) e.write (with_stack_moved z m told) (moved_core m e.core) (inl h)))
 
 same_parts : (t u : Successor) → t.read ≡ u.read → t.write ≡ u.write → t.target ≡ u.target → t.next ≡ u.next → t.state ≡ u.state → t ≡ u
 same_parts t u r w g n s =

@@ -42,6 +42,9 @@ use Rattle.gb_abs_effects.specs.declared.reads.AbsRead.{AbsRead}
 use Rattle.gb_abs_effects.specs.declared.reads.AbsRead.TheVariants as read
 use Rattle.gb_abs_effects.specs.declared.writes.AbsWrite.{AbsWrite}
 use Rattle.gb_abs_effects.specs.declared.writes.AbsWrite.TheVariants as write
+use Rattle.gb_domain.specs.declared.rules.Rules.TheVariants.{Simple}
+use Rattle.gb_successors.specs.Way.{Successor}
+use Rattle.gb_abs_effects.specs.declared.targets.Target.{Target}
 use Rattle.gb_abs_effects.specs.declared.targets.Target.TheVariants as target
 use Rattle.gb_abs_effects.specs.Pairs.{any_word, known_word}
 use Rattle.gb_abs_effects.specs.Accesses.{read_of}
@@ -53,13 +56,13 @@ use Rattle.gb_abs_memory.specs.Sound.{view}
 use Rattle.gb_abs_memory.specs.Kept.{IsKept}
 use Rattle.gb_successors.specs.Behind.{read_word, written, starts, ended}
 use Rattle.gb_successors.specs.Refused.{reads_closed_ram, is_stack_limited, is_read_limited, is_write_limited}
-use Rattle.gb_successors.specs.Sound.{bytes_behind, IsPushable, IsPoppable, IsReturnable, IsStackKnown, IsStackFit, IsAllowed, LeadsParts, LeadsTo}
+use Rattle.gb_successors.specs.Sound.{bytes_behind, IsPushable, IsPoppable, IsReturnable, IsStackKnown, IsStackFree, IsStackFit, IsAllowed, LeadsParts, LeadsSimply}
 use Rattle.gb_successors.specs.Words.{word_or_any}
 use Rattle.gb_successors.proofs.SimpleLaws.{behind_row, known_read, low_of, high_of, abs_effect, with_stack_of, simple_parts}
 use Rattle.gb_successors.proofs.PlainLaws.{IsPlainRead}
 use Rattle.gb_successors.proofs.AccessLaws.{Loads, clear_stack}
 use Rattle.gb_successors.proofs.WordLaws.{IsPush-is_push, IsCall-is_call, IsPop-is_pop, IsReturn-is_return, pushed-if_room}
-use Rattle.gb_successors.proofs.SuccessorLaws.{begun, begun_sp, given, effect, left_by, faults_are, MeansParts-ended, passed_peek, IsTaken, means_begun, acted, loads, follows, keeps_effect, is_write, allowed_read, allowed_write, read_is, write_is, target_is, state_is, executed_taken, goes_to, Done, bytes-least, Done-plain}
+use Rattle.gb_successors.proofs.SuccessorLaws.{begun, begun_sp, given, effect, left_by, faults_are, MeansParts-ended, passed_peek, IsTaken, means_begun, acted, loads, follows, keeps_effect, is_write, allowed_read, allowed_write, read_is, write_is, target_is, state_is, executed_taken, goes_to, leads_simply, Done, bytes-least, Done-plain}
 
 -- ---- the parts of the successor, where its write is known
 
@@ -83,19 +86,19 @@ ended_nothing z region k n s = refl
 -- ---- a word is pushed
 
 -- what the machine writes is the word
-record IsPushed (high low : Val) (entry : MState) (sp : ℕ) (w : Write) : Type 0 where
+pub record IsPushed (high low : Val) (entry : MState) (sp : ℕ) (w : Write) : Type 0 where
   pub value : ℕ
   pub is : w ≡ machine_write.Push sp value
   pub high_held : Holds high entry (value / 256)
   pub low_held : Holds low entry (value % 256)
 
-push_of : (high low : Val) (entry : MState) (sp : ℕ) (w : Write) → HoldsWrite (write.Push high low) entry sp w → IsPushed high low entry sp w
+pub push_of : (high low : Val) (entry : MState) (sp : ℕ) (w : Write) → HoldsWrite (write.Push high low) entry sp w → IsPushed high low entry sp w
 push_of high low entry sp machine_write.Nothing h = absurd h
 push_of high low entry sp (machine_write.Byte a n) h = absurd h
 push_of high low entry sp (machine_write.Word a n) h = absurd h
 push_of high low entry sp (machine_write.Push a n) h = record { value = n; is = ap (λ b. machine_write.Push b n) h.0; high_held = h.1; low_held = h.2 }
 
-small_word : (v : Val) (entry : MState) (n : ℕ) → IsVal v → Holds v entry (n / 256) → n < 65536
+pub small_word : (v : Val) (entry : MState) (n : ℕ) → IsVal v → Holds v entry (n / 256) → n < 65536
 small_word v entry n is h =
     let most = h.most in
     let hi = is.hi in
@@ -126,7 +129,7 @@ record Pushed (z : Setting) (rom : List ℕ) (region : Region) (ranges : List Ra
   pub starting : (stored (view rom x false) e.write).starting ≡ false
   pub kept : (b : ℕ) → IsKept z region ranges base b → peek (stored (view rom x false) e.write).storage b ≡ peek x.storage b
 
-same_but_sp : (core : Core) (entry x y : MState) (sp : ℕ) → MeansCore core entry x → y ≡ record { processor = with_sp x.processor sp; storage = x.storage } → MeansCore core entry y
+pub same_but_sp : (core : Core) (entry x y : MState) (sp : ℕ) → MeansCore core entry x → y ≡ record { processor = with_sp x.processor sp; storage = x.storage } → MeansCore core entry y
 same_but_sp core entry x y sp m e = subst (λ z. MeansCore core entry z) (sym e) (record {
   registers = m.registers;
   flags = m.flags;
@@ -220,19 +223,23 @@ Done-push z rom region ranges row a s entry base x reads c k is able allowed =
       held = subst (λ (z : AbsState). length z.items ≤ bytes_behind row.op (length s.items)) (sym state) (bytes_pushed row.op row.cycles i (with_core s core) is);
       leads = subst (λ y. LeadsParts z region ranges t entry base x y) (sym (executed_taken z rom region ranges row a s entry base x reads c k))
           (record {
-            to = subst (λ v. LeadsTo region v t entry base x (left_by rom x e row.cycles)) (sym (target_is z rom region row a s c ∙ p.target_is))
+            to = leads_simply z region _ t entry base x (left_by rom x e row.cycles) k.rules
+                (subst (λ v. LeadsSimply region v t entry base x (left_by rom x e row.cycles)) (sym (target_is z rom region row a s c ∙ p.target_is))
                 (record {
                   means = subst (λ z. MeansParts z entry base (left_by rom x e row.cycles)) (sym state)
                       (MeansParts-ended rom (pushed i (with_core s core)) entry base e.processor (stored (view rom x false) e.write) false row.cycles w.starting w.means);
                   goes = subst (λ v. HoldsTarget v e.processor.pc) p.target_is (goes_to z rom region ranges row a s entry base x reads c k);
                   room = subst (λ (z : AbsState). AreInRegion region base (length z.items)) (sym state) (pushed_room region base row.cycles i (with_core s core) able.room);
-                });
+                }));
             kept = λ b kept. passed_peek (stored (view rom x false) e.write) row.cycles b ∙ w.kept b kept;
           });
       faults = faults_are rom region x row reads l.faults w.faults;
     }
 
 -- ---- a call
+
+fit_simply : (z : Setting) (region : Region) (w : Target) (s : AbsState) (t : Successor) (base : ℕ) → z.rules ≡ Simple → IsStackFit z.rules region w s t base → IsStackFree region w s t base
+fit_simply z region w s t base e h = subst (λ r. IsStackFit r region w s t base) e h
 
 ended_pushed : (n : ℕ) (i : Halves) (s : AbsState) → ended false n (pushed i s) ≡ pushed i (ended false n s)
 unfolding ended pushed
@@ -271,14 +278,15 @@ Done-call z rom region ranges row a s entry base x reads c k is set allowed =
     let keeps = keeps_effect z rom region ranges row a s entry base x reads c k in
     let state : t.state ≡ ended false row.cycles (with_core s core) =
     state_by z rom region row a s c _ p.write_is ∙ (ended_push z region (kind_of rom) (single (next / 256)) (single (next % 256)) row.cycles _ ∙ ap (ended false row.cycles) (p.leaves _ (with_core s core))) in
-    let fits : AreInRegion region base (length t.state.items + 2) = subst (λ v. IsStackFit region v s t base) target allowed.stack in
+    let fits : AreInRegion region base (length t.state.items + 2) = subst (λ v. IsStackFree region v s t base) target (fit_simply z region t.target s t base k.rules allowed.stack) in
     let room : AreInRegion region base (length s.items + 2) = subst (λ items. AreInRegion region base (length items + 2)) (ap (λ (z : AbsState). z.items) state ∙ ended_items row.cycles (with_core s core)) fits in
     let w = pushes z rom region ranges row a s entry base x reads c k (single (next / 256)) (single (next % 256)) p.write_is set room limited f.0 in
     record {
       held = subst (λ (z : AbsState). length z.items ≤ bytes_behind row.op (length s.items)) (sym state) (bytes_same row.op row.cycles (with_core s core));
       leads = subst (λ y. LeadsParts z region ranges t entry base x y) (sym (executed_taken z rom region ranges row a s entry base x reads c k))
           (record {
-            to = subst (λ v. LeadsTo region v t entry base x (left_by rom x e row.cycles)) (sym target)
+            to = leads_simply z region _ t entry base x (left_by rom x e row.cycles) k.rules
+                (subst (λ v. LeadsSimply region v t entry base x (left_by rom x e row.cycles)) (sym target)
                 (record {
                   means = subst (λ n. MeansParts (pushed (known_word n) t.state) entry base (left_by rom x e row.cycles)) (sym (next_is z rom region row a s c))
                       (subst (λ z. MeansParts (pushed (known_word next) z) entry base (left_by rom x e row.cycles)) (sym state)
@@ -288,7 +296,7 @@ Done-call z rom region ranges row a s entry base x reads c k is set allowed =
                   goes = subst (λ v. HoldsTarget v e.processor.pc) p.target_is (goes_to z rom region ranges row a s entry base x reads c k);
                   stack_set = ap (λ (z : AbsState). z.core.stack_set) state ∙ (ended_set row.cycles (with_core s core) ∙ (keeps.stack ∙ set));
                   placed = subst (λ cells. ArePlaced region cells) (sym (ap (λ (z : AbsState). z.cells) state ∙ ended_cells row.cycles (with_core s core))) k.stands.placed;
-                });
+                }));
             kept = λ b kept. passed_peek (stored (view rom x false) e.write) row.cycles b ∙ w.kept b kept;
           });
       faults = faults_are rom region x row reads l.faults w.faults;
@@ -313,7 +321,7 @@ means_begun_taken : (z : Setting) (rom : List ℕ) (region : Region) (ranges : L
     → IsTaken z rom region ranges row a s entry base x reads c → MeansParts (with_core s c) entry base (begun row x)
 means_begun_taken z rom region ranges row a s entry base x reads c k = means_begun rom row s entry base x c k.keeps k.stands.means.parts k.means
 
-is_word_read : (sp : ℕ) (r : Read) → HoldsRead read.Top sp r → r ≡ machine_read.Word sp
+pub is_word_read : (sp : ℕ) (r : Read) → HoldsRead read.Top sp r → r ≡ machine_read.Word sp
 is_word_read sp machine_read.Nothing h = absurd h
 is_word_read sp (machine_read.Byte a) h = absurd h
 is_word_read sp (machine_read.Word a) h = ap machine_read.Word h
@@ -375,10 +383,10 @@ leaves_word z rom region ranges row a s entry base x reads c k after i top p set
     }
 
 -- a word is held
-top_held : (s : AbsState) (c : Core) → 2 ≤ length s.items → (i : Halves) × (youngest (with_core s c) ≡ Some i)
+pub top_held : (s : AbsState) (c : Core) → 2 ≤ length s.items → (i : Halves) × (youngest (with_core s c) ≡ Some i)
 top_held s c h = (_, youngest_is (with_core s c) s.items any_val refl h)
 
-read_top : (z : Setting) (rom : List ℕ) (s : AbsState) (what : AbsRead) (o : Option Halves) → what ≡ read.Top → youngest s ≡ o → read_word z rom s what ≡ word_or_any o
+pub read_top : (z : Setting) (rom : List ℕ) (s : AbsState) (what : AbsRead) (o : Option Halves) → what ≡ read.Top → youngest s ≡ o → read_word z rom s what ≡ word_or_any o
 unfolding read_word
 read_top z rom s what o e is = ap (read_word z rom s) e ∙ ap word_or_any is
 
@@ -433,12 +441,13 @@ Done-pop z rom region ranges row a s entry base x reads c k is able allowed =
       held = subst (λ (z : AbsState). length z.items ≤ bytes_behind row.op (length s.items)) (sym state) (bytes_popped row.op row.cycles (with_core s core));
       leads = subst (λ y. LeadsParts z region ranges t entry base x y) (sym (executed_taken z rom region ranges row a s entry base x reads c k))
           (record {
-            to = subst (λ v. LeadsTo region v t entry base x (left_by rom x e row.cycles)) (sym (target_is z rom region row a s c ∙ p.target_is))
+            to = leads_simply z region _ t entry base x (left_by rom x e row.cycles) k.rules
+                (subst (λ v. LeadsSimply region v t entry base x (left_by rom x e row.cycles)) (sym (target_is z rom region row a s c ∙ p.target_is))
                 (record {
                   means = subst (λ z. MeansParts z entry base (left_by rom x e row.cycles)) (sym (state ∙ popped_ended row.cycles s c core)) left.means;
                   goes = subst (λ v. HoldsTarget v e.processor.pc) p.target_is (goes_to z rom region ranges row a s entry base x reads c k);
                   room = subst (λ (z : AbsState). AreInRegion region base (length z.items)) (sym state) (popped_room region base row.cycles (with_core s core) k.stands.room);
-                });
+                }));
             kept = λ b kept. left.same b;
           });
       faults = faults_are rom region x row reads l.faults left.faults;
@@ -509,7 +518,7 @@ Done-return z rom region ranges row a s entry base x reads c k is allowed =
     let limited : is_stack_limited region s.core ≡ false =
     subst (λ v. is_read_limited region s.core v ≡ false) (read_is z rom region row a s c ∙ p.read_is) (allowed_read z rom region ranges s base _ allowed).1 in
     let target : t.target ≡ target.Return = target_is z rom region row a s c ∙ p.target_is in
-    let able : IsReturnable region s t base = subst (λ v. IsStackFit region v s t base) target allowed.stack in
+    let able : IsReturnable region s t base = subst (λ v. IsStackFree region v s t base) target (fit_simply z region t.target s t base k.rules allowed.stack) in
     let state : t.state ≡ ended false row.cycles (with_core s core) =
     state_by z rom region row a s c _ p.write_is ∙ (ended_nothing z region (kind_of rom) row.cycles _ ∙ ap (ended false row.cycles) (p.leaves _ (with_core s core))) in
     let none : s.items ≡ [] = sym (ap (λ (z : AbsState). z.items) state ∙ ended_items row.cycles (with_core s core)) ∙ able.held in
@@ -530,11 +539,12 @@ Done-return z rom region ranges row a s entry base x reads c k is allowed =
       held = subst (λ (z : AbsState). length z.items ≤ bytes_behind row.op (length s.items)) (sym state) (bytes_same row.op row.cycles (with_core s core));
       leads = subst (λ y. LeadsParts z region ranges t entry base x y) (sym (executed_taken z rom region ranges row a s entry base x reads c k))
           (record {
-            to = subst (λ v. LeadsTo region v t entry base x (left_by rom x e row.cycles)) (sym target)
+            to = leads_simply z region _ t entry base x (left_by rom x e row.cycles) k.rules
+                (subst (λ v. LeadsSimply region v t entry base x (left_by rom x e row.cycles)) (sym target)
                 (record {
                   means = subst (λ z. MeansParts z entry (base + 2) (left_by rom x e row.cycles)) (sym (state ∙ returned_state row.cycles s c core low high none)) left.means;
                   goes = pc ∙ (ap (λ r. machine_word (loaded (view rom x false) r reads).high (loaded (view rom x false) r reads).low) reads_word ∙ (ap (λ h. machine_word h top.low) at_high ∙ ap (machine_word high) at_low));
-                });
+                }));
             kept = λ b kept. left.same b;
           });
       faults = faults_are rom region x row reads l.faults left.faults;
@@ -546,7 +556,7 @@ pub taken_executes :
     (z : Setting) (rom : List ℕ) (region : Region) (ranges : List Range) (row : Row) (a : ℕ) (s : AbsState) (entry : MState) (base : ℕ) (x : MState) (reads : List ℕ) (c : Core)
     → IsTaken z rom region ranges row a s entry base x reads c → IsAllowed z rom region ranges s base (simple_parts z rom region row (behind_row a row) s c)
     → Done z rom region ranges row s (simple_parts z rom region row (behind_row a row) s c) entry base x reads
-taken_executes z rom region ranges row a s entry base x reads c k allowed = by k.ruled.stack
+taken_executes z rom region ranges row a s entry base x reads c k allowed = by k.stack
   where
     by : IsStackKnown z region row.op s base → Done z rom region ranges row s (simple_parts z rom region row (behind_row a row) s c) entry base x reads
     by (inl still) = Done-plain z rom region ranges row a s entry base x reads c k (inl still) allowed

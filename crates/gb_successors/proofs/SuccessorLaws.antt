@@ -56,7 +56,7 @@ use Rattle.gb_abs_memory.proofs.LoadLaws.{IsVal-loaded_val}
 use Rattle.gb_successors.specs.Way.{Successor}
 use Rattle.gb_successors.specs.Behind.{read_word, written, starts, ended}
 use Rattle.gb_successors.specs.Refused.{is_unstorable, meets_closed, meets_oam_transfer, reads_closed_ram, writes_closed_ram, is_read_limited, is_write_limited}
-use Rattle.gb_successors.specs.Sound.{bytes_behind, IsAllowed, LeadsParts, LeadsTo, Stands, IsRuled}
+use Rattle.gb_successors.specs.Sound.{bytes_behind, IsAllowed, LeadsParts, LeadsSimply, LeadsTo, IsStackKnown, Stands}
 use Rattle.gb_successors.specs.Words.{word_or_any}
 use Rattle.gb_successors.proofs.SimpleLaws.{behind_row, low_of, high_of, abs_effect, with_stack_of, simple_parts}
 use Rattle.gb_successors.proofs.PlainLaws.{Keeps, Keeps-both, Keeps-transfer, IsPlainRead, IsPlainWrite, IsPlainTarget, IsPlainRead-read_of, IsPlainWrite-transfer, plain_target}
@@ -142,7 +142,10 @@ passed_peek m n b = refl
 -- the instruction is taken, from the side's core
 pub record IsTaken (z : Setting) (rom : List ℕ) (region : Region) (ranges : List Range) (row : Row) (a : ℕ) (s : AbsState) (entry : MState) (base : ℕ) (x : MState) (reads : List ℕ) (c : Core) : Type 0 where
   pub stands : Stands z rom region row a s entry base x
-  pub ruled : IsRuled z region row s base
+  pub rules : z.rules ≡ Simple
+  pub operands : HasBytes row.op
+  pub runs : row.op ≡ op.Stop → ⊥
+  pub stack : IsStackKnown z region row.op s base
   pub mark : x.processor.halt_mark ≡ false
   pub byte : slice_index reads 0 ≤ 255
   pub keeps : Keeps s.core c
@@ -232,20 +235,20 @@ pub follows : (z : Setting) (rom : List ℕ) (region : Region) (ranges : List Ra
     → Loads z rom (with_core s c) (read_of row.op c) entry (view rom x false) (Effects.read_of row.op (advanced x.processor row)) reads
     → Follows (abs_effect z rom row a s c) entry (begun row x) (effect rom row x reads) × ((effect rom row x reads).processor.sp < 65536)
 follows z rom region ranges row a s entry base x reads c k l =
-    let sound = transfer_sound row.op (behind_row a row) (sp_halves z s) c (low_of z rom row s c) (high_of z rom row s c) (abs_effect z rom row a s c) refl k.ruled.operands k.core
+    let sound = transfer_sound row.op (behind_row a row) (sp_halves z s) c (low_of z rom row s c) (high_of z rom row s c) (abs_effect z rom row a s c) refl k.operands k.core
     (is_word z rom s c (read_of row.op c) k.core.ie k.stands.vals k.stands.items k.stands.cartridge.bytes).low in
     let sp_known = halves_sound z s (sp_halves z s) refl in
     let begins : Begins row.op (behind_row a row) (sp_halves z s) c (low_of z rom row s c) (high_of z rom row s c) entry (begun row x) (given rom row x reads).low (given rom row x reads).high = record {
       core = k.means;
       low_read = l.low;
       high_read = l.high;
-      pc = begun_pc row x a k.ruled.runs k.mark k.stands.at;
+      pc = begun_pc row x a k.runs k.mark k.stands.at;
       sp = subst (λ n. n < 65536) (sym (begun_sp row x)) k.stands.means.parts.sp;
       sp_high = subst (λ n. Holds (sp_halves z s).high entry (n / 256)) (sym (begun_sp row x)) (sp_known.high entry base x k.stands.based k.stands.means.parts);
       sp_low = subst (λ n. Holds (sp_halves z s).low entry (n % 256)) (sym (begun_sp row x)) (sp_known.low entry base x k.stands.based k.stands.means.parts);
       taken = k.taken;
     } in (
-      sound.gives entry (begun row x) (given rom row x reads).low (given rom row x reads).high k.ruled.runs begins,
+      sound.gives entry (begun row x) (given rom row x reads).low (given rom row x reads).high k.runs begins,
       sound.sp entry (begun row x) (given rom row x reads).low (given rom row x reads).high begins,
     )
 
@@ -281,25 +284,24 @@ record IsActed (z : Setting) (region : Region) (s t : AbsState) (entry : MState)
   pub gate : IsSameGate s.core t.core
 
 acted_still : (z : Setting) (region : Region) (s : AbsState) (core : Core) (entry : MState) (base : ℕ) (x y : MState) → MeansParts s entry base x → Keeps s.core core → MeansCore core entry y
-    → y.storage ≡ x.storage → y.processor.sp ≡ x.processor.sp → ArePlaced region s.cells → AreInRegion region base (length s.items) → IsRegion region → IsBase z base → z.rules ≡ Simple
+    → y.storage ≡ x.storage → y.processor.sp ≡ x.processor.sp → ArePlaced region s.cells → AreInRegion region base (length s.items) → IsRegion region → IsBase z base
     → IsActed z region s (with_core s core) entry base y
-acted_still z region s core entry base x y m k h storage sp placed room is based rules = record {
+acted_still z region s core entry base x y m k h storage sp placed room is based = record {
   at = record {
     means = MeansParts-with_core s core entry base x y m h (ap (λ t. t.work) storage) (ap (λ t. t.high) storage) sp (λ set. sym k.stack ∙ set);
     placed = placed;
     room = room;
     is_region = is;
     based = based;
-    rules = rules;
   };
   gate = record { ctl = k.ctl; bound = k.bound };
 }
 
 -- LD SP,n16: the stack is set, with nothing on it
 acted_set : (z : Setting) (region : Region) (s : AbsState) (core : Core) (entry : MState) (base : ℕ) (x y : MState) → MeansParts s entry base x → Keeps s.core core → MeansCore core entry y
-    → y.storage ≡ x.storage → y.processor.sp ≡ base → y.processor.sp < 65536 → ArePlaced region s.cells → AreInRegion region base (length s.items) → IsRegion region → IsBase z base → z.rules ≡ Simple
+    → y.storage ≡ x.storage → y.processor.sp ≡ base → y.processor.sp < 65536 → ArePlaced region s.cells → AreInRegion region base (length s.items) → IsRegion region → IsBase z base
     → IsActed z region s (record (with_core s core) { core = record core { stack_set = true }; items = [] }) entry base y
-acted_set z region s core entry base x y m k h storage sp small placed room is based rules = record {
+acted_set z region s core entry base x y m k h storage sp small placed room is based = record {
   at = record {
     means = record {
       core = record {
@@ -322,7 +324,6 @@ acted_set z region s core entry base x y m k h storage sp small placed room is b
     room = record { first = let first = room.first in omega arith; last = room.last };
     is_region = is;
     based = based;
-    rules = rules;
   };
   gate = record { ctl = k.ctl; bound = k.bound };
 }
@@ -350,13 +351,13 @@ acts z rom region ranges row a s entry base x reads c k plain f small = choose p
     choose (inl still) =
         subst (λ t. IsActed z region s t entry base (acted rom row x reads)) (sym (stack_still z row.op (abs_effect z rom row a s c).write (with_core s (abs_effect z rom row a s c).core) still))
         (acted_still z region s (abs_effect z rom row a s c).core entry base x (acted rom row x reads) k.stands.means.parts keeps f.core refl
-        (sp-kept row.op (advanced x.processor row) (given rom row x reads).low (given rom row x reads).high still ∙ begun_sp row x) k.stands.placed k.stands.room k.stands.is_region k.stands.based k.stands.rules)
+        (sp-kept row.op (advanced x.processor row) (given rom row x reads).low (given rom row x reads).high still ∙ begun_sp row x) k.stands.placed k.stands.room k.stands.is_region k.stands.based)
     choose (inr e) =
         let sp : (effect rom row x reads).processor.sp ≡ base =
         ap (λ o. (Effects.effect_of o (advanced x.processor row) (given rom row x reads).low (given rom row x reads).high).processor.sp) e
         ∙ sp-loaded base (advanced x.processor row) (given rom row x reads).low (given rom row x reads).high in
         subst (λ t. IsActed z region s t entry base (acted rom row x reads)) (sym (stack_loaded z row.op base (abs_effect z rom row a s c).write (with_core s (abs_effect z rom row a s c).core) e))
-        (acted_set z region s (abs_effect z rom row a s c).core entry base x (acted rom row x reads) k.stands.means.parts keeps f.core refl sp small k.stands.placed k.stands.room k.stands.is_region k.stands.based k.stands.rules)
+        (acted_set z region s (abs_effect z rom row a s c).core entry base x (acted rom row x reads) k.stands.means.parts keeps f.core refl sp small k.stands.placed k.stands.room k.stands.is_region k.stands.based)
 
 -- ---- the way on
 
@@ -397,7 +398,7 @@ pub is_write : (z : Setting) (rom : List ℕ) (region : Region) (ranges : List R
     → IsTaken z rom region ranges row a s entry base x reads c → IsWrite (abs_effect z rom row a s c).write
 is_write z rom region ranges row a s entry base x reads c k =
     let word = is_word z rom s c (read_of row.op c) k.core.ie k.stands.vals k.stands.items k.stands.cartridge.bytes in
-    (transfer_inhabited row.op (behind_row a row) (sp_halves z s) c (low_of z rom row s c) (high_of z rom row s c) (abs_effect z rom row a s c) refl k.ruled.operands (omega arith) k.core word.low word.high (IsWord-sp z s entry base x k.stands.based k.stands.means.parts)).write
+    (transfer_inhabited row.op (behind_row a row) (sp_halves z s) c (low_of z rom row s c) (high_of z rom row s c) (abs_effect z rom row a s c) refl k.operands (omega arith) k.core word.low word.high (IsWord-sp z s entry base x k.stands.based k.stands.means.parts)).write
 
 -- its write
 stores : (z : Setting) (rom : List ℕ) (region : Region) (ranges : List Range) (row : Row) (a : ℕ) (s : AbsState) (entry : MState) (base : ℕ) (x : MState) (reads : List ℕ) (c : Core)
@@ -409,15 +410,18 @@ stores z rom region ranges row a s entry base x reads c k plain allowed f small 
     let w : AbsWrite = (abs_effect z rom row a s c).write in
     let may = allowed_write z rom region ranges s base _ allowed in
     Stores-write z rom region ranges (effect_state z rom row a s c) entry base (acted rom row x reads) (begun row x).processor.sp w (effect rom row x reads).write acted_at.at
-    (plain_write row.op base (behind_row a row) (sp_halves z s) c (low_of z rom row s c) (high_of z rom row s c) plain k.ruled.operands k.core)
+    (plain_write row.op base (behind_row a row) (sp_halves z s) c (low_of z rom row s c) (high_of z rom row s c) plain k.operands k.core)
     (is_write z rom region ranges row a s entry base x reads c k) f.write
     (subst (λ v. is_unstorable z (kind_of rom) region ranges v ≡ false) (write_is z rom region row a s c) allowed.stores)
     (writes_same rom s.core (effect_state z rom row a s c).core w acted_at.gate ∙ subst (λ v. writes_closed_ram rom s.core v ≡ false) (write_is z rom region row a s c) may.0)
     (write_limited_same region s.core (effect_state z rom row a s c).core w acted_at.gate ∙ subst (λ v. is_write_limited region s.core v ≡ false) (write_is z rom region row a s c) may.1)
 
+pub leads_simply : (z : Setting) (region : Region) (w : Target) (t : Successor) (entry : MState) (base : ℕ) (x y : MState) → z.rules ≡ Simple → LeadsSimply region w t entry base x y → LeadsTo z.rules z region w t entry base x y
+leads_simply z region w t entry base x y e h = subst (λ r. LeadsTo r z region w t entry base x y) (sym e) h
+
 -- where the machine goes on in the same procedure, it stays; of a jump to somewhere nothing is said
 leads_plain : (region : Region) (w : Target) (t : Successor) (entry : MState) (base : ℕ) (x y : MState) → IsPlainTarget w → MeansParts t.state entry base y → HoldsTarget w y.processor.pc
-    → AreInRegion region base (length t.state.items) → LeadsTo region w t entry base x y
+    → AreInRegion region base (length t.state.items) → LeadsSimply region w t entry base x y
 leads_plain region (target.At a) t entry base x y plain means goes room = record { means = means; goes = goes; room = room }
 leads_plain region (target.Call a) t entry base x y plain means goes room = absurd plain
 leads_plain region target.Return t entry base x y plain means goes room = absurd plain
@@ -434,7 +438,7 @@ pub goes_to : (z : Setting) (rom : List ℕ) (region : Region) (ranges : List Ra
     → IsTaken z rom region ranges row a s entry base x reads c → HoldsTarget (target_of row.op (behind_row a row) c) (effect rom row x reads).processor.pc
 goes_to z rom region ranges row a s entry base x reads c k =
     (target_of_sound row.op (behind_row a row) c (target_of row.op (behind_row a row) c) refl).gives entry (begun row x) (given rom row x reads).low (given rom row x reads).high
-    k.means (begun_pc row x a k.ruled.runs k.mark k.stands.at) k.taken
+    k.means (begun_pc row x a k.runs k.mark k.stands.at) k.taken
 
 -- an instruction leads by a successor, and has no fault
 pub record Done (z : Setting) (rom : List ℕ) (region : Region) (ranges : List Range) (row : Row) (s : AbsState) (t : Successor) (entry : MState) (base : ℕ) (x : MState) (reads : List ℕ) : Type 0 where
@@ -464,7 +468,7 @@ pub Done-plain :
     → Done z rom region ranges row s (simple_parts z rom region row (behind_row a row) s c) entry base x reads
 Done-plain z rom region ranges row a s entry base x reads c k plain allowed =
     let may = allowed_read z rom region ranges s base _ allowed in
-    let l = loads z rom region ranges row a s entry base x reads c k (plain_read row.op base c plain k.ruled.operands k.core)
+    let l = loads z rom region ranges row a s entry base x reads c k (plain_read row.op base c plain k.operands k.core)
     (subst (λ v. reads_closed_ram rom s.core v ≡ false) (read_is z rom region row a s c) may.0) (subst (λ v. is_read_limited region s.core v ≡ false) (read_is z rom region row a s c) may.1) in
     let f = follows z rom region ranges row a s entry base x reads c k l in
     let st = stores z rom region ranges row a s entry base x reads c k plain allowed f.0 f.1 in
@@ -474,17 +478,18 @@ Done-plain z rom region ranges row a s entry base x reads c k plain allowed =
     let means : MeansParts (ended (starts w) row.cycles after) entry base (left_by rom x e row.cycles) =
     MeansParts-ended rom after entry base e.processor (stored (view rom x false) e.write) (starts w) row.cycles st.starting st.means in
     let items : (simple_parts z rom region row (behind_row a row) s c).state.items ≡ (effect_state z rom row a s c).items =
-    ap (λ (t : AbsState). t.items) (state_is z rom region row a s c) ∙ (ended_items (starts w) row.cycles after ∙ st.items) in
+    ap (λ (t : AbsState). t.items) (state_is z rom region row a s c) ∙ (ended_items (starts w) row.cycles after ∙ st.items k.rules) in
     record {
       held = subst (λ xs. length xs ≤ bytes_behind row.op (length s.items)) (sym items) (bytes_plain z rom row a s c base plain);
       leads = subst (λ y. LeadsParts z region ranges (simple_parts z rom region row (behind_row a row) s c) entry base x y) (sym (executed_taken z rom region ranges row a s entry base x reads c k))
           (record {
-            to = subst (λ v. LeadsTo region v (simple_parts z rom region row (behind_row a row) s c) entry base x (left_by rom x e row.cycles)) (sym (target_is z rom region row a s c))
+            to = leads_simply z region _ (simple_parts z rom region row (behind_row a row) s c) entry base x (left_by rom x e row.cycles) k.rules
+                (subst (λ v. LeadsSimply region v (simple_parts z rom region row (behind_row a row) s c) entry base x (left_by rom x e row.cycles)) (sym (target_is z rom region row a s c))
                 (leads_plain region (target_of row.op (behind_row a row) c) (simple_parts z rom region row (behind_row a row) s c) entry base x (left_by rom x e row.cycles)
                 (plain_target row.op base (behind_row a row) c plain)
                 (subst (λ t. MeansParts t entry base (left_by rom x e row.cycles)) (sym (state_is z rom region row a s c)) means)
                 (goes_to z rom region ranges row a s entry base x reads c k)
-                (subst (λ t. AreInRegion region base (length t)) (sym items) (acts z rom region ranges row a s entry base x reads c k plain f.0 f.1).at.room));
+                (subst (λ t. AreInRegion region base (length t)) (sym items) (acts z rom region ranges row a s entry base x reads c k plain f.0 f.1).at.room)));
             kept = λ b kept. passed_peek (stored (view rom x false) e.write) row.cycles b ∙ st.kept b kept;
           });
       faults = faults_are rom region x row reads l.faults st.faults;

@@ -9,6 +9,8 @@ use Rattle.gb_ops.specs.declared.op.Op.TheVariants as op
 use Rattle.gb_ops.specs.declared.op.Row.{Row}
 use Rattle.gb_ops.specs.Play.{MState}
 use Rattle.gb_domain.specs.declared.relations.Relations.{Relations}
+use Rattle.gb_domain.specs.declared.rules.Rules.{Rules}
+use Rattle.gb_domain.specs.declared.rules.Rules.TheVariants.{Simple, Extended}
 use Rattle.gb_domain.specs.declared.setting.Setting.{Setting}
 use Rattle.gb_domain.specs.declared.types.Cell.{Cell}
 use Rattle.gb_domain.specs.declared.types.Core.{Core}
@@ -37,7 +39,7 @@ use Rattle.gb_product.specs.Sides.{side_where, taken_side}
 use Rattle.gb_product.specs.Sound.{HoldsCell, IsSideOf}
 use Rattle.gb_product.proofs.SideLaws.{side_placed}
 use Rattle.gb_successors.specs.Behind.{with_cell_if}
-use Rattle.gb_successors.specs.Sound.{IsStackKnown, IsStackFit, IsAllowed, Stands, IsRuled}
+use Rattle.gb_successors.specs.Sound.{IsStackKnown, IsStackFit, IsAllowed, Stands}
 use Rattle.gb_successors.specs.Way.{Successor}
 use Rattle.gb_successors.proofs.SimpleLaws.{IsTold}
 
@@ -114,20 +116,20 @@ Stands-told z rom region row a (Some c) s entry base x told h =
       pairs = h.pairs;
       vals = AllByRecursion-with_cell (λ d. IsVal d.val) (cell_room z.rules) c s.cells told.val h.vals;
       items = h.items;
+      unset = h.unset;
       room = h.room;
       means = record { parts = MeansParts-told region (cell_room z.rules) c s entry base x told h.placed h.room h.is_region h.means.parts; related = h.means.related };
       based = h.based;
-      rules = h.rules;
       at = h.at;
     }
 
-pub IsRuled-told :
-    (z : Setting) (region : Region) (row : Row) (cell : Option Cell) (s : AbsState) (base : ℕ) → IsRuled z region row s base → IsRuled z region row (with_cell_if z cell s) base
+pub IsStackKnown-told :
+    (z : Setting) (region : Region) (o : Op) (cell : Option Cell) (s : AbsState) (base : ℕ) → IsStackKnown z region o s base → IsStackKnown z region o (with_cell_if z cell s) base
 unfolding with_cell_if
-IsRuled-told z region row None s base h = h
-IsRuled-told z region row (Some c) s base h = record { operands = h.operands; runs = h.runs; stack = known h.stack }
+IsStackKnown-told z region o None s base h = h
+IsStackKnown-told z region o (Some c) s base h = known h
   where
-    known : IsStackKnown z region row.op s base → IsStackKnown z region row.op (record s { cells = with_cell (cell_room z.rules) c s.cells }) base
+    known : IsStackKnown z region o s base → IsStackKnown z region o (record s { cells = with_cell (cell_room z.rules) c s.cells }) base
     known (inl still) = inl still
     known (inr (inl loaded)) = inr (inl loaded)
     known (inr (inr (inl push))) = inr (inr (inl (push.0, record { stack_set = push.1.stack_set; held = push.1.held; room = push.1.room })))
@@ -140,15 +142,16 @@ pub IsAllowed-told :
     → IsAllowed z rom region ranges s base t → IsAllowed z rom region ranges (with_cell_if z cell s) base t
 unfolding with_cell_if
 IsAllowed-told z rom region ranges None s base t h = h
-IsAllowed-told z rom region ranges (Some c) s base t h = record { stores = h.stores; ram = h.ram; oam_transfer = h.oam_transfer; stack = fit t.target h.stack }
+IsAllowed-told z rom region ranges (Some c) s base t h = record { stores = h.stores; ram = h.ram; oam_transfer = h.oam_transfer; stack = fit z.rules t.target h.stack }
   where
-    fit : (w : Target) → IsStackFit region w s t base → IsStackFit region w (record s { cells = with_cell (cell_room z.rules) c s.cells }) t base
-    fit (target.At a) k = k
-    fit (target.Call a) k = k
-    fit target.Return k = record { stack_set = k.stack_set; held = k.held; return_word = k.return_word }
-    fit (target.Main a) k = k
-    fit target.Unknown k = k
-    fit target.Lost k = k
+    fit : (q : Rules) (w : Target) → IsStackFit q region w s t base → IsStackFit q region w (record s { cells = with_cell (cell_room z.rules) c s.cells }) t base
+    fit Extended w k = k
+    fit Simple (target.At a) k = k
+    fit Simple (target.Call a) k = k
+    fit Simple target.Return k = record { stack_set = k.stack_set; held = k.held; return_word = k.return_word }
+    fit Simple (target.Main a) k = k
+    fit Simple target.Unknown k = k
+    fit Simple target.Lost k = k
 
 -- ---- an instruction with a condition reads no byte
 

@@ -3,18 +3,14 @@ use Rattle.std.proofs.Common.{◌≡◌, ℕ, ◌+◌, ◌-◌, ◌%◌, ◌≤�
 use Rattle.std.proofs.lemmas.Bool.Decides.{nat_tests}
 use Rattle.std.specs.Option.{IfSome}
 use Rattle.gb_ops.specs.declared.machine.Region.{Region}
-use Rattle.gb_ops.specs.declared.machine.Read.{Read}
-use Rattle.gb_ops.specs.declared.machine.Read.TheVariants as machine_read
-use Rattle.gb_ops.specs.declared.machine.Write.TheVariants as machine_write
 use Rattle.gb_ops.specs.declared.registers.Ime.{Ime}
 use Rattle.gb_ops.specs.declared.registers.Ime.TheVariants as ime
 use Rattle.gb_ops.specs.declared.op.Op.{Op}
 use Rattle.gb_ops.specs.declared.op.Op.TheVariants as op
 use Rattle.gb_ops.specs.declared.op.Row.{Row}
 use Rattle.gb_ops.specs.declared.registers.Registers.{Registers}
-use Rattle.gb_ops.specs.Memory.{View, stored, passed}
-use Rattle.gb_ops.specs.Machine.{executed, advanced, cycles_of, mark_of, halt_stay, halt_bug, has_enabled}
-use Rattle.gb_ops.specs.Faults.{no_faults, row_faults, load_faults}
+use Rattle.gb_ops.specs.Memory.{passed}
+use Rattle.gb_ops.specs.Machine.{executed, mark_of, halt_stay, halt_bug, has_enabled}
 use Rattle.gb_ops.specs.Play.{MState, within, outside}
 use Rattle.gb_domain.specs.declared.relations.Relations.{Relations}
 use Rattle.gb_domain.specs.declared.rules.Rules.{Rules}
@@ -36,12 +32,9 @@ use Rattle.gb_abs.proofs.OperationLaws.{IsCore-settle}
 use Rattle.gb_abs.proofs.StackLaws.{MeansParts-with_core}
 use Rattle.gb_abs_effects.specs.Sides as Flags
 use Rattle.gb_abs_effects.specs.declared.targets.Target.TheVariants as target
-use Rattle.gb_abs_effects.specs.declared.reads.AbsRead.TheVariants as read
-use Rattle.gb_abs_effects.specs.declared.writes.AbsWrite.TheVariants as write
 use Rattle.gb_abs_effects.specs.Accesses.{read_of}
 use Rattle.gb_abs_effects.specs.Targets.{target_of}
-use Rattle.gb_abs_effects.specs.Transfer.{transfer, untaken}
-use Rattle.gb_abs_effects.proofs.TransferLaws.{untaken_sound}
+use Rattle.gb_abs_effects.specs.Transfer.{transfer}
 use Rattle.gb_abs_memory.specs.Sound.{view}
 use Rattle.gb_product.specs.Below.gb_pairs.Meaning.{AreBytes}
 use Rattle.gb_product.specs.Below.gb_places.Meaning.{HoldOneByte}
@@ -53,99 +46,25 @@ use Rattle.gb_product.specs.Meaning.{AreRelated}
 use Rattle.gb_product.specs.declared.parts.Branch.{Branch}
 use Rattle.gb_product.specs.Reduced.{product_of, reduced}
 use Rattle.gb_product.specs.Sides.{side_where, taken_side, not_taken_side}
-use Rattle.gb_product.specs.Sound.{IsKnown, IsMeantBranch, IsSideOf}
+use Rattle.gb_product.specs.Sound.{IsKnown, IsMeantBranch}
 use Rattle.gb_product.proofs.MeaningLaws.{AreBytes-core}
 use Rattle.gb_product.proofs.SideLaws.{taken_side_sound, not_taken_side_sound, taken_side_cuts, not_taken_side_cuts}
 use Rattle.gb_successors.specs.declared.stacks.Stack.{Stack}
 use Rattle.gb_successors.specs.declared.successors.Successors.{Successors}
-use Rattle.gb_successors.specs.Behind.{starts, written, with_cell_if, with_relations, ended}
+use Rattle.gb_successors.specs.Behind.{starts, written, with_cell_if, ended}
 use Rattle.gb_successors.specs.Way.{Successor}
 use Rattle.gb_successors.specs.Successors.{word_in, related_successor, relations_behind, taken_successor, untaken_successor, with_product, reduced_successor, product_before, taken_from, not_taken_from, staying_successor, woken, may_stay, stays, successors_of}
-use Rattle.gb_successors.specs.Sound.{bytes_behind, IsAllowed, Leads, LeadsTo, LeadsParts, LeadsBy, IsHalt, Stands, IsRuled, Executes, AreSoundSuccessors}
+use Rattle.gb_successors.specs.Sound.{bytes_behind, IsAllowed, Leads, LeadsSimply, LeadsParts, LeadsBy, IsHalt, IsHeld, IsStackKnown, Stands, IsRuled, IsStackRuled, Executes, AreSoundSuccessors}
 use Rattle.gb_successors.proofs.SimpleLaws.{behind_row, with_stack_of, simple_parts, IsTold, taken_simply}
-use Rattle.gb_successors.proofs.ToldLaws.{told_core, told_items, told_with_core, IsToldCell, IsToldCell-side, Stands-told, IsRuled-told, IsAllowed-told, IsTold-taken}
-use Rattle.gb_successors.proofs.PlainLaws.{Keeps, Keeps-both, Keeps-settle, Keeps-cut}
+use Rattle.gb_successors.proofs.ToldLaws.{told_core, told_items, IsToldCell, IsToldCell-side, Stands-told, IsStackKnown-told, IsAllowed-told, IsTold-taken}
+use Rattle.gb_successors.proofs.PlainLaws.{Keeps, Keeps-settle}
 use Rattle.gb_successors.proofs.MarkLaws.{executed_mark}
-use Rattle.gb_successors.proofs.RelatedLaws.{MeansParts-related, IsAllowed-parts, LeadsTo-related, by_rules, related_begun, Leads-taken, HoldRelations-same}
-use Rattle.gb_successors.proofs.SuccessorLaws.{begun, given, effect, begun_pc, begun_sp, begun_core, left_by, executed_is, faults_are, MeansParts-ended, passed_peek, bytes-least, IsTaken, Done}
-use Rattle.gb_successors.proofs.StackWayLaws.{no_write, nothing_stored, no_store_faults, taken_executes}
-
--- ---- not taken
-
-no_load_faults : (m : View) (r : Read) → r ≡ machine_read.Nothing → load_faults m r ≡ no_faults
-unfolding load_faults
-no_load_faults m r e = ap (load_faults m) e
-
-ended_room : (region : Region) (base : ℕ) (is_started : Bool) (n : ℕ) (s : AbsState) → AreInRegion region base (length s.items) → AreInRegion region base (length (ended is_started n s).items)
-unfolding ended
-ended_room region base is_started n s h = h
-
-bytes_ended : (n : ℕ) (s : AbsState) → length (ended false n s).items ≤ length s.items
-unfolding ended
-bytes_ended n s = omega arith
-
--- nothing happens but that time passes
-abbrev simple_untaken : Row → ℕ → AbsState → Core → Relations → Successor
-simple_untaken row next s c r =
-    record {
-      read = read.Nothing;
-      write = write.Nothing;
-      target = target.At next;
-      next = next;
-      state = with_relations r (ended false row.cycles_not_taken (with_core s c));
-    }
-
-untaken_simply :
-    (k : Stack) (row : Row) (next : ℕ) (s : AbsState) (b : Branch)
-    → untaken_successor k row next s b ≡ simple_untaken row next (with_cell_if k.setting b.cell s) b.core b.relations
-unfolding untaken_successor
-untaken_simply k row next s b =
-    ap (λ t. record {
-      read = read.Nothing;
-      write = write.Nothing;
-      target = target.At next;
-      next = next;
-      state = with_relations b.relations (ended false row.cycles_not_taken t);
-    }) (told_with_core k.setting b.cell s b.core)
-
-bytes_untaken : (row : Row) (next : ℕ) (s : AbsState) (c : Core) (r : Relations) → length (simple_untaken row next s c r).state.items ≤ bytes_behind row.op (length s.items)
-unfolding ended
-bytes_untaken row next s c r = bytes-least row.op (length s.items)
-
-untaken_executes :
-    (z : Setting) (rom : List ℕ) (region : Region) (ranges : List Range) (row : Row) (a : ℕ) (s : AbsState) (entry : MState) (base : ℕ) (x : MState) (reads : List ℕ) (c : Core) (r : Relations)
-    → Stands z rom region row a s entry base x → IsRuled z region row s base → x.processor.halt_mark ≡ false
-    → Keeps s.core c → MeansCore c entry (begun row x) → AreRelated r (begun row x) → (effect rom row x reads).is_taken ≡ false
-    → Leads z region ranges (simple_untaken row (behind_row a row) s c r) entry base x (outside (executed (within rom x) row reads)) × (row_faults (Some row) region (within rom x) reads ≡ no_faults)
-unfolding untaken ended
-untaken_executes z rom region ranges row a s entry base x reads c r stands ruled mark keeps means related not_taken =
-    let e = effect rom row x reads in
-    let v = given rom row x reads in
-    let sound = untaken_sound c (untaken c) refl in
-    let nothing : e.write ≡ machine_write.Nothing = no_write entry (begun row x).processor.sp e.write ((sound.gives row.op entry (begun row x) v.low v.high means not_taken).write) in
-    let same : e.processor ≡ advanced x.processor row = sound.stays row.op (advanced x.processor row) v.low v.high not_taken in
-    let cycles : cycles_of row e.is_taken ≡ row.cycles_not_taken = ap (λ b. cond b row.cycles row.cycles_not_taken) not_taken in
-    let is : outside (executed (within rom x) row reads) ≡ record { processor = advanced x.processor row; storage = (passed (view rom x false) row.cycles_not_taken).storage } =
-    executed_is rom x row reads
-    ∙ (ap (left_by rom x e) cycles
-    ∙ (ap (λ p. record { processor = p; storage = (passed (stored (view rom x false) e.write) row.cycles_not_taken).storage }) same
-    ∙ ap (λ (m : View). record { processor = advanced x.processor row; storage = (passed m row.cycles_not_taken).storage }) (nothing_stored (view rom x false) e.write nothing))) in (
-      subst (λ y. Leads z region ranges (simple_untaken row (behind_row a row) s c r) entry base x y) (sym is)
-          (record {
-            to = record {
-              means = MeansParts-related r _ entry base _
-                  (MeansParts-ended rom (with_core s c) entry base (advanced x.processor row) (view rom x false) false row.cycles_not_taken refl
-                  (MeansParts-with_core s c entry base x (begun row x) stands.means.parts means refl refl (begun_sp row x) (λ set. sym keeps.stack ∙ set)));
-              goes = begun_pc row x a ruled.runs mark stands.at;
-              room = ended_room region base false row.cycles_not_taken (with_core s c) stands.room;
-            };
-            kept = λ b kept. passed_peek (view rom x false) row.cycles_not_taken b;
-            related = λ known. HoldRelations-same r _ (peek x.storage) _ _ (λ b. passed_peek (view rom x false) row.cycles_not_taken b) related;
-          }),
-      faults_are rom region x row reads
-          (no_load_faults (view rom x false) _ (sound.reads row.op (advanced x.processor row) v.low v.high not_taken))
-          (no_store_faults region (view rom x false) e.write nothing),
-    )
+use Rattle.gb_successors.proofs.RelatedLaws.{IsAllowed-parts, LeadsSimply-related, by_rules, related_begun, Leads-taken, HoldRelations-same}
+use Rattle.gb_successors.proofs.SuccessorLaws.{begun, given, effect, begun_core, MeansParts-ended, passed_peek, leads_simply, IsTaken, Done}
+use Rattle.gb_successors.proofs.ExtendedWayLaws.{executes_widely}
+use Rattle.gb_successors.proofs.HaltBugLaws.{halt_repeats_widely}
+use Rattle.gb_successors.proofs.UntakenLaws.{ended_room, bytes_ended, leads_at, simple_untaken, untaken_simply, bytes_untaken, untaken_executes, keeps_side, side_facts}
+use Rattle.gb_successors.proofs.StackWayLaws.{taken_executes}
 
 -- ---- executed
 
@@ -192,13 +111,6 @@ unfolding taken_successor
 taken_is k rom row next s b h told =
     ap (related_successor (relations_behind k rom row.op s (product_of b.core b.relations))) (taken_simply k rom row next s (product_of b.core b.relations) b.cell h told)
 
--- a side keeps what its own core keeps
-keeps_side : (s settled : Core) (cells : List Cell) (r : Relations) (b : Branch) → Keeps s settled → IsSideOf cells settled r b → Keeps s b.core
-keeps_side s settled cells r b h is = Keeps-both s settled b.core h (Keeps-cut settled b.core is.core)
-
-side_facts : (o : Option Branch) (b : Branch) (cells : List Cell) (c : Core) (r : Relations) → o ≡ Some b → IfSome o (IsSideOf cells c r) → IsSideOf cells c r b
-side_facts o b cells c r e h = subst (λ (p : Option Branch). IfSome p (IsSideOf cells c r)) e h
-
 Leads-behind :
     (k : Stack) (rom : List ℕ) (ranges : List Range) (row : Row) (a : ℕ) (s : AbsState) (entry : MState) (base : ℕ) (x : MState) (reads : List ℕ) (b : Branch)
     → IsTaken k.setting rom k.region ranges row a (with_cell_if k.setting b.cell s) entry base x reads b.core → AreRelated b.relations (begun row x)
@@ -209,11 +121,17 @@ Leads-behind k rom ranges row a s entry base x reads b taken related led =
     Leads-taken k.setting rom k.region ranges row a (with_cell_if k.setting b.cell s) entry base x reads b.core taken led
     (sp_bounds k.setting s) (word_in k rom row.op s (product_of b.core b.relations)).low b.relations related
 
-executes :
+held_simply : (k : Stack) (rom : List ℕ) (row : Row) (a : ℕ) (s : AbsState) (t : Successor) → k.setting.rules ≡ Simple → length t.state.items ≤ bytes_behind row.op (length s.items) → IsHeld k.setting.rules k rom row a s t
+held_simply k rom row a s t e h = subst (λ r. IsHeld r k rom row a s t) (sym e) h
+
+stack_simply : (k : Stack) (rom : List ℕ) (row : Row) (a : ℕ) (s : AbsState) (base : ℕ) → k.setting.rules ≡ Simple → IsRuled k rom row a s base → IsStackKnown k.setting k.region row.op s base
+stack_simply k rom row a s base e h = subst (λ r. IsStackRuled r k rom row a s base) e h.stack
+
+executes_simply :
     (k : Stack) (rom : List ℕ) (row : Row) (a : ℕ) (s : AbsState) (ranges : List Range) (entry : MState) (base : ℕ) (x : MState) (reads : List ℕ)
-    → Stands k.setting rom k.region row a s entry base x → IsRuled k.setting k.region row s base → x.processor.halt_mark ≡ false → slice_index reads 0 ≤ 255
-    → Executes k.setting rom k.region ranges row s (successors_of k rom row a s) entry base x reads
-executes k rom row a s ranges entry base x reads stands ruled mark byte =
+    → k.setting.rules ≡ Simple → Stands k.setting rom k.region row a s entry base x → IsRuled k rom row a s base → x.processor.halt_mark ≡ false → slice_index reads 0 ≤ 255
+    → Executes k rom ranges row a s (successors_of k rom row a s) entry base x reads
+executes_simply k rom row a s ranges entry base x reads simple stands ruled mark byte =
     choose (effect rom row x reads).is_taken refl
   where
     settled : Core
@@ -226,7 +144,7 @@ executes k rom row a s ranges entry base x reads stands ruled mark byte =
     begins = begun_core row x s.core entry stands.means.parts.core
 
     by_taken : (o : Option Branch) → taken_side row.op s.cells settled s.relations ≡ o → (effect rom row x reads).is_taken ≡ true → IsMeantBranch o entry (begun row x)
-        → Executes k.setting rom k.region ranges row s (successors_of k rom row a s) entry base x reads
+        → Executes k rom ranges row a s (successors_of k rom row a s) entry base x reads
     by_taken None e taken h = absurd h
     by_taken (Some b) e taken h =
         let is = side_facts _ b s.cells settled s.relations e (taken_side_cuts row.op s.cells settled s.relations _ refl) in
@@ -234,7 +152,10 @@ executes k rom row a s ranges entry base x reads stands ruled mark byte =
         let cell : IfSome b.cell (IsToldCell k.region entry x) = IsToldCell-side k.region s.cells settled s.relations b entry x stands.free stands.vals is h.cell in
         let t : IsTaken k.setting rom k.region ranges row a told entry base x reads b.core = record {
           stands = Stands-told k.setting rom k.region row a b.cell s entry base x cell stands;
-          ruled = IsRuled-told k.setting k.region row b.cell s base ruled;
+          rules = simple;
+          operands = ruled.operands;
+          runs = ruled.runs;
+          stack = IsStackKnown-told k.setting k.region row.op b.cell s base (stack_simply k rom row a s base simple ruled);
           mark = mark;
           byte = byte;
           keeps = subst (λ c. Keeps c b.core) (sym (told_core k.setting b.cell s)) (keeps_side s.core settled s.cells s.relations b (Keeps-settle s.core) is);
@@ -249,34 +170,33 @@ executes k rom row a s ranges entry base x reads stands ruled mark byte =
         (IsAllowed-parts k.setting rom k.region ranges s base (relations_behind k rom row.op s (product_of b.core b.relations)) parts allowed)) in
         record {
           successor = simple_taken k rom row (behind_row a row) s b;
-          is_one = inl (taken_way k rom row a s b stands.rules e ∙ ap Some (taken_is k rom row (behind_row a row) s b stands.rules (IsTold-taken row.op s.cells settled b.core s.relations b e)));
+          is_one = inl (taken_way k rom row a s b simple e ∙ ap Some (taken_is k rom row (behind_row a row) s b simple (IsTold-taken row.op s.cells settled b.core s.relations b e)));
           mark = executed_mark rom x row reads;
-          held = λ allowed. subst (λ items. length parts.state.items ≤ bytes_behind row.op (length items)) (told_items k.setting b.cell s) (done allowed).held;
+          held = λ allowed. held_simply k rom row a s (simple_taken k rom row (behind_row a row) s b) simple (subst (λ items. length parts.state.items ≤ bytes_behind row.op (length items)) (told_items k.setting b.cell s) (done allowed).held);
           leads = λ allowed. Leads-behind k rom ranges row a s entry base x reads b t h.related (done allowed).leads;
           faults = λ allowed. (done allowed).faults;
         }
 
     by_not_taken : (o : Option Branch) → not_taken_side row.op s.cells settled s.relations ≡ o → (effect rom row x reads).is_taken ≡ false → IsMeantBranch o entry (begun row x)
-        → Executes k.setting rom k.region ranges row s (successors_of k rom row a s) entry base x reads
+        → Executes k rom ranges row a s (successors_of k rom row a s) entry base x reads
     by_not_taken None e not_taken h = absurd h
     by_not_taken (Some b) e not_taken h =
         let is = side_facts _ b s.cells settled s.relations e (not_taken_side_cuts row.op s.cells settled s.relations _ refl) in
         let told = with_cell_if k.setting b.cell s in
         let cell : IfSome b.cell (IsToldCell k.region entry x) = IsToldCell-side k.region s.cells settled s.relations b entry x stands.free stands.vals is h.cell in
         let keeps : Keeps told.core b.core = subst (λ c. Keeps c b.core) (sym (told_core k.setting b.cell s)) (keeps_side s.core settled s.cells s.relations b (Keeps-settle s.core) is) in
-        let done = untaken_executes k.setting rom k.region ranges row a told entry base x reads b.core b.relations (Stands-told k.setting rom k.region row a b.cell s entry base x cell stands)
-        (IsRuled-told k.setting k.region row b.cell s base ruled) mark keeps h.core h.related not_taken in
+        let done = untaken_executes k.setting rom k.region ranges row a told entry base x reads b.core b.relations (Stands-told k.setting rom k.region row a b.cell s entry base x cell stands) ruled.runs mark keeps h.core h.related not_taken in
         record {
           successor = simple_untaken row (behind_row a row) told b.core b.relations;
-          is_one = inr (inl (untaken_way k rom row a s b stands.rules e ∙ ap Some (untaken_simply k row (behind_row a row) s b)));
+          is_one = inr (inl (untaken_way k rom row a s b simple e ∙ ap Some (untaken_simply k row (behind_row a row) s b)));
           mark = executed_mark rom x row reads;
-          held = λ allowed. subst (λ items. length (simple_untaken row (behind_row a row) told b.core b.relations).state.items ≤ bytes_behind row.op (length items)) (told_items k.setting b.cell s)
-              (bytes_untaken row (behind_row a row) told b.core b.relations);
+          held = λ allowed. held_simply k rom row a s (simple_untaken row (behind_row a row) told b.core b.relations) simple (subst (λ items. length (simple_untaken row (behind_row a row) told b.core b.relations).state.items ≤ bytes_behind row.op (length items)) (told_items k.setting b.cell s)
+              (bytes_untaken row (behind_row a row) told b.core b.relations));
           leads = λ allowed. done.0;
           faults = λ allowed. done.1;
         }
 
-    choose : (b : Bool) → (effect rom row x reads).is_taken ≡ b → Executes k.setting rom k.region ranges row s (successors_of k rom row a s) entry base x reads
+    choose : (b : Bool) → (effect rom row x reads).is_taken ≡ b → Executes k rom ranges row a s (successors_of k rom row a s) entry base x reads
     choose true e =
         by_taken _ refl e ((taken_side_sound row.op s.cells settled s.relations _ refl stands.pairs).gives entry (begun row x) (given rom row x reads).low (given rom row x reads).high known begins e)
     choose false e =
@@ -329,12 +249,12 @@ halt_stays k rom row a s ranges entry base x stands halt pending enabled =
       held = bytes_ended 1 (with_core s (woken s.core));
       is_way = stays_at k rom row a s ∙ stays_way row a s halt.op_is (pending_known s.core.ime x.processor.ime pending m.core.ime) (enabled_known s.core.ie entry x.storage.ie m.core.ie enabled);
       leads = record {
-        to = record {
+        to = leads_at k.setting k.region a (staying_successor a s) entry base x _ (record {
           means = MeansParts-ended rom (with_core s (woken s.core)) entry base woke.processor (view rom x false) false 1 refl
               (MeansParts-with_core s (woken s.core) entry base x woke m (woken_core s.core entry x m.core) refl refl refl (λ set. set));
           goes = stands.at;
           room = ended_room k.region base false 1 (with_core s (woken s.core)) stands.room;
-        };
+        });
         kept = λ b kept. passed_peek (view rom x false) 1 b;
         related = λ known. HoldRelations-same s.relations _ (peek x.storage) _ _ (λ b. passed_peek (view rom x false) 1 b) stands.means.related;
       };
@@ -375,22 +295,22 @@ halt_target z rom region row a s c halt = rw (halt.op_is, halt.length_is) refl
 -- what is known together stays
 halt_related :
     (k : Stack) (rom : List ℕ) (row : Row) (a : ℕ) (s : AbsState) (entry : MState) (base : ℕ) (x y : MState)
-    → Stands k.setting rom k.region row a s entry base x → IsHalt row → y.processor.registers ≡ x.processor.registers → y.processor.flags ≡ x.processor.flags
+    → k.setting.rules ≡ Simple → Stands k.setting rom k.region row a s entry base x → IsHalt row → y.processor.registers ≡ x.processor.registers → y.processor.flags ≡ x.processor.flags
     → AreRelated (relations_behind k rom row.op s (product_of (core_settle s.core) s.relations)) y
 unfolding relations_behind compared_after comparison_of writes_a writes_flags written_registers
-halt_related k rom row a s entry base x y stands halt registers flags =
-    by_rules k.setting.rules k.region row.op _ _ _ s.relations _ _ _ stands.rules
+halt_related k rom row a s entry base x y simple stands halt registers flags =
+    by_rules k.setting.rules k.region row.op _ _ _ s.relations _ _ _ simple
     (subst (λ (o : Op). HoldOneByte (compared_after o s.relations.byte) y.processor.registers (peek y.storage) y.processor.flags) (sym halt.op_is)
     (HoldOneByte-only_of_a s.relations.byte x.processor.registers y.processor.registers (peek x.storage) (peek y.storage) x.processor.flags y.processor.flags
     (ap (λ (r : Registers ℕ). r.a) registers) flags stands.means.related.byte))
     (subst (λ r. AreBytes r) (sym registers) (AreBytes-core s.core entry x stands.core stands.means.parts.core))
 
-halt_repeats :
+halt_repeats_simply :
     (k : Stack) (rom : List ℕ) (row : Row) (a : ℕ) (s : AbsState) (ranges : List Range) (entry : MState) (base : ℕ) (x : MState)
-    → Stands k.setting rom k.region row a s entry base x → IsHalt row → x.processor.ime ≡ ime.Off → x.processor.halt_mark ≡ false
+    → k.setting.rules ≡ Simple → Stands k.setting rom k.region row a s entry base x → IsHalt row → x.processor.ime ≡ ime.Off → x.processor.halt_mark ≡ false
     → LeadsBy k.setting k.region ranges (length s.items) (successors_of k rom row a s).taken entry base x (outside (halt_bug (within rom x)))
 unfolding halt_bug within outside with_cell_if
-halt_repeats k rom row a s ranges entry base x stands halt off mark =
+halt_repeats_simply k rom row a s ranges entry base x simple stands halt off mark =
     let m = stands.means.parts in
     let c = core_settle s.core in
     let b : Branch = record { core = c; relations = s.relations; cell = None } in
@@ -398,8 +318,8 @@ halt_repeats k rom row a s ranges entry base x stands halt off mark =
     let t = simple_parts k.setting rom k.region row (behind_row a row) s c in
     let none : mark_of x.processor ≡ 0 = ap (λ b. cond b 1 0) mark in
     let pc : (x.processor.pc + (1 - mark_of x.processor)) % 65536 ≡ (a + 1) % 65536 = rw (none, stands.at) refl in
-    let to : LeadsTo k.region t.target t entry base x y =
-    subst (λ v. LeadsTo k.region v t entry base x y) (sym (halt_target k.setting rom k.region row a s c halt))
+    let to : LeadsSimply k.region t.target t entry base x y =
+    subst (λ v. LeadsSimply k.region v t entry base x y) (sym (halt_target k.setting rom k.region row a s c halt))
     (record {
       means = subst (λ u. MeansParts u entry base y) (sym (halt_state k.setting rom k.region row a s c halt))
           (MeansParts-ended rom (with_core s c) entry base (repeated x).processor (view rom x false) false 1 refl
@@ -409,14 +329,36 @@ halt_repeats k rom row a s ranges entry base x stands halt off mark =
     }) in
     record {
       successor = simple_taken k rom row (behind_row a row) s b;
-      is_way = taken_way k rom row a s b stands.rules (halt_side row s.cells c s.relations halt.op_is) ∙ ap Some (taken_is k rom row (behind_row a row) s b stands.rules tt);
+      is_way = taken_way k rom row a s b simple (halt_side row s.cells c s.relations halt.op_is) ∙ ap Some (taken_is k rom row (behind_row a row) s b simple tt);
       held = subst (λ (u : AbsState). length u.items ≤ length s.items) (sym (halt_state k.setting rom k.region row a s c halt)) (bytes_ended 1 (with_core s c));
       leads = record {
-        to = LeadsTo-related k.region t.target (relations_behind k rom row.op s (product_of c s.relations)) t entry base x y to;
+        to = leads_simply k.setting k.region t.target _ entry base x y simple (LeadsSimply-related k.region t.target (relations_behind k rom row.op s (product_of c s.relations)) t entry base x y to);
         kept = λ b kept. passed_peek (view rom x false) 1 b;
-        related = λ known. halt_related k rom row a s entry base x y stands halt refl refl;
+        related = λ known. halt_related k rom row a s entry base x y simple stands halt refl refl;
       };
     }
+
+-- ---- by any rules
+
+executes :
+    (k : Stack) (rom : List ℕ) (row : Row) (a : ℕ) (s : AbsState) (ranges : List Range) (entry : MState) (base : ℕ) (x : MState) (reads : List ℕ)
+    → Stands k.setting rom k.region row a s entry base x → IsRuled k rom row a s base → x.processor.halt_mark ≡ false → slice_index reads 0 ≤ 255
+    → Executes k rom ranges row a s (successors_of k rom row a s) entry base x reads
+executes k rom row a s ranges entry base x reads stands ruled mark byte = by k.setting.rules refl
+  where
+    by : (r : Rules) → k.setting.rules ≡ r → Executes k rom ranges row a s (successors_of k rom row a s) entry base x reads
+    by Simple e = executes_simply k rom row a s ranges entry base x reads e stands ruled mark byte
+    by Extended e = executes_widely k rom row a s ranges entry base x reads e stands ruled mark byte
+
+halt_repeats :
+    (k : Stack) (rom : List ℕ) (row : Row) (a : ℕ) (s : AbsState) (ranges : List Range) (entry : MState) (base : ℕ) (x : MState)
+    → Stands k.setting rom k.region row a s entry base x → IsHalt row → x.processor.ime ≡ ime.Off → x.processor.halt_mark ≡ false
+    → LeadsBy k.setting k.region ranges (length s.items) (successors_of k rom row a s).taken entry base x (outside (halt_bug (within rom x)))
+halt_repeats k rom row a s ranges entry base x stands halt off mark = by k.setting.rules refl
+  where
+    by : (r : Rules) → k.setting.rules ≡ r → LeadsBy k.setting k.region ranges (length s.items) (successors_of k rom row a s).taken entry base x (outside (halt_bug (within rom x)))
+    by Simple e = halt_repeats_simply k rom row a s ranges entry base x e stands halt off mark
+    by Extended e = halt_repeats_widely k rom row a s ranges entry base x e stands halt off mark
 
 pub successors_of_sound : (k : Stack) (rom : List ℕ) (row : Row) (a : ℕ) (s : AbsState) (ss : Successors) → ss ≡ successors_of k rom row a s → AreSoundSuccessors k rom row a s ss
 successors_of_sound k rom row a s ss e =

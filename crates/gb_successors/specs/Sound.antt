@@ -1,5 +1,5 @@
 -- What successors promise of the machine (abstract interpretation: soundness; own).
-use Rattle.std.specs.Prelude.{◌≡◌, ℕ, ◌+◌, ◌≤◌, ◌<◌, ◌⊎◌, Bool, true, false, if◌then◌else◌, nat_lt, List, [], slice_index, length, Option, Some}
+use Rattle.std.specs.Prelude.{◌≡◌, ℕ, ◌+◌, ◌-◌, ◌%◌, ◌≤◌, ◌<◌, ◌⊎◌, Bool, true, false, if◌then◌else◌, nat_lt, List, [], slice_index, length, Option, Some, is_some}
 use Rattle.std.specs.List.{AllByRecursion}
 use Rattle.gb_ops.specs.declared.machine.Region.{Region}
 use Rattle.gb_ops.specs.declared.registers.Ime.TheVariants as ime
@@ -12,8 +12,10 @@ use Rattle.gb_ops.specs.Pairs.{word}
 use Rattle.gb_ops.specs.Machine.{executed, halt_stay, halt_bug, has_enabled}
 use Rattle.gb_ops.specs.Faults.{no_faults, row_faults}
 use Rattle.gb_ops.specs.Play.{MState, within, outside}
-use Rattle.gb_domain.specs.declared.rules.Rules.TheVariants.{Simple}
+use Rattle.gb_domain.specs.declared.rules.Rules.{Rules}
+use Rattle.gb_domain.specs.declared.rules.Rules.TheVariants.{Simple, Extended}
 use Rattle.gb_domain.specs.declared.setting.Setting.{Setting}
+use Rattle.gb_domain.specs.declared.types.Origin.TheVariants.{ReturnHigh, ReturnLow}
 use Rattle.gb_domain.specs.declared.types.Range.{Range}
 use Rattle.gb_domain.specs.Types.{AbsState}
 use Rattle.gb_domain.specs.Areas.{IsRegion}
@@ -24,7 +26,7 @@ use Rattle.gb_domain.specs.Settings.{IsBase}
 use Rattle.gb_abs.specs.Storage.{peek}
 use Rattle.gb_abs.specs.Cells.{ArePlaced}
 use Rattle.gb_abs.specs.Stack.{AreInRegion, pushed}
-use Rattle.gb_abs.specs.Meaning.{MeansParts}
+use Rattle.gb_abs.specs.Meaning.{MeansParts, origin_value}
 use Rattle.gb_abs_effects.specs.declared.targets.Target.{Target}
 use Rattle.gb_abs_effects.specs.declared.targets.Target.TheVariants as target
 use Rattle.gb_abs_effects.specs.Sound.{HasBytes}
@@ -32,8 +34,12 @@ use Rattle.gb_abs_effects.specs.Targets.{moves_sp, is_push, is_pop, is_call, is_
 use Rattle.gb_abs_memory.specs.Kept.{IsKept}
 use Rattle.gb_abs_memory.specs.Sound.{IsRom, AreVals}
 use Rattle.gb_product.specs.Below.gb_relations.Sound.{IsByteFree}
+use Rattle.gb_product.specs.declared.parts.Product.{Product}
 use Rattle.gb_product.specs.Meaning.{AreRelated, Means}
 use Rattle.gb_successors.specs.declared.stacks.Stack.{Stack}
+use Rattle.gb_successors.specs.declared.stacks.StackMove.{StackMove}
+use Rattle.gb_successors.specs.declared.stacks.StackMove.TheVariants as move
+use Rattle.gb_successors.specs.Successors.{taken_move, product_before, successors_of}
 use Rattle.gb_successors.specs.Way.{Successor}
 use Rattle.gb_successors.specs.declared.successors.Successors.{Successors}
 use Rattle.gb_successors.specs.Refused.{is_unstorable, meets_closed, meets_oam_transfer}
@@ -73,22 +79,87 @@ IsStackKnown z region o s base =
     ⊎ (((is_call o ≡ true) × (s.core.stack_set ≡ true))
     ⊎ (is_return o ≡ true)))))
 
--- what the stack has to have for a successor: a call wants room for the return address, a return finds nothing but its own
-abbrev pub IsStackFit : Region → Target → AbsState → Successor → ℕ → Type 0
-IsStackFit region (target.Call a) s t base = AreInRegion region base (length t.state.items + 2)
-IsStackFit region target.Return s t base = IsReturnable region s t base
-IsStackFit region _ s t base = Unit {0}
+-- the stack is set, with room for so many bytes more
+pub record HasRoomFor (n : ℕ) (z : Setting) (region : Region) (s : AbsState) (base : ℕ) : Type 0 where
+  pub stack_set : s.core.stack_set ≡ true
+  pub held : nat_lt (item_room z.rules) (length s.items + n) ≡ false
+  pub room : AreInRegion region base (length s.items + n)
+
+-- the stack is set, and so many bytes are held
+pub record HoldsBytes (n : ℕ) (s : AbsState) : Type 0 where
+  pub stack_set : s.core.stack_set ≡ true
+  pub held : n ≤ length s.items
+
+-- what a move of the stack asks for; of a return that is asked where it is taken
+abbrev pub IsReady : Stack → Op → StackMove → AbsState → ℕ → Type 0
+IsReady k o move.Stay s base = Unit {0}
+IsReady k o (move.Push w) s base = HasRoomFor 2 k.setting k.region s base
+IsReady k o (move.Append n) s base = HasRoomFor n k.setting k.region s base
+IsReady k o (move.Take n) s base = is_return o ≡ false → HoldsBytes n s
+IsReady k o (move.Set n) s base = AreInRegion k.region base n
+IsReady k o (move.Restart n) s base = AreInRegion k.region (k.region.last + 1) n
+IsReady k o move.Lost s base = ⊥
+
+-- what the instruction does to the stack, from what is known before it
+abbrev pub move_before : Stack → List ℕ → Row → ℕ → AbsState → Product → StackMove
+move_before k rom row a s p = taken_move k rom row ((a + row.length) % 65536) s p
+
+-- by the rules of version 3, where the instruction may be taken, the stack is ready for that
+abbrev pub IsStackRuled : Rules → Stack → List ℕ → Row → ℕ → AbsState → ℕ → Type 0
+IsStackRuled Simple k rom row a s base = IsStackKnown k.setting k.region row.op s base
+IsStackRuled Extended k rom row a s base =
+    is_some (successors_of k rom row a s).taken ≡ true
+    → (p : Product) → product_before Extended s ≡ Some p → IsReady k row.op (move_before k rom row a s p) s base
+
+-- what the stack has to have for a successor by the rules of versions 1 and 2: a call wants room for the return address, a return
+-- finds nothing but its own
+abbrev pub IsStackFree : Region → Target → AbsState → Successor → ℕ → Type 0
+IsStackFree region (target.Call a) s t base = AreInRegion region base (length t.state.items + 2)
+IsStackFree region target.Return s t base = IsReturnable region s t base
+IsStackFree region _ s t base = Unit {0}
+
+-- it is known where it goes on
+abbrev pub IsFound : Target → Type 0
+IsFound target.Unknown = ⊥
+IsFound target.Lost = ⊥
+IsFound _ = Unit {0}
+
+-- by the rules of version 3 that is all: its move has been asked for
+abbrev pub IsStackFit : Rules → Region → Target → AbsState → Successor → ℕ → Type 0
+IsStackFit Simple region w s t base = IsStackFree region w s t base
+IsStackFit Extended region w s t base = IsFound w
 
 -- how many bytes may be held behind an instruction
 unfoldable pub bytes_behind : Op → ℕ → ℕ
 bytes_behind o n = if is_push o then n + 2 else n
+
+-- how many are held behind a move of the stack
+abbrev pub bytes_moved : StackMove → ℕ → ℕ
+bytes_moved (move.Push w) n = n + 2
+bytes_moved (move.Take less) n = n - less
+bytes_moved (move.Append more) n = n + more
+bytes_moved (move.Set left) n = left
+bytes_moved (move.Restart left) n = left
+bytes_moved _ n = n
+
+-- it holds as many as before, or is taken, and holds what its move leaves
+abbrev pub IsMovedFrom : Stack → List ℕ → Row → ℕ → AbsState → Successor → Type 0
+IsMovedFrom k rom row a s t =
+    (length t.state.items ≡ length s.items)
+    ⊎ (((successors_of k rom row a s).taken ≡ Some t)
+    × ((p : Product) → product_before Extended s ≡ Some p → length t.state.items ≡ bytes_moved (move_before k rom row a s p) (length s.items)))
+
+-- how many bytes a successor holds
+abbrev pub IsHeld : Rules → Stack → List ℕ → Row → ℕ → AbsState → Successor → Type 0
+IsHeld Simple k rom row a s t = length t.state.items ≤ bytes_behind row.op (length s.items)
+IsHeld Extended k rom row a s t = IsMovedFrom k rom row a s t
 
 -- nothing is against its accesses, in the state before it
 pub record IsAllowed (z : Setting) (rom : List ℕ) (region : Region) (ranges : List Range) (s : AbsState) (base : ℕ) (t : Successor) : Type 0 where
   pub stores : is_unstorable z (kind_of rom) region ranges t.write ≡ false
   pub ram : meets_closed rom s.core t ≡ false
   pub oam_transfer : meets_oam_transfer region s.core t ≡ false
-  pub stack : IsStackFit region t.target s t base
+  pub stack : IsStackFit z.rules region t.target s t base
 
 -- ---- where successors lead
 
@@ -111,34 +182,68 @@ pub record ReturnsTo (t : Successor) (entry : MState) (base : ℕ) (x y : MState
   pub means : MeansParts t.state entry (base + 2) y
   pub goes : y.processor.pc ≡ word (peek x.storage (base + 1)) (peek x.storage base)
 
--- of a jump to somewhere nothing is said, nor of what the rules of version 3 alone follow
-abbrev pub LeadsTo : Region → Target → Successor → MState → ℕ → MState → MState → Type 0
-LeadsTo region (target.At a) t entry base x y = StaysAt region a t entry base y
-LeadsTo region (target.Call a) t entry base x y = CallsAt region a t entry base y
-LeadsTo region target.Return t entry base x y = ReturnsTo t entry base x y
-LeadsTo region (target.Main a) t entry base x y = Unit {0}
-LeadsTo region target.Unknown t entry base x y = Unit {0}
-LeadsTo region target.Lost t entry base x y = Unit {0}
+-- by the rules of versions 1 and 2 nothing is said of a jump to somewhere, nor of what version 3 alone follows
+abbrev pub LeadsSimply : Region → Target → Successor → MState → ℕ → MState → MState → Type 0
+LeadsSimply region (target.At a) t entry base x y = StaysAt region a t entry base y
+LeadsSimply region (target.Call a) t entry base x y = CallsAt region a t entry base y
+LeadsSimply region target.Return t entry base x y = ReturnsTo t entry base x y
+LeadsSimply region _ t entry base x y = Unit {0}
+
+-- the machine has called: the address behind the call is on top of its stack, and among what the procedure holds
+pub record CalledAt (region : Region) (a : ℕ) (t : Successor) (entry : MState) (base : ℕ) (y : MState) : Type 0 where
+  pub means : MeansParts t.state entry base y
+  pub goes : y.processor.pc ≡ a
+  pub room : AreInRegion region base (length t.state.items)
+  pub stack_set : t.state.core.stack_set ≡ true
+  pub next : t.next < 65536
+  pub top : word (peek y.storage (y.processor.sp + 1)) (peek y.storage y.processor.sp) ≡ t.next
+  pub placed : ArePlaced region t.state.cells
+
+-- the machine has gone back to the word that was pushed as the procedure was entered, which isn't main
+pub record ReturnsBy (z : Setting) (region : Region) (t : Successor) (entry : MState) (base : ℕ) (y : MState) : Type 0 where
+  pub means : MeansParts t.state entry base y
+  pub goes : y.processor.pc ≡ word (origin_value ReturnHigh entry) (origin_value ReturnLow entry)
+  pub room : AreInRegion region base (length t.state.items)
+  pub procedure : z.is_main ≡ false
+
+-- main begins anew: nothing that is known is a copy of what stood somewhere at entry
+pub record BeginsAnew (region : Region) (a : ℕ) (t : Successor) (y : MState) : Type 0 where
+  pub means : (entry : MState) → MeansParts t.state entry (region.last + 1) y
+  pub goes : y.processor.pc ≡ a
+  pub room : AreInRegion region (region.last + 1) (length t.state.items)
+
+-- by the rules of version 3
+abbrev pub LeadsWidely : Setting → Region → Target → Successor → MState → ℕ → MState → Type 0
+LeadsWidely z region (target.At a) t entry base y = StaysAt region a t entry base y
+LeadsWidely z region (target.Call a) t entry base y = CalledAt region a t entry base y
+LeadsWidely z region target.Return t entry base y = ReturnsBy z region t entry base y
+LeadsWidely z region (target.Main a) t entry base y = BeginsAnew region a t y
+LeadsWidely z region _ t entry base y = Unit {0}
+
+abbrev pub LeadsTo : Rules → Setting → Region → Target → Successor → MState → ℕ → MState → MState → Type 0
+LeadsTo Simple z region w t entry base x y = LeadsSimply region w t entry base x y
+LeadsTo Extended z region w t entry base x y = LeadsWidely z region w t entry base y
 
 -- it is said where the machine is
-abbrev pub is_followed : Target → Bool
-is_followed (target.Main a) = false
-is_followed target.Unknown = false
-is_followed target.Lost = false
-is_followed _ = true
+abbrev pub is_followed : Rules → Target → Bool
+is_followed rules target.Unknown = false
+is_followed rules target.Lost = false
+is_followed Simple (target.Main a) = false
+is_followed Extended (target.Main a) = true
+is_followed rules _ = true
 
 -- each part of the states behind by itself: an event leads from x to y by the successor, and leaves what the procedure keeps
 pub record LeadsParts (z : Setting) (region : Region) (ranges : List Range) (t : Successor) (entry : MState) (base : ℕ) (x y : MState) : Type 0 where
-  pub to : LeadsTo region t.target t entry base x y
+  pub to : LeadsTo z.rules z region t.target t entry base x y
   pub kept : (b : ℕ) → IsKept z region ranges base b → peek y.storage b ≡ peek x.storage b
 
 -- so it does, and what is known together of the states behind holds of y, where it is said where that is
 pub record Leads (z : Setting) (region : Region) (ranges : List Range) (t : Successor) (entry : MState) (base : ℕ) (x y : MState) : Type 0 where
-  pub to : LeadsTo region t.target t entry base x y
+  pub to : LeadsTo z.rules z region t.target t entry base x y
   pub kept : (b : ℕ) → IsKept z region ranges base b → peek y.storage b ≡ peek x.storage b
-  pub related : is_followed t.target ≡ true → AreRelated t.state.relations y
+  pub related : is_followed z.rules t.target ≡ true → AreRelated t.state.relations y
 
--- the machine stands before an instruction at an address, in a state that s means, by the rules of versions 1 and 2
+-- the machine stands before an instruction at an address, in a state that s means
 pub record Stands (z : Setting) (rom : List ℕ) (region : Region) (row : Row) (a : ℕ) (s : AbsState) (entry : MState) (base : ℕ) (x : MState) : Type 0 where
   pub cartridge : IsRom rom
   pub is_region : IsRegion region
@@ -148,27 +253,27 @@ pub record Stands (z : Setting) (rom : List ℕ) (region : Region) (row : Row) (
   pub pairs : ArePairs s.relations.pairs
   pub vals : AreVals s.cells
   pub items : AllByRecursion IsVal s.items
+  pub unset : s.core.stack_set ≡ false → s.items ≡ []
   pub room : AreInRegion region base (length s.items)
   pub means : Means s entry base x
   pub based : IsBase z base
-  pub rules : z.rules ≡ Simple
   pub at : x.processor.pc ≡ a
 
 -- the instruction is one that may stand there
-pub record IsRuled (z : Setting) (region : Region) (row : Row) (s : AbsState) (base : ℕ) : Type 0 where
+pub record IsRuled (k : Stack) (rom : List ℕ) (row : Row) (a : ℕ) (s : AbsState) (base : ℕ) : Type 0 where
   pub operands : HasBytes row.op
   pub runs : row.op ≡ op.Stop → ⊥
-  pub stack : IsStackKnown z region row.op s base
+  pub stack : IsStackRuled k.setting.rules k rom row a s base
 
 -- where the HALT mark is clear, an instruction that is executed leads by one of the successors, if nothing is against that
 -- one's accesses, and then without a fault
-pub record Executes (z : Setting) (rom : List ℕ) (region : Region) (ranges : List Range) (row : Row) (s : AbsState) (ss : Successors) (entry : MState) (base : ℕ) (x : MState) (reads : List ℕ) : Type 0 where
+pub record Executes (k : Stack) (rom : List ℕ) (ranges : List Range) (row : Row) (a : ℕ) (s : AbsState) (ss : Successors) (entry : MState) (base : ℕ) (x : MState) (reads : List ℕ) : Type 0 where
   pub successor : Successor
   pub is_one : IsOneOf ss successor
-  pub leads : IsAllowed z rom region ranges s base successor → Leads z region ranges successor entry base x (outside (executed (within rom x) row reads))
-  pub held : IsAllowed z rom region ranges s base successor → length successor.state.items ≤ bytes_behind row.op (length s.items)
+  pub leads : IsAllowed k.setting rom k.region ranges s base successor → Leads k.setting k.region ranges successor entry base x (outside (executed (within rom x) row reads))
+  pub held : IsAllowed k.setting rom k.region ranges s base successor → IsHeld k.setting.rules k rom row a s successor
   pub mark : (outside (executed (within rom x) row reads)).processor.halt_mark ≡ false
-  pub faults : IsAllowed z rom region ranges s base successor → row_faults (Some row) region (within rom x) reads ≡ no_faults
+  pub faults : IsAllowed k.setting rom k.region ranges s base successor → row_faults (Some row) k.region (within rom x) reads ≡ no_faults
 
 -- an event leads by a successor, which holds no more than so many bytes
 pub record LeadsBy (z : Setting) (region : Region) (ranges : List Range) (bytes : ℕ) (way : Option Successor) (entry : MState) (base : ℕ) (x y : MState) : Type 0 where
@@ -189,8 +294,8 @@ pub record IsHalt (row : Row) : Type 0 where
 pub record AreSoundSuccessors (k : Stack) (rom : List ℕ) (row : Row) (a : ℕ) (s : AbsState) (ss : Successors) : Type 0 where
   pub executes :
       (ranges : List Range) (entry : MState) (base : ℕ) (x : MState) (reads : List ℕ)
-      → Stands k.setting rom k.region row a s entry base x → IsRuled k.setting k.region row s base → x.processor.halt_mark ≡ false → slice_index reads 0 ≤ 255
-      → Executes k.setting rom k.region ranges row s ss entry base x reads
+      → Stands k.setting rom k.region row a s entry base x → IsRuled k rom row a s base → x.processor.halt_mark ≡ false → slice_index reads 0 ≤ 255
+      → Executes k rom ranges row a s ss entry base x reads
   pub stays :
       (ranges : List Range) (entry : MState) (base : ℕ) (x : MState)
       → Stands k.setting rom k.region row a s entry base x → IsHalt row → x.processor.ime ≡ ime.Pending → has_enabled (within rom x) ≡ true

@@ -25,6 +25,7 @@ use Rattle.gb_abs_effects.specs.Transfer.{transfer, only_on}
 use Rattle.gb_successors.specs.Way.{Successor}
 use Rattle.gb_successors.specs.declared.successors.Successors.{Successors}
 use Rattle.gb_successors.specs.declared.stacks.Stack.{Stack}
+use Rattle.gb_successors.specs.declared.stacks.StackMove.{StackMove}
 use Rattle.gb_product.specs.declared.parts.Branch.{Branch}
 use Rattle.gb_product.specs.declared.parts.Product.{Product}
 use Rattle.gb_product.specs.Reduced.{product_of, reduced}
@@ -55,6 +56,10 @@ effect_in k rom o next s p =
     let word = word_in k rom o s p in
     refined (pointer_in k o p) (known_carry k.setting.rules o (sp_bounds k.setting s) p.core.registers p.relations.pairs)
     (transfer o next (sp_halves k.setting s) p.core word.low word.high)
+
+-- what that does to the stack
+unfoldable pub taken_move : Stack → List ℕ → Row → ℕ → AbsState → Product → StackMove
+taken_move k rom row next s p = stack_move k row.op (effect_in k rom row.op next s p).write (pointer_in k row.op p)
 
 -- The instruction is taken, with the core and what is known together p, which are settled, and a cell that its condition
 -- tells; next is the address behind it; each part by itself.

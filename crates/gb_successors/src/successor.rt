@@ -161,10 +161,13 @@ pub fn pointer_in(stack: Stack, op: Op, product: &Product) -> Option<Bounds>
 }
 
 /// The states behind are reduced; where nothing is meant the successor isn't possible.
-#[tactic(auto, unfolding(crate::specs::Successors::reduced_successor))]
+#[tactic(auto, unfolding(crate::specs::Successors::reduced_successor, gb_product::specs::Reduced::reduced))]
 pub(crate) fn reduced_successor<'a>(rules: Rules, successor: Successor<'a>) -> Option<Successor<'a>>
     ensures { result ≡ Succession.reduced_successor rules successor.entry }
 {
+    if rules == Rules::Simple {
+        return Some(successor);
+    }
     let Product { core, relations } = reduced(rules, &successor.core, &successor.relations)?;
     Some(Successor {
         core,

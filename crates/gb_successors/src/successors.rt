@@ -51,7 +51,7 @@ fn stays(row: Row, address: u16, state: &Abs) -> Option<Successor<'_>>
 
 /// The possible successors of the instruction at an address, from the states that one stands for.
 /// Where the HALT mark is clear and the instruction isn't STOP, executing it leads by one of them, if
-/// nothing refuses that one's accesses; so do staying on HALT and the halt bug. That is said of the rules of versions 1 and 2.
+/// nothing refuses that one's accesses; so do staying on HALT and the halt bug.
 #[tactic(auto, using(crate::proofs::WayLaws::successors_of_sound))]
 pub fn successors_of<'a>(
     stack: Stack,
@@ -67,11 +67,18 @@ pub fn successors_of<'a>(
 }
 
 /// What is known before the instruction, settled and reduced; none where nothing is meant.
-#[tactic(auto, unfolding(crate::specs::Successors::product_before))]
+#[tactic(auto, unfolding(crate::specs::Successors::product_before, gb_product::specs::Reduced::reduced))]
 pub fn product_before(rules: Rules, state: &Abs) -> Option<Product>
     ensures { result ≡ Succession.product_before rules state.now }
 {
-    reduced(rules, &settle(state.core()), state.relations())
+    let core = settle(state.core());
+    match rules {
+        Rules::Simple => Some(Product {
+            core,
+            relations: *state.relations(),
+        }),
+        Rules::Extended => reduced(rules, &core, state.relations()),
+    }
 }
 
 fn taken_from<'a>(

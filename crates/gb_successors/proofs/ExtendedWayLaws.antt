@@ -1,0 +1,503 @@
+-- Whatever the machine executes leads by one of the successors, by the rules of version 3.
+use Rattle.std.proofs.Common.{◌≡◌, ℕ, ◌+◌, ◌≤◌, Bool, true, false, cond, inl, inr, List, length, slice_index, Option, Some, None, option_map, option_and_then, refl, sym, ◌∙◌, ap, subst}
+use Rattle.std.specs.Prelude.{is_some}
+use Rattle.std.specs.Option.{IfSome}
+use Rattle.gb_ops.specs.declared.machine.Region.{Region}
+use Rattle.gb_ops.specs.declared.op.Condition.{Condition}
+use Rattle.gb_ops.specs.declared.op.Op.{Op}
+use Rattle.gb_ops.specs.declared.op.Op.TheVariants as op
+use Rattle.gb_ops.specs.declared.op.Row.{Row}
+use Rattle.gb_ops.specs.Machine.{executed}
+use Rattle.gb_ops.specs.Play.{MState, within, outside}
+use Rattle.gb_domain.specs.declared.pairs.Bounds.{Bounds}
+use Rattle.gb_domain.specs.declared.relations.Relations.{Relations}
+use Rattle.gb_domain.specs.declared.rules.Rules.{Rules}
+use Rattle.gb_domain.specs.declared.rules.Rules.TheVariants.{Simple, Extended}
+use Rattle.gb_domain.specs.declared.setting.Setting.{Setting}
+use Rattle.gb_domain.specs.declared.places.OneByte.{OneByte}
+use Rattle.gb_domain.specs.declared.types.Cell.{Cell}
+use Rattle.gb_domain.specs.declared.types.Core.{Core}
+use Rattle.gb_domain.specs.declared.types.Halves.{Halves}
+use Rattle.gb_domain.specs.declared.types.Range.{Range}
+use Rattle.gb_domain.specs.declared.types.Val.{Val}
+use Rattle.gb_domain.specs.Pairs.{ArePairs}
+use Rattle.gb_domain.specs.Rules.{IsCore}
+use Rattle.gb_domain.specs.Types.{AbsState}
+use Rattle.gb_abs.specs.Located.{sp_halves, sp_bounds}
+use Rattle.gb_abs.specs.Meaning.{MeansCore, MeansParts}
+use Rattle.gb_abs.specs.Operations.{core_settle, with_core}
+use Rattle.gb_abs.specs.Storage.{peek}
+use Rattle.gb_abs.proofs.OperationLaws.{IsCore-settle}
+use Rattle.gb_abs.proofs.StackLaws.{MeansParts-with_core}
+use Rattle.gb_abs_effects.specs.Sides as Flags
+use Rattle.gb_abs_effects.specs.declared.reads.AbsRead.{AbsRead}
+use Rattle.gb_abs_effects.specs.declared.reads.AbsRead.TheVariants as read
+use Rattle.gb_abs_effects.specs.declared.targets.Target.{Target}
+use Rattle.gb_abs_effects.specs.declared.targets.Target.TheVariants as target
+use Rattle.gb_abs_effects.specs.Accesses.{read_of}
+use Rattle.gb_abs_effects.specs.Transfer.{transfer}
+use Rattle.gb_abs_memory.specs.Kept.{IsKept}
+use Rattle.gb_product.specs.declared.parts.Branch.{Branch}
+use Rattle.gb_product.specs.declared.parts.Product.{Product}
+use Rattle.gb_product.specs.Below.gb_pairs.Meaning.{AreBytes}
+use Rattle.gb_product.specs.Below.gb_relations.Sound.{IsByteFree}
+use Rattle.gb_product.specs.Meaning.{AreRelated}
+use Rattle.gb_product.specs.Reduced.{product_of, reduced}
+use Rattle.gb_product.specs.Sides.{side_where, taken_side, not_taken_side}
+use Rattle.gb_product.specs.Sound.{IsKnown, IsMeantProduct, IsMeantBranch, MeansBranch, MeansProduct, IsReduced, IsSideOf}
+use Rattle.gb_product.proofs.MeaningLaws.{AreBytes-core}
+use Rattle.gb_product.proofs.ReducedLaws.{reduced_sound, reduced_cuts, Holds-values}
+use Rattle.gb_product.proofs.SideLaws.{taken_side_sound, not_taken_side_sound, taken_side_cuts, not_taken_side_cuts}
+use Rattle.gb_successors.specs.declared.stacks.Stack.{Stack}
+use Rattle.gb_successors.specs.declared.stacks.StackMove.{StackMove}
+use Rattle.gb_successors.specs.declared.stacks.StackMove.TheVariants as move
+use Rattle.gb_successors.specs.Behind.{ended, with_cell_if, moved_state}
+use Rattle.gb_successors.specs.Refined.{cut_read, cut_write, refined}
+use Rattle.gb_successors.specs.Refused.{meets_closed, meets_oam_transfer}
+use Rattle.gb_successors.specs.Stacks.{extended, stack_move}
+use Rattle.gb_successors.specs.Way.{Successor}
+use Rattle.gb_successors.specs.Successors.{pointer_in, word_in, effect_in, taken_move, taken_parts, related_successor, relations_behind, taken_successor, untaken_successor, with_product, reduced_successor, product_before, taken_from, not_taken_from, successors_of}
+use Rattle.gb_successors.specs.Sound.{IsReady, IsAllowed, IsFound, IsStackFit, bytes_moved, IsHeld, IsStackRuled, is_followed, LeadsWidely, LeadsTo, Leads, Stands, IsRuled, Executes}
+use Rattle.gb_successors.proofs.SimpleLaws.{behind_row, IsTold, same_word, same_sp}
+use Rattle.gb_successors.proofs.ToldLaws.{told_core, told_items, IsToldCell, IsToldCell-side, Stands-told, IsAllowed-told, IsTold-taken}
+use Rattle.gb_successors.proofs.PlainLaws.{Keeps, Keeps-both, Keeps-settle, Keeps-cut}
+use Rattle.gb_successors.proofs.MarkLaws.{executed_mark}
+use Rattle.gb_successors.proofs.RelatedLaws.{MeansParts-related, related_begun, IsCore-ended}
+use Rattle.gb_successors.proofs.SuccessorLaws.{begun, begun_core, given, effect, executed_is, left_by}
+use Rattle.gb_successors.proofs.UntakenLaws.{simple_untaken, untaken_simply, untaken_executes, side_facts}
+use Rattle.gb_successors.proofs.Situations.{Situation, acted_at, given_at, left_at, move_at, parts_at, related_at, IsTakenIn}
+use Rattle.gb_successors.proofs.LandingLaws.{given_by}
+use Rattle.gb_successors.proofs.LedLaws.{DoneAt, done_at}
+use Rattle.gb_successors.proofs.PossibleLaws.{some_reduced, possible, pairs_behind, bytes_behind_it}
+
+-- ---- the states behind, reduced
+
+-- the machine that a successor leads to is one that its reduced states mean
+pub MeansParts-narrowed :
+    (z : Setting) (t : Successor) (p : Product) (entry : MState) (base : ℕ) (y : MState) → reduced z.rules t.state.core t.state.relations ≡ Some p → ArePairs t.state.relations.pairs
+    → AreBytes y.processor.registers → AreRelated t.state.relations y → MeansParts t.state entry base y → MeansParts (with_product t p).state entry base y
+MeansParts-narrowed z t p entry base y e are bytes related m =
+    let meant : MeansProduct p entry y = (reduced_sound z.rules t.state.core t.state.relations (Some p) (sym e) are).gives entry y bytes m.core related in
+    let cut : IsReduced t.state.core t.state.relations p = reduced_cuts z.rules t.state.core t.state.relations (Some p) (sym e) in
+    MeansParts-related p.relations (with_core t.state p.core) entry base y
+    (MeansParts-with_core t.state p.core entry base y y m meant.core refl refl refl (λ set. sym cut.core.stack_set ∙ set))
+
+pub LeadsWidely-narrowed :
+    (z : Setting) (region : Region) (w : Target) (t : Successor) (p : Product) (entry : MState) (base : ℕ) (y : MState) → reduced z.rules t.state.core t.state.relations ≡ Some p → ArePairs t.state.relations.pairs
+    → AreBytes y.processor.registers → AreRelated t.state.relations y → LeadsWidely z region w t entry base y → LeadsWidely z region w (with_product t p) entry base y
+LeadsWidely-narrowed z region (target.At a) t p entry base y e are bytes related h =
+    record { means = MeansParts-narrowed z t p entry base y e are bytes related h.means; goes = h.goes; room = h.room }
+LeadsWidely-narrowed z region (target.Call a) t p entry base y e are bytes related h =
+    record {
+      means = MeansParts-narrowed z t p entry base y e are bytes related h.means;
+      goes = h.goes;
+      room = h.room;
+      stack_set = (reduced_cuts z.rules t.state.core t.state.relations (Some p) (sym e)).core.stack_set ∙ h.stack_set;
+      next = h.next;
+      top = h.top;
+      placed = h.placed;
+    }
+LeadsWidely-narrowed z region target.Return t p entry base y e are bytes related h =
+    record { means = MeansParts-narrowed z t p entry base y e are bytes related h.means; goes = h.goes; room = h.room; procedure = h.procedure }
+LeadsWidely-narrowed z region (target.Main a) t p entry base y e are bytes related h =
+    record { means = λ other. MeansParts-narrowed z t p other (region.last + 1) y e are bytes related (h.means other); goes = h.goes; room = h.room }
+LeadsWidely-narrowed z region target.Unknown t p entry base y e are bytes related h = tt
+LeadsWidely-narrowed z region target.Lost t p entry base y e are bytes related h = tt
+
+-- what is known together holds, where it is said where the machine is
+related_narrowed :
+    (z : Setting) (region : Region) (w : Target) (t : Successor) (p : Product) (entry : MState) (base : ℕ) (y : MState) → reduced z.rules t.state.core t.state.relations ≡ Some p → ArePairs t.state.relations.pairs
+    → AreBytes y.processor.registers → AreRelated t.state.relations y → LeadsWidely z region w t entry base y → is_followed Extended w ≡ true → AreRelated p.relations y
+related_narrowed z region w t p entry base y e are bytes related h followed = by w h followed
+  where
+    of_core : MeansCore t.state.core entry y → AreRelated p.relations y
+    of_core m =
+        let meant : MeansProduct p entry y = (reduced_sound z.rules t.state.core t.state.relations (Some p) (sym e) are).gives entry y bytes m related in
+        meant.related
+
+    by : (v : Target) → LeadsWidely z region v t entry base y → is_followed Extended v ≡ true → AreRelated p.relations y
+    by (target.At a) k f = of_core k.means.core
+    by (target.Call a) k f = of_core k.means.core
+    by target.Return k f = of_core k.means.core
+    by (target.Main a) k f = of_core (k.means entry).core
+    by target.Unknown k f = cc
+    by target.Lost k f = cc
+
+pub LeadsWidely-related :
+    (z : Setting) (region : Region) (w : Target) (r : Relations) (t : Successor) (entry : MState) (base : ℕ) (y : MState) → LeadsWidely z region w t entry base y → LeadsWidely z region w (related_successor r t) entry base y
+LeadsWidely-related z region (target.At a) r t entry base y h = record { means = MeansParts-related r t.state entry base y h.means; goes = h.goes; room = h.room }
+LeadsWidely-related z region (target.Call a) r t entry base y h =
+    record { means = MeansParts-related r t.state entry base y h.means; goes = h.goes; room = h.room; stack_set = h.stack_set; next = h.next; top = h.top; placed = h.placed }
+LeadsWidely-related z region target.Return r t entry base y h = record { means = MeansParts-related r t.state entry base y h.means; goes = h.goes; room = h.room; procedure = h.procedure }
+LeadsWidely-related z region (target.Main a) r t entry base y h = record { means = λ other. MeansParts-related r t.state other (region.last + 1) y (h.means other); goes = h.goes; room = h.room }
+LeadsWidely-related z region target.Unknown r t entry base y h = tt
+LeadsWidely-related z region target.Lost r t entry base y h = tt
+
+to_widely : (z : Setting) (region : Region) (w : Target) (t : Successor) (entry : MState) (base : ℕ) (x y : MState) → z.rules ≡ Extended → LeadsWidely z region w t entry base y → LeadsTo z.rules z region w t entry base x y
+to_widely z region w t entry base x y e h = subst (λ r. LeadsTo r z region w t entry base x y) (sym e) h
+
+from_widely : (z : Setting) (region : Region) (w : Target) (t : Successor) (entry : MState) (base : ℕ) (x y : MState) → z.rules ≡ Extended → LeadsTo z.rules z region w t entry base x y → LeadsWidely z region w t entry base y
+from_widely z region w t entry base x y e h = subst (λ r. LeadsTo r z region w t entry base x y) e h
+
+pub Leads-narrowed :
+    (z : Setting) (region : Region) (ranges : List Range) (t : Successor) (p : Product) (entry : MState) (base : ℕ) (x y : MState) → z.rules ≡ Extended → reduced z.rules t.state.core t.state.relations ≡ Some p
+    → ArePairs t.state.relations.pairs → AreBytes y.processor.registers → AreRelated t.state.relations y
+    → LeadsWidely z region t.target t entry base y → ((b : ℕ) → IsKept z region ranges base b → peek y.storage b ≡ peek x.storage b)
+    → Leads z region ranges (with_product t p) entry base x y
+Leads-narrowed z region ranges t p entry base x y extended e are bytes related to kept =
+    record {
+      to = to_widely z region t.target (with_product t p) entry base x y extended (LeadsWidely-narrowed z region t.target t p entry base y e are bytes related to);
+      kept = kept;
+      related = λ followed. related_narrowed z region t.target t p entry base y e are bytes related to (subst (λ r. is_followed r t.target ≡ true) extended followed);
+    }
+
+-- ---- what is known before
+
+-- the states before, reduced
+pub record Before (k : Stack) (s : AbsState) (entry x : MState) : Type 0 where
+  pub product : Product
+  pub is : product_before k.setting.rules s ≡ Some product
+  pub means : MeansProduct product entry x
+  pub cut : IsReduced (core_settle s.core) s.relations product
+
+pub before_of :
+    (k : Stack) (s : AbsState) (entry x : MState) → IsCore s.core → ArePairs s.relations.pairs → MeansCore (core_settle s.core) entry x → AreRelated s.relations x → Before k s entry x
+unfolding product_before
+before_of k s entry x core are m related =
+    by (reduced k.setting.rules (core_settle s.core) s.relations) refl
+    ((reduced_sound k.setting.rules (core_settle s.core) s.relations _ refl are).gives entry x (AreBytes-core (core_settle s.core) entry x (IsCore-settle s.core core) m) m related)
+    (reduced_cuts k.setting.rules (core_settle s.core) s.relations _ refl)
+  where
+    by : (o : Option Product) → reduced k.setting.rules (core_settle s.core) s.relations ≡ o → IsMeantProduct o entry x → IfSome o (IsReduced (core_settle s.core) s.relations) → Before k s entry x
+    by None e h cut = absurd h
+    by (Some p) e h cut = record { product = p; is = e; means = h; cut = cut }
+
+-- ---- the cell that a condition tells is known before
+
+same_sp_bounds : (z : Setting) (cell : Option Cell) (s : AbsState) → sp_bounds z s ≡ sp_bounds z (with_cell_if z cell s)
+unfolding sp_bounds with_cell_if
+same_sp_bounds z None s = refl
+same_sp_bounds z (Some c) s = refl
+
+IsTold-cut : (b : Option Bounds) (cell : Option Cell) (r : AbsRead) → IsTold cell r → IsTold cell (cut_read b r)
+IsTold-cut b None r h = tt
+IsTold-cut b (Some c) (read.Byte span) h = absurd h
+IsTold-cut b (Some c) read.Nothing h = tt
+IsTold-cut b (Some c) read.Top h = tt
+
+word_told : (k : Stack) (rom : List ℕ) (o : Op) (s : AbsState) (p : Product) (cell : Option Cell) → IsTold cell (read_of o p.core) → word_in k rom o s p ≡ word_in k rom o (with_cell_if k.setting cell s) p
+word_told k rom o s p cell told = same_word k.setting rom cell s p.core _ (IsTold-cut (pointer_in k o p) cell (read_of o p.core) told)
+
+effect_told :
+    (k : Stack) (rom : List ℕ) (o : Op) (next : ℕ) (s : AbsState) (p : Product) (cell : Option Cell) → IsTold cell (read_of o p.core)
+    → effect_in k rom o next s p ≡ effect_in k rom o next (with_cell_if k.setting cell s) p
+unfolding effect_in
+effect_told k rom o next s p cell told =
+    let z = k.setting in
+    rw (word_told k rom o s p cell told, same_sp z cell s, same_sp_bounds z cell s) refl
+
+parts_told :
+    (k : Stack) (rom : List ℕ) (row : Row) (next : ℕ) (s : AbsState) (p : Product) (cell : Option Cell) → IsTold cell (read_of row.op p.core)
+    → taken_parts k rom row next s p cell ≡ taken_parts k rom row next (with_cell_if k.setting cell s) p None
+unfolding taken_parts moved_state with_cell_if
+parts_told k rom row next s p cell told = rw (effect_told k rom row.op next s p cell told, word_told k rom row.op s p cell told) refl
+
+relations_told :
+    (k : Stack) (rom : List ℕ) (o : Op) (s : AbsState) (p : Product) (cell : Option Cell) → IsTold cell (read_of o p.core)
+    → relations_behind k rom o s p ≡ relations_behind k rom o (with_cell_if k.setting cell s) p
+unfolding relations_behind
+relations_told k rom o s p cell told = rw (word_told k rom o s p cell told, same_sp_bounds k.setting cell s) refl
+
+no_such : false ≡ true → ⊥
+no_such h = cc
+
+-- ---- the move is the same on the side
+
+-- of an instruction with a condition the move hangs on nothing that is known
+same_conditional :
+    (k : Stack) (o : Op) (next : ℕ) (sp sp_side : Halves) (c d : Core) (low high v w : Val) (b e : Option Bounds) → is_some (Flags.condition_of o) ≡ true
+    → stack_move k o (cut_write b (transfer o next sp c low high).write) b ≡ stack_move k o (cut_write e (transfer o next sp_side d v w).write) e
+unfolding stack_move transfer
+same_conditional k (op.JumpRelativeIf condition e8) next sp sp_side c d low high v w b e h = refl
+same_conditional k (op.JumpIf condition a) next sp sp_side c d low high v w b e h = refl
+same_conditional k (op.CallIf condition a) next sp sp_side c d low high v w b e h = refl
+same_conditional k (op.ReturnIf condition) next sp sp_side c d low high v w b e h = refl
+same_conditional k o next sp sp_side c d low high v w b e h = absurd (no_such h)
+
+taken_move_is :
+    (k : Stack) (rom : List ℕ) (row : Row) (next : ℕ) (s : AbsState) (p : Product)
+    → taken_move k rom row next s p
+    ≡ stack_move k row.op (cut_write (pointer_in k row.op p) (transfer row.op next (sp_halves k.setting s) p.core (word_in k rom row.op s p).low (word_in k rom row.op s p).high).write) (pointer_in k row.op p)
+unfolding taken_move effect_in refined
+taken_move_is k rom row next s p = refl
+
+-- without a condition the side is what is known before
+whole_side : (o : Op) (cells : List Cell) (core : Core) (r : Relations) (b : Branch) → taken_side o cells core r ≡ Some b → is_some (Flags.condition_of o) ≡ false → b ≡ record { core = core; relations = r; cell = None }
+unfolding taken_side Flags.sides_of
+whole_side o cells core r b e h = by (Flags.condition_of o) e h
+  where
+    same_branch : (c d : Branch) → Some c ≡ Some d → c ≡ d
+    same_branch c d f = cc
+
+    by : (k : Option Condition) → side_where k cells r (Flags.sides_by k core).taken ≡ Some b → is_some k ≡ false → b ≡ record { core = core; relations = r; cell = None }
+    by None f g = sym (same_branch _ b f)
+    by (Some k) f g = cc
+
+same_move :
+    (k : Stack) (rom : List ℕ) (row : Row) (next : ℕ) (s : AbsState) (p : Product) (b : Branch) → taken_side row.op s.cells p.core p.relations ≡ Some b
+    → taken_move k rom row next (with_cell_if k.setting b.cell s) (product_of b.core b.relations) ≡ taken_move k rom row next s p
+unfolding with_cell_if
+same_move k rom row next s p b e = choose (is_some (Flags.condition_of row.op)) refl
+  where
+    told : AbsState
+    told = with_cell_if k.setting b.cell s
+
+    q : Product
+    q = product_of b.core b.relations
+
+    choose : (t : Bool) → is_some (Flags.condition_of row.op) ≡ t → taken_move k rom row next (with_cell_if k.setting b.cell s) (product_of b.core b.relations) ≡ taken_move k rom row next s p
+    choose true h =
+        taken_move_is k rom row next (with_cell_if k.setting b.cell s) (product_of b.core b.relations)
+        ∙ (same_conditional k row.op next (sp_halves k.setting told) (sp_halves k.setting s) b.core p.core (word_in k rom row.op told q).low (word_in k rom row.op told q).high (word_in k rom row.op s p).low (word_in k rom row.op s p).high
+        (pointer_in k row.op q) (pointer_in k row.op p) h ∙ sym (taken_move_is k rom row next s p))
+    choose false h =
+        ap (λ (d : Branch). taken_move k rom row next (with_cell_if k.setting d.cell s) (product_of d.core d.relations)) (whole_side row.op s.cells p.core p.relations b e h)
+
+-- ---- the stack is ready on the side too
+
+IsReady-told :
+    (k : Stack) (o : Op) (m : StackMove) (cell : Option Cell) (s : AbsState) (base : ℕ) → IsReady k o m s base → IsReady k o m (with_cell_if k.setting cell s) base
+unfolding with_cell_if
+IsReady-told k o m None s base h = h
+IsReady-told k o (move.Push w) (Some c) s base h = record { stack_set = h.stack_set; held = h.held; room = h.room }
+IsReady-told k o (move.Append n) (Some c) s base h = record { stack_set = h.stack_set; held = h.held; room = h.room }
+IsReady-told k o (move.Take n) (Some c) s base h = λ e. let holds = h e in record { stack_set = holds.stack_set; held = holds.held }
+IsReady-told k o move.Stay (Some c) s base h = tt
+IsReady-told k o (move.Set n) (Some c) s base h = h
+IsReady-told k o (move.Restart n) (Some c) s base h = h
+IsReady-told k o move.Lost (Some c) s base h = h
+
+some_of : {X : Type 0} (o : Option X) → is_some o ≡ true → (x : X) × (o ≡ Some x)
+some_of (Some x) h = (x, refl)
+some_of None h = cc
+
+-- ---- executed
+
+stack_ruled :
+    (k : Stack) (rom : List ℕ) (row : Row) (a : ℕ) (s : AbsState) (base : ℕ) (p : Product) (t : Successor) → k.setting.rules ≡ Extended → product_before k.setting.rules s ≡ Some p
+    → (successors_of k rom row a s).taken ≡ Some t → IsRuled k rom row a s base → IsReady k row.op (taken_move k rom row (behind_row a row) s p) s base
+stack_ruled k rom row a s base p t e is way h =
+    let ruled : IsStackRuled Extended k rom row a s base = subst (λ r. IsStackRuled r k rom row a s base) e h.stack in
+    ruled (ap is_some way) p (subst (λ r. product_before r s ≡ Some p) e is)
+
+-- as many are held as the move leaves
+held_taken :
+    (k : Stack) (rom : List ℕ) (row : Row) (a : ℕ) (s : AbsState) (t : Successor) (p : Product) → k.setting.rules ≡ Extended → product_before k.setting.rules s ≡ Some p
+    → (successors_of k rom row a s).taken ≡ Some t → length t.state.items ≡ bytes_moved (taken_move k rom row (behind_row a row) s p) (length s.items) → IsHeld k.setting.rules k rom row a s t
+held_taken k rom row a s t p e is way h =
+    subst (λ r. IsHeld r k rom row a s t) (sym e)
+    (inr (
+      way,
+      λ q same.
+          subst (λ (v : Product). length t.state.items ≡ bytes_moved (taken_move k rom row (behind_row a row) s v) (length s.items)) (same_product p q (sym (subst (λ r. product_before r s ≡ Some p) e is) ∙ same)) h,
+    ))
+  where
+    same_product : (p q : Product) → Some p ≡ Some q → p ≡ q
+    same_product p q f = cc
+
+held_as_before : (k : Stack) (rom : List ℕ) (row : Row) (a : ℕ) (s : AbsState) (t : Successor) → k.setting.rules ≡ Extended → length t.state.items ≡ length s.items → IsHeld k.setting.rules k rom row a s t
+held_as_before k rom row a s t e h = subst (λ r. IsHeld r k rom row a s t) (sym e) (inl h)
+
+IsAllowed-with_product :
+    (z : Setting) (rom : List ℕ) (region : Region) (ranges : List Range) (s : AbsState) (base : ℕ) (r : Relations) (p : Product) (t : Successor) → z.rules ≡ Extended
+    → IsAllowed z rom region ranges s base (with_product (related_successor r t) p) → IsAllowed z rom region ranges s base t
+unfolding meets_closed meets_oam_transfer
+IsAllowed-with_product z rom region ranges s base r p t e h =
+    let found : IsFound t.target = subst (λ q. IsStackFit q region t.target s (with_product (related_successor r t) p) base) e h.stack in
+    record { stores = h.stores; ram = h.ram; oam_transfer = h.oam_transfer; stack = subst (λ q. IsStackFit q region t.target s t base) (sym e) found }
+
+pub taken_way :
+    (k : Stack) (rom : List ℕ) (row : Row) (a : ℕ) (s : AbsState) (p : Product) (b : Branch) (t : Successor) → product_before k.setting.rules s ≡ Some p
+    → taken_side row.op s.cells p.core p.relations ≡ Some b → reduced_successor k.setting.rules (taken_successor k rom row (behind_row a row) s b) ≡ Some t
+    → (successors_of k rom row a s).taken ≡ Some t
+unfolding successors_of
+taken_way k rom row a s p b t before side is =
+    ap (option_and_then (taken_from k rom row (behind_row a row) s)) before
+    ∙ (ap (option_and_then (λ (c : Branch). reduced_successor k.setting.rules (taken_successor k rom row (behind_row a row) s c))) side ∙ is)
+
+untaken_way :
+    (k : Stack) (rom : List ℕ) (row : Row) (a : ℕ) (s : AbsState) (p : Product) (b : Branch) (t : Successor) → product_before k.setting.rules s ≡ Some p
+    → not_taken_side row.op s.cells p.core p.relations ≡ Some b → reduced_successor k.setting.rules (untaken_successor k row (behind_row a row) s b) ≡ Some t
+    → (successors_of k rom row a s).not_taken ≡ Some t
+unfolding successors_of
+untaken_way k rom row a s p b t before side is =
+    ap (option_and_then (not_taken_from k row (behind_row a row) s)) before
+    ∙ (ap (option_and_then (λ (c : Branch). reduced_successor k.setting.rules (untaken_successor k row (behind_row a row) s c))) side ∙ is)
+
+pub reduced_way : (rules : Rules) (t : Successor) (p : Product) → reduced rules t.state.core t.state.relations ≡ Some p → reduced_successor rules t ≡ Some (with_product t p)
+unfolding reduced_successor
+reduced_way rules t p e = ap (option_map (with_product t)) e
+
+-- the successor by its parts
+taken_told :
+    (k : Stack) (rom : List ℕ) (row : Row) (next : ℕ) (s : AbsState) (b : Branch) → IsTold b.cell (read_of row.op b.core)
+    → taken_successor k rom row next s b
+    ≡ related_successor (relations_behind k rom row.op (with_cell_if k.setting b.cell s) (product_of b.core b.relations)) (taken_parts k rom row next (with_cell_if k.setting b.cell s) (product_of b.core b.relations) None)
+unfolding taken_successor
+taken_told k rom row next s b told =
+    ap (λ r. related_successor r (taken_parts k rom row next s (product_of b.core b.relations) b.cell)) (relations_told k rom row.op s (product_of b.core b.relations) b.cell told)
+    ∙ ap (related_successor (relations_behind k rom row.op (with_cell_if k.setting b.cell s) (product_of b.core b.relations))) (parts_told k rom row next s (product_of b.core b.relations) b.cell told)
+
+-- the machine behind it
+executed_at : (c : Situation) → IsTakenIn c → outside (executed (within c.rom c.machine) c.row c.reads) ≡ left_at c
+executed_at c k = executed_is c.rom c.machine c.row c.reads ∙ ap (left_by c.rom c.machine (acted_at c)) (ap (λ b. cond b c.row.cycles c.row.cycles_not_taken) k.taken)
+
+-- an instruction that is taken leads by the successor, reduced
+Leads-at :
+    (c : Situation) (p : Product) → IsTakenIn c → reduced c.stack.setting.rules (parts_at c).state.core (related_at c) ≡ Some p → DoneAt c
+    → Leads c.stack.setting c.stack.region c.ranges (with_product (related_successor (related_at c) (parts_at c)) p) c.entry c.base c.machine (left_at c)
+Leads-at c p k e d =
+    let r : Relations = related_at c in
+    Leads-narrowed c.stack.setting c.stack.region c.ranges (related_successor r (parts_at c)) p c.entry c.base c.machine (left_at c) k.extended e (pairs_behind c k)
+    (bytes_behind_it c (given_at c).low (given_at c).high k (given_by c k d.loads)) d.leaves.related
+    (LeadsWidely-related c.stack.setting c.stack.region (parts_at c).target r (parts_at c) c.entry c.base (left_at c) d.to) d.leaves.kept
+
+taken_executes :
+    (k : Stack) (rom : List ℕ) (row : Row) (a : ℕ) (s : AbsState) (ranges : List Range) (entry : MState) (base : ℕ) (x : MState) (reads : List ℕ) (p : Product) (b : Branch)
+    → k.setting.rules ≡ Extended → Stands k.setting rom k.region row a s entry base x → IsRuled k rom row a s base → x.processor.halt_mark ≡ false → slice_index reads 0 ≤ 255
+    → product_before k.setting.rules s ≡ Some p → IsReduced (core_settle s.core) s.relations p → taken_side row.op s.cells p.core p.relations ≡ Some b → MeansBranch b entry (begun row x)
+    → (effect rom row x reads).is_taken ≡ true
+    → Executes k rom ranges row a s (successors_of k rom row a s) entry base x reads
+taken_executes k rom row a s ranges entry base x reads p b extended stands ruled mark byte before cut side meant taken =
+    let is : IsSideOf s.cells p.core p.relations b = side_facts _ b s.cells p.core p.relations side (taken_side_cuts row.op s.cells p.core p.relations _ refl) in
+    let told : AbsState = with_cell_if k.setting b.cell s in
+    let cell : IfSome b.cell (IsToldCell k.region entry x) =
+    IsToldCell-side k.region s.cells p.core p.relations b entry x (subst (λ (o : OneByte). IsByteFree k.region o.address) (sym cut.relations.byte) stands.free) stands.vals is meant.cell in
+    let c : Situation = record {
+      stack = k;
+      rom = rom;
+      ranges = ranges;
+      row = row;
+      address = a;
+      state = told;
+      product = product_of b.core b.relations;
+      entry = entry;
+      base = base;
+      machine = x;
+      reads = reads;
+    } in
+    let same : move_at c ≡ taken_move k rom row (behind_row a row) s p = same_move k rom row (behind_row a row) s p b side in
+    let way : (q : Product) → reduced k.setting.rules (parts_at c).state.core (related_at c) ≡ Some q → (successors_of k rom row a s).taken ≡ Some (with_product (related_successor (related_at c) (parts_at c)) q) =
+    λ q e.
+    taken_way k rom row a s p b (with_product (related_successor (related_at c) (parts_at c)) q) before side
+    (ap (reduced_successor k.setting.rules) (taken_told k rom row (behind_row a row) s b (IsTold-taken row.op s.cells p.core b.core p.relations b side))
+    ∙ reduced_way k.setting.rules (related_successor (related_at c) (parts_at c)) q e) in
+    let t : IsTakenIn c = record {
+      stands = Stands-told k.setting rom k.region row a b.cell s entry base x cell stands;
+      extended = extended;
+      operands = ruled.operands;
+      runs = ruled.runs;
+      ready = λ meant.
+          let some = some_of (reduced k.setting.rules (parts_at c).state.core (related_at c)) meant in
+          subst (λ m. IsReady k row.op m told base) (sym same)
+          (IsReady-told k row.op _ b.cell s base (stack_ruled k rom row a s base p (with_product (related_successor (related_at c) (parts_at c)) some.0) extended before (way some.0 some.1) ruled));
+      mark = mark;
+      byte = byte;
+      keeps = subst (λ d. Keeps d b.core) (sym (told_core k.setting b.cell s))
+          (Keeps-both s.core p.core b.core (Keeps-both s.core (core_settle s.core) p.core (Keeps-settle s.core) (Keeps-cut (core_settle s.core) p.core cut.core)) (Keeps-cut p.core b.core is.core));
+      means = meant.core;
+      related = meant.related;
+      core = is.inhabited (cut.inhabited (IsCore-settle s.core stands.core));
+      pairs = is.relations.pairs (cut.relations.pairs stands.pairs);
+      free = subst (λ (o : OneByte). IsByteFree k.region o.address) (sym (is.relations.byte ∙ cut.relations.byte)) stands.free;
+      taken = taken;
+    } in
+    let some = possible c t in
+    let r : Relations = relations_behind k rom row.op told (product_of b.core b.relations) in
+    let successor : Successor = with_product (related_successor r (parts_at c)) some.product in
+    let done : IsAllowed k.setting rom k.region ranges s base successor → DoneAt c =
+    λ allowed. done_at c t (IsAllowed-told k.setting rom k.region ranges b.cell s base (parts_at c) (IsAllowed-with_product k.setting rom k.region ranges s base r some.product (parts_at c) extended allowed)) in
+    record {
+      successor = successor;
+      is_one = inl (way some.product some.is);
+      mark = executed_mark rom x row reads;
+      held = λ allowed. held_taken k rom row a s successor p extended before (way some.product some.is)
+          (subst (λ m. length (parts_at c).state.items ≡ bytes_moved m (length s.items)) same
+          (subst (λ items. length (parts_at c).state.items ≡ bytes_moved (move_at c) (length items)) (told_items k.setting b.cell s) (done allowed).bytes));
+      leads = λ allowed. subst (λ y. Leads k.setting k.region ranges successor entry base x y) (sym (executed_at c t)) (Leads-at c some.product t some.is (done allowed));
+      faults = λ allowed. (done allowed).leaves.faults;
+    }
+
+IsCore-untaken : (row : Row) (next : ℕ) (s : AbsState) (c : Core) (r : Relations) → IsCore c → IsCore (simple_untaken row next s c r).state.core
+unfolding ended
+IsCore-untaken row next s c r h = IsCore-ended false row.cycles_not_taken c h
+
+untaken_items : (row : Row) (next : ℕ) (s : AbsState) (c : Core) (r : Relations) → (simple_untaken row next s c r).state.items ≡ s.items
+unfolding ended
+untaken_items row next s c r = refl
+
+followed_at : (r : Rules) (a : ℕ) → is_followed r (target.At a) ≡ true
+followed_at Simple a = refl
+followed_at Extended a = refl
+
+-- it isn't taken
+untaken_leads :
+    (k : Stack) (rom : List ℕ) (row : Row) (a : ℕ) (s : AbsState) (ranges : List Range) (entry : MState) (base : ℕ) (x : MState) (reads : List ℕ) (p : Product) (b : Branch)
+    → k.setting.rules ≡ Extended → Stands k.setting rom k.region row a s entry base x → IsRuled k rom row a s base → x.processor.halt_mark ≡ false
+    → product_before k.setting.rules s ≡ Some p → IsReduced (core_settle s.core) s.relations p → not_taken_side row.op s.cells p.core p.relations ≡ Some b → MeansBranch b entry (begun row x)
+    → (effect rom row x reads).is_taken ≡ false
+    → Executes k rom ranges row a s (successors_of k rom row a s) entry base x reads
+untaken_leads k rom row a s ranges entry base x reads p b extended stands ruled mark before cut side meant not_taken =
+    let y : MState = outside (executed (within rom x) row reads) in
+    let is : IsSideOf s.cells p.core p.relations b = side_facts _ b s.cells p.core p.relations side (not_taken_side_cuts row.op s.cells p.core p.relations _ refl) in
+    let told : AbsState = with_cell_if k.setting b.cell s in
+    let cell : IfSome b.cell (IsToldCell k.region entry x) =
+    IsToldCell-side k.region s.cells p.core p.relations b entry x (subst (λ (o : OneByte). IsByteFree k.region o.address) (sym cut.relations.byte) stands.free) stands.vals is meant.cell in
+    let keeps : Keeps told.core b.core = subst (λ d. Keeps d b.core) (sym (told_core k.setting b.cell s))
+    (Keeps-both s.core p.core b.core (Keeps-both s.core (core_settle s.core) p.core (Keeps-settle s.core) (Keeps-cut (core_settle s.core) p.core cut.core)) (Keeps-cut p.core b.core is.core)) in
+    let are : ArePairs b.relations.pairs = is.relations.pairs (cut.relations.pairs stands.pairs) in
+    let t : Successor = simple_untaken row (behind_row a row) told b.core b.relations in
+    let core : IsCore b.core = is.inhabited (cut.inhabited (IsCore-settle s.core stands.core)) in
+    let done = untaken_executes k.setting rom k.region ranges row a told entry base x reads b.core b.relations (Stands-told k.setting rom k.region row a b.cell s entry base x cell stands) ruled.runs mark keeps meant.core meant.related not_taken in
+    let to : LeadsWidely k.setting k.region (target.At (behind_row a row)) t entry base y = from_widely k.setting k.region (target.At (behind_row a row)) t entry base x y extended done.0.to in
+    let related : AreRelated b.relations y = done.0.related (followed_at k.setting.rules (behind_row a row)) in
+    let bytes : AreBytes y.processor.registers = AreBytes-core t.state.core entry y (IsCore-untaken row (behind_row a row) told b.core b.relations core) to.means.core in
+    let some = some_reduced k.setting.rules t.state.core b.relations y.processor.registers are bytes (Holds-values t.state.core b.relations entry y to.means.core related) in
+    record {
+      successor = with_product t some.product;
+      is_one = inr (inl (untaken_way k rom row a s p b (with_product t some.product) before side
+          (ap (reduced_successor k.setting.rules) (untaken_simply k row (behind_row a row) s b) ∙ reduced_way k.setting.rules t some.product some.is)));
+      mark = executed_mark rom x row reads;
+      held = λ allowed. held_as_before k rom row a s (with_product t some.product) extended (ap length (untaken_items row (behind_row a row) told b.core b.relations ∙ told_items k.setting b.cell s));
+      leads = λ allowed. Leads-narrowed k.setting k.region ranges t some.product entry base x y extended some.is are bytes related to done.0.kept;
+      faults = λ allowed. done.1;
+    }
+
+pub executes_widely :
+    (k : Stack) (rom : List ℕ) (row : Row) (a : ℕ) (s : AbsState) (ranges : List Range) (entry : MState) (base : ℕ) (x : MState) (reads : List ℕ)
+    → k.setting.rules ≡ Extended → Stands k.setting rom k.region row a s entry base x → IsRuled k rom row a s base → x.processor.halt_mark ≡ false → slice_index reads 0 ≤ 255
+    → Executes k rom ranges row a s (successors_of k rom row a s) entry base x reads
+executes_widely k rom row a s ranges entry base x reads extended stands ruled mark byte =
+    let before = before_of k s entry (begun row x) stands.core stands.pairs (begun_core row x s.core entry stands.means.parts.core) (related_begun row x s.relations stands.means.related) in
+    by_flags before (effect rom row x reads).is_taken refl
+  where
+    known : (b : Before k s entry (begun row x)) → IsKnown s.cells b.product.relations entry (begun row x)
+    known b = record { memory = stands.means.parts.memory; cells = stands.means.parts.cells; related = b.means.related }
+
+    by_taken : (b : Before k s entry (begun row x)) (o : Option Branch) → taken_side row.op s.cells b.product.core b.product.relations ≡ o → (effect rom row x reads).is_taken ≡ true → IsMeantBranch o entry (begun row x)
+        → Executes k rom ranges row a s (successors_of k rom row a s) entry base x reads
+    by_taken b None e taken h = absurd h
+    by_taken b (Some side) e taken h = taken_executes k rom row a s ranges entry base x reads b.product side extended stands ruled mark byte b.is b.cut e h taken
+
+    by_not_taken : (b : Before k s entry (begun row x)) (o : Option Branch) → not_taken_side row.op s.cells b.product.core b.product.relations ≡ o → (effect rom row x reads).is_taken ≡ false → IsMeantBranch o entry (begun row x)
+        → Executes k rom ranges row a s (successors_of k rom row a s) entry base x reads
+    by_not_taken b None e not_taken h = absurd h
+    by_not_taken b (Some side) e not_taken h = untaken_leads k rom row a s ranges entry base x reads b.product side extended stands ruled mark b.is b.cut e h not_taken
+
+    by_flags : (b : Before k s entry (begun row x)) (t : Bool) → (effect rom row x reads).is_taken ≡ t → Executes k rom ranges row a s (successors_of k rom row a s) entry base x reads
+    by_flags b true e =
+        by_taken b _ refl e
+        ((taken_side_sound row.op s.cells b.product.core b.product.relations _ refl (b.cut.relations.pairs stands.pairs)).gives entry (begun row x) (given rom row x reads).low (given rom row x reads).high (known b) b.means.core e)
+    by_flags b false e =
+        by_not_taken b _ refl e
+        ((not_taken_side_sound row.op s.cells b.product.core b.product.relations _ refl (b.cut.relations.pairs stands.pairs)).gives entry (begun row x) (given rom row x reads).low (given rom row x reads).high (known b) b.means.core e)

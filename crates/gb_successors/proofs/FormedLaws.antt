@@ -1,0 +1,309 @@
+-- The states behind an instruction are such as states may be: each register has a value, the address among the places is free, and
+-- pairs have words.
+use Rattle.std.proofs.Common.{◌≡◌, ℕ, ◌+◌, ◌%◌, ◌≤◌, ◌<◌, Bool, true, false, cond, inl, inr, List, length, Option, Some, None, refl, sym, ◌∙◌, subst, arith}
+use Rattle.std.proofs.lemmas.Option.{same_Some}
+use Rattle.std.specs.Prelude.{IfSome, option_map, option_and_then}
+use Rattle.gb_ops.specs.declared.machine.Kind.{Kind}
+use Rattle.gb_ops.specs.declared.machine.Region.{Region}
+use Rattle.gb_ops.specs.declared.op.Register.{Register}
+use Rattle.gb_ops.specs.declared.op.Register.TheVariants.{A, B, C, D, E, H, L}
+use Rattle.gb_ops.specs.declared.op.Row.{Row}
+use Rattle.gb_ops.specs.declared.registers.Registers.{Registers}
+use Rattle.gb_ops.specs.Cartridge.{kind_of}
+use Rattle.gb_ops.specs.Play.{MState}
+use Rattle.gb_ops.specs.Registers.{get}
+use Rattle.gb_domain.specs.declared.pairs.Bounds.{Bounds}
+use Rattle.gb_domain.specs.declared.pairs.WordPair.TheVariants as pairs
+use Rattle.gb_domain.specs.declared.places.OneByte.{OneByte}
+use Rattle.gb_domain.specs.declared.rules.Rules.{Rules}
+use Rattle.gb_domain.specs.declared.setting.Setting.{Setting}
+use Rattle.gb_domain.specs.declared.types.Cell.{Cell}
+use Rattle.gb_domain.specs.declared.types.Core.{Core}
+use Rattle.gb_domain.specs.declared.types.Val.{Val}
+use Rattle.gb_domain.specs.Pairs.{ArePairs}
+use Rattle.gb_domain.specs.Rules.{IsVal, IsCore}
+use Rattle.gb_domain.specs.Settings.{IsBase}
+use Rattle.gb_domain.specs.Types.{AbsState}
+use Rattle.gb_abs.specs.declared.span.Span.{Span}
+use Rattle.gb_abs.specs.Located.{sp_halves, sp_bounds, bounds_by, stack_base}
+use Rattle.gb_abs.specs.Meaning.{MeansParts}
+use Rattle.gb_abs.specs.Operations.{core_settle}
+use Rattle.gb_abs.specs.Origins.{registers_without_origins, core_without_origins}
+use Rattle.gb_abs.proofs.LocatedLaws.{bounds_sound}
+use Rattle.gb_abs.proofs.OperationLaws.{IsCore-settle}
+use Rattle.gb_abs_effects.specs.declared.writes.AbsEffect.{AbsEffect}
+use Rattle.gb_abs_effects.specs.declared.writes.AbsWrite.{AbsWrite}
+use Rattle.gb_abs_effects.specs.declared.writes.AbsWrite.TheVariants as write
+use Rattle.gb_abs_effects.specs.Sound.{HasBytes, IsWrite, IsAbsEffect}
+use Rattle.gb_abs_effects.specs.Transfer.{transfer}
+use Rattle.gb_abs_effects.proofs.RangeLaws.{transfer_inhabited}
+use Rattle.gb_abs_memory.specs.declared.store.Area.{Area}
+use Rattle.gb_abs_memory.specs.declared.store.Area.TheVariants as area
+use Rattle.gb_abs_memory.specs.Access.{area_of, stored_core_in, stored_core}
+use Rattle.gb_abs_memory.proofs.WindowLaws.{ctl_after-valid}
+use Rattle.gb_product.specs.declared.parts.Branch.{Branch}
+use Rattle.gb_product.specs.declared.parts.Product.{Product}
+use Rattle.gb_product.specs.Below.gb_relations.Sound.{IsByteFree}
+use Rattle.gb_product.specs.Reduced.{product_of, reduced}
+use Rattle.gb_product.specs.Sides.{taken_side, not_taken_side}
+use Rattle.gb_product.specs.Sound.{IsReduced, IsSideOf}
+use Rattle.gb_product.proofs.Below.gb_relations_laws.TransferLaws.{relations_after_sound, relations_after_kept}
+use Rattle.gb_product.proofs.ReducedLaws.{reduced_cuts}
+use Rattle.gb_product.proofs.SideLaws.{taken_side_cuts, not_taken_side_cuts}
+use Rattle.gb_successors.specs.declared.stacks.Stack.{Stack}
+use Rattle.gb_successors.specs.declared.stacks.StackMove.{StackMove}
+use Rattle.gb_successors.specs.declared.stacks.StackMove.TheVariants as move
+use Rattle.gb_successors.specs.Behind.{starts, written_core, core_behind, ended}
+use Rattle.gb_successors.specs.Refined.{cut_write, with_carry, refined}
+use Rattle.gb_successors.specs.Sound.{IsOneOf, Stands}
+use Rattle.gb_successors.specs.Stacks.{moved_core}
+use Rattle.gb_successors.specs.Successors.{pointer_in, word_in, effect_in, taken_parts, relations_behind, taken_successor, untaken_successor, with_product, reduced_successor, woken, staying_successor, may_stay, stays, product_before, taken_from, not_taken_from, successors_of}
+use Rattle.gb_successors.specs.Way.{Successor}
+use Rattle.gb_successors.proofs.RelatedLaws.{IsCore-ended, has_operands}
+use Rattle.gb_successors.proofs.SimpleLaws.{behind_row}
+use Rattle.gb_successors.proofs.SituationLaws.{IsWrite-cut}
+use Rattle.gb_successors.proofs.SuccessorLaws.{is_word, IsWord-sp}
+use Rattle.gb_successors.proofs.UntakenLaws.{untaken_simply}
+
+-- what a certificate too asks of states
+pub record IsFormed (region : Region) (s : AbsState) : Type 0 where
+  pub core : IsCore s.core
+  pub free : IsByteFree region s.relations.byte.address
+  pub pairs : ArePairs s.relations.pairs
+
+-- ---- the core
+
+IsCore-carry : (carry : Option Bool) (c : Core) → IsCore c → IsCore (with_carry carry c)
+IsCore-carry None c h = h
+IsCore-carry (Some true) c h =
+    record {
+      ime = h.ime;
+      bound = h.bound;
+      ctl = h.ctl;
+      flags = record { zero = h.flags.zero; subtract = h.flags.subtract; half_carry = h.flags.half_carry; carry = refl };
+      ie = h.ie;
+      registers = h.registers;
+    }
+IsCore-carry (Some false) c h =
+    record {
+      ime = h.ime;
+      bound = h.bound;
+      ctl = h.ctl;
+      flags = record { zero = h.flags.zero; subtract = h.flags.subtract; half_carry = h.flags.half_carry; carry = refl };
+      ie = h.ie;
+      registers = h.registers;
+    }
+
+IsVal-bare : (r : Register) (s : Registers Val) → IsVal (get r s) → IsVal (get r (registers_without_origins s))
+IsVal-bare A s h = record { order = h.order; hi = h.hi }
+IsVal-bare B s h = record { order = h.order; hi = h.hi }
+IsVal-bare C s h = record { order = h.order; hi = h.hi }
+IsVal-bare D s h = record { order = h.order; hi = h.hi }
+IsVal-bare E s h = record { order = h.order; hi = h.hi }
+IsVal-bare H s h = record { order = h.order; hi = h.hi }
+IsVal-bare L s h = record { order = h.order; hi = h.hi }
+
+IsCore-bare : (c : Core) → IsCore c → IsCore (core_without_origins c)
+unfolding core_without_origins
+IsCore-bare c h =
+    record {
+      ime = h.ime;
+      bound = h.bound;
+      ctl = record { bank = h.ctl.bank; bank_hi = h.ctl.bank_hi; second = h.ctl.second; second_hi = h.ctl.second_hi; gate = h.ctl.gate; mode = h.ctl.mode };
+      flags = record { zero = h.flags.zero; subtract = h.flags.subtract; half_carry = h.flags.half_carry; carry = h.flags.carry };
+      ie = record { order = h.ie.order; hi = h.ie.hi };
+      registers = λ r. IsVal-bare r c.registers (h.registers r);
+    }
+
+IsCore-set : (c : Core) → IsCore c → IsCore (record c { stack_set = true })
+IsCore-set c h = record { ime = h.ime; bound = h.bound; ctl = h.ctl; flags = h.flags; ie = h.ie; registers = h.registers }
+
+IsCore-moved : (m : StackMove) (c : Core) → IsCore c → IsCore (moved_core m c)
+unfolding moved_core
+IsCore-moved (move.Set n) c h = IsCore-set c h
+IsCore-moved (move.Restart n) c h = IsCore-set (core_without_origins c) (IsCore-bare c h)
+IsCore-moved m c h = h
+
+IsCore-stored_in : (o : Option Area) (k : Kind) (span : Span) (v : Val) (c : Core) → IsVal v → IsCore c → IsCore (stored_core_in o k span v c)
+IsCore-stored_in (Some (area.Controller (Some r))) k span v c is h =
+    record { ime = h.ime; bound = h.bound; ctl = ctl_after-valid k r v c.ctl is h.ctl; flags = h.flags; ie = h.ie; registers = h.registers }
+IsCore-stored_in (Some area.InterruptEnable) k span v c is h = record { ime = h.ime; bound = h.bound; ctl = h.ctl; flags = h.flags; ie = is; registers = h.registers }
+IsCore-stored_in o k span v c is h = h
+
+IsCore-stored : (k : Kind) (span : Span) (v : Val) (c : Core) → IsVal v → IsCore c → IsCore (stored_core k span v c)
+unfolding stored_core
+IsCore-stored k span v c is h = IsCore-stored_in (area_of k span) k span v c is h
+
+IsCore-written : (k : Kind) (w : AbsWrite) (c : Core) → IsWrite w → IsCore c → IsCore (written_core k w c)
+unfolding written_core
+IsCore-written k write.Nothing c is h = h
+IsCore-written k (write.Byte span v) c is h = IsCore-stored k span v c is h
+IsCore-written k (write.Word a low high) c is h = IsCore-stored k _ high _ is.1 (IsCore-stored k _ low c is.0 h)
+IsCore-written k (write.Push high low) c is h = h
+
+IsCore-behind : (k : Kind) (m : StackMove) (n : ℕ) (w : AbsWrite) (c : Core) → IsWrite w → IsCore c → IsCore (core_behind k m n w c)
+unfolding core_behind
+IsCore-behind k m n w c is h = IsCore-ended (starts w) n _ (IsCore-written k w (moved_core m c) is (IsCore-moved m c h))
+
+-- ---- reduced
+
+formed_product : (rules : Rules) (region : Region) (t : Successor) (p : Product) → reduced rules t.state.core t.state.relations ≡ Some p → IsFormed region t.state → IsFormed region (with_product t p).state
+formed_product rules region t p e h =
+    let cut : IsReduced t.state.core t.state.relations p = reduced_cuts rules t.state.core t.state.relations (Some p) (sym e) in
+    record {
+      core = cut.inhabited h.core;
+      free = subst (λ (o : OneByte). IsByteFree region o.address) (sym cut.relations.byte) h.free;
+      pairs = cut.relations.pairs h.pairs;
+    }
+
+formed_reduced : (rules : Rules) (region : Region) (u t : Successor) → reduced_successor rules u ≡ Some t → IsFormed region u.state → IsFormed region t.state
+unfolding reduced_successor
+formed_reduced rules region u t e h = by (reduced rules u.state.core u.state.relations) refl e
+  where
+    by : (o : Option Product) → reduced rules u.state.core u.state.relations ≡ o → option_map (with_product u) o ≡ Some t → IsFormed region t.state
+    by None is f = cc
+    by (Some p) is f = subst (λ (w : Successor). IsFormed region w.state) (same_Some _ _ f) (formed_product rules region u p is h)
+
+-- ---- the sides
+
+-- what is known on a side, before the instruction's work
+record IsFormedBranch (region : Region) (b : Branch) : Type 0 where
+  core : IsCore b.core
+  free : IsByteFree region b.relations.byte.address
+  pairs : ArePairs b.relations.pairs
+
+branch_formed :
+    (region : Region) (s : AbsState) (p : Product) (b : Branch) → IsFormed region s → IsReduced (core_settle s.core) s.relations p → IsSideOf s.cells p.core p.relations b → IsFormedBranch region b
+branch_formed region s p b h cut is =
+    record {
+      core = is.inhabited (cut.inhabited (IsCore-settle s.core h.core));
+      free = subst (λ (o : OneByte). IsByteFree region o.address) (sym (is.relations.byte ∙ cut.relations.byte)) h.free;
+      pairs = is.relations.pairs (cut.relations.pairs h.pairs);
+    }
+
+sp_below : (z : Setting) (s : AbsState) (entry : MState) (base : ℕ) (x : MState) → IsBase z base → MeansParts s entry base x → (sp_bounds z s).last < 65536
+unfolding sp_bounds
+sp_below z s entry base x right m =
+    let known = bounds_sound z s (sp_bounds z s) refl in
+    by (stack_base z s.core) (known.first entry base x right m)
+  where
+    by : (o : Option ℕ) → (bounds_by o (length s.items)).first ≤ x.processor.sp → (bounds_by o (length s.items)).last < 65536
+    by None h = omega arith
+    by (Some b) h = let small = m.sp in omega arith
+
+refined_parts : (b : Option Bounds) (carry : Option Bool) (t : AbsEffect) → ((refined b carry t).core ≡ with_carry carry t.core) × ((refined b carry t).write ≡ cut_write b t.write)
+unfolding refined
+refined_parts b carry t = (refl, refl)
+
+-- its effect is one
+record IsFormedEffect (e : AbsEffect) : Type 0 where
+  core : IsCore e.core
+  write : IsWrite e.write
+
+next_small : (n : ℕ) → n % 65536 < 65536
+next_small n = omega arith
+
+effect_formed :
+    (k : Stack) (rom : List ℕ) (row : Row) (a : ℕ) (s : AbsState) (p : Product) (entry : MState) (base : ℕ) (x : MState) → Stands k.setting rom k.region row a s entry base x → HasBytes row.op → IsCore p.core
+    → IsFormedEffect (effect_in k rom row.op (behind_row a row) s p)
+unfolding effect_in
+effect_formed k rom row a s p entry base x stands operands core =
+    let word = is_word k.setting rom s p.core _ core.ie stands.vals stands.items stands.cartridge.bytes in
+    let t = transfer row.op (behind_row a row) (sp_halves k.setting s) p.core (word_in k rom row.op s p).low (word_in k rom row.op s p).high in
+    let is : IsAbsEffect t =
+    transfer_inhabited row.op (behind_row a row) (sp_halves k.setting s) p.core (word_in k rom row.op s p).low (word_in k rom row.op s p).high t refl operands (next_small (a + row.length)) core word.low word.high
+    (IsWord-sp k.setting s entry base x stands.based stands.means.parts) in
+    record { core = subst IsCore (sym (refined_parts (pointer_in k row.op p) _ t).0) (IsCore-carry _ t.core is.core); write = subst IsWrite (sym (refined_parts (pointer_in k row.op p) _ t).1) (IsWrite-cut (pointer_in k row.op p) t.write is.write) }
+
+parts_core : (k : Stack) (rom : List ℕ) (row : Row) (next : ℕ) (s : AbsState) (p : Product) (cell : Option Cell) → IsFormedEffect (effect_in k rom row.op next s p) → IsCore (taken_parts k rom row next s p cell).state.core
+unfolding taken_parts
+parts_core k rom row next s p cell h = IsCore-behind (kind_of rom) _ row.cycles (effect_in k rom row.op next s p).write _ h.write h.core
+
+relations_formed :
+    (k : Stack) (rom : List ℕ) (row : Row) (a : ℕ) (s : AbsState) (p : Product) (entry : MState) (base : ℕ) (x : MState) → Stands k.setting rom k.region row a s entry base x → HasBytes row.op
+    → ArePairs p.relations.pairs → IsByteFree k.region p.relations.byte.address
+    → IsByteFree k.region (relations_behind k rom row.op s p).byte.address × ArePairs (relations_behind k rom row.op s p).pairs
+unfolding relations_behind
+relations_formed k rom row a s p entry base x stands operands are free = (
+  (relations_after_sound k.setting.rules k.region row.op (sp_bounds k.setting s) p.core.registers (word_in k rom row.op s p).low p.relations _ refl
+      (has_operands row.op operands) (sp_below k.setting s entry base x stands.based stands.means.parts) (are.each pairs.Bc).last (are.each pairs.De).last (are.each pairs.Hl).last).free free,
+  relations_after_kept k.setting.rules k.region row.op _ p.core.registers (word_in k rom row.op s p).low p.relations _ refl are,
+)
+
+taken_formed :
+    (k : Stack) (rom : List ℕ) (row : Row) (a : ℕ) (s : AbsState) (b : Branch) (entry : MState) (base : ℕ) (x : MState) → Stands k.setting rom k.region row a s entry base x → HasBytes row.op
+    → IsFormedBranch k.region b → IsFormed k.region (taken_successor k rom row (behind_row a row) s b).state
+unfolding taken_successor
+taken_formed k rom row a s b entry base x stands operands h =
+    let p = product_of b.core b.relations in
+    let r = relations_formed k rom row a s p entry base x stands operands h.pairs h.free in
+    record { core = parts_core k rom row (behind_row a row) s p b.cell (effect_formed k rom row a s p entry base x stands operands h.core); free = r.0; pairs = r.1 }
+
+untaken_formed : (k : Stack) (row : Row) (next : ℕ) (s : AbsState) (b : Branch) → IsFormedBranch k.region b → IsFormed k.region (untaken_successor k row next s b).state
+unfolding ended
+untaken_formed k row next s b h =
+    subst (λ (t : Successor). IsFormed k.region t.state) (sym (untaken_simply k row next s b))
+    (record { core = IsCore-ended false row.cycles_not_taken b.core h.core; free = h.free; pairs = h.pairs })
+
+staying_formed : (region : Region) (a : ℕ) (s : AbsState) → IsFormed region s → IsFormed region (staying_successor a s).state
+unfolding staying_successor ended
+staying_formed region a s h =
+    record {
+      core = IsCore-ended false 1 (woken s.core) (record { ime = refl; bound = h.core.bound; ctl = h.core.ctl; flags = h.core.flags; ie = h.core.ie; registers = h.core.registers });
+      free = h.free;
+      pairs = h.pairs;
+    }
+
+-- ---- each successor
+
+stands_formed : (z : Setting) (rom : List ℕ) (region : Region) (row : Row) (a : ℕ) (s : AbsState) (entry : MState) (base : ℕ) (x : MState) → Stands z rom region row a s entry base x → IsFormed region s
+stands_formed z rom region row a s entry base x h = record { core = h.core; free = h.free; pairs = h.pairs }
+
+formed_taken :
+    (k : Stack) (rom : List ℕ) (row : Row) (a : ℕ) (s : AbsState) (t : Successor) (entry : MState) (base : ℕ) (x : MState) → Stands k.setting rom k.region row a s entry base x → HasBytes row.op
+    → (successors_of k rom row a s).taken ≡ Some t → IsFormed k.region t.state
+unfolding successors_of product_before
+formed_taken k rom row a s t entry base x stands operands h =
+    from (reduced k.setting.rules (core_settle s.core) s.relations) (reduced_cuts k.setting.rules (core_settle s.core) s.relations _ refl) h
+  where
+    at_side : (p : Product) → IsReduced (core_settle s.core) s.relations p → (o : Option Branch) → IfSome o (IsSideOf s.cells p.core p.relations)
+        → option_and_then (λ b. reduced_successor k.setting.rules (taken_successor k rom row (behind_row a row) s b)) o ≡ Some t → IsFormed k.region t.state
+    at_side p cut None is e = cc
+    at_side p cut (Some b) is e =
+        formed_reduced k.setting.rules k.region (taken_successor k rom row (behind_row a row) s b) t e
+        (taken_formed k rom row a s b entry base x stands operands (branch_formed k.region s p b (stands_formed k.setting rom k.region row a s entry base x stands) cut is))
+
+    from : (o : Option Product) → IfSome o (IsReduced (core_settle s.core) s.relations) → option_and_then (taken_from k rom row (behind_row a row) s) o ≡ Some t → IsFormed k.region t.state
+    from None cut e = cc
+    from (Some p) cut e = at_side p cut (taken_side row.op s.cells p.core p.relations) (taken_side_cuts row.op s.cells p.core p.relations _ refl) e
+
+formed_untaken :
+    (k : Stack) (rom : List ℕ) (row : Row) (a : ℕ) (s : AbsState) (t : Successor) → IsFormed k.region s → (successors_of k rom row a s).not_taken ≡ Some t → IsFormed k.region t.state
+unfolding successors_of product_before
+formed_untaken k rom row a s t formed h = from (reduced k.setting.rules (core_settle s.core) s.relations) (reduced_cuts k.setting.rules (core_settle s.core) s.relations _ refl) h
+  where
+    at_side : (p : Product) → IsReduced (core_settle s.core) s.relations p → (o : Option Branch) → IfSome o (IsSideOf s.cells p.core p.relations)
+        → option_and_then (λ b. reduced_successor k.setting.rules (untaken_successor k row (behind_row a row) s b)) o ≡ Some t → IsFormed k.region t.state
+    at_side p cut None is e = cc
+    at_side p cut (Some b) is e =
+        formed_reduced k.setting.rules k.region (untaken_successor k row (behind_row a row) s b) t e (untaken_formed k row (behind_row a row) s b (branch_formed k.region s p b formed cut is))
+
+    from : (o : Option Product) → IfSome o (IsReduced (core_settle s.core) s.relations) → option_and_then (not_taken_from k row (behind_row a row) s) o ≡ Some t → IsFormed k.region t.state
+    from None cut e = cc
+    from (Some p) cut e = at_side p cut (not_taken_side row.op s.cells p.core p.relations) (not_taken_side_cuts row.op s.cells p.core p.relations _ refl) e
+
+formed_staying : (k : Stack) (rom : List ℕ) (row : Row) (a : ℕ) (s : AbsState) (t : Successor) → IsFormed k.region s → (successors_of k rom row a s).stays ≡ Some t → IsFormed k.region t.state
+unfolding successors_of stays
+formed_staying k rom row a s t formed h = by (may_stay row.op s.core) h
+  where
+    by : (b : Bool) → cond b (Some (staying_successor a s)) None ≡ Some t → IsFormed k.region t.state
+    by true e = subst (λ (w : Successor). IsFormed k.region w.state) (same_Some _ _ e) (staying_formed k.region a s formed)
+    by false e = cc
+
+-- the states of each successor are such as states may be
+pub IsFormed-successor :
+    (k : Stack) (rom : List ℕ) (row : Row) (a : ℕ) (s : AbsState) (t : Successor) (entry : MState) (base : ℕ) (x : MState) → Stands k.setting rom k.region row a s entry base x → HasBytes row.op
+    → IsOneOf (successors_of k rom row a s) t → IsFormed k.region t.state
+IsFormed-successor k rom row a s t entry base x stands operands (inl e) = formed_taken k rom row a s t entry base x stands operands e
+IsFormed-successor k rom row a s t entry base x stands operands (inr (inl e)) = formed_untaken k rom row a s t (stands_formed k.setting rom k.region row a s entry base x stands) e
+IsFormed-successor k rom row a s t entry base x stands operands (inr (inr e)) = formed_staying k rom row a s t (stands_formed k.setting rom k.region row a s entry base x stands) e

@@ -1,0 +1,262 @@
+-- What an instruction does is followed by the rules of version 3: what is known of what it reads, what its registers and pairs
+-- say of its effect, and what is known together behind it.
+use Rattle.std.proofs.Common.{◌≡◌, ℕ, ◌/◌, ◌%◌, ◌≤◌, ◌<◌, Bool, true, false, length, Option, Some, None, refl, sym, ◌∙◌, ap, subst, arith}
+use Rattle.std.specs.Prelude.{IfSome}
+use Rattle.gb_ops.specs.declared.machine.Read.{Read}
+use Rattle.gb_ops.specs.declared.machine.Read.TheVariants as machine_read
+use Rattle.gb_ops.specs.declared.machine.Write.{Write}
+use Rattle.gb_ops.specs.declared.machine.Write.TheVariants as machine_write
+use Rattle.gb_ops.specs.declared.registers.Registers.{Registers}
+use Rattle.gb_ops.specs.declared.op.Op.{Op}
+use Rattle.gb_ops.specs.Effects as Effects
+use Rattle.gb_ops.specs.Machine.{advanced}
+use Rattle.gb_ops.specs.Play.{MState}
+use Rattle.gb_domain.specs.declared.pairs.Bounds.{Bounds}
+use Rattle.gb_domain.specs.declared.pairs.Pairs.{Pairs}
+use Rattle.gb_domain.specs.declared.pairs.WordPair.{WordPair}
+use Rattle.gb_domain.specs.declared.pairs.WordPair.TheVariants as pairs
+use Rattle.gb_domain.specs.declared.rules.Rules.{Rules}
+use Rattle.gb_domain.specs.declared.rules.Rules.TheVariants.{Simple, Extended}
+use Rattle.gb_domain.specs.declared.types.Val.{Val}
+use Rattle.gb_domain.specs.declared.types.Core.{Core}
+use Rattle.gb_domain.specs.Pairs.{ArePairs}
+use Rattle.gb_domain.specs.Rules.{IsVal, IsWord}
+use Rattle.gb_abs.specs.Below.gb_vals.Flags.{known}
+use Rattle.gb_abs.specs.Below.gb_vals.Meaning.{may_be}
+use Rattle.gb_abs.specs.Storage.{peek}
+use Rattle.gb_abs.specs.Located.{sp_halves, sp_bounds, bounds_by, stack_base}
+use Rattle.gb_abs.specs.Meaning.{Holds, MeansCore}
+use Rattle.gb_abs.proofs.LocatedLaws.{halves_sound, bounds_sound}
+use Rattle.gb_abs_effects.specs.declared.reads.AbsRead.{AbsRead}
+use Rattle.gb_abs_effects.specs.declared.reads.AbsRead.TheVariants as read
+use Rattle.gb_abs_effects.specs.declared.writes.AbsWrite.{AbsWrite}
+use Rattle.gb_abs_effects.specs.declared.writes.AbsWrite.TheVariants as write
+use Rattle.gb_abs_effects.specs.declared.writes.AbsEffect.{AbsEffect}
+use Rattle.gb_abs_effects.specs.Accesses.{read_of}
+use Rattle.gb_abs_effects.specs.Sound as effects
+use Rattle.gb_abs_effects.specs.Sound.{HoldsRead, HoldsWrite, IsReadAt, IsWrite, IsWrittenAt, IsAbsEffect, Follows, Begins}
+use Rattle.gb_abs_effects.proofs.CoreLaws.{In-from, byte-of}
+use Rattle.gb_abs_effects.proofs.ReadLaws.{read_of_sound, read_of_at}
+use Rattle.gb_abs_effects.proofs.RangeLaws.{transfer_inhabited}
+use Rattle.gb_abs_effects.proofs.TransferLaws.{transfer_sound}
+use Rattle.gb_product.specs.Below.gb_pairs.Meaning.{AreBytes}
+use Rattle.gb_product.specs.Below.gb_pairs.Meaning as pair_meaning
+use Rattle.gb_product.specs.Below.gb_relations.Meaning.{HoldRelations}
+use Rattle.gb_product.specs.Below.gb_relations.Pointers.{pointer_of, bounds_if, pointer_bounds, ReadsWithin, WritesWithin, IsIfKnown}
+use Rattle.gb_product.specs.Below.gb_relations.Sound as relations
+use Rattle.gb_product.specs.Below.gb_relations.Transfer.{values_of}
+use Rattle.gb_product.proofs.Below.gb_relations_laws.PointerLaws.{pointer_bounds_sound, known_carry_sound}
+use Rattle.gb_product.proofs.Below.gb_relations_laws.TransferLaws.{relations_after_sound}
+use Rattle.gb_product.proofs.Below.gb_relations_laws.Below.gb_pairs_laws.KeptLaws.{bounds_of_below}
+use Rattle.gb_product.proofs.MeaningLaws.{AreBytes-core}
+use Rattle.gb_product.proofs.ReducedLaws.{Holds-values}
+use Rattle.gb_successors.specs.Refined.{cut_read, cut_write, with_carry, refined}
+use Rattle.gb_successors.specs.Successors.{effect_in, relations_behind}
+use Rattle.gb_successors.proofs.RamLaws.{ram_at, ram_is, HoldRelations-ram}
+use Rattle.gb_successors.proofs.RelatedLaws.{has_operands}
+use Rattle.gb_successors.proofs.SuccessorLaws.{begun_pc, begun_sp, is_word, IsWord-sp}
+use Rattle.gb_successors.proofs.Situations.{Situation, next_at, pointer_at, read_at, word_at, transferred, effect_at, carry_at, begun_at, given_at, effect_by, IsTakenIn, next_small, related_at}
+
+-- ---- addresses within a pair's bounds
+
+HoldsRead-cut : (b : Option Bounds) (r : AbsRead) (sp : ℕ) (m : Read) → HoldsRead r sp m → ReadsWithin b m → HoldsRead (cut_read b r) sp m
+HoldsRead-cut None (read.Byte span) sp m h w = h
+HoldsRead-cut (Some b) (read.Byte span) sp (machine_read.Byte a) h w = record { first = w.least; last = w.most }
+HoldsRead-cut (Some b) (read.Byte span) sp machine_read.Nothing h w = h
+HoldsRead-cut (Some b) (read.Byte span) sp (machine_read.Word a) h w = h
+HoldsRead-cut b read.Nothing sp m h w = h
+HoldsRead-cut b read.Top sp m h w = h
+
+HoldsWrite-cut : (b : Option Bounds) (w : AbsWrite) (entry : MState) (sp : ℕ) (m : Write) → HoldsWrite w entry sp m → WritesWithin b m → HoldsWrite (cut_write b w) entry sp m
+HoldsWrite-cut None (write.Byte span v) entry sp m h n = h
+HoldsWrite-cut (Some b) (write.Byte span v) entry sp (machine_write.Byte a n) h w = (record { first = w.least; last = w.most }, h.1, h.2)
+HoldsWrite-cut (Some b) (write.Byte span v) entry sp machine_write.Nothing h w = absurd h
+HoldsWrite-cut (Some b) (write.Byte span v) entry sp (machine_write.Word a n) h w = absurd h
+HoldsWrite-cut (Some b) (write.Byte span v) entry sp (machine_write.Push a n) h w = absurd h
+HoldsWrite-cut b write.Nothing entry sp m h w = h
+HoldsWrite-cut b (write.Word a low high) entry sp m h w = h
+HoldsWrite-cut b (write.Push high low) entry sp m h w = h
+
+-- the bounds are words
+abbrev pub AreWordsIf : Option Bounds → Type 0
+AreWordsIf b = IfSome b (λ (c : Bounds). c.last < 65536)
+
+pub pointer_below : (rules : Rules) (o : Op) (vals : Registers Val) (s : Pairs) → ArePairs s → AreWordsIf (pointer_bounds rules o vals s)
+unfolding pointer_bounds
+pointer_below Simple o vals s h = tt
+pointer_below Extended o vals s h = by (pointer_of o)
+  where
+    by : (p : Option WordPair) → AreWordsIf (bounds_if p (values_of vals s))
+    by None = tt
+    by (Some p) = bounds_of_below p (values_of vals s) h
+
+IsReadAt-cut : (b : Option Bounds) (r : AbsRead) → AreWordsIf b → IsReadAt r → IsReadAt (cut_read b r)
+IsReadAt-cut None (read.Byte span) h k = k
+IsReadAt-cut (Some b) (read.Byte span) h k = h
+IsReadAt-cut b read.Nothing h k = k
+IsReadAt-cut b read.Top h k = k
+
+pub IsWrite-cut : (b : Option Bounds) (w : AbsWrite) → IsWrite w → IsWrite (cut_write b w)
+IsWrite-cut b (write.Byte span v) k = k
+IsWrite-cut b write.Nothing k = k
+IsWrite-cut b (write.Word a low high) k = k
+IsWrite-cut b (write.Push high low) k = k
+
+-- ---- as it begins
+
+-- registers and pairs hold
+pub values_hold : (c : Situation) → IsTakenIn c → pair_meaning.Holds (values_of c.product.core.registers c.product.relations.pairs) (begun_at c).processor.registers
+values_hold c k = Holds-values c.product.core c.product.relations c.entry (begun_at c) k.means k.related
+
+pub bytes_begun : (c : Situation) → IsTakenIn c → AreBytes (begun_at c).processor.registers
+bytes_begun c k = AreBytes-core c.product.core c.entry (begun_at c) k.core k.means
+
+-- what the machine reads
+pub read_holds : (c : Situation) → IsTakenIn c → HoldsRead (read_at c) (begun_at c).processor.sp (Effects.read_of c.row.op (advanced c.machine.processor c.row))
+read_holds c k =
+    HoldsRead-cut (pointer_at c) (read_of c.row.op c.product.core) (begun_at c).processor.sp _
+    ((read_of_sound c.row.op c.product.core _ refl).gives c.entry (begun_at c) (given_at c).low (given_at c).high k.means k.taken)
+    ((pointer_bounds_sound c.stack.setting.rules c.row.op c.product.core.registers c.product.relations.pairs _ refl).reads (advanced c.machine.processor c.row) (values_hold c k))
+
+pub read_placed : (c : Situation) → IsTakenIn c → IsReadAt (read_at c)
+read_placed c k =
+    IsReadAt-cut (pointer_at c) (read_of c.row.op c.product.core) (pointer_below c.stack.setting.rules c.row.op c.product.core.registers c.product.relations.pairs k.pairs)
+    (read_of_at c.row.op c.product.core _ refl k.operands k.core)
+
+pub is_word_at : (c : Situation) → IsTakenIn c → IsWord (word_at c)
+is_word_at c k =
+    is_word c.stack.setting c.rom c.state c.product.core (read_at c) k.core.ie k.stands.vals k.stands.items k.stands.cartridge.bytes
+
+pub transferred_is : (c : Situation) → IsTakenIn c → IsAbsEffect (transferred c)
+transferred_is c k =
+    let word = is_word_at c k in
+    transfer_inhabited c.row.op (next_at c) (sp_halves c.stack.setting c.state) c.product.core (word_at c).low (word_at c).high (transferred c) refl k.operands (next_small c) k.core word.low word.high
+    (IsWord-sp c.stack.setting c.state c.entry c.base c.machine k.stands.based k.stands.means.parts)
+
+-- ---- the effect, by pairs too
+
+pub effect_is : (c : Situation) → effect_at c ≡ refined (pointer_at c) (carry_at c) (transferred c)
+unfolding effect_in
+effect_is c = refl
+
+pub refined_core : (b : Option Bounds) (carry : Option Bool) (t : AbsEffect) → (refined b carry t).core ≡ with_carry carry t.core
+unfolding refined
+refined_core b carry t = refl
+
+pub refined_write : (b : Option Bounds) (carry : Option Bool) (t : AbsEffect) → (refined b carry t).write ≡ cut_write b t.write
+unfolding refined
+refined_write b carry t = refl
+
+pub write_is : (c : Situation) → (effect_at c).write ≡ cut_write (pointer_at c) (transferred c).write
+write_is c = ap (λ (t : AbsEffect). t.write) (effect_is c) ∙ refined_write (pointer_at c) (carry_at c) (transferred c)
+
+pub core_is : (c : Situation) → (effect_at c).core ≡ with_carry (carry_at c) (transferred c).core
+core_is c = ap (λ (t : AbsEffect). t.core) (effect_is c) ∙ refined_core (pointer_at c) (carry_at c) (transferred c)
+
+carry_known : (b : Bool) → may_be (known b) b ≡ true
+carry_known true = refl
+carry_known false = refl
+
+MeansCore-carry : (carry : Option Bool) (core : Core) (entry x : MState) → IsIfKnown carry x.processor.flags.carry → MeansCore core entry x → MeansCore (with_carry carry core) entry x
+MeansCore-carry None core entry x h m = m
+MeansCore-carry (Some b) core entry x h m =
+    record {
+      registers = m.registers;
+      flags = record {
+        zero = m.flags.zero;
+        subtract = m.flags.subtract;
+        half_carry = m.flags.half_carry;
+        carry = subst (λ n. may_be (known b) n ≡ true) (sym h) (carry_known b);
+        own = m.flags.own;
+      };
+      ie = m.ie;
+      ime = m.ime;
+      controller = m.controller;
+      count = m.count;
+      locked = m.locked;
+      stopped = m.stopped;
+    }
+
+-- SP's bounds are words
+pub sp_below : (c : Situation) → IsTakenIn c → (sp_bounds c.stack.setting c.state).last < 65536
+unfolding sp_bounds
+sp_below c k =
+    let known = bounds_sound c.stack.setting c.state (sp_bounds c.stack.setting c.state) refl in
+    by (stack_base c.stack.setting c.state.core) (known.first c.entry c.base c.machine k.stands.based k.stands.means.parts)
+  where
+    by : (o : Option ℕ) → (bounds_by o (length c.state.items)).first ≤ c.machine.processor.sp → (bounds_by o (length c.state.items)).last < 65536
+    by None h = omega arith
+    by (Some b) h = let small = k.stands.means.parts.sp in omega arith
+
+-- bytes that what is known of its reads stands for
+pub record AreGiven (c : Situation) (l h : ℕ) : Type 0 where
+  pub low : Holds (word_at c).low c.entry l
+  pub high : Holds (word_at c).high c.entry h
+  pub reads : relations.Reads (Effects.read_of c.row.op (advanced c.machine.processor c.row)) (ram_at c.machine.storage) l
+  pub taken : (effect_by c l h).is_taken ≡ true
+
+begins : (c : Situation) (l h : ℕ) → IsTakenIn c → AreGiven c l h → Begins c.row.op (next_at c) (sp_halves c.stack.setting c.state) c.product.core (word_at c).low (word_at c).high c.entry (begun_at c) l h
+begins c l h k g =
+    let sp_known = halves_sound c.stack.setting c.state (sp_halves c.stack.setting c.state) refl in
+    record {
+      core = k.means;
+      low_read = g.low;
+      high_read = g.high;
+      pc = begun_pc c.row c.machine c.address k.runs k.mark k.stands.at;
+      sp = subst (λ n. n < 65536) (sym (begun_sp c.row c.machine)) k.stands.means.parts.sp;
+      sp_high = subst (λ n. Holds (sp_halves c.stack.setting c.state).high c.entry (n / 256)) (sym (begun_sp c.row c.machine)) (sp_known.high c.entry c.base c.machine k.stands.based k.stands.means.parts);
+      sp_low = subst (λ n. Holds (sp_halves c.stack.setting c.state).low c.entry (n % 256)) (sym (begun_sp c.row c.machine)) (sp_known.low c.entry c.base c.machine k.stands.based k.stands.means.parts);
+      taken = g.taken;
+    }
+
+sound_at : (c : Situation) → IsTakenIn c → effects.IsSoundTransfer c.row.op (next_at c) (sp_halves c.stack.setting c.state) c.product.core (word_at c).low (word_at c).high (transferred c)
+sound_at c k =
+    transfer_sound c.row.op (next_at c) (sp_halves c.stack.setting c.state) c.product.core (word_at c).low (word_at c).high (transferred c) refl k.operands k.core (is_word_at c k).low
+
+carry_given : (c : Situation) (l h : ℕ) → IsTakenIn c → IsIfKnown (carry_at c) (effect_by c l h).processor.flags.carry
+carry_given c l h k =
+    let known = bounds_sound c.stack.setting c.state (sp_bounds c.stack.setting c.state) refl in
+    (known_carry_sound c.stack.setting.rules c.row.op (sp_bounds c.stack.setting c.state) c.product.core.registers c.product.relations.pairs (carry_at c) refl (sp_below c k)
+    (k.pairs.each pairs.Bc).last (k.pairs.each pairs.De).last (k.pairs.each pairs.Hl).last).gives
+    (advanced c.machine.processor c.row) l h (bytes_begun c k) (values_hold c k)
+    (subst (λ n. (sp_bounds c.stack.setting c.state).first ≤ n) (sym (begun_sp c.row c.machine)) (known.first c.entry c.base c.machine k.stands.based k.stands.means.parts))
+    (subst (λ n. n ≤ (sp_bounds c.stack.setting c.state).last) (sym (begun_sp c.row c.machine)) (known.last c.entry c.base c.machine k.stands.based k.stands.means.parts))
+
+-- its effect is followed, whatever of that its reads give
+pub follows : (c : Situation) (l h : ℕ) → IsTakenIn c → AreGiven c l h → Follows (effect_at c) c.entry (begun_at c) (effect_by c l h)
+follows c l h k g =
+    let f = (sound_at c k).gives c.entry (begun_at c) l h k.runs (begins c l h k g) in
+    record {
+      core = subst (λ (s : Core). MeansCore s c.entry (record (begun_at c) { processor = (effect_by c l h).processor })) (sym (core_is c))
+          (MeansCore-carry (carry_at c) (transferred c).core c.entry (record (begun_at c) { processor = (effect_by c l h).processor }) (carry_given c l h k) f.core);
+      write = subst (λ w. HoldsWrite w c.entry (begun_at c).processor.sp (effect_by c l h).write) (sym (write_is c))
+          (HoldsWrite-cut (pointer_at c) (transferred c).write c.entry (begun_at c).processor.sp (effect_by c l h).write f.write
+          ((pointer_bounds_sound c.stack.setting.rules c.row.op c.product.core.registers c.product.relations.pairs _ refl).writes (advanced c.machine.processor c.row) l h (values_hold c k)));
+    }
+
+-- what is known together holds behind it, as far as memory is RAM
+pub related_behind : (c : Situation) (l h : ℕ) (written : ℕ → ℕ) → IsTakenIn c → AreGiven c l h → relations.Writes c.stack.region (effect_by c l h).write (ram_at c.machine.storage) written
+    → HoldRelations (related_at c) (effect_by c l h).processor.registers written (effect_by c l h).processor.flags
+unfolding relations_behind
+related_behind c l h written k g w =
+    let known = bounds_sound c.stack.setting c.state (sp_bounds c.stack.setting c.state) refl in
+    let word = is_word_at c k in
+    (relations_after_sound c.stack.setting.rules c.stack.region c.row.op (sp_bounds c.stack.setting c.state) c.product.core.registers (word_at c).low c.product.relations _ refl
+    (has_operands c.row.op k.operands) (sp_below c k) (k.pairs.each pairs.Bc).last (k.pairs.each pairs.De).last (k.pairs.each pairs.Hl).last).gives
+    (advanced c.machine.processor c.row) (ram_at c.machine.storage) written l h
+    (record {
+      registers = (values_hold c k).registers;
+      bytes = bytes_begun c k;
+      sp_first = subst (λ n. (sp_bounds c.stack.setting c.state).first ≤ n) (sym (begun_sp c.row c.machine)) (known.first c.entry c.base c.machine k.stands.based k.stands.means.parts);
+      sp_last = subst (λ n. n ≤ (sp_bounds c.stack.setting c.state).last) (sym (begun_sp c.row c.machine)) (known.last c.entry c.base c.machine k.stands.based k.stands.means.parts);
+      low_read = In-from (word_at c).low c.entry l g.low;
+      low_small = small (word_at c).low l word.low g.low;
+      high_small = small (word_at c).high h word.high g.high;
+      free = k.free;
+      relations = HoldRelations-ram c.stack.region c.product.relations _ (peek c.machine.storage) (ram_at c.machine.storage) _ k.free (λ b ram. ram_is c.machine.storage b ram) k.related;
+      reads = g.reads;
+    })
+    w
+  where
+    small : (v : Val) (n : ℕ) → IsVal v → Holds v c.entry n → n < 256
+    small v n is h = let le : n ≤ 255 = byte-of v c.entry n is h in omega arith

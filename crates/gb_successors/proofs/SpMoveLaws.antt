@@ -1,0 +1,304 @@
+-- What the rules of version 3 say of the stack's moves is what the machine's SP does.
+use Rattle.std.proofs.Common.{◌≡◌, ℕ, ◌+◌, ◌-◌, ◌%◌, ◌≤◌, ◌<◌, Bool, true, false, cond, ◌&&◌, nat_le, nat_lt, ◌⊎◌, inl, inr, Option, Some, None, refl, sym, ap, subst, arith}
+use Rattle.std.proofs.lemmas.Bool.Decides.{nat_tests}
+use Rattle.std.specs.Prelude.{is_some}
+use Rattle.gb_ops.specs.declared.machine.Effect.{Effect}
+use Rattle.gb_ops.specs.declared.op.Pair.TheVariants as pair
+use Rattle.gb_ops.specs.declared.op.Op.{Op}
+use Rattle.gb_ops.specs.declared.op.Op.TheVariants as op
+use Rattle.gb_ops.specs.declared.registers.Processor.{Processor}
+use Rattle.gb_ops.specs.Arithmetic.{displaced}
+use Rattle.gb_ops.specs.Pairs.{with_pair, pair_value}
+use Rattle.gb_ops.specs.Effects as Effects
+use Rattle.gb_domain.specs.declared.pairs.Bounds.{Bounds}
+use Rattle.gb_domain.specs.declared.rules.Rules.{Rules}
+use Rattle.gb_domain.specs.declared.rules.Rules.TheVariants.{Simple, Extended}
+use Rattle.gb_domain.specs.declared.types.Val.{Val}
+use Rattle.gb_domain.specs.declared.types.Core.{Core}
+use Rattle.gb_domain.specs.declared.types.Halves.{Halves}
+use Rattle.gb_domain.specs.Settings.{known_base}
+use Rattle.gb_abs_effects.specs.declared.reads.AbsRead.TheVariants as read
+use Rattle.gb_abs_effects.specs.declared.writes.AbsWrite.{AbsWrite}
+use Rattle.gb_abs_effects.specs.declared.writes.AbsWrite.TheVariants as write
+use Rattle.gb_abs_effects.specs.Accesses.{read_of}
+use Rattle.gb_abs_effects.specs.Sound.{HasBytes}
+use Rattle.gb_abs_effects.specs.Targets.{moves_sp}
+use Rattle.gb_abs_effects.specs.Transfer.{transfer}
+use Rattle.gb_product.specs.Below.gb_relations.Pointers.{WithinIf}
+use Rattle.gb_successors.specs.declared.stacks.Stack.{Stack}
+use Rattle.gb_successors.specs.declared.stacks.StackMove.{StackMove}
+use Rattle.gb_successors.specs.declared.stacks.StackMove.TheVariants as move
+use Rattle.gb_successors.specs.Stacks.{bytes_to, bytes_to_if, own_bytes, main_bytes, restart_by, set_by, set_to, set_within, extended, displaced_by, push_of, stack_move}
+
+-- ---- what is written where SP moves
+
+pub extended_is : (r : Rules) (m : StackMove) → r ≡ Extended → extended r m ≡ m
+extended_is Extended m h = refl
+extended_is Simple m h = absurd (let bad : Simple ≡ Extended = h in cc)
+
+-- a word is put on
+pub record Puts (k : Stack) (o : Op) (next : ℕ) (sp : Halves) (c : Core) (low high : Val) : Type 0 where
+  pub value : Halves
+  pub write_is : (transfer o next sp c low high).write ≡ write.Push value.high value.low
+  pub read_is : read_of o c ≡ read.Nothing
+  pub move_is : (b : Option Bounds) → stack_move k o (write.Push value.high value.low) b ≡ move.Push value
+
+no_move : false ≡ true → ⊥
+no_move h = cc
+
+-- no word is put on
+abbrev pub IsNoPush : StackMove → Type 0
+IsNoPush (move.Push w) = ⊥
+IsNoPush _ = Unit {0}
+
+no_push_set : (own main : Option ℕ) → IsNoPush (set_by own main)
+no_push_set (Some n) main = tt
+no_push_set None None = tt
+no_push_set None (Some n) = tt
+
+no_push_to : (r : Rules) (k : Stack) (a : ℕ) → IsNoPush (set_to r k a)
+no_push_to Simple k a = tt
+no_push_to Extended k a = no_push_set (own_bytes k a) (main_bytes k a)
+
+no_push_within : (k : Stack) (b : Option Bounds) → IsNoPush (set_within k b)
+no_push_within k None = tt
+no_push_within k (Some b) = choose (nat_lt b.first b.last)
+  where
+    choose : (t : Bool) → IsNoPush (cond t move.Lost (set_to k.setting.rules k b.first))
+    choose true = tt
+    choose false = no_push_to k.setting.rules k b.first
+
+no_push_extended : (r : Rules) (m : StackMove) → IsNoPush m → IsNoPush (extended r m)
+no_push_extended Simple m h = tt
+no_push_extended Extended m h = h
+
+no_push_displaced : (e8 : ℕ) → IsNoPush (displaced_by e8)
+no_push_displaced e8 = choose (nat_lt e8 128)
+  where
+    choose : (t : Bool) → IsNoPush (cond t (move.Take e8) (move.Append (256 - e8)))
+    choose true = tt
+    choose false = tt
+
+-- where nothing is written no word is put on
+pub no_push : (k : Stack) (o : Op) (b : Option Bounds) → IsNoPush (stack_move k o write.Nothing b)
+unfolding stack_move
+no_push k (op.LoadPair pair.Sp a) b = no_push_to k.setting.rules k a
+no_push k op.LoadSpHl b = no_push_within k b
+no_push k (op.IncrementPair pair.Sp) b = no_push_extended k.setting.rules (move.Take 1) tt
+no_push k (op.DecrementPair pair.Sp) b = no_push_extended k.setting.rules (move.Append 1) tt
+no_push k (op.AddSp e8) b = no_push_extended k.setting.rules (displaced_by e8) (no_push_displaced e8)
+no_push k (op.CallIf condition a) b = no_push_extended k.setting.rules move.Stay tt
+no_push k (op.Call a) b = no_push_extended k.setting.rules move.Stay tt
+no_push k (op.Restart a) b = no_push_extended k.setting.rules move.Stay tt
+no_push k (op.ReturnIf condition) b = no_push_extended k.setting.rules (move.Take 2) tt
+no_push k op.Return b = no_push_extended k.setting.rules (move.Take 2) tt
+no_push k op.ReturnFromInterrupt b = no_push_extended k.setting.rules (move.Take 2) tt
+no_push k o b = tt
+
+-- what moves SP puts a word on, or writes nothing
+pub puts_or_nothing :
+    (k : Stack) (o : Op) (next : ℕ) (sp : Halves) (c : Core) (low high : Val) → k.setting.rules ≡ Extended → moves_sp o ≡ true
+    → Puts k o next sp c low high ⊎ ((transfer o next sp c low high).write ≡ write.Nothing)
+unfolding transfer read_of stack_move
+puts_or_nothing k (op.LoadPair to w) next sp c low high h moves = inr refl
+puts_or_nothing k (op.IncrementPair which) next sp c low high h moves = inr refl
+puts_or_nothing k (op.DecrementPair which) next sp c low high h moves = inr refl
+puts_or_nothing k (op.ReturnIf condition) next sp c low high h moves = inr refl
+puts_or_nothing k op.Return next sp c low high h moves = inr refl
+puts_or_nothing k op.ReturnFromInterrupt next sp c low high h moves = inr refl
+puts_or_nothing k (op.Pop to) next sp c low high h moves = inr refl
+puts_or_nothing k (op.Push from) next sp c low high h moves = inl (record { value = _; write_is = refl; read_is = refl; move_is = λ b. refl })
+puts_or_nothing k (op.CallIf condition w) next sp c low high h moves =
+    inl (record { value = _; write_is = refl; read_is = refl; move_is = λ b. extended_is k.setting.rules _ h })
+puts_or_nothing k (op.Call w) next sp c low high h moves = inl (record { value = _; write_is = refl; read_is = refl; move_is = λ b. extended_is k.setting.rules _ h })
+puts_or_nothing k (op.Restart w) next sp c low high h moves = inl (record { value = _; write_is = refl; read_is = refl; move_is = λ b. extended_is k.setting.rules _ h })
+puts_or_nothing k (op.AddSp e8) next sp c low high h moves = inr refl
+puts_or_nothing k op.LoadSpHl next sp c low high h moves = inr refl
+puts_or_nothing k o next sp c low high h moves = absurd (no_move moves)
+
+-- the stack moves
+abbrev pub IsNoStay : StackMove → Type 0
+IsNoStay move.Stay = ⊥
+IsNoStay _ = Unit {0}
+
+no_stay_set : (own main : Option ℕ) → IsNoStay (set_by own main)
+no_stay_set (Some n) main = tt
+no_stay_set None None = tt
+no_stay_set None (Some n) = tt
+
+no_stay_to : (r : Rules) (k : Stack) (a : ℕ) → IsNoStay (set_to r k a)
+no_stay_to Simple k a = tt
+no_stay_to Extended k a = no_stay_set (own_bytes k a) (main_bytes k a)
+
+no_stay_within : (k : Stack) (b : Option Bounds) → is_some b ≡ true → IsNoStay (set_within k b)
+no_stay_within k None h = cc
+no_stay_within k (Some b) h = choose (nat_lt b.first b.last)
+  where
+    choose : (t : Bool) → IsNoStay (cond t move.Lost (set_to k.setting.rules k b.first))
+    choose true = tt
+    choose false = no_stay_to k.setting.rules k b.first
+
+no_stay_displaced : (e8 : ℕ) → IsNoStay (displaced_by e8)
+no_stay_displaced e8 = choose (nat_lt e8 128)
+  where
+    choose : (t : Bool) → IsNoStay (cond t (move.Take e8) (move.Append (256 - e8)))
+    choose true = tt
+    choose false = tt
+
+no_stay_extended : (r : Rules) (m : StackMove) → r ≡ Extended → IsNoStay m → IsNoStay (extended r m)
+no_stay_extended r m e h = subst IsNoStay (sym (extended_is r m e)) h
+
+-- what moves SP, and writes nothing, moves the stack
+pub no_stay :
+    (k : Stack) (o : Op) (next : ℕ) (sp : Halves) (c : Core) (low high : Val) (b : Option Bounds) → k.setting.rules ≡ Extended → moves_sp o ≡ true
+    → (transfer o next sp c low high).write ≡ write.Nothing → (o ≡ op.LoadSpHl → is_some b ≡ true) → IsNoStay (stack_move k o write.Nothing b)
+unfolding transfer stack_move
+no_stay k (op.LoadPair pair.Sp a) next sp c low high b r moves quiet hl = no_stay_to k.setting.rules k a
+no_stay k (op.IncrementPair pair.Sp) next sp c low high b r moves quiet hl = no_stay_extended k.setting.rules (move.Take 1) r tt
+no_stay k (op.DecrementPair pair.Sp) next sp c low high b r moves quiet hl = no_stay_extended k.setting.rules (move.Append 1) r tt
+no_stay k (op.AddSp e8) next sp c low high b r moves quiet hl = no_stay_extended k.setting.rules (displaced_by e8) r (no_stay_displaced e8)
+no_stay k op.LoadSpHl next sp c low high b r moves quiet hl = no_stay_within k b (hl refl)
+no_stay k (op.Pop to) next sp c low high b r moves quiet hl = tt
+no_stay k (op.ReturnIf condition) next sp c low high b r moves quiet hl = no_stay_extended k.setting.rules (move.Take 2) r tt
+no_stay k op.Return next sp c low high b r moves quiet hl = no_stay_extended k.setting.rules (move.Take 2) r tt
+no_stay k op.ReturnFromInterrupt next sp c low high b r moves quiet hl = no_stay_extended k.setting.rules (move.Take 2) r tt
+no_stay k (op.Push from) next sp c low high b r moves quiet hl = absurd (let bad : write.Push _ _ ≡ write.Nothing = quiet in cc)
+no_stay k (op.CallIf condition a) next sp c low high b r moves quiet hl = absurd (let bad : write.Push _ _ ≡ write.Nothing = quiet in cc)
+no_stay k (op.Call a) next sp c low high b r moves quiet hl = absurd (let bad : write.Push _ _ ≡ write.Nothing = quiet in cc)
+no_stay k (op.Restart a) next sp c low high b r moves quiet hl = absurd (let bad : write.Push _ _ ≡ write.Nothing = quiet in cc)
+no_stay k o next sp c low high b r moves quiet hl = absurd (no_move moves)
+
+-- what leaves SP moves nothing
+pub still_stays : (k : Stack) (o : Op) (w : AbsWrite) (b : Option Bounds) → moves_sp o ≡ false → stack_move k o w b ≡ move.Stay
+unfolding stack_move
+still_stays k (op.LoadPair pair.Bc a) w b h = refl
+still_stays k (op.LoadPair pair.De a) w b h = refl
+still_stays k (op.LoadPair pair.Hl a) w b h = refl
+still_stays k (op.LoadPair pair.Sp a) w b h = cc
+still_stays k (op.IncrementPair pair.Bc) w b h = refl
+still_stays k (op.IncrementPair pair.De) w b h = refl
+still_stays k (op.IncrementPair pair.Hl) w b h = refl
+still_stays k (op.IncrementPair pair.Sp) w b h = cc
+still_stays k (op.DecrementPair pair.Bc) w b h = refl
+still_stays k (op.DecrementPair pair.De) w b h = refl
+still_stays k (op.DecrementPair pair.Hl) w b h = refl
+still_stays k (op.DecrementPair pair.Sp) w b h = cc
+still_stays k (op.ReturnIf condition) w b h = cc
+still_stays k op.Return w b h = cc
+still_stays k op.ReturnFromInterrupt w b h = cc
+still_stays k (op.Pop to) w b h = cc
+still_stays k (op.Push from) w b h = cc
+still_stays k (op.CallIf condition a) w b h = cc
+still_stays k (op.Call a) w b h = cc
+still_stays k (op.Restart a) w b h = cc
+still_stays k (op.AddSp e8) w b h = cc
+still_stays k op.LoadSpHl w b h = cc
+still_stays k o w b h = refl
+
+-- ---- where SP is set to
+
+-- so many bytes below a base, at most 255
+pub record IsBelow (base n after : ℕ) : Type 0 where
+  pub at : after ≡ base - n
+  pub few : n ≤ 255
+
+below_by : (base need a n : ℕ) → bytes_to base need a ≡ Some n → IsBelow base n a
+below_by base need a n h = choose (nat_le a base && nat_le (base - a) need && nat_le (base - a) 255) refl h
+  where
+    same : (i j : ℕ) → Some i ≡ Some j → i ≡ j
+    same i j e = cc
+
+    choose : (t : Bool) → (nat_le a base && nat_le (base - a) need && nat_le (base - a) 255) ≡ t → cond t (Some (base - a)) None ≡ Some n → IsBelow base n a
+    choose true e h =
+        let is : base - a ≡ n = same (base - a) n h in
+        let le : a ≤ base = grind (arith, nat_tests) in
+        let few : base - a ≤ 255 = grind (arith, nat_tests) in
+        record { at = omega arith; few = omega arith }
+    choose false e h = absurd (let bad : None ≡ Some n = h in cc)
+
+-- how SP moves
+abbrev pub IsMovedTo : Stack → StackMove → ℕ → ℕ → Type 0
+IsMovedTo k (move.Push w) sp after = after ≡ (sp + 65534) % 65536
+IsMovedTo k (move.Take n) sp after = after ≡ (sp + n) % 65536
+IsMovedTo k (move.Append n) sp after = after ≡ (sp + (65536 - n)) % 65536
+IsMovedTo k (move.Set n) sp after = (b : ℕ) × (known_base k.setting ≡ Some b) × IsBelow b n after
+IsMovedTo k (move.Restart n) sp after = IsBelow (k.region.last + 1) n after
+IsMovedTo k _ sp after = Unit {0}
+
+set_moves : (k : Stack) (a sp : ℕ) → IsMovedTo k (set_by (own_bytes k a) (main_bytes k a)) sp a
+set_moves k a sp = by (known_base k.setting) refl
+  where
+    by_main : (t : Bool) → (o : Option ℕ) → cond t None (bytes_to (k.region.last + 1) k.main_need a) ≡ o → IsMovedTo k (restart_by o) sp a
+    by_main true None e = tt
+    by_main true (Some n) e = absurd (let bad : None ≡ Some n = e in cc)
+    by_main false None e = tt
+    by_main false (Some n) e = below_by (k.region.last + 1) k.main_need a n e
+
+    by_own : (b : ℕ) → known_base k.setting ≡ Some b → (o : Option ℕ) → bytes_to b k.need a ≡ o → IsMovedTo k (set_by o (main_bytes k a)) sp a
+    by_own b e None own = by_main k.setting.is_main (main_bytes k a) refl
+    by_own b e (Some n) own = (b, e, below_by b k.need a n own)
+
+    by : (base : Option ℕ) → known_base k.setting ≡ base → IsMovedTo k (set_by (bytes_to_if base k.need a) (main_bytes k a)) sp a
+    by None e = by_main k.setting.is_main (main_bytes k a) refl
+    by (Some b) e = by_own b e (bytes_to b k.need a) refl
+
+set_to_moves : (k : Stack) (a sp : ℕ) → k.setting.rules ≡ Extended → IsMovedTo k (set_to k.setting.rules k a) sp a
+set_to_moves k a sp h = subst (λ r. IsMovedTo k (set_to r k a) sp a) (sym h) (set_moves k a sp)
+
+set_within_moves : (k : Stack) (b : Option Bounds) (sp a : ℕ) → k.setting.rules ≡ Extended → WithinIf b a → IsMovedTo k (set_within k b) sp a
+set_within_moves k None sp a h w = tt
+set_within_moves k (Some b) sp a h w = choose (nat_lt b.first b.last) refl
+  where
+    choose : (t : Bool) → nat_lt b.first b.last ≡ t → IsMovedTo k (cond t move.Lost (set_to k.setting.rules k b.first)) sp a
+    choose true e = tt
+    choose false e =
+        let least = w.least in
+        let most = w.most in
+        let is : b.first ≡ a = grind (arith, nat_tests) in
+        subst (λ n. IsMovedTo k (set_to k.setting.rules k n) sp a) (sym is) (set_to_moves k a sp h)
+
+extended_moves : (k : Stack) (m : StackMove) (sp a : ℕ) → k.setting.rules ≡ Extended → IsMovedTo k m sp a → IsMovedTo k (extended k.setting.rules m) sp a
+extended_moves k m sp a h is = subst (λ n. IsMovedTo k n sp a) (sym (extended_is k.setting.rules m h)) is
+
+displaced_moves : (k : Stack) (e8 sp : ℕ) → e8 < 256 → IsMovedTo k (displaced_by e8) sp (displaced sp e8)
+unfolding displaced
+displaced_moves k e8 sp small = choose (nat_lt e8 128) refl
+  where
+    choose : (t : Bool) → nat_lt e8 128 ≡ t → IsMovedTo k (cond t (move.Take e8) (move.Append (256 - e8))) sp ((sp + cond t e8 (e8 + 65280)) % 65536)
+    choose true e = refl
+    choose false e = let same : e8 + 65280 ≡ 65536 - (256 - e8) = omega arith in ap (λ n. (sp + n) % 65536) same
+
+only_if-moves : (k : Stack) (m : StackMove) (sp : ℕ) (t : Bool) (e : Effect) (p : Processor) → (Effects.only_if t e p).is_taken ≡ true → IsMovedTo k m sp e.processor.sp → IsMovedTo k m sp (Effects.only_if t e p).processor.sp
+unfolding Effects.only_if
+only_if-moves k m sp true e p taken h = h
+only_if-moves k m sp false e p taken h = cc
+
+pushes_move : (k : Stack) (w : AbsWrite) (sp : ℕ) → IsMovedTo k (push_of w) sp ((sp + 65534) % 65536)
+pushes_move k (write.Push high low) sp = refl
+pushes_move k write.Nothing sp = tt
+pushes_move k (write.Byte span v) sp = tt
+pushes_move k (write.Word a low high) sp = tt
+
+-- the machine's SP moves as it is said, where HL lies within the bounds
+pub sp_moves :
+    (k : Stack) (o : Op) (w : AbsWrite) (b : Option Bounds) (p : Processor) (l h : ℕ) → k.setting.rules ≡ Extended → HasBytes o
+    → (Effects.effect_of o p l h).is_taken ≡ true → (o ≡ op.LoadSpHl → WithinIf b (Effects.hl p))
+    → IsMovedTo k (stack_move k o w b) p.sp (Effects.effect_of o p l h).processor.sp
+unfolding stack_move Effects.effect_of Effects.push Effects.call Effects.return_to with_pair pair_value
+sp_moves k (op.LoadPair pair.Sp a) w b p l h r bytes taken hl = set_to_moves k a p.sp r
+sp_moves k op.LoadSpHl w b p l h r bytes taken hl = set_within_moves k b p.sp _ r (hl refl)
+sp_moves k (op.Push from) (write.Push high low) b p l h r bytes taken hl = refl
+sp_moves k (op.Push from) write.Nothing b p l h r bytes taken hl = tt
+sp_moves k (op.Push from) (write.Byte span v) b p l h r bytes taken hl = tt
+sp_moves k (op.Push from) (write.Word a low high) b p l h r bytes taken hl = tt
+sp_moves k (op.Pop to) w b p l h r bytes taken hl = refl
+sp_moves k (op.IncrementPair pair.Sp) w b p l h r bytes taken hl = extended_moves k (move.Take 1) p.sp _ r refl
+sp_moves k (op.DecrementPair pair.Sp) w b p l h r bytes taken hl = extended_moves k (move.Append 1) p.sp _ r refl
+sp_moves k (op.AddSp e8) w b p l h r bytes taken hl = extended_moves k (displaced_by e8) p.sp _ r (displaced_moves k e8 p.sp bytes)
+sp_moves k (op.CallIf condition a) w b p l h r bytes taken hl = extended_moves k (push_of w) p.sp _ r (only_if-moves k (push_of w) p.sp _ (Effects.call p a) p taken (pushes_move k w p.sp))
+sp_moves k (op.Call a) w b p l h r bytes taken hl = extended_moves k (push_of w) p.sp _ r (pushes_move k w p.sp)
+sp_moves k (op.Restart a) w b p l h r bytes taken hl = extended_moves k (push_of w) p.sp _ r (pushes_move k w p.sp)
+sp_moves k (op.ReturnIf condition) w b p l h r bytes taken hl = extended_moves k (move.Take 2) p.sp _ r (only_if-moves k (move.Take 2) p.sp _ (Effects.return_to p l h) p taken refl)
+sp_moves k op.Return w b p l h r bytes taken hl = extended_moves k (move.Take 2) p.sp _ r refl
+sp_moves k op.ReturnFromInterrupt w b p l h r bytes taken hl = extended_moves k (move.Take 2) p.sp _ r refl
+sp_moves k o w b p l h r bytes taken hl = tt
