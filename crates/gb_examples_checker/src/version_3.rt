@@ -1,4 +1,4 @@
-//! Certificates of version 3, read and written again. They aren't judged yet: each is refused at its first node.
+//! Certificates of version 3, read, written again and judged.
 
 use gb_cert::{
     Cert, NodePlan, NodeRef, ProcedurePlan, Version, WriteFault, encode, write_certificate,
@@ -439,10 +439,10 @@ fn each_part_is_written(rt: HostRuntime) -> Result<(), Fail> {
     Ok(())
 }
 
-/// No node is accepted yet: the first is refused as one whose stack isn't known.
+/// A loop of one instruction, of whose states nothing is asked.
 #[test]
-fn no_node_is_accepted(rt: HostRuntime) {
+fn a_loop_is_accepted(rt: HostRuntime) {
     let mut out = KeptBytes::new(96, 96);
     let _ = verify_bytes(rt.alloc(), &small(PLAIN, LOOP), &LEAST, &mut out);
-    assert!(rt; out.kept() == b"REFUSED node 0 reason 8\n".as_slice());
+    assert!(rt; out.kept() == b"ACCEPTED nodes 3 procedures 1\n".as_slice());
 }

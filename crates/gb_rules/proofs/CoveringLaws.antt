@@ -1,23 +1,32 @@
 -- Where states are covered at an address, some node of the procedure there means each of their machine states.
-use Rattle.std.proofs.Common.{◌≡◌, ℕ, zero, suc, ◌+◌, ◌≤◌, ◌<◌, Bool, true, false, ◌&&◌, ◌||◌, ◌⊎◌, inl, inr, List, [], ◌∷◌, length, refl, sym, ap, subst, arith}
+use Rattle.std.proofs.Common.{◌≡◌, ℕ, zero, suc, ◌+◌, ◌≤◌, ◌<◌, Bool, true, false, ◌&&◌, ◌||◌, ◌⊎◌, inl, inr, List, [], ◌∷◌, length, refl, sym, ◌∙◌, ap, subst, arith}
 use Rattle.std.proofs.lemmas.Bool.{and_parts, eqb-true}
 use Rattle.std.specs.List.{Contains, list_any}
 use Rattle.std.proofs.lemmas.List.Folds.{Any-from_list_any}
 use Rattle.gb_ops.specs.declared.op.Register.{Register}
 use Rattle.gb_ops.specs.Registers.{get}
 use Rattle.gb_ops.specs.Play.{MState}
+use Rattle.gb_domain.specs.declared.rules.Rules.{Rules}
 use Rattle.gb_domain.specs.declared.rules.Rules.TheVariants.{Simple}
 use Rattle.gb_domain.specs.declared.types.Val.{Val}
 use Rattle.gb_domain.specs.Types.{AbsState, Node}
 use Rattle.gb_domain.specs.Certificate.{Certificate}
+use Rattle.std.specs.Prelude.{Option, Some, None, option_map, IfSome}
+use Rattle.gb_domain.specs.Pairs.{ArePairs}
 use Rattle.gb_abs.specs.Covering.{covers_items, covers_parts}
+use Rattle.gb_abs.specs.Operations.{core_with_value, with_core}
+use Rattle.gb_abs.proofs.StackLaws.{MeansParts-with_core}
+use Rattle.gb_product.specs.Below.gb_pairs.Meaning.{AreBytes}
+use Rattle.gb_product.specs.declared.parts.Product.{Product}
+use Rattle.gb_product.specs.Sound.{IsReduced, MeansProduct, IsMeantProduct}
+use Rattle.gb_product.proofs.ReducedLaws.{reduced_cuts, reduced_sound}
 use Rattle.gb_product.specs.Covering.{covers}
-use Rattle.gb_product.specs.Meaning.{Means}
+use Rattle.gb_product.specs.Meaning.{AreRelated, Means}
 use Rattle.gb_product.specs.Reduced.{reduced}
-use Rattle.gb_abs.specs.Meaning.{Holds}
+use Rattle.gb_abs.specs.Meaning.{Holds, MeansParts}
 use Rattle.gb_product.proofs.CoveringLaws.{Means-covered}
 use Rattle.gb_abs.proofs.OperationLaws.{MeansParts-with_value}
-use Rattle.gb_rules.specs.Covered.{is_cover, is_covered_by_one, is_value_covered, is_covered_by_values, reduced_state, with_value, all_from, count_of, registers, covered_at}
+use Rattle.gb_rules.specs.Covered.{is_cover, is_covered_by_one, is_covered_if, with_product, is_value_covered, is_covered_by_values, reduced_state, with_value, all_from, count_of, registers, covered_at}
 
 items_counted : (s t : List Val) → covers_items s t ≡ true → length t ≡ length s
 items_counted [] [] h = refl
@@ -92,5 +101,61 @@ found_at cert procedure a s entry base y h m = by (is_covered_by_one cert.nodes 
         found_by_values cert procedure a s p.1 entry base y p.4 m
 
     by : (b : Bool) → is_covered_by_one cert.nodes procedure a s ≡ b → (b || list_any (is_covered_by_values Simple cert.nodes procedure a s) registers) ≡ true → IsFoundAt cert procedure a (length s.items) entry base y
+    by true e t = found_by_one cert procedure a s entry base y e m
+    by false e t = values t
+
+-- ---- value by value, reduced
+
+MeansParts-with_product : (s : AbsState) (p : Product) (entry : MState) (base : ℕ) (y : MState) → IsReduced s.core s.relations p → MeansProduct p entry y → MeansParts s entry base y
+    → MeansParts (with_core s p.core) entry base y
+MeansParts-with_product s p entry base y cut q m = MeansParts-with_core s p.core entry base y y m q.core refl refl refl (λ set. sym cut.core.stack_set ∙ set)
+
+product_means : (s : AbsState) (p : Product) (entry : MState) (base : ℕ) (y : MState) → MeansParts (with_core s p.core) entry base y → AreRelated p.relations y → Means (with_product s p) entry base y
+product_means s p entry base y m related =
+    record {
+      parts = record { core = m.core; memory = m.memory; sp = m.sp; stack = m.stack; items = m.items; cells = m.cells };
+      related = related;
+    }
+
+-- where something is left of states that mean y, a node stands for that
+found_left : (cert : Certificate) (procedure a : ℕ) (s : AbsState) (o : Option Product) (entry : MState) (base : ℕ) (y : MState) → IsMeantProduct o entry y → IfSome o (IsReduced s.core s.relations)
+    → is_covered_if cert.nodes procedure a (option_map (with_product s) o) ≡ true → MeansParts s entry base y → IsFoundAt cert procedure a (length s.items) entry base y
+found_left cert procedure a s None entry base y q cut h m = absurd q
+found_left cert procedure a s (Some p) entry base y q cut h m =
+    found_by_one cert procedure a (with_product s p) entry base y h (product_means s p entry base y (MeansParts-with_product s p entry base y cut q m) q.related)
+
+-- a node stands for those with the machine's own value of a register, as far as they are left
+found_by_value : (rules : Rules) (cert : Certificate) (procedure a : ℕ) (s : AbsState) (r : Register) (entry : MState) (base : ℕ) (y : MState) → ArePairs s.relations.pairs → AreBytes y.processor.registers
+    → is_value_covered rules cert.nodes procedure a s r (get r y.processor.registers) ≡ true → Means s entry base y → IsFoundAt cert procedure a (length s.items) entry base y
+unfolding is_value_covered reduced_state with_value
+found_by_value rules cert procedure a s r entry base y pairs bytes h m =
+    let core = core_with_value r (get r y.processor.registers) s.core in
+    let parts : MeansParts (with_core s core) entry base y = MeansParts-with_value r s entry base y m.parts in
+    let left = (reduced_sound rules core s.relations (reduced rules core s.relations) refl pairs).gives entry y bytes parts.core m.related in
+    found_left cert procedure a (with_core s core) (reduced rules core s.relations) entry base y left (reduced_cuts rules core s.relations _ refl) h parts
+
+found_by_reduced : (rules : Rules) (cert : Certificate) (procedure a : ℕ) (s : AbsState) (r : Register) (entry : MState) (base : ℕ) (y : MState) → ArePairs s.relations.pairs → AreBytes y.processor.registers
+    → is_covered_by_values rules cert.nodes procedure a s r ≡ true → Means s entry base y → IsFoundAt cert procedure a (length s.items) entry base y
+unfolding is_covered_by_values
+found_by_reduced rules cert procedure a s r entry base y pairs bytes h m =
+    let val = get r s.core.registers in
+    let holds : Holds val entry (get r y.processor.registers) = m.parts.core.registers r in
+    let least = holds.least in
+    let most = holds.most in
+    let one = one_of_them (is_value_covered rules cert.nodes procedure a s r) val.lo (count_of val) (get r y.processor.registers) h least (omega arith) in
+    found_by_value rules cert procedure a s r entry base y pairs bytes one m
+
+-- states that are covered at an address, by either rules: a node there means each of their machine states
+pub found_by : (rules : Rules) (cert : Certificate) (procedure a : ℕ) (s : AbsState) (entry : MState) (base : ℕ) (y : MState) → ArePairs s.relations.pairs → AreBytes y.processor.registers
+    → covered_at rules cert.nodes procedure a s ≡ true → Means s entry base y → IsFoundAt cert procedure a (length s.items) entry base y
+unfolding covered_at
+found_by rules cert procedure a s entry base y pairs bytes h m = by (is_covered_by_one cert.nodes procedure a s) refl h
+  where
+    values : list_any (is_covered_by_values rules cert.nodes procedure a s) registers ≡ true → IsFoundAt cert procedure a (length s.items) entry base y
+    values e =
+        let p = Any-from_list_any (is_covered_by_values rules cert.nodes procedure a s) registers e in
+        found_by_reduced rules cert procedure a s p.1 entry base y pairs bytes p.4 m
+
+    by : (b : Bool) → is_covered_by_one cert.nodes procedure a s ≡ b → (b || list_any (is_covered_by_values rules cert.nodes procedure a s) registers) ≡ true → IsFoundAt cert procedure a (length s.items) entry base y
     by true e t = found_by_one cert procedure a s entry base y e m
     by false e t = values t

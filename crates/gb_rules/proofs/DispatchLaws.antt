@@ -21,9 +21,7 @@ use Rattle.gb_ops.specs.Play.{MState, within, outside}
 use Rattle.gb_ops.specs.declared.registers.Registers.{Registers}
 use Rattle.gb_ops.specs.declared.registers.Flags.{Flags}
 use Rattle.gb_domain.specs.declared.relations.Relations.{Relations}
-use Rattle.gb_domain.specs.declared.rules.Rules.{Rules}
 use Rattle.gb_domain.specs.declared.rules.Rules.TheVariants.{Simple}
-use Rattle.gb_product.specs.Covering.{covers}
 use Rattle.gb_domain.specs.declared.types.Core.{Core}
 use Rattle.gb_domain.specs.Areas.{is_free_byte}
 use Rattle.gb_domain.specs.Limits.{rules_of}
@@ -47,7 +45,7 @@ use Rattle.gb_abs.proofs.OperationLaws.{Holds-single}
 use Rattle.gb_abs.proofs.StackLaws.{IsRegionOpen-bound, MeansParts-pushed, MeansParts-with_core}
 use Rattle.gb_code.specs.Below.gb_abs_memory.Kept.{IsKept}
 use Rattle.gb_code.specs.Below.gb_abs_memory.Sound.{view}
-use Rattle.gb_calls.specs.Calls.{entered_by, callee_of, are_ranges_inside}
+use Rattle.gb_calls.specs.Calls.{callee_of, are_ranges_inside}
 use Rattle.gb_calls.specs.Resuming.{resumed}
 use Rattle.gb_calls.specs.Interrupts.{only_off, dispatched, left_by_dispatch, may_come, handler_of}
 use Rattle.gb_calls.proofs.CalleeLaws.{IsCallee-found, IsEntryNode-entry}
@@ -60,19 +58,20 @@ use Rattle.gb_rules.specs.Covered.{covered_at}
 use Rattle.gb_rules.specs.Procedures.{ranges_of, need_of, setting_of, exit_of, taken_by}
 use Rattle.gb_rules.specs.Safety.{IsAt, Calls, IsSafeEvent}
 use Rattle.gb_rules.proofs.SearchLaws.{Contains-slice_get}
-use Rattle.gb_rules.proofs.NodeLaws.{IsNodeState-node, simple_at, fewer_bytes}
-use Rattle.gb_rules.proofs.WayLaws.{is_own, same_number, covered_by_version}
+use Rattle.gb_rules.proofs.NodeLaws.{IsNodeState-node, simple_at}
+use Rattle.gb_rules.proofs.RegionLaws.{fewer_bytes}
+use Rattle.gb_rules.proofs.WayLaws.{is_own, same_number, simply_leads}
 use Rattle.gb_rules.proofs.EventLaws.{IsSafeHappening, IsSafeEvent-where}
 
 -- ---- where a dispatch is possible
 
 -- interrupts are on, and IE has the interrupt's bit
-record IsCalled (x : MState) (i : ℕ) : Type 0 where
-  on : x.processor.ime ≡ ime.On
-  small : i < 5
-  bit : has_bit i x.storage.ie ≡ true
+pub record IsCalled (x : MState) (i : ℕ) : Type 0 where
+  pub on : x.processor.ime ≡ ime.On
+  pub small : i < 5
+  pub bit : has_bit i x.storage.ie ≡ true
 
-is_called : (rom : List ℕ) (x : MState) (i : ℕ) → is_possible (within rom x) (event.Irq i) ≡ true → IsCalled x i
+pub is_called : (rom : List ℕ) (x : MState) (i : ℕ) → is_possible (within rom x) (event.Irq i) ≡ true → IsCalled x i
 unfolding is_possible within
 is_called rom x i h =
     let p = last_three _ _ _ _ h in
@@ -111,7 +110,7 @@ may_come-possible rom cert n entry base x i at possible =
     both false b h k = cc
 
 -- the HALT mark is clear there: it is left only while interrupts are off
-mark_clear : (rom : List ℕ) (x : MState) → IsMarkHarmless rom x → x.processor.ime ≡ ime.On → x.processor.halt_mark ≡ false
+pub mark_clear : (rom : List ℕ) (x : MState) → IsMarkHarmless rom x → x.processor.ime ≡ ime.On → x.processor.halt_mark ≡ false
 mark_clear rom x (inl clear) on = clear
 mark_clear rom x (inr nop) on = absurd (different (sym on ∙ nop.0))
   where
@@ -121,25 +120,25 @@ mark_clear rom x (inr nop) on = absurd (different (sym on ∙ nop.0))
 -- ---- what the dispatch leaves
 
 -- the processor behind it, but for its stack pointer
-abbrev in_handler : Processor → ℕ → Processor
+abbrev pub in_handler : Processor → ℕ → Processor
 in_handler p i = record (with_pc p (vector i)) { ime = ime.Off }
 
 -- the machine behind it, where it pushed a
-abbrev left_by : List ℕ → MState → ℕ → ℕ → MState
+abbrev pub left_by : List ℕ → MState → ℕ → ℕ → MState
 left_by rom x i a = record {
   processor = with_sp (in_handler x.processor i) ((x.processor.sp + 65534) % 65536);
   storage = (passed (stored (view rom x false) (write.Push x.processor.sp a)) 5).storage;
 }
 
-happened_is : (rom : List ℕ) (x : MState) (i a : ℕ) → x.processor.pc ≡ a → outside (happened (within rom x) (event.Irq i)) ≡ left_by rom x i a
+pub happened_is : (rom : List ℕ) (x : MState) (i a : ℕ) → x.processor.pc ≡ a → outside (happened (within rom x) (event.Irq i)) ≡ left_by rom x i a
 unfolding happened within outside Machine.dispatched
 happened_is rom x i a at = ap (left_by rom x i) at
 
-faults_are : (rom : List ℕ) (region : Region) (x : MState) (i a : ℕ) → x.processor.pc ≡ a → event_faults region (within rom x) (event.Irq i) ≡ store_faults region (view rom x false) (write.Push x.processor.sp a)
+pub faults_are : (rom : List ℕ) (region : Region) (x : MState) (i a : ℕ) → x.processor.pc ≡ a → event_faults region (within rom x) (event.Irq i) ≡ store_faults region (view rom x false) (write.Push x.processor.sp a)
 unfolding event_faults within
 faults_are rom region x i a at = ap (λ b. store_faults region (view rom x false) (write.Push x.processor.sp b)) at
 
-no_places : (rom : List ℕ) (cert : Certificate) (x : MState) (i : ℕ) → All (IsCertified rom cert) (event_places (within rom x) (event.Irq i))
+pub no_places : (rom : List ℕ) (cert : Certificate) (x : MState) (i : ℕ) → All (IsCertified rom cert) (event_places (within rom x) (event.Irq i))
 unfolding event_places
 no_places rom cert x i = All-nil _
 
@@ -181,16 +180,16 @@ byte_placed region (Some b) a h e =
     subst (λ c. IsPlaced region (record { address = c; val = any_val })) (same_Some b a e)
     (let p = and_parts _ _ h in record { area = p.0; apart = not-true _ p.1 })
 
-record IsDispatched (rom : List ℕ) (cert : Certificate) (n : Node) (entry : MState) (base : ℕ) (x : MState) (i : ℕ) : Type 0 where
-  means : Means (pushed (known_word n.address) (dispatched n.state)) entry base (left_by rom x i n.address)
-  faults : store_faults cert.region (view rom x false) (write.Push x.processor.sp n.address) ≡ no_faults
-  kept : (b : ℕ) → IsKept (setting_of cert n.procedure) cert.region (ranges_of cert n.procedure) base b → peek (left_by rom x i n.address).storage b ≡ peek x.storage b
+pub record IsDispatched (rom : List ℕ) (cert : Certificate) (n : Node) (entry : MState) (base : ℕ) (x : MState) (i : ℕ) : Type 0 where
+  pub means : Means (pushed (known_word n.address) (dispatched n.state)) entry base (left_by rom x i n.address)
+  pub faults : store_faults cert.region (view rom x false) (write.Push x.processor.sp n.address) ≡ no_faults
+  pub kept : (b : ℕ) → IsKept (setting_of cert n.procedure) cert.region (ranges_of cert n.procedure) base b → peek (left_by rom x i n.address).storage b ≡ peek x.storage b
 
 pushed_ended : (s : AbsState) (a : ℕ) → ended false 5 (pushed (known_word a) (with_core s (masked s.core))) ≡ pushed (known_word a) (dispatched s)
 unfolding ended pushed dispatched
 pushed_ended s a = refl
 
-is_dispatched : (rom : List ℕ) (cert : Certificate) (n : Node) (entry : MState) (base : ℕ) (x : MState) (i : ℕ) → IsAt rom cert n entry base x → Contains cert.nodes n → IsCertificate cert
+pub is_dispatched : (rom : List ℕ) (cert : Certificate) (n : Node) (entry : MState) (base : ℕ) (x : MState) (i : ℕ) → IsAt rom cert n entry base x → Contains cert.nodes n → IsCertificate cert
     → n.state.core.stack_set ≡ true → (n.state.core.bound ≡ 0) ⊎ (0xFF80 ≤ cert.region.first) → length n.state.items + 2 ≤ need_of cert n.procedure → IsDispatched rom cert n entry base x i
 is_dispatched rom cert n entry base x i at is_node certificate set unlimited held =
     let s = IsNodeState-node cert n certificate is_node in
@@ -219,15 +218,15 @@ is_dispatched rom cert n entry base x i at is_node certificate set unlimited hel
 
 -- ---- the handler
 
-dispatched_set : (s : AbsState) → (dispatched s).core.stack_set ≡ s.core.stack_set
+pub dispatched_set : (s : AbsState) → (dispatched s).core.stack_set ≡ s.core.stack_set
 unfolding dispatched core_end
 dispatched_set s = refl
 
-dispatched_items : (s : AbsState) → (dispatched s).items ≡ s.items
+pub dispatched_items : (s : AbsState) → (dispatched s).items ≡ s.items
 unfolding dispatched
 dispatched_items s = refl
 
-dispatched_cells : (s : AbsState) → (dispatched s).cells ≡ s.cells
+pub dispatched_cells : (s : AbsState) → (dispatched s).cells ≡ s.cells
 unfolding dispatched
 dispatched_cells s = refl
 
@@ -246,11 +245,11 @@ GoesOn cert n q =
     → IfSome (resumed Simple (taken_by cert q) (ranges_of cert q) (left_by_dispatch Simple n.address n.state) exit) (λ after. covered_at Simple cert.nodes n.procedure n.address after ≡ true)
 
 handled : (rom : List ℕ) (cert : Certificate) (n : Node) (entry : MState) (base : ℕ) (x : MState) (i q : ℕ) → IsAt rom cert n entry base x → Contains cert.nodes n → IsCertificate cert
-    → rules_of cert.version ≡ Simple → IsDispatched rom cert n entry base x i → x.processor.halt_mark ≡ false → n.state.core.stack_set ≡ true → handler_of cert (simple_at cert n) i n.address n.state ≡ Some q
+    → IsDispatched rom cert n entry base x i → x.processor.halt_mark ≡ false → n.state.core.stack_set ≡ true → handler_of cert (simple_at cert n) i n.address n.state ≡ Some q
     → are_ranges_inside (ranges_of cert q) (ranges_of cert n.procedure) ≡ true → length n.state.items + 2 + need_of cert q ≤ need_of cert n.procedure
     → GoesOn cert n q
     → Calls cert n.procedure entry base (left_by rom x i n.address)
-handled rom cert n entry base x i q at is_node certificate simple d mark set handler inside depth resumes =
+handled rom cert n entry base x i q at is_node certificate d mark set handler inside depth resumes =
     let s = IsNodeState-node cert n certificate is_node in
     let callee = IsCallee-found cert (simple_at cert n) (vector i) (dispatched n.state) q (sym (handler_is cert n i) ∙ handler) in
     let begin = IsEntryNode-entry cert (simple_at cert n) (vector i) (dispatched n.state) callee.procedure callee.begins in
@@ -261,23 +260,21 @@ handled rom cert n entry base x i q at is_node certificate simple d mark set han
       back = n.address;
       back_small = s.address;
       means = d.means;
-      rules = simple;
       stack_set = dispatched_set n.state ∙ set;
       placed = subst (λ cells. ArePlaced cert.region cells) (sym (dispatched_cells n.state)) s.placed;
       node = begin.node;
       is_node = Contains-slice_get cert.nodes callee.procedure.entry begin.node begin.is_node;
       not_main = subst (λ m. 0 < m) (sym number) callee.not_main;
       address = sym begin.address;
-      begins = subst (λ (r : Rules). covers (entered_by r (length begin.node.state.items) (dispatched n.state)) begin.node.state ≡ true) (sym simple) begin.covering;
+      begins = begin.covering;
       mark = mark;
       depth = subst (λ items. length items + 2 + need_of cert begin.node.procedure ≤ need_of cert n.procedure) (sym (dispatched_items n.state))
           (subst (λ m. length n.state.items + 2 + need_of cert m ≤ need_of cert n.procedure) (sym number) depth);
       inside = subst (λ m. are_ranges_inside (ranges_of cert m) (ranges_of cert n.procedure) ≡ true) (sym number) inside;
       resumes = λ exit is.
-          subst (λ m. IfSome (resumed (rules_of cert.version) (taken_by cert m) (ranges_of cert m) (dispatched n.state) exit) (λ after. covered_at (rules_of cert.version) cert.nodes n.procedure n.address after ≡ true)) (sym number)
-          (covered_by_version cert n.procedure n.address q (dispatched n.state) exit simple
+          subst (λ m. IfSome (resumed Simple (taken_by cert m) (ranges_of cert m) (dispatched n.state) exit) (λ after. covered_at Simple cert.nodes n.procedure n.address after ≡ true)) (sym number)
           (subst (λ (s : AbsState). IfSome (resumed Simple (taken_by cert q) (ranges_of cert q) s exit) (λ after. covered_at Simple cert.nodes n.procedure n.address after ≡ true)) (left_is n.address n.state)
-          (resumes exit (subst (λ m. exit_of cert m ≡ Some exit) number is))));
+          (resumes exit (subst (λ m. exit_of cert m ≡ Some exit) number is)));
     }
 
 -- ---- the event
@@ -296,7 +293,8 @@ IsSafeEvent-dispatch rom cert n entry base x i q at is_node certificate simple p
     let safe : IsSafeHappening rom cert n.procedure entry base x (event.Irq i) = record {
       faults = faults_are rom cert.region x i n.address at.address ∙ d.faults;
       places = no_places rom cert x i;
-      leads = inr (inl (subst (λ y. Calls cert n.procedure entry base y) (sym after) (handled rom cert n entry base x i q at is_node certificate simple d mark set handler inside depth resumes)));
+      leads = simply_leads rom cert n.procedure entry base x (outside (happened (within rom x) (event.Irq i))) simple
+          (inr (inl (subst (λ y. Calls cert n.procedure entry base y) (sym after) (handled rom cert n entry base x i q at is_node certificate d mark set handler inside depth resumes))));
       kept = λ b kept. ap (λ (y : MState). peek y.storage b) after ∙ d.kept b kept;
     } in
     IsSafeEvent-where rom cert n.procedure entry base x (event.Irq i) true possible (record { node = n; is_node = is_node; procedure_is = refl; at = at }) (λ yes. safe)

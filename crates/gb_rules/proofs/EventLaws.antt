@@ -44,8 +44,6 @@ use Rattle.gb_code.specs.Places.{IsCertified, IsCertifiedBy}
 use Rattle.gb_code.specs.Code.{area_end, known_byte}
 use Rattle.gb_code.proofs.ByteLaws.{Reads-known}
 use Rattle.gb_code.proofs.CodeLaws.{IsInside, clear_byte, area_small, FetchesFirst-known, FetchesAll-known}
-use Rattle.gb_successors.specs.Below.gb_abs_effects.declared.targets.Target.TheVariants as target
-use Rattle.gb_successors.specs.Below.gb_abs_effects.Targets.{target_of}
 use Rattle.gb_code.specs.Below.gb_abs_memory.Kept.{IsKept}
 use Rattle.gb_successors.specs.Way.{Successor}
 use Rattle.gb_successors.specs.Sound.{IsHalt}
@@ -53,10 +51,11 @@ use Rattle.gb_rules.specs.Rules.{ways_of, is_halt, is_nop, is_nop_behind, may_re
 use Rattle.gb_rules.specs.Procedures.{ranges_of, setting_of, stack_of}
 use Rattle.gb_rules.specs.Safety.{IsMeant, Leads, IsSafeEvent, IsNoDispatch, IsSafeNode}
 use Rattle.gb_rules.proofs.SearchLaws.{Contains-slice_get}
-use Rattle.gb_rules.proofs.TargetLaws.{taken_target}
-use Rattle.gb_rules.proofs.NodeLaws.{IsNodeState-node, Passes, Passes-from, ruled, allowed, known_by}
-use Rattle.gb_rules.proofs.StandLaws.{OnNode, stands, sound_ways, is_known, on_code}
-use Rattle.gb_rules.proofs.WayLaws.{IsElsewhere, bytes_within, Leads-way}
+use Rattle.gb_rules.proofs.TargetLaws.{halt_target}
+use Rattle.gb_rules.proofs.NodeLaws.{IsNodeState-node, Passes, Passes-from, allowed, known_by}
+use Rattle.gb_rules.proofs.StandLaws.{OnNode, stands, sound_ways, is_ruled, is_known, on_code}
+use Rattle.gb_rules.proofs.WayLaws.{IsElsewhere}
+use Rattle.gb_rules.proofs.WideWayLaws.{Leads-way}
 
 -- what an event that is possible does
 pub record IsSafeHappening (rom : List ℕ) (cert : Certificate) (procedure : ℕ) (entry : MState) (base : ℕ) (s : MState) (e : Event) : Type 0 where
@@ -67,9 +66,6 @@ pub record IsSafeHappening (rom : List ℕ) (cert : Certificate) (procedure : �
 
 certified_by : (rom : List ℕ) (cert : Certificate) (n : Node) (xs : List CodePlace) → Contains cert.nodes n → All (IsCertifiedBy rom n) xs → All (IsCertified rom cert) xs
 certified_by rom cert n xs is h = λ i d lt. (n, is, h i d lt)
-
-at_most : (a b c : ℕ) → a ≤ b → b ≤ c → a ≤ c
-at_most a b c h k = omega arith
 
 -- ---- an instruction that is executed
 
@@ -117,7 +113,7 @@ run_unmarked : (rom : List ℕ) (cert : Certificate) (n : Node) (entry : MState)
 run_unmarked rom cert n entry base x k fetch reads mark byte =
     let p = k.passes in
     let done = (sound_ways rom cert n entry base x k).executes (ranges_of cert n.procedure) entry base x reads (stands rom cert n entry base x k)
-    (ruled rom cert n base p k.cartridge k.state k.main k.room) mark byte in
+    (is_ruled rom cert n entry base x k) mark byte in
     let t = done.successor in
     let may = allowed rom cert n p base t done.is_one k.state k.return_word k.room in
     let leads = done.leads may in
@@ -132,7 +128,7 @@ run_unmarked rom cert n entry base x k fetch reads mark byte =
       places = subst (All (IsCertified rom cert)) (sym (run_places (within rom x) fetch reads p.bytes is ∙ ap (λ q. map (code_place (within rom x).memory) (fetch_addresses q p.bytes)) (processor_is rom x)))
           (certified_by rom cert n _ k.is_node all.places);
       leads = subst (Leads rom cert n.procedure entry base x) (sym after)
-          (Leads-way rom cert n entry base x k t done.is_one _ leads (at_most _ _ _ (done.held may) (bytes_within rom cert n entry base x k)) (record { harmless = inl done.mark; clear = λ e. done.mark }));
+          (Leads-way rom cert n entry base x k t done.is_one _ leads (record { harmless = inl done.mark; clear = λ e. done.mark }));
       kept = λ b kept. ap (λ (y : MState). peek y.storage b) after ∙ leads.kept b kept;
     }
 
@@ -175,7 +171,7 @@ itself rom cert n entry base x y k address means mark = record {
   node = n;
   is_node = k.is_node;
   procedure_is = refl;
-  at = record { address = address; means = means; mark = mark; main = k.main; return_word = k.return_word; room = k.room; depth = k.depth };
+  at = record { address = address; means = means; mark = mark; main = k.main; based = k.based; return_word = k.return_word; room = k.room; held = k.held };
 }
 
 -- a smaller count, and the same processor but for PC and the mark
@@ -337,7 +333,7 @@ stay_safe rom cert n entry base x k mark possible =
     record {
       faults = (halt_faults cert.region rom x first.faults).0;
       places = (halt_places rom cert x (n, k.is_node, first.place)).0;
-      leads = Leads-way rom cert n entry base x k way.successor (inr (inr way.is_way)) _ way.leads (at_most _ _ _ way.held k.depth)
+      leads = Leads-way rom cert n entry base x k way.successor (inr (inr way.is_way)) _ way.leads
           (record { harmless = inl (stay_mark rom x ∙ clear); clear = λ e. stay_mark rom x ∙ clear });
       kept = λ b kept. way.leads.kept b kept;
     }
@@ -383,11 +379,8 @@ bug_pc rom x = refl
 
 -- behind HALT the machine is in the same procedure
 halt_stays_here : (rom : List ℕ) (cert : Certificate) (n : Node) (p : Passes rom cert n) (t : Successor) → IsHalt p.row → (ways_of rom cert n p.row).taken ≡ Some t → IsElsewhere t.target → ⊥
-unfolding ways_of stack_of setting_of target_of
-halt_stays_here rom cert n p t halt is e =
-    let goes = taken_target (stack_of cert n.procedure) rom p.row n.address n.state t p.rules is in
-    let here : t.target ≡ target.At ((n.address + p.row.length) % 65536) = goes.1 ∙ ap (λ o. target_of o ((n.address + p.row.length) % 65536) goes.0) halt.op_is in
-    subst IsElsewhere here e
+unfolding ways_of
+halt_stays_here rom cert n p t halt is e = subst IsElsewhere (halt_target (stack_of cert n.procedure) rom p.row n.address n.state t halt.op_is is) e
 
 bug_safe : (rom : List ℕ) (cert : Certificate) (n : Node) (entry : MState) (base : ℕ) (x : MState) (k : OnNode rom cert n entry base x) → IsMarkHarmless rom x
     → is_possible (within rom x) event.HaltBug ≡ true → IsSafeHappening rom cert n.procedure entry base x event.HaltBug
@@ -419,7 +412,7 @@ bug_safe rom cert n entry base x k mark possible =
     record {
       faults = (halt_faults cert.region rom x first.faults).1;
       places = (halt_places rom cert x (n, k.is_node, first.place)).1;
-      leads = Leads-way rom cert n entry base x k way.successor (inl way.is_way) _ way.leads (at_most _ _ _ way.held k.depth)
+      leads = Leads-way rom cert n entry base x k way.successor (inl way.is_way) _ way.leads
           (record { harmless = inr (bug_ime rom x ∙ off, fixed, byte); clear = λ e. absurd (halt_stays_here rom cert n k.passes way.successor halt way.is_way e) });
       kept = λ b kept. way.leads.kept b kept;
     }
@@ -459,7 +452,7 @@ mark_waited : (rom : List ℕ) (cert : Certificate) (n : Node) (entry : MState) 
 mark_waited rom cert n entry base x k count m (inl clear) = inl clear
 mark_waited rom cert n entry base x k count m (inr nop) =
     let later : OnNode rom cert n entry base (counted count x) =
-    record { cartridge = k.cartridge; certificate = k.certificate; is_node = k.is_node; state = k.state; passes = k.passes; address = k.address; means = m; main = k.main; return_word = k.return_word; room = k.room; depth = k.depth } in
+    record { cartridge = k.cartridge; certificate = k.certificate; is_node = k.is_node; state = k.state; passes = k.passes; address = k.address; means = m; main = k.main; return_word = k.return_word; room = k.room; based = k.based; held = k.held } in
     let first = FetchesFirst-known rom n entry base (counted count x) k.passes.bytes (is_known rom cert n entry base x k) (on_code rom cert n entry base (counted count x) later) in
     inr (nop.0, first.fixed, same_bytes rom x count x.processor.pc ∙ nop.2)
 
@@ -522,18 +515,20 @@ IsSafeEvent-where rom cert procedure entry base x e false is m safe =
 -- one event but a dispatch, from a state of a node that no reason applies to
 pub IsSafeNode-right : (rom : List ℕ) (cert : Certificate) (n : Node) → IsRom rom → IsCertificate cert → Contains cert.nodes n → reason_of rom cert n ≡ None → IsSafeNode rom cert n
 IsSafeNode-right rom cert n cartridge certificate is_node right entry base x e other at =
+    let passes = Passes-from rom cert n right in
     let k : OnNode rom cert n entry base x = record {
       cartridge = cartridge;
       certificate = certificate;
       is_node = is_node;
       state = IsNodeState-node cert n certificate is_node;
-      passes = Passes-from rom cert n right;
+      passes = passes;
       address = at.address;
       means = at.means;
       main = at.main;
       return_word = at.return_word;
       room = at.room;
-      depth = at.depth;
+      based = at.based;
+      held = at.held;
     } in
     IsSafeEvent-where rom cert n.procedure entry base x e (is_possible (within rom x) e) refl (record { node = n; is_node = is_node; procedure_is = refl; at = at })
     (λ possible. event_safe rom cert n entry base x e k at.mark other possible)

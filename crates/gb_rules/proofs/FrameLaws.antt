@@ -1,8 +1,7 @@
--- The procedures that wait, event by event: the machine stays in the one on top, calls another one, or returns.
-use Rattle.std.proofs.Common.{◌≡◌, ℕ, ◌+◌, ◌≤◌, ◌<◌, true, inl, inr, List, [], ◌∷◌, length, Some, refl, sym, ◌∙◌, ap, subst, arith}
-use Rattle.gb_ops.specs.declared.machine.Event.{Event}
+-- The procedures that wait, by the rules of versions 1 and 2: the machine stays in the one on top, calls another one, or returns.
+use Rattle.std.proofs.Common.{◌≡◌, ℕ, ◌+◌, ◌≤◌, ◌<◌, true, inl, List, ◌∷◌, length, Some, refl, sym, ◌∙◌, ap, subst, arith}
 use Rattle.gb_ops.specs.Pairs.{word}
-use Rattle.gb_ops.specs.Play.{MState, next}
+use Rattle.gb_ops.specs.Play.{MState}
 use Rattle.gb_domain.specs.Types.{AbsState, Node}
 use Rattle.gb_domain.specs.Certificate.{Certificate}
 use Rattle.gb_states.specs.declared.role.Role.TheVariants as role
@@ -19,18 +18,18 @@ use Rattle.gb_abs.proofs.StorageLaws.{region_in_ram}
 use Rattle.gb_code.specs.Below.gb_abs_memory.Kept.{keeps, keeps_by, IsKept}
 use Rattle.gb_calls.specs.Calls.{entered_by, are_ranges_inside}
 use Rattle.gb_calls.specs.Resuming.{resumed_alone, resumed}
-use Rattle.std.specs.Prelude.{◌==◌, IfSome}
+use Rattle.std.specs.Prelude.{◌==◌}
 use Rattle.gb_calls.specs.Sound.{without_word, ComesBack}
 use Rattle.gb_calls.proofs.EnteringLaws.{Means-entered}
 use Rattle.gb_calls.proofs.RangeLaws.{IsKept-inside}
 use Rattle.gb_calls.proofs.ResumingLaws.{Means-resumed_alone}
 use Rattle.gb_successors.specs.Below.gb_abs_effects.Pairs.{known_word}
 use Rattle.gb_rules.specs.Covered.{covered_at}
-use Rattle.gb_rules.specs.Procedures.{ranges_of, need_of, setting_of, exit_of, taken_by}
-use Rattle.gb_rules.specs.Safety.{IsAt, IsMeant, Calls, Returns, Leads, IsSafeEvent}
-use Rattle.gb_rules.specs.Frames.{Keeps, Frame, IsWaiting, Stands, IsStanding}
+use Rattle.gb_rules.specs.Procedures.{ranges_of, need_of, setting_of, exit_of}
+use Rattle.gb_rules.specs.Safety.{IsAt, IsMeant, Calls, Returns}
+use Rattle.gb_rules.specs.Frames.{Keeps, Frame, IsWaiting, AreWaiting, Stands}
 use Rattle.gb_rules.proofs.CoveringLaws.{IsFoundAt, covered_items, found_at}
-use Rattle.gb_rules.proofs.ProcedureLaws.{ranges_apart, apart_outside, exit_state, exit_set, exit_items}
+use Rattle.gb_rules.proofs.ProcedureLaws.{based_setting, HasReturnWord-simply, return_word_of, ranges_apart, apart_outside, exit_state, exit_set, exit_items}
 use Rattle.gb_rules.proofs.CallLaws.{sp_pushed, Means-without_word, pushed_word, region_end}
 
 -- ---- what is kept
@@ -82,55 +81,63 @@ caller_means cert procedure entry base t c p = Means-without_word (known_word c.
 
 -- ---- a frame is put on
 
--- what the callee begins with, by the rules of versions 1 and 2
-begins_simply : (cert : Certificate) (procedure : ℕ) (entry : MState) (base : ℕ) (t : MState) (c : Calls cert procedure entry base t) → covers (entered_by Simple (length c.node.state.items) c.state) c.node.state ≡ true
-begins_simply cert procedure entry base t c = subst (λ (r : Rules). covers (entered_by r (length c.node.state.items) c.state) c.node.state ≡ true) c.rules c.begins
-
+-- by the rules of versions 1 and 2 the callee begins with nothing
 no_items : (k : ℕ) (s : AbsState) (n : Node) → covers (entered_by Simple k s) n.state ≡ true → length n.state.items ≡ 0
 unfolding entered_by
 no_items k s n h = covered_items (entered_by Simple k s) n.state h
 
 -- the callee stands at its entry, and was entered just now
-IsAt-called : (rom : List ℕ) (cert : Certificate) (procedure : ℕ) (entry : MState) (base : ℕ) (t : MState)
+IsAt-called : (rom : List ℕ) (cert : Certificate) (procedure : ℕ) (entry : MState) (base : ℕ) (t : MState) → IsCertificate cert → rules_of cert.version ≡ Simple
     → (c : Calls cert procedure entry base t) → IsPlacedCall cert procedure entry base t c → IsAt rom cert c.node t t.processor.sp t
-IsAt-called rom cert procedure entry base t c p =
+IsAt-called rom cert procedure entry base t certificate simple c p =
     let small : t.processor.sp < 65536 = (let h = p.small in omega arith) in
-    let begins = begins_simply cert procedure entry base t c in
-    let none = no_items (length c.node.state.items) c.state c.node begins in
+    let none = no_items (length c.node.state.items) c.state c.node c.begins in
     let some = c.not_main in
+    let first = p.callee_room.first in
+    let last = p.callee_room.last in
     record {
       address = c.address;
-      means = Means-covered (entered_by Simple (length c.node.state.items) c.state) c.node.state t t.processor.sp t begins
+      means = Means-covered (entered_by Simple (length c.node.state.items) c.state) c.node.state t t.processor.sp t c.begins
           (Means-entered (length c.node.state.items) c.state entry base t (caller_means cert procedure entry base t c p) small);
       mark = inl c.mark;
       main = λ e. absurd (omega arith);
-      return_word = λ _. p.return_word;
+      based = based_setting cert c.node.procedure t.processor.sp certificate simple (λ e. absurd (omega arith));
+      return_word = HasReturnWord-simply (rules_of cert.version) cert.region c.node.procedure t.processor.sp simple (λ _. p.return_word);
       room = p.callee_room;
-      depth = omega arith;
+      held = record { first = omega arith; last = last };
     }
 
+-- those that wait, by the rules of the certificate
+pub waiting_by : (cert : Certificate) (rules : Rules) (frames : List Frame) (procedure : ℕ) (entry : MState) (base : ℕ) → rules_of cert.version ≡ rules
+    → AreWaiting (rules_of cert.version) cert frames procedure entry base → AreWaiting rules cert frames procedure entry base
+waiting_by cert rules frames procedure entry base is w = subst (λ r. AreWaiting r cert frames procedure entry base) is w
+
+pub waiting_in : (cert : Certificate) (rules : Rules) (frames : List Frame) (procedure : ℕ) (entry : MState) (base : ℕ) → rules_of cert.version ≡ rules
+    → AreWaiting rules cert frames procedure entry base → AreWaiting (rules_of cert.version) cert frames procedure entry base
+waiting_in cert rules frames procedure entry base is w = subst (λ r. AreWaiting r cert frames procedure entry base) (sym is) w
+
 -- the machine has called: the procedure waits, and the callee was entered just now
-pub Stands-called : (rom : List ℕ) (cert : Certificate) (frames : List Frame) (procedure : ℕ) (entry : MState) (base : ℕ) (s t : MState) → IsCertificate cert
+pub Stands-called : (rom : List ℕ) (cert : Certificate) (frames : List Frame) (procedure : ℕ) (entry : MState) (base : ℕ) (s t : MState) → IsCertificate cert → rules_of cert.version ≡ Simple
     → Stands rom cert frames procedure entry base s → (c : Calls cert procedure entry base t) → Keeps cert procedure base s t
     → Stands rom cert (record { procedure = procedure; entry = entry; base = base } ∷ frames) c.node.procedure t t.processor.sp t
-Stands-called rom cert frames procedure entry base s t certificate stands c keeps =
+Stands-called rom cert frames procedure entry base s t certificate simple stands c keeps =
     let at = stands.meant.at in
     let same = stands.meant.procedure_is in
     let room = subst (λ n. AreInRegion cert.region base (need_of cert n)) same at.room in
     let p = placed_call cert procedure entry base t certificate room c in
     record {
-      meant = record { node = c.node; is_node = c.is_node; procedure_is = refl; at = IsAt-called rom cert procedure entry base t c p };
-      waiting = (
+      meant = record { node = c.node; is_node = c.is_node; procedure_is = refl; at = IsAt-called rom cert procedure entry base t certificate simple c p };
+      waiting = waiting_in cert Simple (record { procedure = procedure; entry = entry; base = base } ∷ frames) c.node.procedure t t.processor.sp simple (
         record {
           calls = c;
           callee = refl;
           base_is = refl;
           main = λ e. at.main (same ∙ e);
-          return_word = λ some. at.return_word (subst (λ n. 0 < n) (sym same) some);
+          return_word = λ some. return_word_of (rules_of cert.version) cert.region stands.meant.node.procedure base simple at.return_word (subst (λ n. 0 < n) (sym same) some);
           room = room;
           keeps = Keeps-then cert procedure base entry s t stands.keeps keeps;
         },
-        stands.waiting,
+        waiting_by cert Simple frames procedure entry base simple stands.waiting,
       );
       keeps = Keeps-none cert c.node.procedure t.processor.sp t;
     }
@@ -143,15 +150,15 @@ unfolding setting_of
 all_keep cert procedure simple = ap (λ (r : Rules). keeps_by r (procedure == 0)) simple
 
 -- what a procedure keeps, the one that it called keeps too
-Keeps-callee : (cert : Certificate) (f : Frame) (procedure : ℕ) (entered : MState) (base : ℕ) (s t : MState) → IsCertificate cert → IsWaiting cert f procedure entered base
+Keeps-callee : (cert : Certificate) (f : Frame) (procedure : ℕ) (entered : MState) (base : ℕ) (s t : MState) → IsCertificate cert → rules_of cert.version ≡ Simple → IsWaiting cert f procedure entered base
     → Keeps cert procedure base s t → Keeps cert f.procedure f.base s t
-Keeps-callee cert f procedure called base s t certificate w keeps =
+Keeps-callee cert f procedure called base s t certificate simple w keeps =
     let c = w.calls in
     let p = placed_call cert f.procedure f.entry f.base called certificate w.room c in
     let below : called.processor.sp ≤ f.base = (let sp = p.sp in omega arith) in
     let lower : base ≤ f.base = subst (λ n. n ≤ f.base) (sym w.base_is) below in
     let inside = subst (λ n. are_ranges_inside (ranges_of cert n) (ranges_of cert f.procedure) ≡ true) w.callee c.inside in
-    record { byte = λ b k. keeps.byte b (IsKept-inside (setting_of cert f.procedure) (setting_of cert procedure) cert.region (ranges_of cert procedure) (ranges_of cert f.procedure) f.base base b (all_keep cert procedure c.rules) inside lower k) }
+    record { byte = λ b k. keeps.byte b (IsKept-inside (setting_of cert f.procedure) (setting_of cert procedure) cert.region (ranges_of cert procedure) (ranges_of cert f.procedure) f.base base b (all_keep cert procedure simple) inside lower k) }
 
 -- a byte of the return word is kept
 word_kept : (cert : Certificate) (procedure base b : ℕ) → IsCertificate cert → rules_of cert.version ≡ Simple → cert.region.first ≤ base → base + 2 ≤ cert.region.last + 1 → base ≤ b → b ≤ base + 1
@@ -164,24 +171,24 @@ word_kept cert procedure base b certificate simple first last low high = record 
 }
 
 -- the return word is as it was when the procedure was entered: the address where the one below goes on
-back_is : (cert : Certificate) (f : Frame) (procedure : ℕ) (entry : MState) (base : ℕ) (s : MState) → IsCertificate cert → (w : IsWaiting cert f procedure entry base)
+back_is : (cert : Certificate) (f : Frame) (procedure : ℕ) (entry : MState) (base : ℕ) (s : MState) → IsCertificate cert → rules_of cert.version ≡ Simple → (w : IsWaiting cert f procedure entry base)
     → Keeps cert procedure base entry s → word (peek s.storage (base + 1)) (peek s.storage base) ≡ w.calls.back
-back_is cert f procedure entry base s certificate w keeps =
+back_is cert f procedure entry base s certificate simple w keeps =
     let c = w.calls in
     let p = placed_call cert f.procedure f.entry f.base entry certificate w.room c in
     let e = w.base_is in
     let first : cert.region.first ≤ base = (let room = p.callee_room.first in omega arith) in
     let last : base + 2 ≤ cert.region.last + 1 = (let h = p.return_word in omega arith) in
-    let low = keeps.byte base (word_kept cert procedure base base certificate c.rules first last (omega arith) (omega arith)) in
-    let high = keeps.byte (base + 1) (word_kept cert procedure base (base + 1) certificate c.rules first last (omega arith) (omega arith)) in
+    let low = keeps.byte base (word_kept cert procedure base base certificate simple first last (omega arith) (omega arith)) in
+    let high = keeps.byte (base + 1) (word_kept cert procedure base (base + 1) certificate simple first last (omega arith) (omega arith)) in
     let found = pushed_word c.back c.state f.entry f.base entry c.means.parts c.stack_set in
     ap (λ n. word n (peek s.storage base)) high ∙ (ap (λ n. word (peek entry.storage (base + 1)) n) low ∙ (ap (λ n. word (peek entry.storage (n + 1)) (peek entry.storage n)) e ∙ found))
 
 -- the callee has come back
-comes_back : (cert : Certificate) (f : Frame) (procedure : ℕ) (entry : MState) (base : ℕ) (s t : MState) → IsCertificate cert → (w : IsWaiting cert f procedure entry base)
+comes_back : (cert : Certificate) (f : Frame) (procedure : ℕ) (entry : MState) (base : ℕ) (s t : MState) → IsCertificate cert → rules_of cert.version ≡ Simple → (w : IsWaiting cert f procedure entry base)
     → Keeps cert procedure base entry s → (r : Returns cert procedure entry base s t) → Keeps cert procedure base s t
     → ComesBack cert.region (ranges_of cert procedure) w.calls.state r.exit f.entry f.base entry t
-comes_back cert f procedure entry base s t certificate w before r keeps =
+comes_back cert f procedure entry base s t certificate simple w before r keeps =
     let c = w.calls in
     let p = placed_call cert f.procedure f.entry f.base entry certificate w.room c in
     let exit = exit_state cert procedure r.exit certificate r.is_exit in
@@ -194,11 +201,11 @@ comes_back cert f procedure entry base s t certificate w before r keeps =
       stack_set = c.stack_set;
       caller = caller_means cert f.procedure f.entry f.base entry c p;
       exit_set = exit_set (rules_of cert.version) cert.region r.exit exit;
-      exit_items = exit_items cert.region r.exit (subst (λ q. IsState q role.Exit cert.region r.exit) c.rules exit);
+      exit_items = exit_items cert.region r.exit (subst (λ q. IsState q role.Exit cert.region r.exit) simple exit);
       exit_core = exit.core;
       exits = subst (λ n. Means r.exit entry (n + 2) t) w.base_is r.means;
       callee = setting_of cert procedure;
-      keeps = all_keep cert procedure c.rules;
+      keeps = all_keep cert procedure simple;
       kept = λ b k. all.byte b (subst (λ n. IsKept (setting_of cert procedure) cert.region (ranges_of cert procedure) n b) (sym w.base_is) k);
     }
 
@@ -208,99 +215,54 @@ is_resumed : (cert : Certificate) (f : Frame) (procedure : ℕ) (entry : MState)
 unfolding resumed
 is_resumed cert f procedure entry base exit w is =
     subst (λ n. covered_at Simple cert.nodes f.procedure w.calls.back (resumed_alone (ranges_of cert n) w.calls.state exit) ≡ true) w.callee
-    (simply w.calls.node.procedure w.calls.rules (w.calls.resumes exit (ap (exit_of cert) w.callee ∙ is)))
-  where
-    simply : (q : ℕ) → rules_of cert.version ≡ Simple
-        → IfSome (resumed (rules_of cert.version) (taken_by cert q) (ranges_of cert q) w.calls.state exit) (λ after. covered_at (rules_of cert.version) cert.nodes f.procedure w.calls.back after ≡ true)
-        → covered_at Simple cert.nodes f.procedure w.calls.back (resumed_alone (ranges_of cert q) w.calls.state exit) ≡ true
-    simply q simple h =
-        subst (λ (r : Rules). IfSome (resumed r (taken_by cert q) (ranges_of cert q) w.calls.state exit) (λ after. covered_at r cert.nodes f.procedure w.calls.back after ≡ true)) simple h
+    (w.calls.resumes exit (ap (exit_of cert) w.callee ∙ is))
 
 -- the caller's state behind the call is meant by a node
-goes_on : (cert : Certificate) (f : Frame) (procedure : ℕ) (entry : MState) (base : ℕ) (s t : MState) → IsCertificate cert → (w : IsWaiting cert f procedure entry base)
+goes_on : (cert : Certificate) (f : Frame) (procedure : ℕ) (entry : MState) (base : ℕ) (s t : MState) → IsCertificate cert → rules_of cert.version ≡ Simple → (w : IsWaiting cert f procedure entry base)
     → Keeps cert procedure base entry s → Returns cert procedure entry base s t → Keeps cert procedure base s t
     → IsFoundAt cert f.procedure w.calls.back (length w.calls.state.items) f.entry f.base t
 unfolding resumed_alone
-goes_on cert f procedure entry base s t certificate w before r keeps =
+goes_on cert f procedure entry base s t certificate simple w before r keeps =
     let ranges = ranges_of cert procedure in
     let after = resumed_alone ranges w.calls.state r.exit in
-    let back = comes_back cert f procedure entry base s t certificate w before r keeps in
+    let back = comes_back cert f procedure entry base s t certificate simple w before r keeps in
     let means = Means-resumed_alone cert.region ranges w.calls.state r.exit f.entry f.base entry t back in
     found_at cert f.procedure w.calls.back after f.entry f.base t (is_resumed cert f procedure entry base r.exit w r.is_exit) means
 
-IsMeant-returned : (rom : List ℕ) (cert : Certificate) (f : Frame) (procedure : ℕ) (entry : MState) (base : ℕ) (s t : MState) → IsCertificate cert
+IsMeant-returned : (rom : List ℕ) (cert : Certificate) (f : Frame) (procedure : ℕ) (entry : MState) (base : ℕ) (s t : MState) → IsCertificate cert → rules_of cert.version ≡ Simple
     → IsWaiting cert f procedure entry base → Keeps cert procedure base entry s → Returns cert procedure entry base s t → Keeps cert procedure base s t
     → IsMeant rom cert f.procedure f.entry f.base t
-IsMeant-returned rom cert f procedure entry base s t certificate w before r keeps =
-    let g = goes_on cert f procedure entry base s t certificate w before r keeps in
+IsMeant-returned rom cert f procedure entry base s t certificate simple w before r keeps =
+    let g = goes_on cert f procedure entry base s t certificate simple w before r keeps in
     let same = g.procedure_is in
-    let deep : length g.node.state.items ≤ need_of cert f.procedure = (let count = g.count in let depth = w.calls.depth in omega arith) in
+    let room = w.room in
+    let first = room.first in
     record {
       node = g.node;
       is_node = g.is_node;
       procedure_is = same;
       at = record {
-        address = r.address ∙ (back_is cert f procedure entry base s certificate w before ∙ sym g.address);
+        address = r.address ∙ (back_is cert f procedure entry base s certificate simple w before ∙ sym g.address);
         means = g.means;
         mark = inl r.mark;
         main = λ e. w.main (sym same ∙ e);
-        return_word = λ some. w.return_word (subst (λ n. 0 < n) same some);
+        based = based_setting cert g.node.procedure f.base certificate simple (λ e. w.main (sym same ∙ e));
+        return_word = HasReturnWord-simply (rules_of cert.version) cert.region g.node.procedure f.base simple (λ some. w.return_word (subst (λ n. 0 < n) same some));
         room = subst (λ n. AreInRegion cert.region f.base (need_of cert n)) (sym same) w.room;
-        depth = subst (λ n. length g.node.state.items ≤ need_of cert n) (sym same) deep;
+        held = record { first = let count = g.count in let depth = w.calls.depth in omega arith; last = room.last };
       };
     }
 
 -- the callee has returned: the procedure that called it goes on, as if it had never waited
-pub Stands-returned : (rom : List ℕ) (cert : Certificate) (f : Frame) (rest : List Frame) (procedure : ℕ) (entry : MState) (base : ℕ) (s t : MState) → IsCertificate cert
+pub Stands-returned : (rom : List ℕ) (cert : Certificate) (f : Frame) (rest : List Frame) (procedure : ℕ) (entry : MState) (base : ℕ) (s t : MState) → IsCertificate cert → rules_of cert.version ≡ Simple
     → Stands rom cert (f ∷ rest) procedure entry base s → Returns cert procedure entry base s t → Keeps cert procedure base s t
     → Stands rom cert rest f.procedure f.entry f.base t
-Stands-returned rom cert f rest procedure entry base s t certificate stands r keeps =
-    let w = stands.waiting.0 in
+Stands-returned rom cert f rest procedure entry base s t certificate simple stands r keeps =
+    let waiting = waiting_by cert Simple (f ∷ rest) procedure entry base simple stands.waiting in
+    let w = waiting.0 in
     let all = Keeps-then cert procedure base entry s t stands.keeps keeps in
     record {
-      meant = IsMeant-returned rom cert f procedure entry base s t certificate w stands.keeps r keeps;
-      waiting = stands.waiting.1;
-      keeps = Keeps-then cert f.procedure f.base f.entry entry t w.keeps (Keeps-callee cert f procedure entry base entry t certificate w all);
+      meant = IsMeant-returned rom cert f procedure entry base s t certificate simple w stands.keeps r keeps;
+      waiting = waiting_in cert Simple rest f.procedure f.entry f.base simple waiting.1;
+      keeps = Keeps-then cert f.procedure f.base f.entry entry t w.keeps (Keeps-callee cert f procedure entry base entry t certificate simple w all);
     }
-
--- ---- each event
-
--- nobody waits below main, which doesn't return
-IsStanding-returned : (rom : List ℕ) (cert : Certificate) (frames : List Frame) (procedure : ℕ) (entry : MState) (base : ℕ) (s t : MState) → IsCertificate cert
-    → Stands rom cert frames procedure entry base s → Returns cert procedure entry base s t → Keeps cert procedure base s t → IsStanding rom cert t
-IsStanding-returned rom cert [] procedure entry base s t certificate stands r keeps =
-    let main : procedure ≡ 0 = stands.waiting in
-    let some : 0 < procedure = r.not_main in
-    absurd (omega arith)
-IsStanding-returned rom cert (f ∷ rest) procedure entry base s t certificate stands r keeps = record {
-  frames = rest;
-  procedure = f.procedure;
-  entry = f.entry;
-  base = f.base;
-  stands = Stands-returned rom cert f rest procedure entry base s t certificate stands r keeps;
-}
-
-IsStanding-leads : (rom : List ℕ) (cert : Certificate) (frames : List Frame) (procedure : ℕ) (entry : MState) (base : ℕ) (s t : MState) → IsCertificate cert
-    → Stands rom cert frames procedure entry base s → Leads rom cert procedure entry base s t → Keeps cert procedure base s t → IsStanding rom cert t
-IsStanding-leads rom cert frames procedure entry base s t certificate stands (inl meant) keeps = record {
-  frames = frames;
-  procedure = procedure;
-  entry = entry;
-  base = base;
-  stands = Stands-stays rom cert frames procedure entry base s t stands meant keeps;
-}
-IsStanding-leads rom cert frames procedure entry base s t certificate stands (inr (inl c)) keeps = record {
-  frames = record { procedure = procedure; entry = entry; base = base } ∷ frames;
-  procedure = c.node.procedure;
-  entry = t;
-  base = t.processor.sp;
-  stands = Stands-called rom cert frames procedure entry base s t certificate stands c keeps;
-}
-IsStanding-leads rom cert frames procedure entry base s t certificate stands (inr (inr r)) keeps =
-    IsStanding-returned rom cert frames procedure entry base s t certificate stands r keeps
-
--- after each safe event the machine stands
-pub IsStanding-event : (rom : List ℕ) (cert : Certificate) (frames : List Frame) (procedure : ℕ) (entry : MState) (base : ℕ) (s : MState) (e : Event) → IsCertificate cert
-    → Stands rom cert frames procedure entry base s → IsSafeEvent rom cert procedure entry base s e → IsStanding rom cert (next rom s e)
-IsStanding-event rom cert frames procedure entry base s e certificate stands safe =
-    IsStanding-leads rom cert frames procedure entry base s (next rom s e) certificate stands safe.leads (record { byte = safe.kept })

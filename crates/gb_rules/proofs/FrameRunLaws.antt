@@ -10,17 +10,8 @@ use Rattle.gb_states.specs.Rules.{IsCertificate}
 use Rattle.gb_code.specs.Places.{IsCertified}
 use Rattle.gb_rules.specs.Safety.{IsMeant, IsSafeEvent}
 use Rattle.gb_rules.specs.Frames.{IsStanding}
-use Rattle.gb_rules.proofs.FrameLaws.{Keeps-none, IsStanding-event}
-
--- main has just begun, and nobody waits
-pub IsStanding-start : (rom : List ℕ) (cert : Certificate) (base : ℕ) (s : MState) → IsMeant rom cert 0 s base s → IsStanding rom cert s
-IsStanding-start rom cert base s meant = record {
-  frames = [];
-  procedure = 0;
-  entry = s;
-  base = base;
-  stands = record { meant = meant; waiting = refl; keeps = Keeps-none cert 0 base s };
-}
+use Rattle.gb_rules.proofs.StandingLaws.{IsStanding-event}
+pub use Rattle.gb_rules.proofs.StandingLaws.{IsStanding-start}
 
 -- a machine that stands is neither locked nor stopped
 pub IsStanding-running : (rom : List ℕ) (cert : Certificate) (s : MState) → IsStanding rom cert s → (s.processor.locked ≡ false) × (s.processor.stopped ≡ false)

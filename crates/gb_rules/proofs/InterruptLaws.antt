@@ -7,6 +7,9 @@ use Rattle.gb_ops.specs.declared.machine.Event.{Event}
 use Rattle.gb_ops.specs.declared.machine.Event.TheVariants as event
 use Rattle.gb_ops.specs.Machine.{is_possible}
 use Rattle.gb_ops.specs.Play.{MState, within}
+use Rattle.gb_domain.specs.declared.rules.Rules.{Rules}
+use Rattle.gb_domain.specs.declared.rules.Rules.TheVariants.{Simple, Extended}
+use Rattle.gb_domain.specs.Limits.{rules_of}
 use Rattle.gb_domain.specs.Types.{Node}
 use Rattle.gb_domain.specs.Certificate.{Certificate}
 use Rattle.gb_states.specs.Rules.{IsCertificate}
@@ -17,17 +20,27 @@ use Rattle.gb_successors.proofs.AccessLaws.{clear_stack}
 use Rattle.gb_rules.specs.Rules.{reason_of, reason_at, lacks_handler, lacks_in, lacks_handler_at}
 use Rattle.gb_rules.specs.Safety.{IsAt, IsSafeEvent, IsWhollySafeAt}
 use Rattle.gb_rules.proofs.SearchLaws.{Contains-slice_get}
-use Rattle.gb_rules.proofs.NodeLaws.{Passes-from, IsProvided-passed}
+use Rattle.gb_rules.proofs.NodeLaws.{IsNodeState-node, Passes, Passes-from, shallow, unlimited, IsProvided-passed}
 use Rattle.gb_rules.proofs.EventLaws.{IsSafeNode-right, IsSafeEvent-where}
 use Rattle.gb_rules.proofs.DispatchLaws.{IsSafeEvent-dispatch, may_come-possible}
+use Rattle.gb_rules.proofs.HandlerLaws.{is_possible-meant, IsSafeEvent-dispatched}
 
 -- an interrupt's dispatch, where it is possible or not
 interrupt_safe : (rom : List ℕ) (cert : Certificate) (n : Node) (entry : MState) (base : ℕ) (s : MState) (i : ℕ) → IsCertificate cert → Contains cert.nodes n → reason_of rom cert n ≡ None
     → lacks_handler cert n ≡ false → IsAt rom cert n entry base s → (b : Bool) → is_possible (within rom s) (event.Irq i) ≡ b → IsSafeEvent rom cert n.procedure entry base s (event.Irq i)
-interrupt_safe rom cert n entry base s i certificate is_node right handled at true possible =
-    let may = may_come-possible rom cert n entry base s i at possible in
-    let k = IsProvided-passed rom cert n (Passes-from rom cert n right) i handled may.1 may.0 in
-    IsSafeEvent-dispatch rom cert n entry base s i k.handler at is_node certificate (Passes-from rom cert n right).rules possible k.stack_set (clear_stack cert.region n.state.core k.clear) k.is_handler k.inside k.depth k.resumes
+interrupt_safe rom cert n entry base s i certificate is_node right handled at true possible = by (rules_of cert.version) refl
+  where
+    p : Passes rom cert n
+    p = Passes-from rom cert n right
+
+    by : (r : Rules) → rules_of cert.version ≡ r → IsSafeEvent rom cert n.procedure entry base s (event.Irq i)
+    by Simple simple =
+        let may = may_come-possible rom cert n entry base s i at possible in
+        let k = IsProvided-passed rom cert n p i simple handled may.1 may.0 in
+        IsSafeEvent-dispatch rom cert n entry base s i k.handler at is_node certificate simple possible k.stack_set (clear_stack cert.region n.state.core k.clear) k.is_handler k.inside k.depth k.resumes
+    by Extended extended =
+        let meant = is_possible-meant cert n entry base s (IsNodeState-node cert n certificate is_node) at.means in
+        IsSafeEvent-dispatched rom cert n entry base s i extended certificate is_node ((shallow rom cert n p).handles meant) ((unlimited rom cert n p).dispatches meant) handled at possible
 interrupt_safe rom cert n entry base s i certificate is_node right handled at false impossible =
     IsSafeEvent-where rom cert n.procedure entry base s (event.Irq i) false impossible (record { node = n; is_node = is_node; procedure_is = refl; at = at }) (λ h. absurd (different h))
   where

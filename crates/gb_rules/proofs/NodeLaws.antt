@@ -25,6 +25,7 @@ use Rattle.gb_domain.specs.Types.{AbsState, Node}
 use Rattle.gb_domain.specs.Certificate.{Certificate}
 use Rattle.gb_domain.specs.Areas.{IsRegion, meets}
 use Rattle.gb_domain.specs.Pairs.{ArePairs}
+use Rattle.gb_domain.specs.Settings.{IsBase}
 use Rattle.gb_domain.specs.Rules.{IsVal, IsCell, IsChain, IsCore, after_cell}
 use Rattle.gb_states.specs.Rules.{IsNode, IsState, IsCertificate, key, role_of, needs_stack}
 use Rattle.gb_abs.specs.Cells.{ArePlaced}
@@ -45,15 +46,19 @@ use Rattle.gb_successors.specs.Successors.{has, any_successor, product_before}
 use Rattle.gb_product.specs.Reduced.{reduced}
 use Rattle.gb_product.specs.Below.gb_relations.Sound.{IsByteFree}
 use Rattle.gb_successors.specs.Refused.{is_unstorable, meets_closed, is_stack_limited, meets_oam_transfer, is_unknown}
-use Rattle.gb_successors.specs.Sound.{IsOneOf, is_followed, IsAllowed, IsStackKnown, IsStackFit, IsPushable, IsPoppable, IsReturnable, IsRuled}
+use Rattle.gb_successors.specs.Sound.{IsOneOf, is_followed, IsAllowed, IsFound, IsStackKnown, IsStackRuled, IsStackFree, IsStackFit, IsPushable, IsPoppable, IsReturnable, IsRuled}
 use Rattle.gb_calls.specs.Calls.{callee_of, are_ranges_inside}
 use Rattle.gb_calls.specs.Resuming.{resumed}
 use Rattle.gb_calls.specs.Interrupts.{left_by_dispatch, may_come, handler_of}
 use Rattle.gb_rules.specs.Covered.{covered_at}
+use Rattle.gb_rules.proofs.ProcedureLaws.{main_room, return_word_of}
+use Rattle.gb_rules.proofs.ReadyLaws.{IsStackRuled-ready}
+use Rattle.gb_rules.proofs.RegionLaws.{fewer_bytes}
 use Rattle.gb_rules.proofs.TargetLaws.{way_followed}
+use Rattle.gb_rules.specs.Safety.{HasReturnWord}
 use Rattle.std.specs.Option.{IfSome, is_some}
 use Rattle.gb_rules.specs.Procedures.{ranges_of, need_of, setting_of, stack_of, exit_of, taken_by}
-use Rattle.gb_rules.specs.Rules.{is_extended, is_unjudged, is_stop, may_read_twice, breaks_simple_stack, breaks_stack_by, breaks_stack, pushes_too_deep, moves_too_deep, is_code_limited, callee_by, callee_at, is_over, calls_too_deep, is_resumed_uncovered, is_uncovered_if, is_uncovered, is_outside_of, is_uncallable_at, is_uncallable, is_exit_missed, is_unreturnable_at, is_unreturnable, interrupts, any_interrupt, is_dispatch_deep, handles_too_deep, is_dispatch_limited, is_unhandled, lacks_handler, test_row, test_instruction, is_undefined, node_bytes, ways_of, any_of, is_possible, grows_too_deep, stores_outside, meets_ram, meets_transfer, leads_anywhere, leads_uncovered, calls_wrongly, returns_wrongly, applies_to_row, applies, reasons, reason_of}
+use Rattle.gb_rules.specs.Rules.{is_stop, may_read_twice, breaks_simple_stack, breaks_stack_by, breaks_stack, pushes_too_deep, moves_too_deep, is_code_limited, callee_by, callee_at, is_over, calls_too_deep, is_resumed_uncovered, is_uncovered_if, is_uncovered, is_outside_of, is_uncallable_at, is_uncallable, is_exit_missed, is_unreturnable_at, is_unreturnable, interrupts, any_interrupt, is_dispatch_deep, handles_too_deep, is_dispatch_limited, is_unhandled, lacks_handler, test_row, test_instruction, is_undefined, node_bytes, ways_of, any_of, is_possible, grows_too_deep, stores_outside, meets_ram, meets_transfer, leads_anywhere, leads_uncovered, calls_wrongly, returns_wrongly, applies_to_row, applies, reasons, reason_of}
 
 -- ---- a node of a certificate is one of its grammar
 
@@ -85,6 +90,7 @@ pub record IsNodeState (cert : Certificate) (n : Node) : Type 0 where
   pub free : IsByteFree cert.region n.state.relations.byte.address
   pub pairs : ArePairs n.state.relations.pairs
   pub stack : 0 < n.procedure → n.state.core.stack_set ≡ true
+  pub unset : n.state.core.stack_set ≡ false → n.state.items ≡ []
 
 needs_other : (procedure : ℕ) (set : Bool) → 0 < procedure → (set || not (needs_stack (role_of procedure))) ≡ true → set ≡ true
 needs_other procedure set lt h = by (procedure == 0) refl set h
@@ -93,6 +99,19 @@ needs_other procedure set lt h = by (procedure == 0) refl set h
     by true e set h = let none : procedure ≡ 0 = eqb-true procedure 0 e in absurd (omega arith)
     by false e true h = refl
     by false e false h = cc
+
+unlike : true ≡ false → ⊥
+unlike h = cc
+
+not_zero : (n : ℕ) → (suc n == 0) ≡ true → ⊥
+not_zero n h = let none : suc n ≡ 0 = eqb-true (suc n) 0 h in absurd (omega arith)
+
+-- without a stack nothing is held
+none_unset : (may set : Bool) (items : List Val) → (may && set || length items == 0) ≡ true → set ≡ false → items ≡ []
+none_unset may set [] h e = refl
+none_unset true true (v ∷ items) h e = absurd (unlike e)
+none_unset true false (v ∷ items) h e = absurd (not_zero (length items) h)
+none_unset false set (v ∷ items) h e = absurd (not_zero (length items) h)
 
 -- an address among the places lies in RAM, outside the region
 free_from : (region : Region) (o : Option ℕ) → IfSome o (λ a. is_free_byte region a ≡ true) → IsByteFree region o
@@ -119,6 +138,7 @@ IsNodeState-node cert n c is =
       free = free_from cert.region n.state.relations.byte.address state.relations.byte.address;
       pairs = state.relations.pairs;
       stack = λ other. needs_other n.procedure n.state.core.stack_set other state.stack;
+      unset = none_unset _ n.state.core.stack_set n.state.items state.pushed;
     }
 
 -- ---- no reason applies
@@ -143,8 +163,7 @@ pub record Passes (rom : List ℕ) (cert : Certificate) (n : Node) : Type 0 wher
   pub bank : known_bank rom n.state.core.ctl n.address ≡ Some n.bank
   pub stop : is_stop row.op ≡ false
   pub halt : may_read_twice rom n row.op ≡ false
-  pub rules : rules_of cert.version ≡ Simple
-  pub stack : breaks_simple_stack cert.region n row.op ≡ false
+  pub stack : breaks_stack (stack_of cert n.procedure) n row.op ≡ false
   pub depth : grows_too_deep rom cert n row ≡ false
   pub stores : stores_outside rom cert n row ≡ false
   pub ram : meets_ram rom cert n row ≡ false
@@ -164,25 +183,14 @@ undefined_use o bytes e h = sym (ap is_undefined e) ∙ h
 row_use : (test : Row → Bool) (o : Option (List ℕ)) (bytes : List ℕ) (row : Row) → o ≡ Some bytes → decoded bytes ≡ Some row → test_instruction test o ≡ false → test row ≡ false
 row_use test o bytes row e f h = sym (ap (test_row test) f) ∙ (sym (ap (test_instruction test) e) ∙ h)
 
-is_simple : (r : Rules) → is_extended r ≡ false → r ≡ Simple
-is_simple Simple h = refl
-is_simple Extended h = cc
-
--- by the rules of versions 1 and 2
-simple_stack : (cert : Certificate) (n : Node) (o : Op) → rules_of cert.version ≡ Simple → breaks_stack (stack_of cert n.procedure) n o ≡ false → breaks_simple_stack cert.region n o ≡ false
-unfolding stack_of setting_of
-simple_stack cert n o simple h = subst (λ (q : Rules). breaks_stack_by q (stack_of cert n.procedure) n o ≡ false) simple h
-
 pub Passes-from : (rom : List ℕ) (cert : Certificate) (n : Node) → reason_of rom cert n ≡ None → Passes rom cert n
-unfolding reason_of applies applies_to_row node_bytes is_unjudged
+unfolding reason_of applies applies_to_row node_bytes
 Passes-from rom cert n h =
     let none = none_found (applies rom cert n) reasons h in
     let bytes = some_from _ none.1.1.0 in
     let known = KnownBytes-known_bytes rom n.state n.address bytes.0 bytes.1 in
     let row = some_from _ (undefined_use _ bytes.0 bytes.1 none.1.1.1.0) in
     let end = end_of _ _ _ _ known.is_opcode none.0 in
-    let at_stack = or_parts _ _ (row_use _ _ bytes.0 row.0 bytes.1 row.1 none.1.1.1.1.1.1.0) in
-    let simple = is_simple (rules_of cert.version) at_stack.0 in
     record {
       bytes = bytes.0;
       known = known;
@@ -194,8 +202,7 @@ Passes-from rom cert n h =
       bank = bank_of _ _ none.1.0;
       stop = row_use _ _ bytes.0 row.0 bytes.1 row.1 none.1.1.1.1.0;
       halt = row_use _ _ bytes.0 row.0 bytes.1 row.1 none.1.1.1.1.1.0;
-      rules = simple;
-      stack = simple_stack cert n row.0.op simple at_stack.1;
+      stack = row_use _ _ bytes.0 row.0 bytes.1 row.1 none.1.1.1.1.1.1.0;
       depth = row_use _ _ bytes.0 row.0 bytes.1 row.1 none.1.1.1.1.1.1.1.0;
       stores = row_use _ _ bytes.0 row.0 bytes.1 row.1 none.1.1.1.1.1.1.1.1.0;
       ram = row_use _ _ bytes.0 row.0 bytes.1 row.1 none.1.1.1.1.1.1.1.1.1.0;
@@ -252,12 +259,6 @@ loaded_pair z region n base w pair.De main h = inl refl
 loaded_pair z region n base w pair.Hl main h = inl refl
 loaded_pair z region n base w pair.Sp main h = inr (inl (loaded_stack region n base w main h))
 
--- fewer bytes than the need have room
-pub fewer_bytes : (region : Region) (base need bytes : ℕ) → AreInRegion region base need → bytes ≤ need → AreInRegion region base bytes
-fewer_bytes region base need bytes room le =
-    let first = room.first in
-    record { first = omega arith; last = room.last }
-
 simple_room : (n : ℕ) → nat_lt 32 n ≡ false → nat_lt (item_room Simple) n ≡ false
 unfolding item_room
 simple_room n h = h
@@ -296,55 +297,62 @@ stack_known z region need base n op.Return main room h deep simple = inr (inr (i
 stack_known z region need base n op.ReturnFromInterrupt main room h deep simple = inr (inr (inr (inr (inr refl))))
 stack_known z region need base n o main room h deep simple = inl h
 
--- by the rules of versions 1 and 2 its states stand so
-pub simple_setting : (cert : Certificate) (procedure : ℕ) → rules_of cert.version ≡ Simple → (setting_of cert procedure).rules ≡ Simple
-unfolding setting_of
-simple_setting cert procedure h = h
+-- its states stand by the certificate's rules
+pub rules_at : (cert : Certificate) (procedure : ℕ) → rules_of cert.version ≡ (stack_of cert procedure).setting.rules
+unfolding stack_of setting_of
+rules_at cert procedure = refl
 
--- what is asked of its depth
-
-some_before : (cert : Certificate) (n : Node) → rules_of cert.version ≡ Simple → is_possible cert n ≡ true
-unfolding product_before reduced
-some_before cert n simple = subst (λ (q : Rules). is_some (product_before q n.state) ≡ true) (sym simple) refl
-
--- each of the three by itself
+-- what is asked of its depth, each of the three by itself
 pub record IsShallow (rom : List ℕ) (cert : Certificate) (n : Node) (row : Row) : Type 0 where
-  pub pushes : pushes_too_deep (need_of cert n.procedure) n row.op ≡ false
+  pub moves : moves_too_deep (rules_of cert.version) (need_of cert n.procedure) n row.op (ways_of rom cert n row).taken ≡ false
   pub calls : any_of (calls_too_deep cert (setting_of cert n.procedure) (need_of cert n.procedure)) rom cert n row ≡ false
-  pub handles : handles_too_deep cert n ≡ false
+  pub handles : is_possible cert n ≡ true → handles_too_deep cert n ≡ false
 
-where_possible : (a b : Bool) → a ≡ true → (a && b) ≡ false → b ≡ false
-where_possible true b e h = h
-where_possible false b e h = cc
+where_possible : (a b : Bool) → (a && b) ≡ false → a ≡ true → b ≡ false
+where_possible true b h e = h
+where_possible false b h e = cc
 
 pub shallow : (rom : List ℕ) (cert : Certificate) (n : Node) (p : Passes rom cert n) → IsShallow rom cert n p.row
 unfolding grows_too_deep
 shallow rom cert n p =
     let parts = or_parts _ _ p.depth in
     let first = or_parts _ _ parts.0 in
-    record {
-      pushes = subst (λ (q : Rules). moves_too_deep q (need_of cert n.procedure) n p.row.op (ways_of rom cert n p.row).taken ≡ false) p.rules first.0;
-      calls = first.1;
-      handles = where_possible (is_possible cert n) (handles_too_deep cert n) (some_before cert n p.rules) parts.1;
-    }
+    record { moves = first.0; calls = first.1; handles = where_possible (is_possible cert n) (handles_too_deep cert n) parts.1 }
 
 -- what is asked of it while an OAM transfer may run
 pub record IsOpen (rom : List ℕ) (cert : Certificate) (n : Node) (row : Row) : Type 0 where
   pub accesses : any_of (λ t. is_code_limited n.state.core n.address row.length || meets_oam_transfer cert.region n.state.core t) rom cert n row ≡ false
-  pub dispatches : is_dispatch_limited cert.region n ≡ false
+  pub dispatches : is_possible cert n ≡ true → is_dispatch_limited cert.region n ≡ false
 
 pub unlimited : (rom : List ℕ) (cert : Certificate) (n : Node) (p : Passes rom cert n) → IsOpen rom cert n p.row
 unfolding meets_transfer
 unlimited rom cert n p =
     let parts = or_parts _ _ p.oam_transfer in
-    record {
-      accesses = parts.0;
-      dispatches = where_possible (is_possible cert n) (is_dispatch_limited cert.region n) (some_before cert n p.rules) parts.1;
-    }
+    record { accesses = parts.0; dispatches = where_possible (is_possible cert n) (is_dispatch_limited cert.region n) parts.1 }
 
-pub ruled : (rom : List ℕ) (cert : Certificate) (n : Node) (base : ℕ) (p : Passes rom cert n) → IsRom rom → IsNodeState cert n → (n.procedure ≡ 0 → base ≡ cert.region.last + 1)
-    → AreInRegion cert.region base (need_of cert n.procedure) → IsRuled (setting_of cert n.procedure) cert.region p.row n.state base
-ruled rom cert n base p r s main room =
+-- where its procedure's bytes lie
+pub record IsHoused (cert : Certificate) (procedure base : ℕ) : Type 0 where
+  pub main : procedure ≡ 0 → base ≡ cert.region.last + 1
+  pub based : IsBase (setting_of cert procedure) base
+  pub room : AreInRegion cert.region base (need_of cert procedure)
+
+stack_ruled : (rom : List ℕ) (cert : Certificate) (n : Node) (base : ℕ) (row : Row) → IsCertificate cert → IsHoused cert n.procedure base → breaks_stack (stack_of cert n.procedure) n row.op ≡ false
+    → moves_too_deep (rules_of cert.version) (need_of cert n.procedure) n row.op (ways_of rom cert n row).taken ≡ false → (r : Rules) → rules_of cert.version ≡ r
+    → IsStackRuled r (stack_of cert n.procedure) rom row n.address n.state base
+unfolding stack_of setting_of ways_of
+stack_ruled rom cert n base row certificate h stack depth Simple is =
+    stack_known (setting_of cert n.procedure) cert.region (need_of cert n.procedure) base n row.op h.main h.room
+    (subst (λ (q : Rules). breaks_stack_by q (stack_of cert n.procedure) n row.op ≡ false) is stack)
+    (subst (λ (q : Rules). moves_too_deep q (need_of cert n.procedure) n row.op (ways_of rom cert n row).taken ≡ false) is depth) is
+stack_ruled rom cert n base row certificate h stack depth Extended is =
+    IsStackRuled-ready (stack_of cert n.procedure) rom row n base
+    (record { extended = is; based = h.based; room = h.room; main = main_room cert certificate })
+    (subst (λ (q : Rules). breaks_stack_by q (stack_of cert n.procedure) n row.op ≡ false) is stack)
+    (subst (λ (q : Rules). moves_too_deep q (need_of cert n.procedure) n row.op (ways_of rom cert n row).taken ≡ false) is depth)
+
+pub ruled : (rom : List ℕ) (cert : Certificate) (n : Node) (base : ℕ) (p : Passes rom cert n) → IsRom rom → IsCertificate cert → IsNodeState cert n → IsHoused cert n.procedure base
+    → IsRuled (stack_of cert n.procedure) rom p.row n.address n.state base
+ruled rom cert n base p r certificate s housed =
     let second : p.known.second < 256 = where_small _ rom n.state _ _ r s.core s.vals p.known.is_second in
     let third : p.known.third < 256 = where_small _ rom n.state _ _ r s.core s.vals p.known.is_third in
     let at_second : slice_index p.bytes 1 ≡ p.known.second = ap (λ bytes. slice_index bytes 1) p.known.bytes_are in
@@ -352,8 +360,12 @@ ruled rom cert n base p r s main room =
     record {
       operands = HasBytes-decoded p.bytes p.row (subst (λ k. k < 256) (sym at_second) second) (subst (λ k. k < 256) (sym at_third) third) p.is_row;
       runs = not_stop p.row.op p.stop;
-      stack = stack_known (setting_of cert n.procedure) cert.region (need_of cert n.procedure) base n p.row.op main room p.stack (shallow rom cert n p).pushes (simple_setting cert n.procedure p.rules);
+      stack = ruled_by rom cert n base p.row (stack_ruled rom cert n base p.row certificate housed p.stack (shallow rom cert n p).moves (rules_of cert.version) refl);
     }
+  where
+    ruled_by : (rom : List ℕ) (cert : Certificate) (n : Node) (base : ℕ) (row : Row) → IsStackRuled (rules_of cert.version) (stack_of cert n.procedure) rom row n.address n.state base
+        → IsStackRuled (stack_of cert n.procedure).setting.rules (stack_of cert n.procedure) rom row n.address n.state base
+    ruled_by rom cert n base row h = subst (λ (q : Rules). IsStackRuled q (stack_of cert n.procedure) rom row n.address n.state base) (rules_at cert n.procedure) h
 
 -- ---- nothing is against a successor
 
@@ -375,9 +387,12 @@ none_of test ss t h is = by is (parts _ _ _ h)
 abbrev pub simple_at : Certificate → Node → Setting
 simple_at cert n = record (setting_of cert n.procedure) { rules = Simple }
 
-pub simply : (cert : Certificate) (n : Node) → rules_of cert.version ≡ Simple → setting_of cert n.procedure ≡ simple_at cert n
+pub ruled_by : (rules : Rules) (cert : Certificate) (n : Node) → rules_of cert.version ≡ rules → setting_of cert n.procedure ≡ record (setting_of cert n.procedure) { rules = rules }
 unfolding setting_of
-simply cert n simple = ap (λ (q : Rules). record (setting_of cert n.procedure) { rules = q }) simple
+ruled_by rules cert n is = ap (λ (q : Rules). record (setting_of cert n.procedure) { rules = q }) is
+
+pub simply : (cert : Certificate) (n : Node) → rules_of cert.version ≡ Simple → setting_of cert n.procedure ≡ simple_at cert n
+simply cert n simple = ruled_by Simple cert n simple
 
 -- what a call asks for: a callee, with room for the return address
 callable : (cert : Certificate) (n : Node) (t : Successor) (base a : ℕ) (o : Option ℕ) → is_outside_of (simple_at cert n) cert n.procedure o ≡ false → is_over Simple cert (need_of cert n.procedure) (length t.state.items) o ≡ false
@@ -409,59 +424,81 @@ returnable cert n t base o state h word room =
     no_items None s h = cc
     no_items (Some exit) s h = empty s.items (eqb-true _ _ (not-false _ (or_parts _ _ h).0))
 
-pub not_uncallable : (rom : List ℕ) (cert : Certificate) (n : Node) (p : Passes rom cert n) (t : Successor) → IsOneOf (ways_of rom cert n p.row) t → is_uncallable (simple_at cert n) cert n.procedure t ≡ false
-unfolding calls_wrongly any_of
-not_uncallable rom cert n p t is =
-    subst (λ (z : Setting). is_uncallable z cert n.procedure t ≡ false) (simply cert n p.rules) (none_of (is_uncallable (setting_of cert n.procedure) cert n.procedure) (ways_of rom cert n p.row) t p.calls is)
+-- nothing is against it, by the certificate's rules
+pub record IsUnopposed (rules : Rules) (cert : Certificate) (n : Node) (t : Successor) : Type 0 where
+  pub found : is_unknown t.target ≡ false
+  pub covered : is_uncovered (record (setting_of cert n.procedure) { rules = rules }) cert n.procedure t ≡ false
+  pub callable : is_uncallable (record (setting_of cert n.procedure) { rules = rules }) cert n.procedure t ≡ false
+  pub shallow : calls_too_deep cert (record (setting_of cert n.procedure) { rules = rules }) (need_of cert n.procedure) t ≡ false
+  pub returnable : is_unreturnable rules cert n.procedure t ≡ false
 
-pub not_too_deep : (rom : List ℕ) (cert : Certificate) (n : Node) (p : Passes rom cert n) (t : Successor) → IsOneOf (ways_of rom cert n p.row) t
-    → calls_too_deep cert (simple_at cert n) (need_of cert n.procedure) t ≡ false
-unfolding any_of
-not_too_deep rom cert n p t is =
-    subst (λ (z : Setting). calls_too_deep cert z (need_of cert n.procedure) t ≡ false) (simply cert n p.rules)
-    (none_of (calls_too_deep cert (setting_of cert n.procedure) (need_of cert n.procedure)) (ways_of rom cert n p.row) t (shallow rom cert n p).calls is)
-
-pub not_unreturnable : (rom : List ℕ) (cert : Certificate) (n : Node) (p : Passes rom cert n) (t : Successor) → IsOneOf (ways_of rom cert n p.row) t → is_unreturnable Simple cert n.procedure t ≡ false
-unfolding returns_wrongly any_of
-not_unreturnable rom cert n p t is =
-    subst (λ (q : Rules). is_unreturnable q cert n.procedure t ≡ false) p.rules (none_of (is_unreturnable (rules_of cert.version) cert n.procedure) (ways_of rom cert n p.row) t p.returns is)
-
-pub not_unknown : (rom : List ℕ) (cert : Certificate) (n : Node) (p : Passes rom cert n) (t : Successor) → IsOneOf (ways_of rom cert n p.row) t → is_unknown t.target ≡ false
-unfolding leads_anywhere any_of
-not_unknown rom cert n p t is = none_of (λ w. is_unknown w.target) (ways_of rom cert n p.row) t p.jump is
-
--- it goes on in the procedure, calls or returns
-pub followed : (rom : List ℕ) (cert : Certificate) (n : Node) (p : Passes rom cert n) (t : Successor) → IsOneOf (ways_of rom cert n p.row) t → is_followed t.target ≡ true
-unfolding ways_of stack_of setting_of
-followed rom cert n p t is = way_followed (stack_of cert n.procedure) rom p.row n.address n.state t p.rules is (not_unknown rom cert n p t is)
-
-pub not_uncovered : (rom : List ℕ) (cert : Certificate) (n : Node) (p : Passes rom cert n) (t : Successor) → IsOneOf (ways_of rom cert n p.row) t → is_uncovered (simple_at cert n) cert n.procedure t ≡ false
-unfolding leads_uncovered any_of
-not_uncovered rom cert n p t is =
-    subst (λ (z : Setting). is_uncovered z cert n.procedure t ≡ false) (simply cert n p.rules) (none_of (is_uncovered (setting_of cert n.procedure) cert n.procedure) (ways_of rom cert n p.row) t p.covered is)
-
-pub allowed : (rom : List ℕ) (cert : Certificate) (n : Node) (p : Passes rom cert n) (base : ℕ) (t : Successor) → IsOneOf (ways_of rom cert n p.row) t → IsNodeState cert n
-    → (0 < n.procedure → base + 2 ≤ cert.region.last + 1) → AreInRegion cert.region base (need_of cert n.procedure)
-    → IsAllowed (setting_of cert n.procedure) rom cert.region (ranges_of cert n.procedure) n.state base t
-unfolding stores_outside meets_ram any_of is_uncallable is_unreturnable calls_too_deep callee_at
-allowed rom cert n p base t is state word room =
+pub unopposed : (rules : Rules) (rom : List ℕ) (cert : Certificate) (n : Node) (p : Passes rom cert n) (t : Successor) → rules_of cert.version ≡ rules → IsOneOf (ways_of rom cert n p.row) t → IsUnopposed rules cert n t
+unfolding leads_anywhere leads_uncovered calls_wrongly returns_wrongly any_of
+unopposed rules rom cert n p t is one =
+    let z = ruled_by rules cert n is in
+    let ways = ways_of rom cert n p.row in
+    let own = setting_of cert n.procedure in
     record {
-      stores = none_of (λ w. is_unstorable (setting_of cert n.procedure) (kind_of rom) cert.region (ranges_of cert n.procedure) w.write) (ways_of rom cert n p.row) t p.stores is;
-      ram = none_of (meets_closed rom n.state.core) (ways_of rom cert n p.row) t p.ram is;
-      oam_transfer =
-          (or_parts _ _ (none_of (λ w. is_code_limited n.state.core n.address p.row.length || meets_oam_transfer cert.region n.state.core w) (ways_of rom cert n p.row) t (unlimited rom cert n p).accesses is)).1;
-      stack = by t.target (followed rom cert n p t is) (not_uncallable rom cert n p t is) (not_too_deep rom cert n p t is) (not_unreturnable rom cert n p t is);
+      found = none_of (λ w. is_unknown w.target) ways t p.jump one;
+      covered = subst (λ (q : Setting). is_uncovered q cert n.procedure t ≡ false) z (none_of (is_uncovered own cert n.procedure) ways t p.covered one);
+      callable = subst (λ (q : Setting). is_uncallable q cert n.procedure t ≡ false) z (none_of (is_uncallable own cert n.procedure) ways t p.calls one);
+      shallow = subst (λ (q : Setting). calls_too_deep cert q (need_of cert n.procedure) t ≡ false) z (none_of (calls_too_deep cert own (need_of cert n.procedure)) ways t (shallow rom cert n p).calls one);
+      returnable = subst (λ (q : Rules). is_unreturnable q cert n.procedure t ≡ false) is (none_of (is_unreturnable (rules_of cert.version) cert n.procedure) ways t p.returns one);
     }
+
+-- by the rules of versions 1 and 2 it goes on in the procedure, calls or returns
+pub followed : (rom : List ℕ) (cert : Certificate) (n : Node) (p : Passes rom cert n) (t : Successor) → rules_of cert.version ≡ Simple → IsOneOf (ways_of rom cert n p.row) t → is_followed Simple t.target ≡ true
+unfolding ways_of stack_of setting_of
+followed rom cert n p t simple is = way_followed (stack_of cert n.procedure) rom p.row n.address n.state t simple is (unopposed Simple rom cert n p t simple is).found
+
+-- by those of version 3 it is found
+pub found : (cert : Certificate) (n : Node) (t : Successor) → IsUnopposed Extended cert n t → IsFound t.target
+unfolding is_unreturnable
+found cert n t u = by t.target u.found u.returnable
   where
-    by : (w : Target) → is_followed w ≡ true → is_uncallable_at (simple_at cert n) cert n.procedure w t.state ≡ false
+    by : (w : Target) → is_unknown w ≡ false → is_unreturnable_at Extended cert n.procedure w t.state ≡ false → IsFound w
+    by (target.At a) known returns = tt
+    by (target.Call a) known returns = tt
+    by target.Return known returns = tt
+    by (target.Main a) known returns = tt
+    by target.Unknown known returns = absurd (unlike known)
+    by target.Lost known returns = absurd (unlike returns)
+
+-- the stack has what it asks for
+fit_simply : (rom : List ℕ) (cert : Certificate) (n : Node) (base : ℕ) (t : Successor) → is_followed Simple t.target ≡ true → IsUnopposed Simple cert n t → IsNodeState cert n
+    → (0 < n.procedure → base + 2 ≤ cert.region.last + 1) → AreInRegion cert.region base (need_of cert n.procedure) → IsStackFree cert.region t.target n.state t base
+unfolding is_uncallable is_unreturnable calls_too_deep callee_at
+fit_simply rom cert n base t known u state word room = by t.target known u.callable u.shallow u.returnable
+  where
+    by : (w : Target) → is_followed Simple w ≡ true → is_uncallable_at (simple_at cert n) cert n.procedure w t.state ≡ false
         → is_over Simple cert (need_of cert n.procedure) (length t.state.items) (callee_by cert (simple_at cert n) w t.state) ≡ false
-        → is_unreturnable_at Simple cert n.procedure w t.state ≡ false → IsStackFit cert.region w n.state t base
+        → is_unreturnable_at Simple cert n.procedure w t.state ≡ false → IsStackFree cert.region w n.state t base
     by (target.At a) known calls deep returns = tt
     by (target.Call a) known calls deep returns = callable cert n t base a (callee_of cert (simple_at cert n) a t.state) calls deep room
     by target.Return known calls deep returns = returnable cert n t base (exit_of cert n.procedure) state returns word room
     by (target.Main a) known calls deep returns = cc
     by target.Unknown known calls deep returns = cc
     by target.Lost known calls deep returns = cc
+
+fit : (rom : List ℕ) (cert : Certificate) (n : Node) (p : Passes rom cert n) (base : ℕ) (t : Successor) → IsOneOf (ways_of rom cert n p.row) t → IsNodeState cert n
+    → HasReturnWord (rules_of cert.version) cert.region n.procedure base → AreInRegion cert.region base (need_of cert n.procedure) → (r : Rules) → rules_of cert.version ≡ r
+    → IsStackFit r cert.region t.target n.state t base
+fit rom cert n p base t is state word room Simple simple =
+    fit_simply rom cert n base t (followed rom cert n p t simple is) (unopposed Simple rom cert n p t simple is) state (return_word_of (rules_of cert.version) cert.region n.procedure base simple word) room
+fit rom cert n p base t is state word room Extended extended = found cert n t (unopposed Extended rom cert n p t extended is)
+
+pub allowed : (rom : List ℕ) (cert : Certificate) (n : Node) (p : Passes rom cert n) (base : ℕ) (t : Successor) → IsOneOf (ways_of rom cert n p.row) t → IsNodeState cert n
+    → HasReturnWord (rules_of cert.version) cert.region n.procedure base → AreInRegion cert.region base (need_of cert n.procedure)
+    → IsAllowed (setting_of cert n.procedure) rom cert.region (ranges_of cert n.procedure) n.state base t
+unfolding stores_outside meets_ram any_of setting_of
+allowed rom cert n p base t is state word room =
+    record {
+      stores = none_of (λ w. is_unstorable (setting_of cert n.procedure) (kind_of rom) cert.region (ranges_of cert n.procedure) w.write) (ways_of rom cert n p.row) t p.stores is;
+      ram = none_of (meets_closed rom n.state.core) (ways_of rom cert n p.row) t p.ram is;
+      oam_transfer =
+          (or_parts _ _ (none_of (λ w. is_code_limited n.state.core n.address p.row.length || meets_oam_transfer cert.region n.state.core w) (ways_of rom cert n p.row) t (unlimited rom cert n p).accesses is)).1;
+      stack = fit rom cert n p base t is state word room (rules_of cert.version) refl;
+    }
 
 first_is : (bytes : List ℕ) (a b c : ℕ) → bytes ≡ a ∷ b ∷ c ∷ [] → slice_index bytes 0 ≡ a
 first_is bytes a b c h = rw h refl
@@ -546,12 +583,17 @@ provided cert n i (Some q) e clear handled over =
     held : (m need : ℕ) → nat_lt need m ≡ false → m ≤ need
     held m need h = grind (arith, nat_tests)
 
-pub IsProvided-passed : (rom : List ℕ) (cert : Certificate) (n : Node) (p : Passes rom cert n) (i : ℕ) → lacks_handler cert n ≡ false → i < 5 → may_come i n.state.core ≡ true → IsProvided cert n i
+some_before : (cert : Certificate) (n : Node) → rules_of cert.version ≡ Simple → is_possible cert n ≡ true
+unfolding product_before reduced
+some_before cert n simple = subst (λ (q : Rules). is_some (product_before q n.state) ≡ true) (sym simple) refl
+
+pub IsProvided-passed : (rom : List ℕ) (cert : Certificate) (n : Node) (p : Passes rom cert n) (i : ℕ) → rules_of cert.version ≡ Simple → lacks_handler cert n ≡ false → i < 5 → may_come i n.state.core ≡ true
+    → IsProvided cert n i
 unfolding handles_too_deep is_dispatch_limited lacks_handler
-IsProvided-passed rom cert n p i handled lt may =
+IsProvided-passed rom cert n p i simple handled lt may =
     provided cert n i (handler_of cert (simple_at cert n) i n.address n.state) refl
-    (one_interrupt (λ i. is_stack_limited cert.region n.state.core) n i (unlimited rom cert n p).dispatches lt may)
-    (subst (λ (z : Setting). is_unhandled z cert n i (handler_of cert z i n.address n.state) ≡ false) (simply cert n p.rules)
+    (one_interrupt (λ i. is_stack_limited cert.region n.state.core) n i ((unlimited rom cert n p).dispatches (some_before cert n simple)) lt may)
+    (subst (λ (z : Setting). is_unhandled z cert n i (handler_of cert z i n.address n.state) ≡ false) (simply cert n simple)
     (one_interrupt (λ i. is_unhandled (setting_of cert n.procedure) cert n i (handler_of cert (setting_of cert n.procedure) i n.address n.state)) n i handled lt may))
-    (subst (λ (z : Setting). is_dispatch_deep z cert (need_of cert n.procedure) n.state (handler_of cert z i n.address n.state) ≡ false) (simply cert n p.rules)
-    (one_interrupt (λ i. is_dispatch_deep (setting_of cert n.procedure) cert (need_of cert n.procedure) n.state (handler_of cert (setting_of cert n.procedure) i n.address n.state)) n i (shallow rom cert n p).handles lt may))
+    (subst (λ (z : Setting). is_dispatch_deep z cert (need_of cert n.procedure) n.state (handler_of cert z i n.address n.state) ≡ false) (simply cert n simple)
+    (one_interrupt (λ i. is_dispatch_deep (setting_of cert n.procedure) cert (need_of cert n.procedure) n.state (handler_of cert (setting_of cert n.procedure) i n.address n.state)) n i ((shallow rom cert n p).handles (some_before cert n simple)) lt may))

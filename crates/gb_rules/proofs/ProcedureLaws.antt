@@ -1,5 +1,5 @@
 -- What a certificate promises of its procedures.
-use Rattle.std.proofs.Common.{◌≡◌, ℕ, zero, suc, ◌+◌, ◌≤◌, Bool, true, false, if◌then◌else◌, ◌==◌, ◌||◌, List, [], ◌∷◌, length, slice_get, Option, Some, None, refl, subst, arith}
+use Rattle.std.proofs.Common.{◌≡◌, ℕ, zero, suc, ◌+◌, ◌≤◌, Bool, true, false, if◌then◌else◌, ◌==◌, ◌||◌, List, [], ◌∷◌, length, slice_get, Option, Some, None, refl, sym, ◌∙◌, subst, ◌<◌, arith}
 use Rattle.std.proofs.lemmas.Bool.{eqb-true, leb-true}
 use Rattle.std.proofs.lemmas.Bool.Decides.{nat_tests}
 use Rattle.std.proofs.lemmas.Option.{same_Some}
@@ -14,13 +14,14 @@ use Rattle.gb_domain.specs.Certificate.{Certificate}
 use Rattle.gb_domain.specs.Areas.{IsRegion, meets}
 use Rattle.gb_domain.specs.Rules.{IsChain}
 use Rattle.gb_domain.specs.declared.rules.Rules.{Rules}
-use Rattle.gb_domain.specs.declared.rules.Rules.TheVariants.{Simple}
+use Rattle.gb_domain.specs.declared.rules.Rules.TheVariants.{Simple, Extended}
 use Rattle.gb_domain.specs.Limits.{rules_of}
 use Rattle.gb_domain.specs.Settings.{known_base, IsBase}
-use Rattle.gb_states.specs.Rules.{IsRange, IsProcedure, IsState, IsCertificate, after_range, is_after, size}
+use Rattle.gb_states.specs.Rules.{is_base_of, IsRange, IsProcedure, IsState, IsCertificate, after_range, is_after, size}
 use Rattle.gb_abs.specs.Span.{one}
 use Rattle.gb_abs.specs.Stack.{AreInRegion}
 use Rattle.gb_code.specs.Below.gb_abs_memory.Access.{is_range}
+use Rattle.gb_rules.specs.Safety.{HasReturnWord}
 use Rattle.gb_rules.specs.Procedures.{ranges_in, need_in, base_in, exit_in, ranges_of, need_of, setting_of, exit_of}
 
 -- ---- the procedure with a number
@@ -88,6 +89,38 @@ unfolding setting_of known_base
 based_setting cert i base certificate simple main b e =
     usual_is cert.region (length cert.nodes) true cert.procedures i b base
     (subst (λ r. IsChain (IsProcedure r cert.region (length cert.nodes)) is_after true cert.procedures) simple certificate.procedures) (λ t. main) e
+
+-- by either rules main's is the address behind the region
+said_of_main : (rules : Rules) (region : Region) (p : ProcedureParts) → is_base_of rules true region p.base ≡ true → p.base ≡ region.last + 1
+said_of_main Simple region p h = eqb-true _ _ h
+said_of_main Extended region p h = eqb-true _ _ h
+
+main_said : (rules : Rules) (region : Region) (nodes : ℕ) (ps : List ProcedureParts) (b : ℕ) → IsChain (IsProcedure rules region nodes) is_after true ps
+    → (if base_in (slice_get ps 0) == 0 then None else Some (base_in (slice_get ps 0))) ≡ Some b → b ≡ region.last + 1
+main_said rules region nodes [] b h e = absurd (no_base 0 b refl e)
+main_said rules region nodes (p ∷ ps) b h e = sym (some_base p.base b e) ∙ said_of_main rules region p h.0.base
+
+pub main_based : (cert : Certificate) → IsCertificate cert → IsBase (setting_of cert 0) (cert.region.last + 1)
+unfolding setting_of known_base
+main_based cert certificate b e = main_said (rules_of cert.version) cert.region (length cert.nodes) cert.procedures b certificate.procedures e
+
+-- ---- its return word
+
+-- main has none
+pub HasReturnWord-main : (rules : Rules) (region : Region) (procedure base : ℕ) → procedure ≡ 0 → HasReturnWord rules region procedure base
+HasReturnWord-main Simple region procedure base is = λ some. absurd (omega arith)
+HasReturnWord-main Extended region procedure base is = tt
+
+-- by the rules of versions 1 and 2 it stands at the base
+pub return_word_of : (rules : Rules) (region : Region) (procedure base : ℕ) → rules ≡ Simple → HasReturnWord rules region procedure base → 0 < procedure → base + 2 ≤ region.last + 1
+return_word_of rules region procedure base simple h = subst (λ r. HasReturnWord r region procedure base) simple h
+
+pub HasReturnWord-simply : (rules : Rules) (region : Region) (procedure base : ℕ) → rules ≡ Simple → (0 < procedure → base + 2 ≤ region.last + 1) → HasReturnWord rules region procedure base
+HasReturnWord-simply rules region procedure base simple h = subst (λ r. HasReturnWord r region procedure base) (sym simple) h
+
+-- by those of version 3 nothing is asked
+pub HasReturnWord-widely : (rules : Rules) (region : Region) (procedure base : ℕ) → rules ≡ Extended → HasReturnWord rules region procedure base
+HasReturnWord-widely rules region procedure base extended = subst (λ r. HasReturnWord r region procedure base) (sym extended) tt
 
 -- ---- its ranges
 

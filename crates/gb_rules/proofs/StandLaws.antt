@@ -1,22 +1,25 @@
 -- Where the machine stands at a node that passes: its successors are sound, one of them is there, and what it leads to is meant.
-use Rattle.std.proofs.Common.{◌≡◌, ℕ, ◌+◌, ◌≤◌, ◌<◌, false, List, [], length, refl, arith}
+use Rattle.std.proofs.Common.{◌≡◌, ℕ, ◌+◌, false, List, [], length, refl, arith}
 use Rattle.std.specs.List.{Contains}
 use Rattle.gb_ops.specs.Play.{MState}
 use Rattle.gb_domain.specs.Types.{Node}
 use Rattle.gb_domain.specs.Certificate.{Certificate}
+use Rattle.gb_domain.specs.Limits.{rules_of}
+use Rattle.gb_domain.specs.Settings.{IsBase}
 use Rattle.gb_product.specs.Meaning.{Means}
 use Rattle.gb_abs.specs.Stack.{AreInRegion}
 use Rattle.gb_code.specs.Below.gb_abs_memory.Sound.{IsRom}
 use Rattle.gb_code.proofs.CodeLaws.{IsKnown, IsAt as IsAtCode}
 use Rattle.gb_successors.specs.Way.{Successor}
 use Rattle.gb_successors.specs.declared.stacks.Stack.{Stack}
-use Rattle.gb_successors.specs.Sound.{IsOneOf, Stands, AreSoundSuccessors}
+use Rattle.gb_successors.specs.Sound.{IsOneOf, Stands, IsRuled, AreSoundSuccessors}
+use Rattle.gb_successors.proofs.FormedLaws.{IsFormed, IsFormed-successor}
 use Rattle.gb_successors.proofs.WayLaws.{successors_of_sound}
 use Rattle.gb_states.specs.Rules.{IsCertificate}
 use Rattle.gb_rules.specs.Procedures.{ranges_of, need_of, setting_of, stack_of}
 use Rattle.gb_rules.specs.Rules.{ways_of}
-use Rattle.gb_rules.proofs.ProcedureLaws.{based_setting}
-use Rattle.gb_rules.proofs.NodeLaws.{IsNodeState, Passes, simple_setting, ruled, known_by, fewer_bytes}
+use Rattle.gb_rules.specs.Safety.{HasReturnWord}
+use Rattle.gb_rules.proofs.NodeLaws.{IsNodeState, Passes, IsHoused, ruled, known_by}
 
 -- the machine stands at a node that passes
 pub record OnNode (rom : List ℕ) (cert : Certificate) (n : Node) (entry : MState) (base : ℕ) (x : MState) : Type 0 where
@@ -28,9 +31,10 @@ pub record OnNode (rom : List ℕ) (cert : Certificate) (n : Node) (entry : MSta
   pub address : x.processor.pc ≡ n.address
   pub means : Means n.state entry base x
   pub main : n.procedure ≡ 0 → base ≡ cert.region.last + 1
-  pub return_word : 0 < n.procedure → base + 2 ≤ cert.region.last + 1
+  pub return_word : HasReturnWord (rules_of cert.version) cert.region n.procedure base
   pub room : AreInRegion cert.region base (need_of cert n.procedure)
-  pub depth : length n.state.items ≤ need_of cert n.procedure
+  pub based : IsBase (setting_of cert n.procedure) base
+  pub held : AreInRegion cert.region base (length n.state.items)
 
 pub stands : (rom : List ℕ) (cert : Certificate) (n : Node) (entry : MState) (base : ℕ) (x : MState) (k : OnNode rom cert n entry base x) → Stands (setting_of cert n.procedure) rom cert.region k.passes.row n.address n.state entry base x
 stands rom cert n entry base x k = record {
@@ -42,12 +46,15 @@ stands rom cert n entry base x k = record {
   pairs = k.state.pairs;
   vals = k.state.vals;
   items = k.state.items;
-  room = fewer_bytes cert.region base (need_of cert n.procedure) (length n.state.items) k.room k.depth;
+  unset = k.state.unset;
+  room = k.held;
   means = k.means;
-  based = based_setting cert n.procedure base k.certificate k.passes.rules k.main;
-  rules = simple_setting cert n.procedure k.passes.rules;
+  based = k.based;
   at = k.address;
 }
+
+pub housed : (rom : List ℕ) (cert : Certificate) (n : Node) (entry : MState) (base : ℕ) (x : MState) → OnNode rom cert n entry base x → IsHoused cert n.procedure base
+housed rom cert n entry base x k = record { main = k.main; based = k.based; room = k.room }
 
 -- where its procedure's states stand, and how much it may have on the stack
 abbrev pub whole_stack : Certificate → ℕ → Stack
@@ -57,6 +64,19 @@ pub sound_ways : (rom : List ℕ) (cert : Certificate) (n : Node) (entry : MStat
     → AreSoundSuccessors (whole_stack cert n.procedure) rom k.passes.row n.address n.state (ways_of rom cert n k.passes.row)
 unfolding ways_of stack_of
 sound_ways rom cert n entry base x k = successors_of_sound (whole_stack cert n.procedure) rom k.passes.row n.address n.state (ways_of rom cert n k.passes.row) refl
+
+-- its instruction is one that may stand there
+pub is_ruled : (rom : List ℕ) (cert : Certificate) (n : Node) (entry : MState) (base : ℕ) (x : MState) (k : OnNode rom cert n entry base x)
+    → IsRuled (whole_stack cert n.procedure) rom k.passes.row n.address n.state base
+unfolding stack_of
+is_ruled rom cert n entry base x k = ruled rom cert n base k.passes k.cartridge k.certificate k.state (housed rom cert n entry base x k)
+
+-- the states of its successors are such as states may be
+pub formed : (rom : List ℕ) (cert : Certificate) (n : Node) (entry : MState) (base : ℕ) (x : MState) (k : OnNode rom cert n entry base x) (t : Successor) → IsOneOf (ways_of rom cert n k.passes.row) t
+    → IsFormed cert.region t.state
+unfolding ways_of stack_of
+formed rom cert n entry base x k t is =
+    IsFormed-successor (whole_stack cert n.procedure) rom k.passes.row n.address n.state t entry base x (stands rom cert n entry base x k) (is_ruled rom cert n entry base x k).operands is
 
 -- the same machine without the HALT mark
 abbrev pub unmarked : MState → MState
@@ -93,7 +113,8 @@ on_unmarked rom cert n entry base x k = record {
   main = k.main;
   return_word = k.return_word;
   room = k.room;
-  depth = k.depth;
+  based = k.based;
+  held = k.held;
 }
 
 -- there is a successor
@@ -102,7 +123,7 @@ unfolding on_unmarked
 some_way rom cert n entry base x k =
     let u = on_unmarked rom cert n entry base x k in
     let done = (sound_ways rom cert n entry base (unmarked x) u).executes (ranges_of cert n.procedure) entry base (unmarked x) [] (stands rom cert n entry base (unmarked x) u)
-    (ruled rom cert n base k.passes k.cartridge k.state k.main k.room) refl (omega arith) in
+    (is_ruled rom cert n entry base x k) refl (omega arith) in
     (done.successor, done.is_one)
 
 pub is_known : (rom : List ℕ) (cert : Certificate) (n : Node) (entry : MState) (base : ℕ) (x : MState) (k : OnNode rom cert n entry base x) → IsKnown rom n k.passes.bytes

@@ -1,4 +1,4 @@
--- Where the successors of an instruction go on by the rules of versions 1 and 2: where its row says.
+-- Where the successors of an instruction go on: by the rules of versions 1 and 2 where its row says.
 use Rattle.std.proofs.Common.{◌≡◌, ℕ, ◌+◌, ◌%◌, Bool, true, false, cond, List, Option, Some, None, inl, inr, refl, sym, ◌∙◌, ap, subst}
 use Rattle.std.proofs.lemmas.Option.{same_Some}
 use Rattle.std.specs.Prelude.{option_map, option_and_then}
@@ -8,15 +8,16 @@ use Rattle.gb_ops.specs.declared.op.Op.TheVariants as op
 use Rattle.gb_ops.specs.declared.op.Row.{Row}
 use Rattle.gb_domain.specs.declared.pairs.Bounds.{Bounds}
 use Rattle.gb_domain.specs.declared.rules.Rules.{Rules}
-use Rattle.gb_domain.specs.declared.rules.Rules.TheVariants.{Simple}
+use Rattle.gb_domain.specs.declared.rules.Rules.TheVariants.{Simple, Extended}
 use Rattle.gb_domain.specs.declared.setting.Setting.{Setting}
 use Rattle.gb_domain.specs.declared.types.Core.{Core}
 use Rattle.gb_domain.specs.declared.types.Halves.{Halves}
 use Rattle.gb_domain.specs.Types.{AbsState}
 use Rattle.gb_product.specs.declared.parts.Branch.{Branch}
 use Rattle.gb_product.specs.declared.parts.Product.{Product}
-use Rattle.gb_product.specs.Reduced.{reduced}
+use Rattle.gb_product.specs.Reduced.{product_of, reduced}
 use Rattle.gb_product.specs.Sides.{taken_side, not_taken_side}
+use Rattle.gb_successors.specs.Below.gb_abs_effects.declared.writes.AbsWrite.{AbsWrite}
 use Rattle.gb_successors.specs.Below.gb_abs_effects.declared.targets.Target.{Target}
 use Rattle.gb_successors.specs.Below.gb_abs_effects.declared.targets.Target.TheVariants as target
 use Rattle.gb_successors.specs.Below.gb_abs_effects.Pairs.{is_word_known, least_word, pair_halves}
@@ -25,8 +26,9 @@ use Rattle.gb_successors.specs.declared.stacks.Stack.{Stack}
 use Rattle.gb_successors.specs.declared.stacks.StackMove.{StackMove}
 use Rattle.gb_successors.specs.Refined.{refined_target}
 use Rattle.gb_successors.specs.Refused.{is_unknown}
-use Rattle.gb_successors.specs.Sound.{IsOneOf, is_followed}
-use Rattle.gb_successors.specs.Successors.{with_product, taken_parts, taken_successor, untaken_successor, reduced_successor, taken_from, not_taken_from, product_before, staying_successor, may_stay, stays, successors_of}
+use Rattle.gb_successors.specs.Sound.{IsFound, IsOneOf, is_followed}
+use Rattle.gb_successors.specs.Stacks.{stack_move}
+use Rattle.gb_successors.specs.Successors.{pointer_in, word_in, effect_in, with_product, taken_parts, taken_successor, untaken_successor, reduced_successor, taken_from, not_taken_from, product_before, staying_successor, may_stay, stays, successors_of}
 use Rattle.gb_successors.specs.Way.{Successor}
 
 -- reducing leaves the target
@@ -38,30 +40,58 @@ reduced_target rules u t h = by (reduced rules u.state.core u.state.relations) h
     by None e = cc
     by (Some p) e = sym (ap (λ (w : Successor). w.target) (same_Some _ _ e))
 
+-- where a successor goes on that is taken, as its row, its pairs and its stack say it
+record IsTakenTo (k : Stack) (o : Op) (next : ℕ) (t : Successor) : Type 0 where
+  core : Core
+  word : Halves
+  pointer : Option Bounds
+  write : AbsWrite
+  is : t.target ≡ refined_target k.setting.rules k.setting o next word core pointer (stack_move k o write pointer) (target_of o next core)
+
+goes : (k : Stack) (rom : List ℕ) (row : Row) (next : ℕ) (s : AbsState) (b : Branch) → IsTakenTo k row.op next (taken_successor k rom row next s b)
+unfolding taken_successor taken_parts
+goes k rom row next s b =
+    let p = product_of b.core b.relations in
+    record { core = b.core; word = word_in k rom row.op s p; pointer = pointer_in k row.op p; write = (effect_in k rom row.op next s p).write; is = refl }
+
+is_taken_to : (k : Stack) (rom : List ℕ) (row : Row) (a : ℕ) (s : AbsState) (t : Successor) → (successors_of k rom row a s).taken ≡ Some t → IsTakenTo k row.op ((a + row.length) % 65536) t
+unfolding successors_of
+is_taken_to k rom row a s t h = from (product_before k.setting.rules s) h
+  where
+    at_side : (o : Option Branch) → option_and_then (λ b. reduced_successor k.setting.rules (taken_successor k rom row ((a + row.length) % 65536) s b)) o ≡ Some t → IsTakenTo k row.op ((a + row.length) % 65536) t
+    at_side None e = cc
+    at_side (Some b) e =
+        let g = goes k rom row ((a + row.length) % 65536) s b in
+        record { core = g.core; word = g.word; pointer = g.pointer; write = g.write; is = reduced_target k.setting.rules (taken_successor k rom row ((a + row.length) % 65536) s b) t e ∙ g.is }
+
+    from : (o : Option Product) → option_and_then (taken_from k rom row ((a + row.length) % 65536) s) o ≡ Some t → IsTakenTo k row.op ((a + row.length) % 65536) t
+    from None e = cc
+    from (Some p) e = at_side (taken_side row.op s.cells p.core p.relations) e
+
 by_row : (rules : Rules) (z : Setting) (o : Op) (next : ℕ) (w : Halves) (core : Core) (hl : Option Bounds) (m : StackMove) → rules ≡ Simple
     → refined_target rules z o next w core hl m (target_of o next core) ≡ target_of o next core
 unfolding refined_target
 by_row rules z o next w core hl m simple = subst (λ q. refined_target q z o next w core hl m (target_of o next core) ≡ target_of o next core) (sym simple) refl
 
-taken_goes : (k : Stack) (rom : List ℕ) (row : Row) (next : ℕ) (s : AbsState) (b : Branch) → k.setting.rules ≡ Simple → (taken_successor k rom row next s b).target ≡ target_of row.op next b.core
-unfolding taken_successor taken_parts
-taken_goes k rom row next s b simple = by_row k.setting.rules k.setting row.op next _ b.core _ _ simple
-
--- a successor that is taken goes on where the row says
-pub taken_target : (k : Stack) (rom : List ℕ) (row : Row) (a : ℕ) (s : AbsState) (t : Successor) → k.setting.rules ≡ Simple → (successors_of k rom row a s).taken ≡ Some t
+-- by the rules of versions 1 and 2 it goes on where the row says
+taken_target : (k : Stack) (rom : List ℕ) (row : Row) (a : ℕ) (s : AbsState) (t : Successor) → k.setting.rules ≡ Simple → (successors_of k rom row a s).taken ≡ Some t
     → (core : Core) × (t.target ≡ target_of row.op ((a + row.length) % 65536) core)
-unfolding successors_of
-taken_target k rom row a s t simple h = from (product_before k.setting.rules s) h
-  where
-    at_side : (o : Option Branch) → option_and_then (λ b. reduced_successor k.setting.rules (taken_successor k rom row ((a + row.length) % 65536) s b)) o ≡ Some t
-        → (core : Core) × (t.target ≡ target_of row.op ((a + row.length) % 65536) core)
-    at_side None e = cc
-    at_side (Some b) e =
-        (b.core, reduced_target k.setting.rules (taken_successor k rom row ((a + row.length) % 65536) s b) t e ∙ taken_goes k rom row ((a + row.length) % 65536) s b simple)
+taken_target k rom row a s t simple h =
+    let g = is_taken_to k rom row a s t h in
+    (g.core, g.is ∙ by_row k.setting.rules k.setting row.op _ g.word g.core g.pointer _ simple)
 
-    from : (o : Option Product) → option_and_then (taken_from k rom row ((a + row.length) % 65536) s) o ≡ Some t → (core : Core) × (t.target ≡ target_of row.op ((a + row.length) % 65536) core)
-    from None e = cc
-    from (Some p) e = at_side (taken_side row.op s.cells p.core p.relations) e
+-- HALT goes on behind itself
+halts_behind : (rules : Rules) (k : Stack) (z : Setting) (next : ℕ) (w : Halves) (core : Core) (hl : Option Bounds) (what : AbsWrite)
+    → refined_target rules z op.Halt next w core hl (stack_move k op.Halt what hl) (target_of op.Halt next core) ≡ target.At next
+unfolding refined_target stack_move target_of
+halts_behind Simple k z next w core hl what = refl
+halts_behind Extended k z next w core hl what = refl
+
+pub halt_target : (k : Stack) (rom : List ℕ) (row : Row) (a : ℕ) (s : AbsState) (t : Successor) → row.op ≡ op.Halt → (successors_of k rom row a s).taken ≡ Some t → t.target ≡ target.At ((a + row.length) % 65536)
+halt_target k rom row a s t halt h =
+    let g = is_taken_to k rom row a s t h in
+    let next = (a + row.length) % 65536 in
+    g.is ∙ (ap (λ (o : Op). refined_target k.setting.rules k.setting o next g.word g.core g.pointer (stack_move k o g.write g.pointer) (target_of o next g.core)) halt ∙ halts_behind k.setting.rules k k.setting next g.word g.core g.pointer g.write)
 
 -- one that isn't goes on behind the instruction
 untaken_target : (k : Stack) (rom : List ℕ) (row : Row) (a : ℕ) (s : AbsState) (t : Successor) → (successors_of k rom row a s).not_taken ≡ Some t → t.target ≡ target.At ((a + row.length) % 65536)
@@ -87,14 +117,14 @@ staying_target k rom row a s t h = by (may_stay row.op s.core) h
 
 -- ---- what goes somewhere is followed
 
-word_followed : (w : Halves) → is_unknown (word_target w) ≡ false → is_followed (word_target w) ≡ true
+word_followed : (w : Halves) → is_unknown (word_target w) ≡ false → is_followed Simple (word_target w) ≡ true
 word_followed w h = by (is_word_known w) h
   where
-    by : (b : Bool) → is_unknown (cond b (target.At (least_word w)) target.Unknown) ≡ false → is_followed (cond b (target.At (least_word w)) target.Unknown) ≡ true
+    by : (b : Bool) → is_unknown (cond b (target.At (least_word w)) target.Unknown) ≡ false → is_followed Simple (cond b (target.At (least_word w)) target.Unknown) ≡ true
     by true h = refl
     by false h = cc
 
-row_followed : (o : Op) (next : ℕ) (core : Core) → is_unknown (target_of o next core) ≡ false → is_followed (target_of o next core) ≡ true
+row_followed : (o : Op) (next : ℕ) (core : Core) → is_unknown (target_of o next core) ≡ false → is_followed Simple (target_of o next core) ≡ true
 unfolding target_of
 row_followed op.JumpHl next core h = word_followed (pair_halves pair.Hl core) h
 row_followed (op.JumpRelative e8) next core h = refl
@@ -109,14 +139,23 @@ row_followed (op.Call w) next core h = refl
 row_followed (op.Restart w) next core h = refl
 row_followed o next core h = refl
 
-at_followed : (w : Target) (a : ℕ) → w ≡ target.At a → is_followed w ≡ true
-at_followed w a e = ap is_followed e
+at_followed : (w : Target) (a : ℕ) → w ≡ target.At a → is_followed Simple w ≡ true
+at_followed w a e = ap (is_followed Simple) e
 
 -- by the rules of versions 1 and 2 each successor that doesn't lead anywhere is followed: none goes on in main or gets lost
 pub way_followed : (k : Stack) (rom : List ℕ) (row : Row) (a : ℕ) (s : AbsState) (t : Successor) → k.setting.rules ≡ Simple → IsOneOf (successors_of k rom row a s) t
-    → is_unknown t.target ≡ false → is_followed t.target ≡ true
+    → is_unknown t.target ≡ false → is_followed Simple t.target ≡ true
 way_followed k rom row a s t simple (inl e) known =
     let goes = taken_target k rom row a s t simple e in
-    ap is_followed goes.1 ∙ row_followed row.op ((a + row.length) % 65536) goes.0 (sym (ap is_unknown goes.1) ∙ known)
+    ap (is_followed Simple) goes.1 ∙ row_followed row.op ((a + row.length) % 65536) goes.0 (sym (ap is_unknown goes.1) ∙ known)
 way_followed k rom row a s t simple (inr (inl e)) known = at_followed t.target _ (untaken_target k rom row a s t e)
 way_followed k rom row a s t simple (inr (inr e)) known = at_followed t.target _ (staying_target k rom row a s t e)
+
+-- by those of version 3 what is found
+pub found_followed : (w : Target) → IsFound w → is_followed Extended w ≡ true
+found_followed (target.At a) h = refl
+found_followed (target.Call a) h = refl
+found_followed target.Return h = refl
+found_followed (target.Main a) h = refl
+found_followed target.Unknown h = absurd h
+found_followed target.Lost h = absurd h

@@ -1,10 +1,10 @@
--- What a successor of a node that passes leads to: a node of the procedure, a callee, or the procedure's exit.
-use Rattle.std.proofs.Common.{◌≡◌, ℕ, zero, suc, ◌+◌, ◌≤◌, ◌<◌, Bool, true, false, cond, ◌&&◌, ◌||◌, ◌==◌, nat_lt, inl, inr, List, [], ◌∷◌, length, slice_get, Option, Some, None, refl, sym, ◌∙◌, subst, arith}
+-- What a successor of a node that passes leads to by the rules of versions 1 and 2: a node of the procedure, a callee, or the
+-- procedure's exit.
+use Rattle.std.proofs.Common.{◌≡◌, ℕ, zero, suc, ◌+◌, ◌≤◌, ◌<◌, true, false, ◌||◌, ◌==◌, nat_lt, inl, inr, List, [], ◌∷◌, length, slice_get, Option, Some, None, refl, sym, ◌∙◌, subst, arith}
 use Rattle.std.specs.Prelude.{IfSome}
 use Rattle.std.proofs.lemmas.Bool.{not-false, and_parts, or_parts, eqb-true}
 use Rattle.std.proofs.lemmas.Bool.Decides.{nat_tests}
 use Rattle.std.proofs.lemmas.Option.{same_Some}
-use Rattle.gb_ops.specs.declared.op.Op.{Op}
 use Rattle.gb_ops.specs.Play.{MState}
 use Rattle.gb_domain.specs.Types.{AbsState, ProcedureParts, Node}
 use Rattle.gb_domain.specs.Certificate.{Certificate}
@@ -14,50 +14,29 @@ use Rattle.gb_product.specs.Meaning.{AreRelated, Means}
 use Rattle.gb_abs.specs.Stack.{AreInRegion, pushed}
 use Rattle.gb_abs.specs.Meaning.{MeansParts}
 use Rattle.gb_domain.specs.declared.types.Halves.{Halves}
-use Rattle.gb_domain.specs.declared.rules.Rules.{Rules}
 use Rattle.gb_domain.specs.declared.rules.Rules.TheVariants.{Simple}
-use Rattle.gb_product.specs.Covering.{covers}
-use Rattle.gb_domain.specs.Limits.{rules_of, item_room}
+use Rattle.gb_domain.specs.Limits.{rules_of}
+use Rattle.gb_domain.specs.Settings.{IsBase}
 use Rattle.gb_successors.specs.Below.gb_abs_effects.Pairs.{known_word}
 use Rattle.gb_product.proofs.CoveringLaws.{Means-covered}
 use Rattle.gb_successors.specs.Below.gb_abs_effects.declared.targets.Target.{Target}
 use Rattle.gb_successors.specs.Below.gb_abs_effects.declared.targets.Target.TheVariants as target
-use Rattle.gb_successors.specs.Below.gb_abs_effects.Targets.{is_push}
-use Rattle.gb_calls.specs.Calls.{entered_by, callee_of, are_ranges_inside}
+use Rattle.gb_calls.specs.Calls.{callee_of, are_ranges_inside}
 use Rattle.gb_calls.specs.Resuming.{resumed}
 use Rattle.gb_calls.proofs.CalleeLaws.{IsCallee-found, IsEntryNode-entry}
 use Rattle.gb_successors.specs.Way.{Successor}
-use Rattle.gb_successors.specs.Sound.{bytes_behind, is_followed, IsOneOf, StaysAt, CallsAt, ReturnsTo, LeadsTo}
-use Rattle.gb_successors.specs.Sound as successors
+use Rattle.gb_successors.specs.Sound.{is_followed, IsOneOf, StaysAt, CallsAt, ReturnsTo, LeadsSimply}
 use Rattle.gb_rules.specs.Covered.{covered_at}
 use Rattle.gb_rules.specs.Procedures.{ranges_of, need_of, setting_of, exit_of, taken_by}
-use Rattle.gb_rules.specs.Rules.{ways_of, pushes_too_deep, callee_by, callee_at, is_over, calls_too_deep, is_resumed_uncovered, is_back_uncovered, is_call_uncovered, is_uncovered, is_uncovered_at, is_outside_of, is_uncallable, is_uncallable_at, is_exit_missed, is_unreturnable, is_unreturnable_at}
-use Rattle.gb_rules.specs.Safety.{IsMeant, Calls, Returns, Leads}
+use Rattle.gb_rules.specs.Rules.{ways_of, callee_by, callee_at, is_over, calls_too_deep, is_resumed_uncovered, is_back_uncovered, is_call_uncovered, is_uncovered, is_uncovered_at, is_outside_of, is_uncallable, is_uncallable_at, is_exit_missed, is_unreturnable, is_unreturnable_at}
+use Rattle.gb_rules.specs.Safety.{HasReturnWord, IsMeant, Calls, Returns, LeadsBy, Leads}
 use Rattle.gb_rules.proofs.SearchLaws.{Contains-slice_get}
 use Rattle.gb_rules.proofs.CoveringLaws.{found_at}
-use Rattle.gb_rules.proofs.NodeLaws.{simple_at, covered_if, shallow, followed, not_uncovered, not_uncallable, not_too_deep, not_unreturnable}
+use Rattle.gb_rules.proofs.NodeLaws.{simple_at, covered_if, IsUnopposed, unopposed, followed}
 use Rattle.gb_rules.proofs.StandLaws.{OnNode}
 
 not_so : {X : Type 0} → true ≡ false → X
 not_so h = cc
-
--- ---- the bytes that are held
-
-bytes_fit : (o : Op) (need held : ℕ) (n : Node) → length n.state.items ≡ held → held ≤ need → pushes_too_deep need n o ≡ false → bytes_behind o held ≤ need
-unfolding pushes_too_deep bytes_behind item_room
-bytes_fit o need held n e least h = by (is_push o) h
-  where
-    fits : (m : ℕ) → m ≡ held → (nat_lt need (m + 2) || nat_lt 32 (m + 2)) ≡ false → held + 2 ≤ need
-    fits m e h = grind (arith, nat_tests)
-
-    by : (b : Bool) → (b && (nat_lt need (length n.state.items + 2) || nat_lt 32 (length n.state.items + 2))) ≡ false → cond b (held + 2) held ≤ need
-    by true g = fits (length n.state.items) e g
-    by false g = least
-
--- behind an instruction of a node that passes no more bytes are held than the need
-pub bytes_within : (rom : List ℕ) (cert : Certificate) (n : Node) (entry : MState) (base : ℕ) (x : MState) (k : OnNode rom cert n entry base x) → bytes_behind k.passes.row.op (length n.state.items) ≤ need_of cert n.procedure
-bytes_within rom cert n entry base x k =
-    bytes_fit k.passes.row.op (need_of cert n.procedure) (length n.state.items) n refl k.depth (shallow rom cert n k.passes).pushes
 
 -- ---- the callee's entry
 
@@ -90,21 +69,14 @@ resumed_covered : (cert : Certificate) (procedure back : ℕ) (s : AbsState) (q 
     → IfSome (resumed Simple (taken_by cert q) (ranges_of cert q) s exit) (λ after. covered_at Simple cert.nodes procedure back after ≡ true)
 resumed_covered cert procedure back s q h exit is = covered_if cert procedure back _ (subst (λ o. is_resumed_uncovered Simple cert procedure back s q o ≡ false) is h)
 
--- what is said by the rules of versions 1 and 2, in a certificate of theirs
-pub covered_by_version : (cert : Certificate) (procedure back q : ℕ) (s exit : AbsState) → rules_of cert.version ≡ Simple
-    → IfSome (resumed Simple (taken_by cert q) (ranges_of cert q) s exit) (λ after. covered_at Simple cert.nodes procedure back after ≡ true)
-    → IfSome (resumed (rules_of cert.version) (taken_by cert q) (ranges_of cert q) s exit) (λ after. covered_at (rules_of cert.version) cert.nodes procedure back after ≡ true)
-covered_by_version cert procedure back q s exit simple h =
-    subst (λ (r : Rules). IfSome (resumed r (taken_by cert q) (ranges_of cert q) s exit) (λ after. covered_at r cert.nodes procedure back after ≡ true)) (sym simple) h
-
 means_pushed : (w : Halves) (s : AbsState) (entry : MState) (base : ℕ) (x : MState) → MeansParts (pushed w s) entry base x → AreRelated s.relations x → Means (pushed w s) entry base x
 unfolding pushed
 means_pushed w s entry base x parts related = record { parts = parts; related = related }
 
-calls_at : (rom : List ℕ) (cert : Certificate) (n : Node) (t : Successor) (a : ℕ) (entry : MState) (base : ℕ) (y : MState) → IsCertificate cert → rules_of cert.version ≡ Simple → CallsAt cert.region a t entry base y → AreRelated t.state.relations y
+calls_at : (rom : List ℕ) (cert : Certificate) (n : Node) (t : Successor) (a : ℕ) (entry : MState) (base : ℕ) (y : MState) → IsCertificate cert → CallsAt cert.region a t entry base y → AreRelated t.state.relations y
     → y.processor.halt_mark ≡ false → is_outside_of (simple_at cert n) cert n.procedure (callee_of cert (simple_at cert n) a t.state) ≡ false → is_over Simple cert (need_of cert n.procedure) (length t.state.items) (callee_of cert (simple_at cert n) a t.state) ≡ false
     → is_call_uncovered Simple cert n.procedure a t.next t.state (callee_of cert (simple_at cert n) a t.state) ≡ false → Calls cert n.procedure entry base y
-calls_at rom cert n t a entry base y certificate simple c related mark outside over uncovered = by (callee_of cert (simple_at cert n) a t.state) refl outside over uncovered
+calls_at rom cert n t a entry base y certificate c related mark outside over uncovered = by (callee_of cert (simple_at cert n) a t.state) refl outside over uncovered
   where
     by : (o : Option ℕ) → callee_of cert (simple_at cert n) a t.state ≡ o → is_outside_of (simple_at cert n) cert n.procedure o ≡ false → is_over Simple cert (need_of cert n.procedure) (length t.state.items) o ≡ false
         → is_call_uncovered Simple cert n.procedure a t.next t.state o ≡ false → Calls cert n.procedure entry base y
@@ -118,20 +90,19 @@ calls_at rom cert n t a entry base y certificate simple c related mark outside o
           back = t.next;
           back_small = c.next;
           means = means_pushed (known_word t.next) t.state entry base y c.means related;
-          rules = simple;
           stack_set = c.stack_set;
           placed = c.placed;
           node = begin.node;
           is_node = Contains-slice_get cert.nodes callee.procedure.entry begin.node begin.is_node;
           not_main = subst (λ m. 0 < m) (sym number) callee.not_main;
           address = c.goes ∙ sym begin.address;
-          begins = subst (λ (r : Rules). covers (entered_by r (length begin.node.state.items) t.state) begin.node.state ≡ true) (sym simple) begin.covering;
+          begins = begin.covering;
           mark = mark;
           depth = subst (λ m. length t.state.items + 2 + need_of cert m ≤ need_of cert n.procedure) (sym number) (not_over cert (need_of cert n.procedure) (length t.state.items) q deep);
           inside = subst (λ m. are_ranges_inside (ranges_of cert m) (ranges_of cert n.procedure) ≡ true) (sym number) (not-false _ out);
           resumes = λ exit is.
-              subst (λ m. IfSome (resumed (rules_of cert.version) (taken_by cert m) (ranges_of cert m) t.state exit) (λ after. covered_at (rules_of cert.version) cert.nodes n.procedure t.next after ≡ true)) (sym number)
-              (covered_by_version cert n.procedure t.next q t.state exit simple (resumed_covered cert n.procedure t.next t.state q back exit (subst (λ m. exit_of cert m ≡ Some exit) number is)));
+              subst (λ m. IfSome (resumed Simple (taken_by cert m) (ranges_of cert m) t.state exit) (λ after. covered_at Simple cert.nodes n.procedure t.next after ≡ true)) (sym number)
+              (resumed_covered cert n.procedure t.next t.state q back exit (subst (λ m. exit_of cert m ≡ Some exit) number is));
         }
 
 -- ---- returns
@@ -169,8 +140,8 @@ pub record IsMarked (rom : List ℕ) (w : Target) (y : MState) : Type 0 where
 
 -- a successor leads on in the same procedure
 stays_at : (rom : List ℕ) (cert : Certificate) (n : Node) (entry : MState) (base : ℕ) (x : MState) (k : OnNode rom cert n entry base x) (t : Successor) (a : ℕ) (y : MState)
-    → StaysAt cert.region a t entry base y → AreRelated t.state.relations y → length t.state.items ≤ need_of cert n.procedure → covered_at Simple cert.nodes n.procedure a t.state ≡ true → IsMarkHarmless rom y → IsMeant rom cert n.procedure entry base y
-stays_at rom cert n entry base x k t a y to related held covered mark =
+    → StaysAt cert.region a t entry base y → AreRelated t.state.relations y → covered_at Simple cert.nodes n.procedure a t.state ≡ true → IsMarkHarmless rom y → IsMeant rom cert n.procedure entry base y
+stays_at rom cert n entry base x k t a y to related covered mark =
     let f = found_at cert n.procedure a t.state entry base y covered (record { parts = to.means; related = related }) in
     record {
       node = f.node;
@@ -181,28 +152,36 @@ stays_at rom cert n entry base x k t a y to related held covered mark =
         means = f.means;
         mark = mark;
         main = λ is. k.main (sym f.procedure_is ∙ is);
-        return_word = λ other. k.return_word (subst (λ m. 0 < m) f.procedure_is other);
+        based = subst (λ m. IsBase (setting_of cert m) base) (sym f.procedure_is) k.based;
+        return_word = subst (λ m. HasReturnWord (rules_of cert.version) cert.region m base) (sym f.procedure_is) k.return_word;
         room = subst (λ m. AreInRegion cert.region base (need_of cert m)) (sym f.procedure_is) k.room;
-        depth = subst (λ m. length f.node.state.items ≤ need_of cert m) (sym f.procedure_is) (subst (λ c. c ≤ need_of cert n.procedure) (sym f.count) held);
+        held = subst (λ c. AreInRegion cert.region base c) (sym f.count) to.room;
       };
     }
 
-pub Leads-way : (rom : List ℕ) (cert : Certificate) (n : Node) (entry : MState) (base : ℕ) (x : MState) (k : OnNode rom cert n entry base x) (t : Successor) → IsOneOf (ways_of rom cert n k.passes.row) t → (y : MState)
-    → successors.Leads (setting_of cert n.procedure) cert.region (ranges_of cert n.procedure) t entry base x y → length t.state.items ≤ need_of cert n.procedure → IsMarked rom t.target y → Leads rom cert n.procedure entry base x y
-unfolding is_uncovered is_uncallable is_unreturnable calls_too_deep callee_at
-Leads-way rom cert n entry base x k t is y leads held mark =
-    by t.target leads.to (followed rom cert n k.passes t is) (not_uncovered rom cert n k.passes t is) (not_uncallable rom cert n k.passes t is) (not_too_deep rom cert n k.passes t is)
-    (not_unreturnable rom cert n k.passes t is) mark
-  where
-    related : AreRelated t.state.relations y
-    related = leads.related (followed rom cert n k.passes t is)
+-- by the rules of versions 1 and 2
+pub simply_leads : (rom : List ℕ) (cert : Certificate) (procedure : ℕ) (entry : MState) (base : ℕ) (s t : MState) → rules_of cert.version ≡ Simple → LeadsBy Simple rom cert procedure entry base s t
+    → Leads rom cert procedure entry base s t
+simply_leads rom cert procedure entry base s t simple h = subst (λ r. LeadsBy r rom cert procedure entry base s t) (sym simple) h
 
-    by : (w : Target) → LeadsTo cert.region w t entry base x y → is_followed w ≡ true → is_uncovered_at (simple_at cert n) cert n.procedure w t.next t.state ≡ false
+pub Leads-simply : (rom : List ℕ) (cert : Certificate) (n : Node) (entry : MState) (base : ℕ) (x : MState) (k : OnNode rom cert n entry base x) (t : Successor) → rules_of cert.version ≡ Simple
+    → IsOneOf (ways_of rom cert n k.passes.row) t → (y : MState) → LeadsSimply cert.region t.target t entry base x y → (is_followed Simple t.target ≡ true → AreRelated t.state.relations y) → IsMarked rom t.target y
+    → LeadsBy Simple rom cert n.procedure entry base x y
+unfolding is_uncovered is_uncallable is_unreturnable calls_too_deep callee_at
+Leads-simply rom cert n entry base x k t simple is y leads related_if mark = by t.target leads (followed rom cert n k.passes t simple is) u.covered u.callable u.shallow u.returnable mark
+  where
+    u : IsUnopposed Simple cert n t
+    u = unopposed Simple rom cert n k.passes t simple is
+
+    related : AreRelated t.state.relations y
+    related = related_if (followed rom cert n k.passes t simple is)
+
+    by : (w : Target) → LeadsSimply cert.region w t entry base x y → is_followed Simple w ≡ true → is_uncovered_at (simple_at cert n) cert n.procedure w t.next t.state ≡ false
         → is_uncallable_at (simple_at cert n) cert n.procedure w t.state ≡ false → is_over Simple cert (need_of cert n.procedure) (length t.state.items) (callee_by cert (simple_at cert n) w t.state) ≡ false
-        → is_unreturnable_at Simple cert n.procedure w t.state ≡ false → IsMarked rom w y → Leads rom cert n.procedure entry base x y
-    by (target.At a) to known covered callable shallow returnable marked = inl (stays_at rom cert n entry base x k t a y to related held (not-false _ covered) marked.harmless)
-    by (target.Call a) to known covered callable shallow returnable marked = inr (inl (calls_at rom cert n t a entry base y k.certificate k.passes.rules to related (marked.clear tt) callable shallow covered))
-    by target.Return to known covered callable shallow returnable marked = inr (inr (returns_to cert n t entry base x y to related (marked.clear tt) returnable))
+        → is_unreturnable_at Simple cert n.procedure w t.state ≡ false → IsMarked rom w y → LeadsBy Simple rom cert n.procedure entry base x y
+    by (target.At a) to known covered callable shallow returnable marked = inl (stays_at rom cert n entry base x k t a y to related (not-false _ covered) marked.harmless)
+    by (target.Call a) to known covered callable shallow returnable marked = inr (inl (calls_at rom cert n t a entry base y k.certificate to related (marked.clear tt) callable shallow covered))
+    by target.Return to known covered callable shallow returnable marked = inr (inr (inl (returns_to cert n t entry base x y to related (marked.clear tt) returnable)))
     by (target.Main a) to known covered callable shallow returnable marked = not_so (sym known)
     by target.Unknown to known covered callable shallow returnable marked = not_so (sym known)
     by target.Lost to known covered callable shallow returnable marked = not_so (sym known)

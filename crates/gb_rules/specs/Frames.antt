@@ -2,26 +2,31 @@
 -- procedure above it was entered (own; abstract interpretation: calls by summary).
 use Rattle.std.specs.Prelude.{◌≡◌, ℕ, ◌+◌, ◌≤◌, ◌<◌, List, [], ◌∷◌}
 use Rattle.gb_ops.specs.Play.{MState}
+use Rattle.gb_domain.specs.declared.rules.Rules.{Rules}
+use Rattle.gb_domain.specs.declared.rules.Rules.TheVariants.{Simple, Extended}
 use Rattle.gb_domain.specs.Certificate.{Certificate}
+use Rattle.gb_domain.specs.Limits.{rules_of}
+use Rattle.gb_domain.specs.Settings.{IsBase}
 use Rattle.gb_abs.specs.Stack.{AreInRegion}
 use Rattle.gb_abs.specs.Storage.{peek}
 use Rattle.gb_code.specs.Below.gb_abs_memory.Kept.{IsKept}
-use Rattle.gb_rules.specs.Procedures.{ranges_of, need_of, setting_of}
-use Rattle.gb_rules.specs.Safety.{IsMeant, Calls}
+use Rattle.gb_calls.specs.TakenOver.{base_below}
+use Rattle.gb_rules.specs.Procedures.{ranges_of, need_of, setting_of, taken_by}
+use Rattle.gb_rules.specs.Safety.{IsMeant, Calls, HandsOver}
 
--- from s to t each byte stays that a procedure with its return word at base has to keep
+-- from s to t each byte stays that a procedure with this base has to keep
 pub record Keeps (cert : Certificate) (procedure base : ℕ) (s t : MState) : Type 0 where
   pub byte : (b : ℕ) → IsKept (setting_of cert procedure) cert.region (ranges_of cert procedure) base b → peek t.storage b ≡ peek s.storage b
 
--- a procedure that waits for the one that it called: its number, the state in which it was entered, and where its
--- return word stands (main: the address behind the region)
+-- a procedure that waits for the one that it called: its number, the state in which it was entered, and its base
 pub record Frame : Type 0 where
   pub procedure : ℕ
   pub entry : MState
   pub base : ℕ
 
--- The procedure of the frame waits for another one, which was entered in the state entered with its return word at base:
--- it called that one, the bytes that it may need lie in the region, and it had kept what it has to keep.
+-- By the rules of versions 1 and 2 the procedure of the frame waits for another one, which was entered in the state entered
+-- with its return word at base: it called that one, the bytes that it may need lie in the region, and it had kept what it has
+-- to keep.
 pub record IsWaiting (cert : Certificate) (f : Frame) (procedure : ℕ) (entered : MState) (base : ℕ) : Type 0 where
   pub calls : Calls cert f.procedure f.entry f.base entered
   pub callee : calls.node.procedure ≡ procedure
@@ -31,15 +36,30 @@ pub record IsWaiting (cert : Certificate) (f : Frame) (procedure : ℕ) (entered
   pub room : AreInRegion cert.region f.base (need_of cert f.procedure)
   pub keeps : Keeps cert f.procedure f.base f.entry entered
 
+-- By those of version 3 it handed items over, and base is the address above them; its own base is as the certificate says it.
+pub record IsWaitingAbove (cert : Certificate) (f : Frame) (procedure : ℕ) (entered : MState) (base : ℕ) : Type 0 where
+  pub calls : HandsOver cert f.procedure f.entry f.base entered
+  pub callee : calls.node.procedure ≡ procedure
+  pub base_is : base ≡ base_below (taken_by cert procedure) calls.state.items f.base
+  pub main : f.procedure ≡ 0 → f.base ≡ cert.region.last + 1
+  pub based : IsBase (setting_of cert f.procedure) f.base
+  pub room : AreInRegion cert.region f.base (need_of cert f.procedure)
+  pub keeps : Keeps cert f.procedure f.base f.entry entered
+
+abbrev pub IsWaitingBy : Rules → Certificate → Frame → ℕ → MState → ℕ → Type 0
+IsWaitingBy Simple cert f procedure entered base = IsWaiting cert f procedure entered base
+IsWaitingBy Extended cert f procedure entered base = IsWaitingAbove cert f procedure entered base
+
 -- the procedures that wait below one, the youngest first; the last one is main, which nothing waits for
-abbrev pub AreWaiting : Certificate → List Frame → ℕ → MState → ℕ → Type 0
-AreWaiting cert [] procedure entry base = procedure ≡ 0
-AreWaiting cert (f ∷ rest) procedure entry base = IsWaiting cert f procedure entry base × AreWaiting cert rest f.procedure f.entry f.base
+abbrev pub AreWaiting : Rules → Certificate → List Frame → ℕ → MState → ℕ → Type 0
+AreWaiting rules cert [] procedure entry base = procedure ≡ 0
+AreWaiting rules cert (f ∷ rest) procedure entry base =
+    IsWaitingBy rules cert f procedure entry base × AreWaiting rules cert rest f.procedure f.entry f.base
 
 -- the machine stands at a node of a procedure, others wait below it, and it has kept what it has to keep
 pub record Stands (rom : List ℕ) (cert : Certificate) (frames : List Frame) (procedure : ℕ) (entry : MState) (base : ℕ) (s : MState) : Type 0 where
   pub meant : IsMeant rom cert procedure entry base s
-  pub waiting : AreWaiting cert frames procedure entry base
+  pub waiting : AreWaiting (rules_of cert.version) cert frames procedure entry base
   pub keeps : Keeps cert procedure base entry s
 
 -- the machine stands at a node of some procedure, whichever wait below it

@@ -70,10 +70,6 @@ is_nop_behind rom s a (Some end) = nat_lt (a + 1) end && is_nop (known_byte rom 
 unfoldable pub may_read_twice : List ℕ → Node → Op → Bool
 may_read_twice rom n o = is_halt o && n.state.core.ime.off && not (is_nop_behind rom n.state n.address (area_end n.address))
 
--- A certificate of version 3 is not judged yet: each of its nodes is refused.
-unfoldable pub is_unjudged : Certificate → Bool
-is_unjudged cert = is_extended (rules_of cert.version)
-
 -- By the rules of versions 1 and 2: LD SP,n16 is main's, to the address behind the region; what pushes a word finds the stack
 -- set, POP a word on it; and nothing else but returns moves SP. This is asked of the instruction, whether a side is possible
 -- or not.
@@ -392,7 +388,7 @@ returns_wrongly rom cert n row = any_of (is_unreturnable (rules_of cert.version)
 unfoldable pub applies_to_row : List ℕ → Certificate → Node → Row → Reason → Bool
 applies_to_row rom cert n row reason.Stop = is_stop row.op
 applies_to_row rom cert n row reason.Halt = may_read_twice rom n row.op
-applies_to_row rom cert n row reason.Stack = is_unjudged cert || breaks_stack (stack_of cert n.procedure) n row.op
+applies_to_row rom cert n row reason.Stack = breaks_stack (stack_of cert n.procedure) n row.op
 applies_to_row rom cert n row reason.Depth = grows_too_deep rom cert n row
 applies_to_row rom cert n row reason.Store = stores_outside rom cert n row
 applies_to_row rom cert n row reason.CartridgeRam = meets_ram rom cert n row

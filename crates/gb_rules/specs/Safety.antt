@@ -1,5 +1,5 @@
 -- What a certificate's nodes promise of one event.
-use Rattle.std.specs.Prelude.{◌≡◌, ℕ, ◌+◌, ◌≤◌, ◌<◌, ◌⊎◌, true, false, List, Some, IfSome, length, slice_get}
+use Rattle.std.specs.Prelude.{◌≡◌, ℕ, ◌+◌, ◌-◌, ◌≤◌, ◌<◌, ◌⊎◌, true, false, List, Some, IfSome, length, slice_get}
 use Rattle.std.specs.List.{All, Contains}
 use Rattle.gb_ops.specs.declared.machine.Event.{Event}
 use Rattle.gb_ops.specs.declared.machine.Event.TheVariants as event
@@ -7,13 +7,20 @@ use Rattle.gb_ops.specs.Pairs.{word}
 use Rattle.gb_ops.specs.Faults.{no_faults}
 use Rattle.gb_ops.specs.Play.{MState, next, faults, places}
 use Rattle.gb_domain.specs.Types.{AbsState, Node}
-use Rattle.gb_domain.specs.declared.rules.Rules.TheVariants.{Simple}
+use Rattle.gb_domain.specs.declared.rules.Rules.{Rules}
+use Rattle.gb_domain.specs.declared.rules.Rules.TheVariants.{Simple, Extended}
+use Rattle.gb_domain.specs.declared.types.Origin.TheVariants.{ReturnHigh, ReturnLow}
+use Rattle.gb_domain.specs.Pairs.{ArePairs}
+use Rattle.gb_domain.specs.Settings.{IsBase}
+use Rattle.gb_ops.specs.declared.machine.Region.{Region}
+use Rattle.gb_abs.specs.Meaning.{origin_value}
+use Rattle.gb_calls.specs.TakenOver.{base_below}
 use Rattle.gb_domain.specs.Certificate.{Certificate}
 use Rattle.gb_domain.specs.Limits.{rules_of}
 use Rattle.gb_abs.specs.Cells.{ArePlaced}
 use Rattle.gb_product.specs.Covering.{covers}
 use Rattle.gb_abs.specs.Mark.{IsMarkHarmless}
-use Rattle.gb_product.specs.Meaning.{Means}
+use Rattle.gb_product.specs.Meaning.{Means, IsApart}
 use Rattle.gb_abs.specs.Stack.{AreInRegion, pushed}
 use Rattle.gb_abs.specs.Storage.{peek}
 use Rattle.gb_code.specs.Below.gb_abs_memory.Kept.{IsKept}
@@ -26,16 +33,23 @@ use Rattle.gb_rules.specs.Procedures.{ranges_of, need_of, setting_of, exit_of, t
 
 -- ---- where the machine stands
 
--- the machine stands at a node, in a state that the node means: its procedure was entered in the state entry, with its
--- return word at base (main: base is the address behind the region); the bytes that it may need lie in the region
+-- by the rules of versions 1 and 2 the return word of a procedure but main stands at its base, inside the region; by those of
+-- version 3 it is among what the procedure holds
+abbrev pub HasReturnWord : Rules → Region → ℕ → ℕ → Type 0
+HasReturnWord Simple region procedure base = 0 < procedure → base + 2 ≤ region.last + 1
+HasReturnWord Extended region procedure base = Unit {0}
+
+-- the machine stands at a node, in a state that the node means: its procedure was entered in the state entry, and base is the
+-- address above its items (main's is the one behind the region); those, and the bytes that it may need, lie in the region
 pub record IsAt (rom : List ℕ) (cert : Certificate) (n : Node) (entry : MState) (base : ℕ) (s : MState) : Type 0 where
   pub address : s.processor.pc ≡ n.address
   pub means : Means n.state entry base s
   pub mark : IsMarkHarmless rom s
   pub main : n.procedure ≡ 0 → base ≡ cert.region.last + 1
-  pub return_word : 0 < n.procedure → base + 2 ≤ cert.region.last + 1
+  pub based : IsBase (setting_of cert n.procedure) base
+  pub return_word : HasReturnWord (rules_of cert.version) cert.region n.procedure base
   pub room : AreInRegion cert.region base (need_of cert n.procedure)
-  pub depth : length n.state.items ≤ need_of cert n.procedure
+  pub held : AreInRegion cert.region base (length n.state.items)
 
 -- some node of the procedure stands where the machine is, and means its state
 pub record IsMeant (rom : List ℕ) (cert : Certificate) (procedure : ℕ) (entry : MState) (base : ℕ) (s : MState) : Type 0 where
@@ -46,31 +60,63 @@ pub record IsMeant (rom : List ℕ) (cert : Certificate) (procedure : ℕ) (entr
 
 -- ---- what an event leaves
 
--- The machine has called: the procedure waits in a state, with the word of the address where it will go on on the
--- stack, and the callee stands at its entry. The callee's ranges and bytes lie inside the procedure's, and where it
--- returns, the procedure goes on at a node.
+-- By the rules of versions 1 and 2 the machine has called: the procedure waits in a state, with the word of the address where
+-- it will go on on the stack, and the callee stands at its entry. The callee's ranges and bytes lie inside the procedure's,
+-- and where it returns, the procedure goes on at a node.
 pub record Calls (cert : Certificate) (procedure : ℕ) (entry : MState) (base : ℕ) (s : MState) : Type 0 where
   pub state : AbsState
   pub back : ℕ
   pub back_small : back < 65536
   pub means : Means (pushed (known_word back) state) entry base s
-  pub rules : rules_of cert.version ≡ Simple
   pub stack_set : state.core.stack_set ≡ true
   pub placed : ArePlaced cert.region state.cells
   pub node : Node
   pub is_node : Contains cert.nodes node
   pub not_main : 0 < node.procedure
   pub address : s.processor.pc ≡ node.address
-  pub begins : covers (entered_by (rules_of cert.version) (length node.state.items) state) node.state ≡ true
+  pub begins : covers (entered_by Simple (length node.state.items) state) node.state ≡ true
   pub mark : s.processor.halt_mark ≡ false
   pub depth : length state.items + 2 + need_of cert node.procedure ≤ need_of cert procedure
   pub inside : are_ranges_inside (ranges_of cert node.procedure) (ranges_of cert procedure) ≡ true
   pub resumes :
       (exit : AbsState) → exit_of cert node.procedure ≡ Some exit
-      → IfSome (resumed (rules_of cert.version) (taken_by cert node.procedure) (ranges_of cert node.procedure) state exit)
-      (λ after. covered_at (rules_of cert.version) cert.nodes procedure back after ≡ true)
+      → IfSome (resumed Simple (taken_by cert node.procedure) (ranges_of cert node.procedure) state exit)
+      (λ after. covered_at Simple cert.nodes procedure back after ≡ true)
 
--- from s to t the machine has returned: to the word at the base, in a state that the procedure's exit means
+-- By those of version 3: the word of the address where the procedure will go on is among its items, of which the callee takes
+-- the newest over. The others wait; they and the callee's need lie inside the procedure's need, and the callee's ranges inside
+-- the procedure's, unless that is main. Where the callee returns, the procedure goes on at a node.
+pub record HandsOver (cert : Certificate) (procedure : ℕ) (entry : MState) (base : ℕ) (s : MState) : Type 0 where
+  pub state : AbsState
+  pub back : ℕ
+  pub back_small : back < 65536
+  pub means : Means state entry base s
+  pub return_word : word (peek s.storage (s.processor.sp + 1)) (peek s.storage s.processor.sp) ≡ back
+  pub stack_set : state.core.stack_set ≡ true
+  pub placed : IsApart cert.region state
+  pub pairs : ArePairs state.relations.pairs
+  pub held : AreInRegion cert.region base (length state.items)
+  pub node : Node
+  pub is_node : Contains cert.nodes node
+  pub not_main : 0 < node.procedure
+  pub address : s.processor.pc ≡ node.address
+  pub few : taken_by cert node.procedure ≤ length state.items
+  pub based : IsBase (setting_of cert node.procedure) (base_below (taken_by cert node.procedure) state.items base)
+  pub begins : covers (entered_by Extended (taken_by cert node.procedure) state) node.state ≡ true
+  pub mark : s.processor.halt_mark ≡ false
+  pub depth : (length state.items - taken_by cert node.procedure) + need_of cert node.procedure ≤ need_of cert procedure
+  pub inside : 0 < procedure → are_ranges_inside (ranges_of cert node.procedure) (ranges_of cert procedure) ≡ true
+  pub resumes :
+      (exit : AbsState) → exit_of cert node.procedure ≡ Some exit
+      → IfSome (resumed Extended (taken_by cert node.procedure) (ranges_of cert node.procedure) state exit)
+      (λ after. covered_at Extended cert.nodes procedure back after ≡ true)
+
+abbrev pub CallsBy : Rules → Certificate → ℕ → MState → ℕ → MState → Type 0
+CallsBy Simple cert procedure entry base s = Calls cert procedure entry base s
+CallsBy Extended cert procedure entry base s = HandsOver cert procedure entry base s
+
+-- By the rules of versions 1 and 2 the machine has returned from s to t: to the word at the base, in a state that the
+-- procedure's exit means.
 pub record Returns (cert : Certificate) (procedure : ℕ) (entry : MState) (base : ℕ) (s t : MState) : Type 0 where
   pub not_main : 0 < procedure
   pub exit : AbsState
@@ -79,10 +125,34 @@ pub record Returns (cert : Certificate) (procedure : ℕ) (entry : MState) (base
   pub address : t.processor.pc ≡ word (peek s.storage (base + 1)) (peek s.storage base)
   pub mark : t.processor.halt_mark ≡ false
 
--- from s to t the machine stays in the procedure, calls or returns
+-- By those of version 3: to the word with which the procedure was entered; what the exit holds is left on the stack.
+pub record GoesBack (cert : Certificate) (procedure : ℕ) (entry : MState) (base : ℕ) (t : MState) : Type 0 where
+  pub not_main : 0 < procedure
+  pub exit : AbsState
+  pub is_exit : exit_of cert procedure ≡ Some exit
+  pub means : Means exit entry base t
+  pub held : AreInRegion cert.region base (length exit.items)
+  pub address : t.processor.pc ≡ word (origin_value ReturnHigh entry) (origin_value ReturnLow entry)
+  pub mark : t.processor.halt_mark ≡ false
+
+abbrev pub ReturnsBy : Rules → Certificate → ℕ → MState → ℕ → MState → MState → Type 0
+ReturnsBy Simple cert procedure entry base s t = Returns cert procedure entry base s t
+ReturnsBy Extended cert procedure entry base s t = GoesBack cert procedure entry base t
+
+-- By the rules of version 3 the machine may have begun anew: it stands in main, as if that were entered now.
+abbrev pub RestartsBy : Rules → List ℕ → Certificate → MState → Type 0
+RestartsBy Simple rom cert t = ⊥
+RestartsBy Extended rom cert t = IsMeant rom cert 0 t (cert.region.last + 1) t
+
+-- from s to t the machine stays in the procedure, calls, returns or begins anew
+abbrev pub LeadsBy : Rules → List ℕ → Certificate → ℕ → MState → ℕ → MState → MState → Type 0
+LeadsBy rules rom cert procedure entry base s t =
+    IsMeant rom cert procedure entry base t
+    ⊎ (CallsBy rules cert procedure entry base t ⊎ (ReturnsBy rules cert procedure entry base s t ⊎ RestartsBy rules rom cert t))
+
+-- so it does by the rules of the certificate
 abbrev pub Leads : List ℕ → Certificate → ℕ → MState → ℕ → MState → MState → Type 0
-Leads rom cert procedure entry base s t =
-    IsMeant rom cert procedure entry base t ⊎ (Calls cert procedure entry base t ⊎ Returns cert procedure entry base s t)
+Leads rom cert procedure entry base s t = LeadsBy (rules_of cert.version) rom cert procedure entry base s t
 
 -- an event has no fault, fetches certified places, leaves a state that the certificate means, and changes nothing that
 -- the procedure keeps

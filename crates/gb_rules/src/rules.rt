@@ -20,7 +20,7 @@ use gb_code::code::{
     area_end, is_other_bank, known_byte, known_bytes, leaves_area, lies_in_high_ram,
 };
 use gb_code::{Rom, holds_bytes, known_bank};
-use gb_domain::types::{Abs, Core, Rules, Setting};
+use gb_domain::types::{Abs, Core, Setting};
 use gb_ops::decode::decode;
 use gb_ops::op::{Op, Row};
 use gb_successors::successors::{Successors, product_before, successors_of};
@@ -60,14 +60,6 @@ fn may_read_twice(rom: &Rom<'_>, node: &NodeRef<'_>, state: &Abs, op: Op) -> boo
 {
     let address = node.address();
     is_halt(op) && state.core().ime.off && !is_nop_behind(rom, state, address, area_end(address))
-}
-
-/// Whether the certificate is of version 3, which isn't judged yet: each of its nodes is refused.
-#[tactic(auto, unfolding(crate::specs::Rules::is_unjudged))]
-fn is_unjudged(cert: &Cert<'_>) -> bool
-    ensures { result ≡ Ruled.is_unjudged cert.now }
-{
-    matches!(rules_of(cert), Rules::Extended)
 }
 
 /// Whether an OAM transfer may close a byte of an instruction of so many bytes.
@@ -351,7 +343,7 @@ fn reason_of_row(
         return Some(Reason::Halt);
     }
     let stack = stack_of(cert, node.procedure());
-    if is_unjudged(cert) || breaks_stack(stack, node, state, row.op) {
+    if breaks_stack(stack, node, state, row.op) {
         return Some(Reason::Stack);
     }
     let ways = successors_of(stack, rom, row, node.address(), state);

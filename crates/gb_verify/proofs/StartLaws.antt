@@ -28,11 +28,13 @@ use Rattle.gb_rules.specs.Below.gb_product.Meaning.{Means}
 use Rattle.gb_rules.specs.Below.gb_abs.Stack.{AreInRegion}
 use Rattle.gb_rules.proofs.Below.gb_product_laws.CoveringLaws.{Means-covered}
 use Rattle.gb_rules.proofs.Below.gb_product_laws.MeaningLaws.{HoldRelations-nothing}
-use Rattle.gb_rules.specs.Procedures.{need_of}
+use Rattle.gb_domain.specs.Limits.{rules_of}
+use Rattle.gb_domain.specs.Settings.{IsBase}
+use Rattle.gb_rules.specs.Procedures.{need_of, setting_of}
 use Rattle.gb_rules.specs.Safety.{IsMeant}
 use Rattle.gb_rules.proofs.SearchLaws.{Contains-slice_get}
 use Rattle.gb_rules.proofs.CoveringLaws.{covered_items}
-use Rattle.gb_rules.proofs.ProcedureLaws.{main_room}
+use Rattle.gb_rules.proofs.ProcedureLaws.{HasReturnWord-main, main_based, main_room}
 use Rattle.gb_verify.specs.PowerUp.{core_at_power_up, state_at_power_up}
 use Rattle.gb_verify.specs.Verdict.{is_bad_entry, is_bad_node, main_entry, entry_of}
 
@@ -175,6 +177,12 @@ items_covered rom region t h = covered_items (state_at_power_up rom region) t h
 room_start : (cert : Certificate) (n : Node) → IsCertificate cert → n.procedure ≡ 0 → AreInRegion cert.region (main_base cert) (need_of cert n.procedure)
 room_start cert n c e = subst (λ p. AreInRegion cert.region (main_base cert) (need_of cert p)) (sym e) (main_room cert c)
 
+-- and for none
+no_items : (cert : Certificate) (need held : ℕ) → held ≡ 0 → AreInRegion cert.region (main_base cert) need → AreInRegion cert.region (main_base cert) held
+no_items cert need held none room =
+    let first = room.first in
+    record { first = omega arith; last = room.last }
+
 -- main's entry is a node of main's
 is_of_main : (o : Option Node) (n : Node) → o ≡ Some n → is_of 0 o ≡ true → n.procedure ≡ 0
 is_of_main None n e h = cc
@@ -204,9 +212,10 @@ IsMeant-entry rom cert (Some n) s c f g h i =
         means = Means-covered _ _ _ _ _ covered (Means-start rom cert s i);
         mark = inl (mark_start rom s i);
         main = λ is. refl;
-        return_word = λ some. let main : n.procedure ≡ 0 = g n refl in absurd (omega arith);
+        based = subst (λ p. IsBase (setting_of cert p) (main_base cert)) (sym (g n refl)) (main_based cert c);
+        return_word = HasReturnWord-main (rules_of cert.version) cert.region n.procedure (main_base cert) (g n refl);
         room = room_start cert n c (g n refl);
-        depth = let none : length n.state.items ≡ 0 = items_covered rom cert.region n.state covered in omega arith;
+        held = no_items cert (need_of cert n.procedure) (length n.state.items) (items_covered rom cert.region n.state covered) (room_start cert n c (g n refl));
       };
     }
 

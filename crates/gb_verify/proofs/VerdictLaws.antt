@@ -25,7 +25,7 @@ use Rattle.gb_rules.specs.Below.gb_successors.declared.successors.Successors.{Su
 use Rattle.gb_rules.specs.Below.gb_successors.Successors.{product_before, has, any_successor, successors_of}
 use Rattle.gb_rules.specs.Procedures.{ranges_of, need_of, exit_of, base_in, setting_of, stack_of, taken_by}
 use Rattle.gb_rules.specs.Below.gb_successors.Refused.{is_unstorable, meets_oam_transfer}
-use Rattle.gb_rules.specs.Rules.{is_extended, is_unjudged, breaks_stack, is_code_limited, is_dispatch_limited, moves_too_deep, callee_by, callee_at, is_over, calls_too_deep, is_uncovered_if, is_resumed_uncovered, is_back_uncovered, is_inlined_uncovered, is_call_uncovered, is_uncovered_at, is_uncovered, is_outside_of, is_uncallable_at, is_uncallable, is_unreturnable_at, is_unreturnable, interrupts, is_dispatch_deep, handles_too_deep, is_unhandled, lacks_handler, test_row, test_instruction, node_bytes, ways_of, any_of, is_possible, grows_too_deep, stores_outside, meets_ram, meets_transfer, leads_anywhere, leads_uncovered, calls_wrongly, returns_wrongly, applies_to_row, applies, reasons, reason_of}
+use Rattle.gb_rules.specs.Rules.{breaks_stack, is_code_limited, is_dispatch_limited, moves_too_deep, callee_by, callee_at, is_over, calls_too_deep, is_uncovered_if, is_resumed_uncovered, is_back_uncovered, is_inlined_uncovered, is_call_uncovered, is_uncovered_at, is_uncovered, is_outside_of, is_uncallable_at, is_uncallable, is_unreturnable_at, is_unreturnable, interrupts, is_dispatch_deep, handles_too_deep, is_unhandled, lacks_handler, test_row, test_instruction, node_bytes, ways_of, any_of, is_possible, grows_too_deep, stores_outside, meets_ram, meets_transfer, leads_anywhere, leads_uncovered, calls_wrongly, returns_wrongly, applies_to_row, applies, reasons, reason_of}
 use Rattle.gb_verify.specs.declared.verdict.Verdict.TheVariants.{Refused}
 use Rattle.gb_verify.specs.Verdict.{reason_against, reason_against_at, refusal_or, verdict_from, verdict_of, is_bad_entry, main_entry, IsVerdict, IgnoresVersion}
 
@@ -305,10 +305,8 @@ same_growth rom cert version n row e =
 
 same_row : (rom : List ℕ) (cert : Certificate) (version : ℕ) (n : Node) (row : Row) (r : Reason) → rules_of version ≡ rules_of cert.version
     → applies_to_row rom (other cert version) n row r ≡ applies_to_row rom cert n row r
-unfolding applies_to_row is_unjudged stores_outside meets_ram meets_transfer leads_anywhere leads_uncovered calls_wrongly returns_wrongly ranges_of
-same_row rom cert version n row reason.Stack e =
-    ap (λ rules. is_extended rules || breaks_stack (stack_of (other cert version) n.procedure) n row.op) e
-    ∙ ap (λ k. is_extended (rules_of cert.version) || breaks_stack k n row.op) (same_stack cert version n.procedure e)
+unfolding applies_to_row stores_outside meets_ram meets_transfer leads_anywhere leads_uncovered calls_wrongly returns_wrongly ranges_of
+same_row rom cert version n row reason.Stack e = ap (λ k. breaks_stack k n row.op) (same_stack cert version n.procedure e)
 same_row rom cert version n row reason.Depth e = same_growth rom cert version n row e
 same_row rom cert version n row reason.Store e =
     same_any _ _ rom cert version n row e (λ t. ap (λ z. is_unstorable z (kind_of rom) cert.region (ranges_of cert n.procedure) t.write) (same_setting cert version n.procedure e))

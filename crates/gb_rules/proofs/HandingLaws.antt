@@ -1,0 +1,246 @@
+-- The procedures that wait, by the rules of version 3: one hands its newest items over, its others wait above the callee's
+-- base, and it goes on with these and with what it is given back.
+use Rattle.std.proofs.Common.{◌≡◌, ℕ, ◌+◌, ◌-◌, ◌≤◌, ◌<◌, true, not, ◌==◌, inl, List, ◌∷◌, length, Option, Some, None, refl, sym, ◌∙◌, ap, subst, arith}
+use Rattle.std.specs.Prelude.{IfSome}
+use Rattle.std.proofs.lemmas.Bool.Decides.{nat_tests}
+use Rattle.gb_ops.specs.Play.{MState}
+use Rattle.gb_domain.specs.declared.rules.Rules.{Rules}
+use Rattle.gb_domain.specs.declared.rules.Rules.TheVariants.{Extended}
+use Rattle.gb_domain.specs.declared.types.Val.{Val}
+use Rattle.gb_domain.specs.Types.{AbsState}
+use Rattle.gb_domain.specs.Certificate.{Certificate}
+use Rattle.gb_domain.specs.Limits.{rules_of}
+use Rattle.gb_domain.specs.Settings.{IsBase}
+use Rattle.gb_states.specs.declared.role.Role.TheVariants as role
+use Rattle.gb_states.specs.Rules.{IsState, IsCertificate}
+use Rattle.gb_abs.specs.Stack.{AreInRegion}
+use Rattle.gb_product.specs.Covering.{covers}
+use Rattle.gb_product.specs.Meaning.{Means}
+use Rattle.gb_product.proofs.CoveringLaws.{Means-covered}
+use Rattle.gb_product.proofs.MeaningLaws.{AreBytes-core}
+use Rattle.gb_code.specs.Below.gb_abs_memory.Kept.{keeps, keeps_by, IsKept}
+use Rattle.gb_calls.specs.Calls.{entered_by, are_ranges_inside}
+use Rattle.gb_calls.specs.Resuming.{resumed}
+use Rattle.gb_calls.specs.Sound.{IsCalled, HandsBack, MeansIf}
+use Rattle.gb_calls.specs.TakenOver.{base_below, given_back_items}
+use Rattle.gb_calls.proofs.EnteringLaws.{Means-taken_over}
+use Rattle.gb_calls.proofs.RangeLaws.{IsKept-inside}
+use Rattle.gb_calls.proofs.ResumingLaws.{Means-resumed}
+use Rattle.gb_calls.proofs.TakenOverLaws.{taken_over-pointer, given_back-pointer}
+use Rattle.gb_rules.specs.Covered.{covered_at}
+use Rattle.gb_rules.specs.Procedures.{ranges_of, need_of, setting_of, exit_of, taken_by}
+use Rattle.gb_rules.specs.Safety.{IsAt, IsMeant, HandsOver, GoesBack}
+use Rattle.gb_rules.specs.Frames.{Keeps, Frame, IsWaitingAbove, Stands}
+use Rattle.gb_rules.proofs.CoveringLaws.{IsFoundAt, covered_items, found_by}
+use Rattle.gb_rules.proofs.ProcedureLaws.{HasReturnWord-widely, ranges_apart, exit_state, exit_set}
+use Rattle.gb_rules.proofs.ResumedLaws.{IsGivenBack, IsGivenBack-resumed}
+use Rattle.gb_rules.proofs.FrameLaws.{Keeps-none, Keeps-then, waiting_by, waiting_in}
+
+-- ---- who keeps something
+
+-- each procedure but main
+others_keep : (cert : Certificate) (procedure : ℕ) → rules_of cert.version ≡ Extended → 0 < procedure → keeps (setting_of cert procedure) ≡ true
+unfolding setting_of
+others_keep cert procedure extended some = ap (λ (r : Rules). keeps_by r (procedure == 0)) extended ∙ other procedure some
+  where
+    other : (n : ℕ) → 0 < n → not (n == 0) ≡ true
+    other n lt = grind (arith, nat_tests)
+
+who_keeps : (cert : Certificate) (procedure : ℕ) → rules_of cert.version ≡ Extended → keeps (setting_of cert procedure) ≡ true → 0 < procedure
+unfolding setting_of
+who_keeps cert procedure extended h = other procedure (subst (λ (r : Rules). keeps_by r (procedure == 0) ≡ true) extended h)
+  where
+    other : (n : ℕ) → not (n == 0) ≡ true → 0 < n
+    other n e = grind (arith, nat_tests)
+
+-- ---- a frame is put on
+
+-- how many items a callee begins with
+items_begun : (k : ℕ) (s t : AbsState) → k ≤ length s.items → covers (entered_by Extended k s) t ≡ true → length t.items ≡ k
+unfolding entered_by
+items_begun k s t few h =
+    let same = covered_items (entered_by Extended k s) t h in
+    let pointer = taken_over-pointer k s.items 0 (length s.items) few (none (length s.items)) in
+    let least = few in
+    omega arith
+  where
+    none : (n : ℕ) → 0 + n ≡ n
+    none n = omega arith
+
+-- the callee's base and what it holds and may need lie in the region
+record IsPlacedAbove (cert : Certificate) (procedure : ℕ) (entry : MState) (base : ℕ) (t : MState) (h : HandsOver cert procedure entry base t) : Type 0 where
+  room : AreInRegion cert.region (base_below (taken_by cert h.node.procedure) h.state.items base) (need_of cert h.node.procedure)
+  held : AreInRegion cert.region (base_below (taken_by cert h.node.procedure) h.state.items base) (length h.node.state.items)
+
+in_region : (first last base need k items more held : ℕ) → first + need ≤ base → base ≤ last + 1 → first + items ≤ base → k ≤ items → items - k + more ≤ need → held ≡ k
+    → (first + more ≤ base - (items - k)) × ((first + held ≤ base - (items - k)) × (base - (items - k) ≤ last + 1))
+in_region first last base need k items more held a b c d e f = (omega arith, (omega arith, omega arith))
+
+placed_above : (cert : Certificate) (procedure : ℕ) (entry : MState) (base : ℕ) (t : MState) → AreInRegion cert.region base (need_of cert procedure) → (h : HandsOver cert procedure entry base t)
+    → IsPlacedAbove cert procedure entry base t h
+placed_above cert procedure entry base t room h =
+    let p = in_region cert.region.first cert.region.last base (need_of cert procedure) (taken_by cert h.node.procedure) (length h.state.items) (need_of cert h.node.procedure) (length h.node.state.items)
+    room.first room.last h.held.first h.few h.depth (items_begun (taken_by cert h.node.procedure) h.state h.node.state h.few h.begins) in
+    record { room = record { first = p.0; last = p.1.1 }; held = record { first = p.1.0; last = p.1.1 } }
+
+is_called : (cert : Certificate) (procedure : ℕ) (entry : MState) (base : ℕ) (t : MState) (h : HandsOver cert procedure entry base t) → IsCalled (taken_by cert h.node.procedure) h.state entry base t
+is_called cert procedure entry base t h = record { few = h.few; stack_set = h.stack_set; caller = h.means }
+
+-- the callee stands at its entry, and was entered just now
+IsAt-handed : (rom : List ℕ) (cert : Certificate) (procedure : ℕ) (entry : MState) (base : ℕ) (t : MState) → rules_of cert.version ≡ Extended → (h : HandsOver cert procedure entry base t)
+    → IsPlacedAbove cert procedure entry base t h → IsAt rom cert h.node t (base_below (taken_by cert h.node.procedure) h.state.items base) t
+IsAt-handed rom cert procedure entry base t extended h p =
+    let k = taken_by cert h.node.procedure in
+    let some = h.not_main in
+    record {
+      address = h.address;
+      means = Means-covered (entered_by Extended k h.state) h.node.state t (base_below k h.state.items base) t h.begins
+          (Means-taken_over k h.state entry base t (is_called cert procedure entry base t h));
+      mark = inl h.mark;
+      main = λ e. absurd (omega arith);
+      based = h.based;
+      return_word = HasReturnWord-widely (rules_of cert.version) cert.region h.node.procedure (base_below k h.state.items base) extended;
+      room = p.room;
+      held = p.held;
+    }
+
+-- the machine has called: the procedure waits above the items that it keeps, and the callee was entered just now
+pub Stands-handed : (rom : List ℕ) (cert : Certificate) (frames : List Frame) (procedure : ℕ) (entry : MState) (base : ℕ) (s t : MState) → rules_of cert.version ≡ Extended
+    → Stands rom cert frames procedure entry base s → (h : HandsOver cert procedure entry base t) → Keeps cert procedure base s t
+    → Stands rom cert (record { procedure = procedure; entry = entry; base = base } ∷ frames) h.node.procedure t (base_below (taken_by cert h.node.procedure) h.state.items base) t
+Stands-handed rom cert frames procedure entry base s t extended stands h keeps =
+    let at = stands.meant.at in
+    let same = stands.meant.procedure_is in
+    let room = subst (λ n. AreInRegion cert.region base (need_of cert n)) same at.room in
+    let under = base_below (taken_by cert h.node.procedure) h.state.items base in
+    record {
+      meant = record { node = h.node; is_node = h.is_node; procedure_is = refl; at = IsAt-handed rom cert procedure entry base t extended h (placed_above cert procedure entry base t room h) };
+      waiting = waiting_in cert Extended (record { procedure = procedure; entry = entry; base = base } ∷ frames) h.node.procedure t under extended (
+        record {
+          calls = h;
+          callee = refl;
+          base_is = refl;
+          main = λ e. at.main (same ∙ e);
+          based = subst (λ n. IsBase (setting_of cert n) base) same at.based;
+          room = room;
+          keeps = Keeps-then cert procedure base entry s t stands.keeps keeps;
+        },
+        waiting_by cert Extended frames procedure entry base extended stands.waiting,
+      );
+      keeps = Keeps-none cert h.node.procedure under t;
+    }
+
+-- ---- a frame is taken off
+
+-- what a procedure keeps, the one that it called keeps too
+Keeps-below : (cert : Certificate) (f : Frame) (procedure : ℕ) (entered : MState) (base : ℕ) (s t : MState) → rules_of cert.version ≡ Extended → IsWaitingAbove cert f procedure entered base
+    → Keeps cert procedure base s t → Keeps cert f.procedure f.base s t
+Keeps-below cert f procedure entered base s t extended w keeps =
+    let is = w.base_is in
+    let lower : base ≤ f.base = omega arith in
+    let some : 0 < procedure = subst (λ n. 0 < n) w.callee w.calls.not_main in
+    record {
+      byte = λ b k.
+          keeps.byte b (IsKept-inside (setting_of cert f.procedure) (setting_of cert procedure) cert.region (ranges_of cert procedure) (ranges_of cert f.procedure) f.base base b (others_keep cert procedure extended some)
+          (subst (λ n. are_ranges_inside (ranges_of cert n) (ranges_of cert f.procedure) ≡ true) w.callee (w.calls.inside (who_keeps cert f.procedure extended k.procedure))) lower k);
+    }
+
+-- the callee has come back
+hands_back : (cert : Certificate) (f : Frame) (procedure : ℕ) (entry : MState) (base : ℕ) (s t : MState) → IsCertificate cert → rules_of cert.version ≡ Extended
+    → (w : IsWaitingAbove cert f procedure entry base) → Keeps cert procedure base entry s → (r : GoesBack cert procedure entry base t) → Keeps cert procedure base s t
+    → HandsBack (taken_by cert procedure) cert.region (ranges_of cert procedure) w.calls.state r.exit f.entry f.base entry t
+hands_back cert f procedure entry base s t certificate extended w before r keeps =
+    let c = w.calls in
+    let exit = exit_state cert procedure r.exit certificate r.is_exit in
+    let all = Keeps-then cert procedure base entry s t before keeps in
+    record {
+      is_region = certificate.region;
+      apart = ranges_apart cert procedure certificate;
+      placed = c.placed;
+      room = c.held;
+      begins = subst (λ n. IsCalled (taken_by cert n) c.state f.entry f.base entry) w.callee (is_called cert f.procedure f.entry f.base entry c);
+      callee = setting_of cert procedure;
+      keeps = others_keep cert procedure extended r.not_main;
+      callee_base = subst (λ n. IsBase (setting_of cert n) (base_below (taken_by cert n) c.state.items f.base)) w.callee c.based;
+      exit_set = exit_set (rules_of cert.version) cert.region r.exit exit;
+      exit_core = exit.core;
+      exits = subst (λ n. Means r.exit entry n t) w.base_is r.means;
+      kept = λ b k. all.byte b (subst (λ n. IsKept (setting_of cert procedure) cert.region (ranges_of cert procedure) n b) (sym w.base_is) k);
+    }
+
+-- where something is left, it is covered, and means the machine's state, a node stands for it
+found_if : (cert : Certificate) (procedure a : ℕ) (k : ℕ) (s x : AbsState) (entry called : MState) (base : ℕ) (y : MState) (o : Option AbsState) → IsState Extended role.Exit cert.region x → Means x called base y
+    → (top : ℕ) → MeansIf o entry top y → IfSome o (λ after. covered_at Extended cert.nodes procedure a after ≡ true) → IfSome o (IsGivenBack k s x)
+    → IsFoundAt cert procedure a (length (given_back_items k s.items x.items)) entry top y
+found_if cert procedure a k s x entry called base y None is exits top m covered given = absurd m
+found_if cert procedure a k s x entry called base y (Some after) is exits top m covered given =
+    subst (λ (items : List Val). IsFoundAt cert procedure a (length items) entry top y) given.items
+    (found_by Extended cert procedure a after entry top y given.pairs (AreBytes-core x.core called y is.core exits.parts.core) covered m)
+
+-- the caller's state behind the call is meant by a node
+goes_on : (cert : Certificate) (f : Frame) (procedure : ℕ) (entry : MState) (base : ℕ) (s t : MState) → IsCertificate cert → rules_of cert.version ≡ Extended
+    → (w : IsWaitingAbove cert f procedure entry base) → Keeps cert procedure base entry s → (r : GoesBack cert procedure entry base t) → Keeps cert procedure base s t
+    → IsFoundAt cert f.procedure w.calls.back (length (given_back_items (taken_by cert procedure) w.calls.state.items r.exit.items)) f.entry f.base t
+goes_on cert f procedure entry base s t certificate extended w before r keeps =
+    let c = w.calls in
+    let k = taken_by cert procedure in
+    let exit : IsState Extended role.Exit cert.region r.exit = subst (λ q. IsState q role.Exit cert.region r.exit) extended (exit_state cert procedure r.exit certificate r.is_exit) in
+    let pairs = exit.relations.pairs in
+    let back = hands_back cert f procedure entry base s t certificate extended w before r keeps in
+    let resumes : IfSome (resumed Extended k (ranges_of cert procedure) c.state r.exit) (λ after. covered_at Extended cert.nodes f.procedure c.back after ≡ true) =
+    subst (λ n. IfSome (resumed Extended (taken_by cert n) (ranges_of cert n) c.state r.exit) (λ after. covered_at Extended cert.nodes f.procedure c.back after ≡ true)) w.callee
+    (c.resumes r.exit (ap (exit_of cert) w.callee ∙ r.is_exit)) in
+    found_if cert f.procedure c.back k c.state r.exit f.entry entry base t (resumed Extended k (ranges_of cert procedure) c.state r.exit) exit r.means f.base
+    (Means-resumed Extended k cert.region (ranges_of cert procedure) c.state r.exit f.entry f.base entry t c.pairs pairs back) resumes
+    (IsGivenBack-resumed k (ranges_of cert procedure) c.state r.exit c.pairs pairs)
+
+-- what it holds lies in the region
+given_back_room : (cert : Certificate) (f : Frame) (procedure : ℕ) (entry : MState) (base : ℕ) (t : MState) → IsCertificate cert → (w : IsWaitingAbove cert f procedure entry base)
+    → (r : GoesBack cert procedure entry base t) → AreInRegion cert.region f.base (length (given_back_items (taken_by cert procedure) w.calls.state.items r.exit.items))
+given_back_room cert f procedure entry base t certificate w r =
+    let c = w.calls in
+    let k = taken_by cert procedure in
+    let few : k ≤ length c.state.items = subst (λ n. taken_by cert n ≤ length c.state.items) w.callee c.few in
+    let set = exit_set (rules_of cert.version) cert.region r.exit (exit_state cert procedure r.exit certificate r.is_exit) in
+    let first = c.held.first in
+    let low = r.held.first in
+    let left : t.processor.sp + length r.exit.items ≡ base = r.means.parts.stack set in
+    let is : base ≡ base_below k c.state.items f.base = w.base_is in
+    let pointer = given_back-pointer k c.state.items r.exit.items f.base t.processor.sp few (omega arith) (left ∙ is) in
+    record { first = omega arith; last = c.held.last }
+
+IsMeant-given_back : (rom : List ℕ) (cert : Certificate) (f : Frame) (procedure : ℕ) (entry : MState) (base : ℕ) (s t : MState) → IsCertificate cert → rules_of cert.version ≡ Extended
+    → IsWaitingAbove cert f procedure entry base → Keeps cert procedure base entry s → GoesBack cert procedure entry base t → Keeps cert procedure base s t
+    → IsMeant rom cert f.procedure f.entry f.base t
+IsMeant-given_back rom cert f procedure entry base s t certificate extended w before r keeps =
+    let g = goes_on cert f procedure entry base s t certificate extended w before r keeps in
+    let same = g.procedure_is in
+    record {
+      node = g.node;
+      is_node = g.is_node;
+      procedure_is = same;
+      at = record {
+        address = r.address ∙ (w.calls.return_word ∙ sym g.address);
+        means = g.means;
+        mark = inl r.mark;
+        main = λ e. w.main (sym same ∙ e);
+        based = subst (λ n. IsBase (setting_of cert n) f.base) (sym same) w.based;
+        return_word = HasReturnWord-widely (rules_of cert.version) cert.region g.node.procedure f.base extended;
+        room = subst (λ n. AreInRegion cert.region f.base (need_of cert n)) (sym same) w.room;
+        held = subst (λ n. AreInRegion cert.region f.base n) (sym g.count) (given_back_room cert f procedure entry base t certificate w r);
+      };
+    }
+
+-- the callee has returned: the procedure that called it goes on, as if it had never waited
+pub Stands-given_back : (rom : List ℕ) (cert : Certificate) (f : Frame) (rest : List Frame) (procedure : ℕ) (entry : MState) (base : ℕ) (s t : MState) → IsCertificate cert → rules_of cert.version ≡ Extended
+    → Stands rom cert (f ∷ rest) procedure entry base s → GoesBack cert procedure entry base t → Keeps cert procedure base s t
+    → Stands rom cert rest f.procedure f.entry f.base t
+Stands-given_back rom cert f rest procedure entry base s t certificate extended stands r keeps =
+    let waiting = waiting_by cert Extended (f ∷ rest) procedure entry base extended stands.waiting in
+    let w = waiting.0 in
+    let all = Keeps-then cert procedure base entry s t stands.keeps keeps in
+    record {
+      meant = IsMeant-given_back rom cert f procedure entry base s t certificate extended w stands.keeps r keeps;
+      waiting = waiting_in cert Extended rest f.procedure f.entry f.base extended waiting.1;
+      keeps = Keeps-then cert f.procedure f.base f.entry entry t w.keeps (Keeps-below cert f procedure entry base entry t extended w all);
+    }
