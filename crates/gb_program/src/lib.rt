@@ -11,7 +11,6 @@ mod perform;
 mod progress;
 mod status;
 mod stored;
-mod versions;
 
 use gb_command_line::status::exit_code;
 use perform::start;

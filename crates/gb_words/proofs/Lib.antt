@@ -5,4 +5,3 @@ pub mod CommandWalk
 pub mod CommandTaken
 pub mod Frames
 pub mod MetCommand
-pub mod UpgradeWords
