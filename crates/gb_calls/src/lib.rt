@@ -21,4 +21,4 @@ pub mod ranges;
 pub mod resuming;
 
 // What lies below, for the crates above.
-pub use gb_cert::{Cert, Found, NodeRef, ProcedureRef};
+pub use gb_cert::{Cert, Found, NodeRef, ProcedureRef, StateRef};

@@ -1,6 +1,6 @@
 -- What stands at the places of a certificate is lent.
 use Rattle.std.proofs.Common.{◌≡◌, ℕ, zero, suc, ◌+◌, ◌-◌, ◌*◌, ◌/◌, ◌%◌, ◌≤◌, ◌<◌, Bool, true, false, ◌==◌, List, [], ◌∷◌, ◌++◌, length, get_or, take, drop, Option, Some, None, Result, Ok, Err, refl, sym, ap, ◌∙◌, subst, append_assoc, length-append, append-nil, map, arith}
-use Rattle.std.specs.Prelude.{slice_get, IfSome}
+use Rattle.std.specs.Prelude.{slice_get, IfSome, is_ok}
 use Rattle.std.specs.List.{flat_map}
 use Rattle.std.proofs.lemmas.Bool.Decides.{nat_tests}
 use Rattle.std.proofs.lemmas.List.Concat.{flat_map-cons}
@@ -14,7 +14,8 @@ use Rattle.gb_states.specs.declared.role.Role.{Role}
 use Rattle.gb_states.specs.declared.role.Role.TheVariants as role
 use Rattle.gb_domain.specs.Types.{AbsState, ProcedureParts, Node, state_of}
 use Rattle.gb_domain.specs.Certificate.{Certificate}
-use Rattle.gb_fields.specs.Format.{Read, go_on, both, byte}
+use Rattle.gb_fields.specs.declared.fault.CertFault.TheVariants as fault
+use Rattle.gb_fields.specs.Format.{Read, go_on, both, byte, optional}
 use Rattle.gb_fields.specs.Limits.{node_limit, unit}
 use Rattle.gb_domain.specs.Rules.{IsChain}
 use Rattle.gb_states.specs.Rules.{IsState, IsProcedure, IsNode, IsCertificate, is_version, is_whole, is_after, is_from, key, role_of}
@@ -22,19 +23,19 @@ use Rattle.gb_rows.specs.Rows.{is_before, AreInOrder}
 use Rattle.gb_domain.specs.declared.rules.Rules.{Rules}
 use Rattle.gb_domain.specs.declared.rules.Rules.TheVariants.{Simple, Extended}
 use Rattle.gb_domain.specs.declared.relations.Relations.{Relations}
-use Rattle.gb_domain.specs.Limits.{rules_of}
+use Rattle.gb_domain.specs.Limits.{rules_of, item_room, cell_room}
 use Rattle.gb_domain.specs.RelationRules.{compared}
 use Rattle.gb_fields.specs.Rules.{usual_base}
-use Rattle.gb_fields.specs.Reading.{word, base_at, need_at, node_number}
-use Rattle.gb_states.specs.Reading.{ranges_at, exit_at, Body, needed_at, body_at, to_procedure}
+use Rattle.gb_fields.specs.Reading.{word, base_at, need_at, node_number, may_return, returns_at, yes_no}
+use Rattle.gb_states.specs.Reading.{state_at, ranges_at, exit_at, Body, needed_at, body_at, to_procedure}
 use Rattle.gb_states.specs.RelationReading.{relations_by}
 use Rattle.gb_states.specs.RelationSpelling as told
 use Rattle.gb_states.specs.Spelling as spelled
 use Rattle.gb_cert.specs.Skipping.{skipped}
 use Rattle.gb_cert.specs.Places.{AreAt, IsLaid, upgraded_version}
-use Rattle.gb_cert.specs.Borrowed.{item_width, read_or, any_core, any_body, body_of, state_in, StateStands, procedure_in, BodyStands}
-use Rattle.gb_states.proofs.Formats.{IsFormat-byte, IsFormat-both, went_on, same_pair}
-use Rattle.gb_states.proofs.FieldLaws.{same, last_small, IsFormat-word, IsFormat-node_number}
+use Rattle.gb_cert.specs.Borrowed.{item_width, read_or, any_core, any_body, body_of, state_in, exit_in, StateStands, procedure_in, BodyStands}
+use Rattle.gb_states.proofs.Formats.{IsBytes, IsFormat-byte, IsFormat-both, IsFormat-checked, went_on, same_pair}
+use Rattle.gb_states.proofs.FieldLaws.{same, last_small, spelled_flag, IsFormat-word, IsFormat-node_number, IsFormat-yes_no}
 use Rattle.gb_states.proofs.RelationLaws.{compared-small, is-told, IsFormat-relations_by}
 use Rattle.gb_states.proofs.StateLaws.{IsFormat-state, IsFormat-body, body-is, number_small, limit_bound}
 use Rattle.gb_cert.proofs.Placing.{at-each}
@@ -106,7 +107,7 @@ node-lent bytes version region procedures nodes c i front state laid lt right =
 
 -- ---- the items and the cells of a state
 
-vals-long : (vs : List Val) → length (flat_map spelled.val vs) ≡ 3 * length vs
+pub vals-long : (vs : List Val) → length (flat_map spelled.val vs) ≡ 3 * length vs
 unfolding spelled.val
 vals-long [] = refl
 vals-long (v ∷ vs) = ap length (flat_map-cons spelled.val v vs) ∙ length-append (spelled.val v) (flat_map spelled.val vs) ∙ omega (arith, vals-long vs)
@@ -117,7 +118,7 @@ unfolding unit
 items-long Simple vs whole = let w = same (length vs % 2) 0 whole in omega (arith, vals-long vs, w)
 items-long Extended vs whole = omega (arith, vals-long vs)
 
-cell-long : (xs : List Cell) → length (flat_map spelled.cell xs) ≡ 5 * length xs
+pub cell-long : (xs : List Cell) → length (flat_map spelled.cell xs) ≡ 5 * length xs
 unfolding spelled.val spelled.cell
 cell-long [] = refl
 cell-long (x ∷ xs) = ap length (flat_map-cons spelled.cell x xs) ∙ length-append (spelled.cell x) (flat_map spelled.cell xs) ∙ omega (arith, cell-long xs)
@@ -129,6 +130,50 @@ test-long (Some a) = refl
 pub core-long : (c : Core) (t : Option ℕ) → length (spelled.core c t) ≡ 40
 unfolding spelled.val spelled.flg spelled.ctl spelled.vals spelled.core
 core-long c t = simp length-append (omega (arith, test-long t))
+
+-- the front of a state
+pub core-lent : (rules : Rules) (role : Role) (region : Region) (bytes : List ℕ) (s : AbsState) → StateStands rules role region bytes s → (40 ≡ length (take 40 bytes)) × (take 40 bytes ≡ spelled.core s.core (compared s.relations.byte.test))
+unfolding spelled.state
+core-lent rules role region bytes s h =
+    let core : List ℕ = spelled.core s.core (compared s.relations.byte.test) in
+    let lists : List ℕ = spelled.items rules s.items ++ (told.relations_by rules s.relations ++ spelled.counted spelled.cell s.cells) in
+    let parts : bytes ≡ spelled.core s.core (compared s.relations.byte.test) ++ (lists ++ h.tail) = h.parts ∙ append_assoc core lists h.tail in
+    let long = core-long s.core (compared s.relations.byte.test) in
+    let front : take 40 bytes ≡ spelled.core s.core (compared s.relations.byte.test) = ap (λ (n : ℕ). take n bytes) (sym long) ∙ ap (λ (b : List ℕ). take (length core) b) parts ∙ take-append_seam core (lists ++ h.tail) in
+    (sym (ap length front ∙ long), front)
+
+items-few : (rules : Rules) → item_room rules < 256
+unfolding item_room
+items-few Simple = omega arith
+items-few Extended = omega arith
+
+cells-few : (rules : Rules) → cell_room rules < 256
+unfolding cell_room
+cells-few Simple = omega arith
+cells-few Extended = omega arith
+
+pub few-items : (rules : Rules) (role : Role) (region : Region) (s : AbsState) → IsState rules role region s → length s.items ≤ 255
+few-items rules role region s h =
+    let few = items-few rules in
+    let most = h.item_count in
+    omega (arith, few, most)
+
+pub few-cells : (rules : Rules) (role : Role) (region : Region) (s : AbsState) → IsState rules role region s → length s.cells ≤ 255
+few-cells rules role region s h =
+    let few = cells-few rules in
+    let most = h.cell_count in
+    omega (arith, few, most)
+
+-- how many there are, by their bytes
+pub items-counted : (items : List Val) (bytes : List ℕ) → bytes ≡ flat_map spelled.val items → length bytes / 3 ≡ length items
+items-counted items bytes e =
+    let long : length bytes ≡ 3 * length items = ap length e ∙ vals-long items in
+    omega (arith, long)
+
+pub cells-counted : (cells : List Cell) (bytes : List ℕ) → bytes ≡ flat_map spelled.cell cells → length bytes / 5 ≡ length cells
+cells-counted cells bytes e =
+    let long : length bytes ≡ 5 * length cells = ap length e ∙ cell-long cells in
+    omega (arith, long)
 
 -- behind a state's cells' number
 abbrev cells_then : AbsState → List ℕ → List ℕ
@@ -258,6 +303,49 @@ body-parts rules is_main region bytes p h =
     let b = both_parts (need_at rules is_main region) (both (ranges_at rules is_main region) (exit_at rules is_main region)) a.0 p.need (p.ranges, p.exit) h.tail a.2 in
     let c = both_parts (ranges_at rules is_main region) (exit_at rules is_main region) b.0 p.ranges p.exit h.tail b.2 in
     record { first = a.0; second = b.0; third = c.0; base = a.1; need = b.1; ranges = c.1; exit = c.2 }
+
+-- an exit, by whether the procedure returns
+abbrev exit_by : Rules → Region → Result (Bool × List ℕ) CertFault → Result (Option AbsState × List ℕ) CertFault
+exit_by rules region read = go_on {X = Bool × Option AbsState} (go_on read (λ returns rest. go_on (optional returns (state_at rules role.Exit region) rest) (λ y end. Ok ((returns, y), end)))) (λ x rest. Ok (x.1, rest))
+
+exit-by : (rules : Rules) (is_main : Bool) (region : Region) (bytes rest : List ℕ) (returns : Bool) → returns_at is_main bytes ≡ Ok (returns, rest) → exit_at rules is_main region bytes ≡ exit_by rules region (Ok (returns, rest))
+unfolding exit_at
+exit-by rules is_main region bytes rest returns h = ap (exit_by rules region) h
+
+-- an exit where the procedure returns
+abbrev exit_of : Result (AbsState × List ℕ) CertFault → Result (Option AbsState × List ℕ) CertFault
+exit_of read = go_on {X = Bool × Option AbsState} (go_on {X = Option AbsState} (go_on read (λ x rest. Ok (Some x, rest))) (λ y end. Ok ((true, y), end))) (λ x rest. Ok (x.1, rest))
+
+read_exit : (read : Result (AbsState × List ℕ) CertFault) → is_ok (exit_of read) ≡ true → (s : AbsState) × (tail : List ℕ) × (read ≡ Ok (s, tail)) × (exit_of read ≡ Ok (Some s, tail))
+read_exit (Ok p) h = (p.0, p.1, refl, refl)
+read_exit (Err e) h = cc
+
+behind-flag : (is_main : Bool) (bytes rest : List ℕ) (returns : Bool) → IsBytes bytes → returns_at is_main bytes ≡ Ok (returns, rest) → IsBytes rest
+unfolding returns_at
+behind-flag is_main bytes rest returns i h = ((IsFormat-checked fault.Field (may_return is_main) yes_no spelled_flag (λ b. Unit {0}) IsFormat-yes_no).takes bytes returns rest i h).are_bytes
+
+-- What stands behind the byte that says whether a procedure returns.
+abbrev pub ExitIs : Rules → Bool → Region → List ℕ → List ℕ → Bool → Type 0
+ExitIs rules is_main region bytes rest true = StateStands rules role.Exit region rest (state_in rules role.Exit region rest) × (Some (state_in rules role.Exit region rest) ≡ exit_in rules is_main region bytes)
+ExitIs rules is_main region bytes rest false = None ≡ exit_in rules is_main region bytes
+
+pub exit-is : (rules : Rules) (is_main : Bool) (region : Region) (bytes rest : List ℕ) (returns : Bool) → IsBytes bytes → is_ok (exit_at rules is_main region bytes) ≡ true → returns_at is_main bytes ≡ Ok (returns, rest) → ExitIs rules is_main region bytes rest returns
+exit-is rules is_main region bytes rest false i ok h = sym (ap (read_or None) (exit-by rules is_main region bytes rest false h))
+exit-is rules is_main region bytes rest true i ok h =
+    let e = exit-by rules is_main region bytes rest true h in
+    let s = read_exit (state_at rules role.Exit region rest) (ap is_ok (sym e) ∙ ok) in
+    let taken = (IsFormat-state rules role.Exit region).takes rest s.0 s.1 (behind-flag is_main bytes rest true i h) s.2 in
+    let same : state_in rules role.Exit region rest ≡ s.0 = ap (read_or (state_of any_core)) s.2 in
+    let stands : StateStands rules role.Exit region rest s.0 = record { tail = s.1; parts = taken.parts; is_state = taken.is_good; is_read = s.2 } in
+    (subst (StateStands rules role.Exit region rest) (sym same) stands, ap (λ (z : AbsState). Some z) same ∙ sym (ap (read_or None) (e ∙ s.3)))
+
+no-flag : (read : Result (Bool × List ℕ) CertFault) (rules : Rules) (region : Region) (e : CertFault) → is_ok (exit_by rules region read) ≡ true → read ≡ Err e → ⊥
+no-flag (Ok p) rules region e ok h = cc
+no-flag (Err d) rules region e ok h = cc
+
+pub exit-read : (rules : Rules) (is_main : Bool) (region : Region) (bytes : List ℕ) (e : CertFault) → is_ok (exit_at rules is_main region bytes) ≡ true → returns_at is_main bytes ≡ Err e → ⊥
+unfolding exit_at
+exit-read rules is_main region bytes e ok h = no-flag (returns_at is_main bytes) rules region e ok h
 
 -- the base that versions 1 and 2 don't say
 pub usual-base : (is_main : Bool) (region : Region) (bytes : List ℕ) (p : ProcedureParts) → BodyStands Simple is_main region bytes p → usual_base is_main region ≡ p.base

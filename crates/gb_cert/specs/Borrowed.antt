@@ -1,5 +1,5 @@
 -- What contracts see of bytes that a certificate lends.
-use Rattle.std.specs.Prelude.{◌≡◌, ℕ, ◌*◌, ◌<◌, Bool, true, false, List, [], ◌++◌, None, Result, Ok, Err}
+use Rattle.std.specs.Prelude.{◌≡◌, ℕ, ◌*◌, ◌<◌, Bool, true, false, List, [], ◌++◌, Option, None, Result, Ok, Err}
 use Rattle.gb_ops.specs.declared.machine.Region.{Region}
 use Rattle.gb_fields.specs.declared.fault.CertFault.{CertFault}
 use Rattle.gb_domain.specs.declared.types.Core.{Core}
@@ -8,7 +8,7 @@ use Rattle.gb_states.specs.declared.role.Role.{Role}
 use Rattle.gb_domain.specs.Types.{AbsState, ProcedureParts, any_val, state_of}
 use Rattle.gb_fields.specs.Limits.{unit}
 use Rattle.gb_states.specs.Rules.{IsState}
-use Rattle.gb_states.specs.Reading.{state_at, Body, body_at, to_procedure}
+use Rattle.gb_states.specs.Reading.{state_at, exit_at, Body, body_at, to_procedure}
 use Rattle.gb_states.specs.Spelling as spelled
 
 -- what a reader reads, where it reads something
@@ -38,6 +38,10 @@ pub record StateStands (rules : Rules) (role : Role) (region : Region) (bytes : 
   pub parts : bytes ≡ spelled.state rules s ++ tail
   pub is_state : IsState rules role region s
   pub is_read : state_at rules role region bytes ≡ Ok (s, tail)
+
+-- in what state a procedure returns, if it does, by the front of the bytes
+abbrev pub exit_in : Rules → Bool → Region → List ℕ → Option AbsState
+exit_in rules is_main region bytes = read_or None (exit_at rules is_main region bytes)
 
 -- it stands where there is no procedure
 abbrev pub any_body : Body

@@ -1,6 +1,6 @@
 //! Certificates, in the bytes of their files.
 
-ghost use Rattle.std.specs.Prelude.{◌≡◌, ◌<◌, ◌≤◌, ◌-◌, length, take, slice_get, Some, IfSome, IfOk};
+ghost use Rattle.std.specs.Prelude.{◌≡◌, ◌==◌, ◌<◌, ◌≤◌, ◌-◌, false, length, take, slice_get, Some, IfSome, IfOk};
 ghost use Rattle.std.specs.List.{flat_map};
 ghost use Rattle.gb_domain.specs.Limits.{rules_of};
 ghost use Rattle.gb_cert.specs.Places.{upgraded_version};
@@ -157,22 +157,31 @@ impl<'a> Cert<'a> {
 
     /// The head of the same certificate, in version 2 if it is of version 1. Behind it stand for each procedure its entry in
     /// four bytes and its body, and then the bytes of all nodes.
-    #[tactic(auto, unfolding(gb_domain::specs::Limits::rules_of, gb_states::specs::Spelling::head, gb_states::specs::Spelling::node_number, gb_states::specs::Spelling::spelling, crate::specs::Places::upgraded_version))]
+    #[tactic(auto, unfolding(crate::specs::Places::upgraded_version))]
     pub fn upgraded_head(&self) -> [u8; 14]
         ensures head { result ≡ spelled.head (record self.now { version = upgraded_version self.now.version }) }
         ensures certificate { IsCertificate (record self.now { version = upgraded_version self.now.version }) }
+    {
+        let version = self.version;
+        self.head_in(if version == 1 { 2 } else { version })
+    }
+
+    /// The head of a certificate of this version, which isn't 1, with the same region and as many procedures and nodes.
+    #[tactic(auto, unfolding(gb_domain::specs::Limits::rules_of, gb_states::specs::Spelling::head, gb_states::specs::Spelling::node_number))]
+    pub fn head_in(&self, version: u8) -> [u8; 14]
+        requires { (version == 1) ≡ false }
+        ensures { result ≡ spelled.head (record self.now { version = version }) }
     {
         let region = self.region();
         let nodes = self.nodes();
         let low = nodes % 65536;
         let high = nodes / 65536;
-        let version = self.version();
         [
             b'G',
             b'B',
             b'B',
             if version == 3 { b'X' } else { b'C' },
-            if version == 1 { 2 } else { version },
+            version,
             (region.first % 256) as u8,
             (region.first / 256) as u8,
             (region.last % 256) as u8,

@@ -5,36 +5,16 @@ ghost use Rattle.std.specs.List.{flat_map};
 ghost use Rattle.gb_domain.specs.Types.{state_of};
 ghost use Rattle.gb_domain.specs.RelationRules.{compared, test_alone};
 ghost use Rattle.gb_states.specs.Spelling as spelled;
-ghost use Rattle.gb_cert.specs.Borrowed.{item_width};
 
+use crate::state::{CORE, StateRef};
 use gb_domain::types::{Abs, Core, Rules};
-use gb_fields::numbers::{counted, from_place};
+use gb_fields::numbers::from_place;
 use gb_ops::machine::Region;
 use gb_states::fields::{are_none, core_in, test_in};
-use gb_states::relations::{relations_by, test_alone};
+use gb_states::relations::test_alone;
 use gb_states::role::Role;
 use gb_states::states::state_at;
 use std::marker::Model;
-
-/// The bytes of a state before its items.
-const CORE: usize = 40;
-
-/// The bytes of a cell: its address, the low byte first, and its value.
-const CELL: usize = 5;
-
-/// The bytes of one of what items are counted in: of a word in versions 1 and 2, three for each of its bytes; of a byte in
-/// version 3.
-#[inline(always)]
-#[tactic(auto, unfolding(gb_fields::specs::Limits::unit))]
-fn item_width(rules: Rules) -> usize
-    ensures exact { result ≡ item_width rules }
-    ensures few { result ≤ 6 }
-{
-    match rules {
-        Rules::Simple => 6,
-        Rules::Extended => 3,
-    }
-}
 
 /// What a certificate claims for one address of a procedure: the bank shown there, and a state.
 /// It borrows the certificate's bytes.
@@ -178,22 +158,30 @@ impl<'a> NodeRef<'a> {
         }
     }
 
+    /// Its state, in the certificate's bytes.
+    #[inline(always)]
+    pub fn lent(&self) -> StateRef<'a>
+        ensures { result ≡ self.now.state }
+    {
+        StateRef::of_parts(
+            self.rules,
+            Role::of(self.procedure),
+            self.region,
+            self.state,
+        )
+    }
+
     /// The bytes of its state's stack items, three each, the oldest first.
     pub fn items(&self) -> &'a [u8]
         ensures { result.now ≡ flat_map spelled.val self.now.state.items }
     {
-        counted(from_place(self.state, CORE), item_width(self.rules)).0
+        self.lent().items()
     }
 
     /// The bytes of its state's memory cells, five each, in order of address.
     pub fn cells(&self) -> &'a [u8]
         ensures { result.now ≡ flat_map spelled.cell self.now.state.cells }
     {
-        let test = self.test();
-        let (_, told) = counted(from_place(self.state, CORE), item_width(self.rules));
-        match relations_by(self.rules, self.region, test, told) {
-            Ok((_relations, cells)) => counted(cells, CELL).0,
-            Err(_) => unreachable!(),
-        }
+        self.lent().cells()
     }
 }

@@ -1,10 +1,12 @@
 //! A procedure of a certificate, in the bytes of its file.
 
-ghost use Rattle.std.specs.Prelude.{◌≡◌, ◌<◌};
+ghost use Rattle.std.specs.Prelude.{◌≡◌, ◌<◌, true, is_ok};
+ghost use Rattle.gb_cert.specs.Borrowed.{exit_in};
 ghost use Rattle.gb_fields.specs.Rules.{usual_base};
 ghost use Rattle.gb_fields.specs.Format.{Gives};
 ghost use Rattle.gb_states.specs.Reading.{exit_at};
 
+use crate::state::StateRef;
 use crate::walk::{skip_base, skip_ranges};
 use arrayvec::ArrayVec;
 use gb_domain::types::{Abs, Range, Rules};
@@ -54,6 +56,26 @@ fn exit_at(
     }
     let (exit, rest) = state_at(rules, Role::Exit, region, rest)?;
     Ok((Some(exit), rest))
+}
+
+/// The same, in the bytes.
+fn exit_lent<'a>(
+    rules: Rules,
+    is_main: bool,
+    region: Region,
+    bytes: &'a [u8],
+) -> Option<StateRef<'a>>
+    requires { is_ok (exit_at rules is_main region bytes.now) ≡ true }
+    ensures { result ≡ exit_in rules is_main region bytes.now }
+{
+    let Ok((returns, exit)) = returns_at(is_main, bytes) else {
+        unreachable!();
+    };
+    if returns {
+        Some(StateRef::of_parts(rules, Role::Exit, region, exit))
+    } else {
+        None
+    }
 }
 
 /// The base that versions 1 and 2 don't say.
@@ -153,5 +175,20 @@ impl<'a> ProcedureRef<'a> {
             Ok((exit, _)) => exit,
             Err(_) => unreachable!(),
         }
+    }
+    /// In what state it returns, if it does, in the certificate's bytes.
+    pub fn lent_exit(&self) -> Option<StateRef<'a>>
+        ensures { result ≡ self.now.exit }
+    {
+        let Ok(rest) = skip_base(self.rules, self.is_main, self.region, self.body) else {
+            unreachable!();
+        };
+        let Ok((_, rest)) = need_at(self.rules, self.is_main, self.region, rest) else {
+            unreachable!();
+        };
+        let Ok(rest) = skip_ranges(self.rules, self.is_main, self.region, rest) else {
+            unreachable!();
+        };
+        exit_lent(self.rules, self.is_main, self.region, rest)
     }
 }

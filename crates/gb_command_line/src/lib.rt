@@ -11,6 +11,6 @@ pub mod words;
 // What lies below, for the crates above.
 pub use gb_cert_place::{Cert, CertFault};
 pub use gb_files::{Trouble, is_input, read_cartridge, read_certificate, read_file, shown_name};
-pub use gb_verify::upgrade::{Upgraded, upgrade_bytes};
+pub use gb_verify::upgrade::{UpgradeTo, Upgraded, upgrade_bytes};
 pub use gb_verify::verify::{Outcome, verify_bytes};
 pub use gb_verify::{HeaderFault, Plain, Rom};

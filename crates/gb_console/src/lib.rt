@@ -19,7 +19,7 @@ pub use run::Input;
 // What lies below, for the crates above.
 pub use gb_cpu::{HEIGHT, Keys, WIDTH};
 pub use gb_verify::check::check;
-pub use gb_verify::upgrade::{Upgraded, upgrade_bytes};
+pub use gb_verify::upgrade::{UpgradeTo, Upgraded, upgrade_bytes};
 pub use gb_verify::verdict::Verdict;
 pub use gb_verify::verify::{Outcome, certificate_line, verify_bytes};
 pub use gb_verify::{Cert, CertFault, NodeRef, ProcedureRef};

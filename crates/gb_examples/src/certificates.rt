@@ -1,7 +1,9 @@
 //! What is written of certificates: their lines, and their bytes in version 2.
 
 use gb_cert::{Cert, CertFault};
-use gb_printed::{Outcome, Upgraded, show_bytes, show_cert, upgrade_bytes, verify_bytes};
+use gb_printed::{
+    Outcome, UpgradeTo, Upgraded, show_bytes, show_cert, upgrade_bytes, verify_bytes,
+};
 use gb_samples::cartridges::{PLAIN, put, small};
 use gb_samples::certificates::{least, least_in_version_2, least_in_version_3, two_procedures};
 use gb_samples::programs::LOOP;
@@ -56,9 +58,9 @@ fn lines_of_each_version(rt: HostRuntime) -> Result<(), Fail> {
 }
 
 /// Whether these bytes come out as those, so many with each put.
-fn upgrades(alloc: Global, bytes: &[u8], whole: &[u8], at_once: usize) -> bool {
+fn upgrades(alloc: Global, bytes: &[u8], to: UpgradeTo, whole: &[u8], at_once: usize) -> bool {
     let mut out = KeptBytes::new(at_once, 1_000);
-    upgrade_bytes(alloc, bytes, &mut out) == Ok(Upgraded::Written) && out.kept() == whole
+    upgrade_bytes(alloc, bytes, to, &mut out) == Ok(Upgraded::Written) && out.kept() == whole
 }
 
 /// Numbers of nodes take four bytes, and all else stays; a certificate of version 2 or 3 comes out as it is.
@@ -66,9 +68,20 @@ fn upgrades(alloc: Global, bytes: &[u8], whole: &[u8], at_once: usize) -> bool {
 fn is_written_in_version_2(rt: HostRuntime) {
     let second = least_in_version_2();
     let third = least_in_version_3();
-    assert!(rt; upgrades(rt.alloc(), &least(), &second, 7));
-    assert!(rt; upgrades(rt.alloc(), &second, &second, 1_000));
-    assert!(rt; upgrades(rt.alloc(), &third, &third, 1_000));
+    let to = UpgradeTo::Two;
+    assert!(rt; upgrades(rt.alloc(), &least(), to, &second, 7));
+    assert!(rt; upgrades(rt.alloc(), &second, to, &second, 1_000));
+    assert!(rt; upgrades(rt.alloc(), &third, to, &third, 1_000));
+}
+
+/// Main's base and what is known together are said too; main has no return word.
+#[test]
+fn is_written_in_version_3(rt: HostRuntime) {
+    let third = least_in_version_3();
+    let to = UpgradeTo::Three;
+    assert!(rt; upgrades(rt.alloc(), &least(), to, &third, 7));
+    assert!(rt; upgrades(rt.alloc(), &least_in_version_2(), to, &third, 1_000));
+    assert!(rt; upgrades(rt.alloc(), &third, to, &third, 1_000));
 }
 
 /// A certificate of two procedures: its front in version 2.
@@ -81,9 +94,36 @@ const FRONT: &[u8] = &[
 fn each_procedure_has_longer_numbers(rt: HostRuntime) {
     let two = two_procedures();
     let mut out = KeptBytes::new(1_000, 1_000);
-    assert!(rt; upgrade_bytes(rt.alloc(), &two, &mut out) == Ok(Upgraded::Written));
+    assert!(rt; upgrade_bytes(rt.alloc(), &two, UpgradeTo::Two, &mut out) == Ok(Upgraded::Written));
     assert!(rt; out.kept().get(..26) == Some(FRONT));
     assert!(rt; out.kept().get(26..) == Some(&two[20..]));
+}
+
+/// The same in version 3: main needs 256 bytes, and the other procedure no more than the 8,192 that it needed before.
+const FRONT_IN_VERSION_3: &[u8] = &[
+    0x47, 0x42, 0x42, 0x58, 0x03, 0x00, 0xDF, 0xFF, 0xDF, 0x02, 0x02, 0x00, 0x00, 0x00, 0x00, 0x00,
+    0x00, 0x00, 0x00, 0xE0, 0x00, 0x01, 0x00, 0x00, 0x01, 0x00, 0x00, 0x00, 0x00, 0x00, 0x00, 0x20,
+    0x02, 0x00, 0xC0, 0xFF, 0xC0, 0x80, 0xFF, 0x80, 0xFF, 0x01,
+];
+
+/// Two items, any byte that is the return word's high byte and any that is its low byte; nothing known together, no cell.
+const RETURN_WORD: &[u8] = &[0x02, 0x00, 0xFF, 0x0A, 0x00, 0xFF, 0x0B, 0x00, 0x00];
+
+#[test]
+fn each_procedure_but_main_has_its_return_word(rt: HostRuntime) {
+    let two = two_procedures();
+    let mut out = KeptBytes::new(1_000, 1_000);
+    assert!(rt;
+        upgrade_bytes(rt.alloc(), &two, UpgradeTo::Three, &mut out) == Ok(Upgraded::Written)
+    );
+    let kept = out.kept();
+    assert!(rt; kept.get(..42) == Some(FRONT_IN_VERSION_3));
+    assert!(rt; kept.get(42..82) == Some(&two[32..72]));
+    assert!(rt; kept.get(82..85) == Some(&[0x00, 0x00, 0x00]));
+    assert!(rt; kept.get(85..130) == Some(&two[74..119]));
+    assert!(rt; kept.get(130..133) == Some(&[0x00, 0x00, 0x00]));
+    assert!(rt; kept.get(133..178) == Some(&two[121..166]));
+    assert!(rt; kept.get(178..) == Some(RETURN_WORD));
 }
 
 /// Whether the fault of these bytes is what `verify`, `show` and `upgrade` write, and what they answer.
@@ -94,7 +134,7 @@ fn has_fault(alloc: Global, bytes: &[u8], fault: CertFault, line: &[u8]) -> bool
     let mut upgraded = KeptBytes::new(96, 96);
     verify_bytes(alloc, &rom, bytes, &mut checked) == Ok(Outcome::Unreadable)
         && show_bytes(alloc, bytes, &mut shown) == Ok(Some(fault))
-        && upgrade_bytes(alloc, bytes, &mut upgraded) == Ok(Upgraded::Unreadable)
+        && upgrade_bytes(alloc, bytes, UpgradeTo::Three, &mut upgraded) == Ok(Upgraded::Unreadable)
         && checked.kept() == line
         && shown.kept() == line
         && upgraded.kept() == line
@@ -150,9 +190,15 @@ fn shows_beginning(alloc: Global, bytes: &[u8], whole: &[u8], most: usize) -> bo
 }
 
 /// The same of `upgrade`.
-fn upgrades_beginning(alloc: Global, bytes: &[u8], whole: &[u8], most: usize) -> bool {
+fn upgrades_beginning(
+    alloc: Global,
+    bytes: &[u8],
+    to: UpgradeTo,
+    whole: &[u8],
+    most: usize,
+) -> bool {
     let mut out = KeptBytes::new(7, most);
-    let upgraded = upgrade_bytes(alloc, bytes, &mut out);
+    let upgraded = upgrade_bytes(alloc, bytes, to, &mut out);
     upgraded == Err(OutFault) && Some(out.kept()) == whole.get(..most) && out.failed()
 }
 
@@ -168,7 +214,14 @@ fn a_sink_that_fails_has_a_beginning(rt: HostRuntime) {
     }
     for most in 0..163 {
         assert!(rt;
-            upgrades_beginning(rt.alloc(), &first, &second, most),
+            upgrades_beginning(rt.alloc(), &first, UpgradeTo::Two, &second, most),
+            "at {most}"
+        );
+    }
+    let third = least_in_version_3();
+    for most in 0..168 {
+        assert!(rt;
+            upgrades_beginning(rt.alloc(), &first, UpgradeTo::Three, &third, most),
             "at {most}"
         );
     }
@@ -185,7 +238,7 @@ fn a_sink_that_fails_has_a_faults_beginning(rt: HostRuntime) {
             "at {most}"
         );
         assert!(rt;
-            upgrades_beginning(rt.alloc(), &[], CUT_SHORT, most),
+            upgrades_beginning(rt.alloc(), &[], UpgradeTo::Three, CUT_SHORT, most),
             "at {most}"
         );
     }
@@ -196,6 +249,15 @@ fn is_whole_or_refused(is_whole: bool, is_refused: bool, kept: &[u8], whole: &[u
     is_whole && kept == whole || is_refused && kept == b"CERTIFICATE C9\n".as_slice()
 }
 
+/// The same of an upgrade of the least certificate.
+fn is_upgraded_or_refused(alloc: Global, to: UpgradeTo, whole: &[u8]) -> bool {
+    let mut out = KeptBytes::new(1_000, 1_000);
+    let upgraded = upgrade_bytes(alloc, &least(), to, &mut out);
+    let is_whole = upgraded == Ok(Upgraded::Written);
+    let is_refused = upgraded == Ok(Upgraded::NoMemory);
+    is_whole_or_refused(is_whole, is_refused, out.kept(), whole)
+}
+
 /// Where an allocation is refused, the line says so and the answer too, and no other.
 #[test]
 fn is_written_or_wants_memory(rt: HostRuntime) {
@@ -203,9 +265,6 @@ fn is_written_or_wants_memory(rt: HostRuntime) {
     let shown = show_bytes(rt.alloc(), &least(), &mut out);
     let is_refused = shown == Ok(Some(CertFault::Memory));
     assert!(rt; is_whole_or_refused(shown == Ok(None), is_refused, out.kept(), LEAST));
-    let mut out = KeptBytes::new(1_000, 1_000);
-    let upgraded = upgrade_bytes(rt.alloc(), &least(), &mut out);
-    let is_whole = upgraded == Ok(Upgraded::Written);
-    let is_refused = upgraded == Ok(Upgraded::NoMemory);
-    assert!(rt; is_whole_or_refused(is_whole, is_refused, out.kept(), &least_in_version_2()));
+    assert!(rt; is_upgraded_or_refused(rt.alloc(), UpgradeTo::Two, &least_in_version_2()));
+    assert!(rt; is_upgraded_or_refused(rt.alloc(), UpgradeTo::Three, &least_in_version_3()));
 }

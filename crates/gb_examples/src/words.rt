@@ -1,7 +1,7 @@
 //! The program's words.
 
 use clap::error::ErrorKind;
-use gb_words::{Task, read_words};
+use gb_words::{Task, Version, read_words};
 use std::alloc::Global;
 
 const VERIFY: Task<'static> = Task::Verify {
@@ -15,13 +15,33 @@ const DASHES: Task<'static> = Task::Verify {
 };
 
 /// Words, and the task that they stand for.
-const TASKS: [(&[&str], Task<'static>); 12] = [
+const TASKS: [(&[&str], Task<'static>); 14] = [
     (&[], Task::Stored),
     (&["verify", "A", "B"], VERIFY),
     (&["verify", "--", "-a", "--"], DASHES),
     (&["header", "A"], Task::Header { rom: "A" }),
     (&["show", "A"], Task::Show { cert: "A" }),
-    (&["upgrade", "-"], Task::Upgrade { cert: "-" }),
+    (
+        &["upgrade", "-"],
+        Task::Upgrade {
+            cert: "-",
+            to: Version::Two,
+        },
+    ),
+    (
+        &["upgrade", "--to", "2", "A"],
+        Task::Upgrade {
+            cert: "A",
+            to: Version::Two,
+        },
+    ),
+    (
+        &["upgrade", "--to", "3", "-"],
+        Task::Upgrade {
+            cert: "-",
+            to: Version::Three,
+        },
+    ),
     (
         &["run", "A", "B", "36000"],
         Task::Run {
@@ -88,7 +108,7 @@ fn reads_each_task(rt: HostRuntime) {
 }
 
 /// Words that stand for no task, and the kind of the error.
-const OTHERS: [(&[&str], ErrorKind); 20] = [
+const OTHERS: [(&[&str], ErrorKind); 24] = [
     (&["verify", "A"], ErrorKind::MissingRequiredArgument),
     (&["turn"], ErrorKind::InvalidSubcommand),
     (&["verify", "A", "B", "C"], ErrorKind::UnknownArgument),
@@ -101,6 +121,10 @@ const OTHERS: [(&[&str], ErrorKind); 20] = [
     (&["header", "--help"], ErrorKind::DisplayHelp),
     (&["show"], ErrorKind::MissingRequiredArgument),
     (&["upgrade", "A", "B"], ErrorKind::UnknownArgument),
+    (&["upgrade", "--to", "1", "A"], ErrorKind::UnknownArgument),
+    (&["upgrade", "--to", "3", "-a"], ErrorKind::UnknownArgument),
+    (&["upgrade", "--to", "3"], ErrorKind::UnknownArgument),
+    (&["upgrade", "A", "--to", "3"], ErrorKind::UnknownArgument),
     (&["run", "A"], ErrorKind::MissingRequiredArgument),
     (&["run", "A", "B"], ErrorKind::MissingRequiredArgument),
     (&["run", "A", "B", "36001"], ErrorKind::ValueValidation),

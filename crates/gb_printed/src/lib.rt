@@ -18,5 +18,5 @@ pub use show::show_cert;
 
 // What lies below, for the crates above.
 pub use gb_console::{
-    Console, Ending, Outcome, Upgraded, Verdict, check, upgrade_bytes, verify_bytes,
+    Console, Ending, Outcome, UpgradeTo, Upgraded, Verdict, check, upgrade_bytes, verify_bytes,
 };

@@ -11,6 +11,7 @@ mod perform;
 mod progress;
 mod status;
 mod stored;
+mod versions;
 
 use gb_command_line::status::exit_code;
 use perform::start;

@@ -5,11 +5,12 @@ use crate::messages::{PROGRAM, tell_refusal};
 use crate::progress::Shown;
 use crate::status::{header_status, run_status, show_status, upgrade_status};
 use crate::stored;
+use crate::versions::upgrade_to;
 use gb_command_line::messages::{tell_fault, tell_output, verify};
 use gb_command_line::status::Status;
 use gb_command_line::words::{explain, tell_words, words_of};
 use gb_command_line::{
-    Plain, Rom, Trouble, read_cartridge, read_certificate, read_file, upgrade_bytes,
+    Plain, Rom, Trouble, UpgradeTo, read_cartridge, read_certificate, read_file, upgrade_bytes,
 };
 use gb_printed::{header_bytes, run_bytes, show_bytes};
 use gb_words::{Task, read_words};
@@ -68,10 +69,11 @@ fn show<R: Print + Eprint + Input + Files + AllocGlobal>(
 fn upgrade<R: Print + Eprint + Input + Files + AllocGlobal>(
     rt: &R,
     cert: &str,
+    to: UpgradeTo,
 ) -> Result<Status, Trouble> {
     let bytes = read_certificate(rt, PROGRAM, cert)?;
     let mut out = Plain::new(io::writer(rt));
-    let status = match upgrade_bytes(rt.alloc(), &bytes, &mut out) {
+    let status = match upgrade_bytes(rt.alloc(), &bytes, to, &mut out) {
         Ok(upgraded) => upgrade_status(upgraded),
         Err(_) => return Ok(tell_output(rt, PROGRAM)),
     };
@@ -117,7 +119,7 @@ fn perform<R: Print + Eprint + Input + Files + AllocGlobal>(
         Task::Verify { rom, cert } => verify_files(rt, rom, cert),
         Task::Header { rom } => header(rt, rom),
         Task::Show { cert } => show(rt, cert),
-        Task::Upgrade { cert } => upgrade(rt, cert),
+        Task::Upgrade { cert, to } => upgrade(rt, cert, upgrade_to(to)),
         Task::Run {
             rom,
             script,

@@ -28,7 +28,7 @@ pub use gb_calls::entering::enter;
 pub use gb_calls::interrupts::{left_by_dispatch, may_come};
 pub use gb_calls::ranges::are_ranges_inside;
 pub use gb_calls::resuming::{Resumed, resume};
-pub use gb_calls::{Cert, NodeRef, ProcedureRef};
+pub use gb_calls::{Cert, NodeRef, ProcedureRef, StateRef};
 pub use gb_code::code::{area_end, known_byte, known_bytes, leaves_area, lies_in_high_ram};
 pub use gb_code::{holds_bytes, is_limited, known_bank, meets_closed_ram};
 pub use gb_product::covering::covers;

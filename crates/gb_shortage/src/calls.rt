@@ -6,7 +6,9 @@ use gb_bus::Memory;
 use gb_cert::{
     Cert, CertFault, NodePlan, ProcedurePlan, Version, WriteFault, encode, write_certificate,
 };
-use gb_console::{Console, Ending, Keys, Outcome, Upgraded, upgrade_bytes, verify_bytes};
+use gb_console::{
+    Console, Ending, Keys, Outcome, UpgradeTo, Upgraded, upgrade_bytes, verify_bytes,
+};
 use gb_header::Rom;
 use gb_text::kept_bytes::KeptBytes;
 use gb_words::{Task, read_words};
@@ -106,7 +108,7 @@ fn write_plain(alloc: Global, files: &Files<'_>) -> Answer {
 /// Whether a certificate was written in version 2.
 fn upgrade(alloc: Global, files: &Files<'_>) -> Answer {
     let mut out = KeptBytes::new(12_288, 12_288);
-    match upgrade_bytes(alloc, files.cert.bytes(), &mut out) {
+    match upgrade_bytes(alloc, files.cert.bytes(), UpgradeTo::Two, &mut out) {
         Ok(Upgraded::Written) if out.kept() == files.upgraded => Answer::Right,
         Ok(Upgraded::NoMemory) if out.kept() == NO_MEMORY => Answer::Refused,
         _ => Answer::Other,

@@ -6,7 +6,7 @@ use crate::random::Random;
 use crate::tally::Tally;
 use gb_cert::{Cert, CertFault, encode};
 use gb_cert_place::place::{Sought, fault_place};
-use gb_printed::{Outcome, Upgraded, show_bytes, upgrade_bytes, verify_bytes};
+use gb_printed::{Outcome, UpgradeTo, Upgraded, show_bytes, upgrade_bytes, verify_bytes};
 use gb_text::kept_bytes::KeptBytes;
 use std::alloc::Global;
 use std::io;
@@ -54,7 +54,7 @@ fn agree_on_fault(alloc: Global, bytes: &[u8], fault: CertFault) -> bool {
     let line = fault_line(fault);
     let (mut shown, mut upgraded) = (sink(), sink());
     let is_told = show_bytes(alloc, bytes, &mut shown) == Ok(Some(fault))
-        && upgrade_bytes(alloc, bytes, &mut upgraded) == Ok(Upgraded::Unreadable)
+        && upgrade_bytes(alloc, bytes, UpgradeTo::Two, &mut upgraded) == Ok(Upgraded::Unreadable)
         && shown.kept() == line.as_slice()
         && upgraded.kept() == line.as_slice();
     let is_placed = match fault_place(alloc, bytes) {
@@ -66,20 +66,31 @@ fn agree_on_fault(alloc: Global, bytes: &[u8], fault: CertFault) -> bool {
     is_told && is_placed
 }
 
-/// Whether a certificate's bytes in version 2, or in version 3 as before, are read as the same nodes and procedures, and are
+/// Whether a certificate's bytes in a version, or in version 3 as before, are read as so many nodes and procedures, and are
 /// their own.
-fn agree_on_upgrade(alloc: Global, bytes: &[u8], before: &Cert<'_>) -> bool {
+fn agree_on_upgrade(alloc: Global, bytes: &[u8], to: UpgradeTo, before: &Cert<'_>) -> bool {
     let mut again = sink();
+    let version = match to {
+        UpgradeTo::Two => 2,
+        UpgradeTo::Three => 3,
+    };
     match Cert::parse(alloc, bytes) {
         Ok(cert) => {
-            cert.version() == before.version().max(2)
+            cert.version() == before.version().max(version)
                 && cert.nodes() == before.nodes()
                 && cert.procedures() == before.procedures()
-                && upgrade_bytes(alloc, bytes, &mut again) == Ok(Upgraded::Written)
+                && upgrade_bytes(alloc, bytes, to, &mut again) == Ok(Upgraded::Written)
                 && again.kept() == bytes
         }
         Err(_) => false,
     }
+}
+
+/// Whether it can be upgraded to a version.
+fn can_be_upgraded(alloc: Global, bytes: &[u8], to: UpgradeTo, cert: &Cert<'_>) -> bool {
+    let mut upgraded = sink();
+    upgrade_bytes(alloc, bytes, to, &mut upgraded) == Ok(Upgraded::Written)
+        && agree_on_upgrade(alloc, upgraded.kept(), to, cert)
 }
 
 /// Whether a certificate is written as it was read, `show` has a line for its region and for each procedure and node, and
@@ -89,11 +100,11 @@ fn agree_on_certificate(alloc: Global, bytes: &[u8], cert: &Cert<'_>) -> bool {
         Ok(written) => written.as_slice() == bytes,
         Err(_) => false,
     };
-    let (mut shown, mut upgraded) = (sink(), sink());
+    let mut shown = sink();
     let is_shown = show_bytes(alloc, bytes, &mut shown) == Ok(None);
     let lines = shown.kept().iter().filter(|byte| **byte == b'\n').count();
-    let is_upgraded = upgrade_bytes(alloc, bytes, &mut upgraded) == Ok(Upgraded::Written)
-        && agree_on_upgrade(alloc, upgraded.kept(), cert);
+    let is_upgraded = can_be_upgraded(alloc, bytes, UpgradeTo::Two, cert)
+        && can_be_upgraded(alloc, bytes, UpgradeTo::Three, cert);
     let expected = u64::from(cert.nodes()) + u64::from(cert.procedures()) + 1;
     is_written
         && is_shown

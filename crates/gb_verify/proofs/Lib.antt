@@ -5,3 +5,5 @@ pub mod StartLaws
 pub mod SafetyLaws
 pub mod UpgradeLaws
 pub mod VerdictLaws
+pub mod WidenedLaws
+pub mod WidenedText

@@ -1,5 +1,5 @@
 -- An upgrade, from its parts.
-use Rattle.std.proofs.Common.{◌≡◌, ℕ, ◌+◌, false, ◌==◌, List, ◌++◌, drop, slice_get, Option, Some, Ok, Err, inl, inr, refl, sym, ◌∙◌, ap, subst, arith}
+use Rattle.std.proofs.Common.{◌≡◌, ℕ, ◌+◌, true, false, nat_lt, ◌==◌, List, ◌++◌, drop, slice_get, Option, Some, Ok, Err, inl, inr, refl, sym, ◌∙◌, ap, subst, arith}
 use Rattle.std.proofs.lemmas.Bool.Decides.{nat_tests}
 use Rattle.std.specs.List.{flat_map}
 use Rattle.std.proofs.lemmas.List.{drop_more}
@@ -10,6 +10,8 @@ use Rattle.gb_states.specs.Below.gb_fields.Format.{GivesUnlessMemory}
 use Rattle.gb_domain.specs.Types.{ProcedureParts}
 use Rattle.gb_domain.specs.Certificate.{Certificate}
 use Rattle.gb_domain.specs.Limits.{rules_of}
+use Rattle.gb_domain.specs.declared.rules.Rules.TheVariants.{Extended}
+use Rattle.gb_states.specs.Rules.{is_version, IsCertificate}
 use Rattle.gb_states.specs.Reading.{read_certificate}
 use Rattle.gb_states.specs.Spelling as spelled
 use Rattle.gb_states.specs.Spelling.{Spells}
@@ -21,7 +23,11 @@ use Rattle.gb_text.proofs.Gained.{gains_both, begins_first, begins_second}
 use Rattle.gb_text.proofs.Remaining.{Remains, remains_less, remains_cut}
 use Rattle.gb_verify.specs.Text.{certificate_text}
 use Rattle.gb_verify.specs.CertificateFile.{text_of, HasBeginning}
-use Rattle.gb_verify.specs.Upgrade.{upgraded, upgraded_text, written, fault_outcome, GainsUpgrade}
+use Rattle.gb_verify.specs.Upgrade.{is_before, text_in, upgraded, upgraded_text, upgraded_to, written, fault_outcome, GainsUpgrade}
+use Rattle.gb_verify.specs.Widened.{widened_by}
+use Rattle.gb_verify.specs.declared.upgrade.UpgradeTo.{UpgradeTo}
+use Rattle.gb_verify.specs.declared.upgrade.UpgradeTo.TheVariants.{Two, Three}
+use Rattle.gb_verify.proofs.WidenedLaws.{is_widened}
 use Rattle.gb_verify.specs.declared.upgrade.Upgraded.TheVariants as upgrade
 use Rattle.gb_verify.proofs.FileLaws.{text_of-fault, memory_or_other, certificate_written, certificate_begins}
 
@@ -107,51 +113,79 @@ certificate_numbered c head nodes old first mid new e h f g i =
     subst (λ t. GainsBeginning old t new) (certificate_parts c head nodes e h)
     (begins_second old first new head (procedures_text c ++ nodes) f (begins_second first mid new (procedures_text c) nodes g i))
 
+-- ---- a certificate in the version that is asked for
+
+-- one of version 3 stays what it is
+widened_same : (c : Certificate) → rules_of c.version ≡ Extended → spelled.spelling c ≡ text_in Three c
+widened_same c later = ap (λ rules. spelled.spelling (widened_by rules c)) (sym later)
+
+pub same_written : (c : Certificate) (bytes : List ℕ) (old new : Option (List ℕ)) → rules_of c.version ≡ Extended → Spells bytes c → Gains old bytes new → Gains old (text_in Three c) new
+same_written c bytes old new later s g = subst (λ t. Gains old t new) (s.is_spelling ∙ widened_same c later) g
+
+pub same_begun : (c : Certificate) (bytes : List ℕ) (old new : Option (List ℕ)) → rules_of c.version ≡ Extended → Spells bytes c → GainsBeginning old bytes new → GainsBeginning old (text_in Three c) new
+same_begun c bytes old new later s g = subst (λ t. GainsBeginning old t new) (s.is_spelling ∙ widened_same c later) g
+
 -- ---- an upgrade
 
-pub upgrade_written : (old new : Option (List ℕ)) (bytes : List ℕ) (c : Certificate) → read_certificate bytes ≡ Ok c → Gains old (upgraded_text c) new
-    → Gains old (text_of upgraded_text bytes) new
-upgrade_written old new bytes c h g = certificate_written upgraded_text old new bytes c h g
+pub upgrade_written : (to : UpgradeTo) (old new : Option (List ℕ)) (bytes : List ℕ) (c : Certificate) → read_certificate bytes ≡ Ok c → Gains old (text_in to c) new
+    → Gains old (text_of (text_in to) bytes) new
+upgrade_written to old new bytes c h g = certificate_written (text_in to) old new bytes c h g
 
-pub upgrade_begins : (old new : Option (List ℕ)) (bytes : List ℕ) (c : Certificate) → read_certificate bytes ≡ Ok c → GainsBeginning old (upgraded_text c) new
-    → HasBeginning upgraded_text old bytes new
-upgrade_begins old new bytes c h g = certificate_begins upgraded_text old new bytes c h g
+pub upgrade_begins : (to : UpgradeTo) (old new : Option (List ℕ)) (bytes : List ℕ) (c : Certificate) → read_certificate bytes ≡ Ok c → GainsBeginning old (text_in to c) new
+    → HasBeginning (text_in to) old bytes new
+upgrade_begins to old new bytes c h g = certificate_begins (text_in to) old new bytes c h g
 
-pub upgrade_gained : (old new : Option (List ℕ)) (bytes : List ℕ) (c : Certificate) → Spells bytes c → Gains old (upgraded_text c) new → GainsUpgrade old bytes new
-upgrade_gained old new bytes c h g = record {
-  text = upgraded_text c;
+-- an upgrade is a certificate
+is_upgrade : (to : UpgradeTo) (c : Certificate) → IsCertificate c → IsCertificate (upgraded_to to c)
+is_upgrade Two c h = is_upgraded c h
+is_upgrade Three c h = is_widened c h
+
+pub upgrade_gained : (to : UpgradeTo) (old new : Option (List ℕ)) (bytes : List ℕ) (c : Certificate) → Spells bytes c → Gains old (text_in to c) new → GainsUpgrade to old bytes new
+upgrade_gained to old new bytes c h g = record {
+  text = text_in to c;
   is_upgrade = record {
     certificate = c;
     before = h;
-    after = record { is_certificate = is_upgraded c h.is_certificate; is_spelling = refl };
+    after = record { is_certificate = is_upgrade to c h.is_certificate; is_spelling = refl };
   };
   gained = g;
 }
 
--- a version that isn't 1 stays
-kept_version : (version : ℕ) → (version == 1) ≡ false → upgraded_version version ≡ version
-unfolding upgraded_version
-kept_version version h = rw h refl
+-- ---- one that isn't of an earlier version
 
-kept_text : (c : Certificate) → (c.version == 1) ≡ false → upgraded_text c ≡ spelled.spelling c
-kept_text c h =
+not_1 : (version : ℕ) → nat_lt version 2 ≡ false → (version == 1) ≡ false
+not_1 version h = grind (arith, nat_tests)
+
+kept_version : (version : ℕ) → nat_lt version 2 ≡ false → upgraded_version version ≡ version
+unfolding upgraded_version
+kept_version version h = rw (not_1 version h) refl
+
+is_later : (version : ℕ) → is_version version ≡ true → nat_lt version 3 ≡ false → rules_of version ≡ Extended
+unfolding rules_of
+is_later version h later = grind (arith, nat_tests)
+
+kept_text : (to : UpgradeTo) (c : Certificate) → IsCertificate c → is_before to c.version ≡ false → text_in to c ≡ spelled.spelling c
+kept_text Two c h later =
     let with : ℕ → Certificate = λ version. record c { version = version } in
-    ap (λ version. spelled.spelling (with version)) (kept_version c.version h)
+    ap (λ version. spelled.spelling (with version)) (kept_version c.version later)
+kept_text Three c h later = sym (widened_same c (is_later c.version h.version later))
 
 same_ok : (a b : Certificate) → GivesUnlessMemory {X = Certificate} (λ c. c) (Ok b) (Ok a) → a ≡ b
 same_ok a b h = cc
 
-pub upgrade_same : (old new : Option (List ℕ)) (bytes : List ℕ) (c other : Certificate) → Spells bytes other → GivesUnlessMemory {X = Certificate} (λ d. d) (Ok c) (Ok other) → (other.version == 1) ≡ false → Gains old (upgraded_text c) new
-    → Gains old bytes new
-upgrade_same old new bytes c other s e h g =
-    subst (λ t. Gains old t new) (sym s.is_spelling) (subst (λ t. Gains old t new) (kept_text other h) (subst (λ d. Gains old (upgraded_text d) new) (sym (same_ok other c e)) g))
+pub upgrade_same : (to : UpgradeTo) (old new : Option (List ℕ)) (bytes : List ℕ) (c other : Certificate) → Spells bytes other → GivesUnlessMemory {X = Certificate} (λ d. d) (Ok c) (Ok other) → is_before to other.version ≡ false
+    → Gains old (text_in to c) new → Gains old bytes new
+upgrade_same to old new bytes c other s e later g =
+    subst (λ t. Gains old t new) (sym s.is_spelling) (subst (λ t. Gains old t new) (kept_text to other s.is_certificate later) (subst (λ d. Gains old (text_in to d) new) (sym (same_ok other c e)) g))
+
+-- ---- no certificate
 
 other_is_unreadable : (f : CertFault) → (f ≡ fault.Memory → ⊥) → fault_outcome f ≡ upgrade.Unreadable
 other_is_unreadable fault.Memory other = absurd (other refl)
 other_is_unreadable _ other = refl
 
-pub fault_written : (bytes : List ℕ) (f : CertFault) → ((f ≡ fault.Memory → ⊥) → read_certificate bytes ≡ Err f) → certificate_text f ≡ written (fault_outcome f) bytes
-fault_written bytes f h = elim (memory_or_other f) [
-  | inl memory ↦ subst (λ e. certificate_text e ≡ written (fault_outcome e) bytes) (sym memory) refl
-  | inr other ↦ text_of-fault upgraded_text bytes f (h other) ∙ ap (λ o. written o bytes) (sym (other_is_unreadable f other))
+pub fault_written : (to : UpgradeTo) (bytes : List ℕ) (f : CertFault) → ((f ≡ fault.Memory → ⊥) → read_certificate bytes ≡ Err f) → certificate_text f ≡ written to (fault_outcome f) bytes
+fault_written to bytes f h = elim (memory_or_other f) [
+  | inl memory ↦ subst (λ e. certificate_text e ≡ written to (fault_outcome e) bytes) (sym memory) refl
+  | inr other ↦ text_of-fault (text_in to) bytes f (h other) ∙ ap (λ o. written to o bytes) (sym (other_is_unreadable f other))
 ]

@@ -4,4 +4,5 @@ pub mod CertificateFile
 pub mod Text
 pub mod Upgrade
 pub mod Verdict
+pub mod Widened
 pub mod Below

@@ -1,5 +1,5 @@
--- A certificate of version 1 in version 2 of the format (own).
-use Rattle.std.specs.Prelude.{◌≡◌, ℕ, false, ◌==◌, List, Option, Result, Ok, Err}
+-- A certificate in a later version of the format (own).
+use Rattle.std.specs.Prelude.{◌≡◌, ℕ, Bool, false, nat_lt, List, Option, Result, Ok, Err}
 use Rattle.gb_states.specs.Below.gb_fields.declared.fault.CertFault.{CertFault}
 use Rattle.gb_states.specs.Below.gb_fields.declared.fault.CertFault.TheVariants.{Memory}
 use Rattle.gb_domain.specs.Certificate.{Certificate}
@@ -9,6 +9,9 @@ use Rattle.gb_rules.specs.Below.gb_cert.Places.{upgraded_version}
 use Rattle.gb_text.specs.Sink.{Gains}
 use Rattle.gb_verify.specs.Text.{memory_line}
 use Rattle.gb_verify.specs.CertificateFile.{text_of}
+use Rattle.gb_verify.specs.Widened.{widened}
+use Rattle.gb_verify.specs.declared.upgrade.UpgradeTo.{UpgradeTo}
+use Rattle.gb_verify.specs.declared.upgrade.UpgradeTo.TheVariants.{Two, Three}
 use Rattle.gb_verify.specs.declared.upgrade.Upgraded.{Upgraded}
 use Rattle.gb_verify.specs.declared.upgrade.Upgraded.TheVariants as upgrade
 
@@ -20,10 +23,18 @@ upgraded c = record c { version = upgraded_version c.version }
 abbrev pub upgraded_text : Certificate → List ℕ
 upgraded_text c = spelling (upgraded c)
 
+-- the same certificate in the version that is asked for, or in its own where that is a later one
+abbrev pub upgraded_to : UpgradeTo → Certificate → Certificate
+upgraded_to Two c = upgraded c
+upgraded_to Three c = widened c
+
+abbrev pub text_in : UpgradeTo → Certificate → List ℕ
+text_in to c = spelling (upgraded_to to c)
+
 -- what was written: the upgraded certificate's bytes, or the line of the first fault, or where memory ran out its own
-abbrev pub written : Upgraded → List ℕ → List ℕ
-written upgrade.NoMemory bytes = memory_line
-written _ bytes = text_of upgraded_text bytes
+abbrev pub written : UpgradeTo → Upgraded → List ℕ → List ℕ
+written to upgrade.NoMemory bytes = memory_line
+written to _ bytes = text_of (text_in to) bytes
 
 abbrev pub fault_outcome : CertFault → Upgraded
 fault_outcome Memory = upgrade.NoMemory
@@ -43,17 +54,25 @@ IfWritten upgrade.Written P = P
 IfWritten _ P = Unit {0}
 
 -- The first bytes spell a certificate, and the second the same upgraded.
-pub record IsUpgrade (bytes new : List ℕ) : Type 0 where
+pub record IsUpgrade (to : UpgradeTo) (bytes new : List ℕ) : Type 0 where
   pub certificate : Certificate
   pub before : Spells bytes certificate
-  pub after : Spells new (upgraded certificate)
+  pub after : Spells new (upgraded_to to certificate)
 
 -- A sink gained an upgrade of the bytes.
-pub record GainsUpgrade (old : Option (List ℕ)) (bytes : List ℕ) (new : Option (List ℕ)) : Type 0 where
+pub record GainsUpgrade (to : UpgradeTo) (old : Option (List ℕ)) (bytes : List ℕ) (new : Option (List ℕ)) : Type 0 where
   pub text : List ℕ
-  pub is_upgrade : IsUpgrade bytes text
+  pub is_upgrade : IsUpgrade to bytes text
   pub gained : Gains old text new
 
--- What isn't of version 1 is gained as it is.
-abbrev pub GainsSame : Option (List ℕ) → List ℕ → Option (List ℕ) → Type 0
-GainsSame old bytes new = (c : Certificate) → Spells bytes c → (c.version == 1) ≡ false → Gains old bytes new
+abbrev pub number_in : UpgradeTo → ℕ
+number_in Two = 2
+number_in Three = 3
+
+-- the version is before the one that is asked for
+abbrev pub is_before : UpgradeTo → ℕ → Bool
+is_before to version = nat_lt version (number_in to)
+
+-- What isn't of an earlier version is gained as it is.
+abbrev pub GainsSame : UpgradeTo → Option (List ℕ) → List ℕ → Option (List ℕ) → Type 0
+GainsSame to old bytes new = (c : Certificate) → Spells bytes c → is_before to c.version ≡ false → Gains old bytes new

@@ -1,15 +1,17 @@
 //! The verdict on a certificate for a cartridge, and the printed line. `check` is the headline: where it
 //! accepts, every run from power-up is safe (`safe`); `verify_bytes` goes from the bytes of two files
-//! to the line on a sink; `upgrade_bytes` writes a certificate of version 1 in version 2.
+//! to the line on a sink; `upgrade_bytes` writes a certificate in a later version of its
+//! format.
 //!
 //! Read `check`, with the definitions `Verdict`, `PowerUp` and `Headline`, then `verify`, with
-//! `Text`, and `upgrade`, with `CertificateFile` and `Upgrade`.
+//! `Text`, and `upgrade`, with `CertificateFile` and `Upgrade`, and `widen`, with `Widened`.
 #![tactic(auto)]
 
 pub mod check;
 pub mod upgrade;
 pub mod verdict;
 pub mod verify;
+mod widen;
 
 // What lies below, for the crates above.
 pub use gb_domain::places::{OneByte, Test};

@@ -1,25 +1,35 @@
-//! A certificate of version 1 in version 2 of its format.
+//! A certificate in a later version of its format.
 
 ghost use Rattle.std.specs.Prelude.{◌≡◌, false, is_err, IfOk, OnOk, OnErr};
 ghost use Rattle.std.specs.List.{flat_map};
 ghost use Rattle.gb_domain.specs.Limits.{rules_of};
 ghost use Rattle.gb_rules.specs.Below.gb_cert.Places.{upgraded_version};
+ghost use Rattle.gb_states.specs.Rules.{IsCertificate};
 ghost use Rattle.gb_states.specs.Spelling as spelled;
 ghost use Rattle.gb_text.specs.Sink.{Gains};
 ghost use Rattle.gb_text.specs.Text.{GainsBeginning};
 ghost use Rattle.gb_verify.specs.CertificateFile.{HasBeginning};
-ghost use Rattle.gb_verify.specs.Upgrade.{upgraded_text, written, fault_outcome, IsOutcome, IfWritten, GainsUpgrade, GainsSame};
+ghost use Rattle.gb_verify.specs.Upgrade.{text_in, upgraded_text, written, fault_outcome, IsOutcome, IfWritten, GainsUpgrade, GainsSame};
 
 use crate::verify::certificate_line;
+use crate::widen::put_widened;
+use gb_domain::types::Rules;
 use gb_rules::{Cert, CertFault, ProcedureRef};
 use gb_text::put::put_all;
 use gb_text::sink::{OutFault, Sink};
 use std::alloc::Global;
 
+/// The version that a certificate is upgraded to.
+#[derive(Clone, Copy, Debug, PartialEq, Eq)]
+pub enum UpgradeTo {
+    Two,
+    Three,
+}
+
 /// What was written of a certificate's bytes.
 #[derive(Clone, Copy, PartialEq, Eq)]
 pub enum Upgraded {
-    /// The same certificate, in version 2 if it was of version 1.
+    /// The same certificate, in the version that was asked for, or in its own where that is a later one.
     Written,
     /// The line of their first fault: they are no certificate.
     Unreadable,
@@ -73,7 +83,7 @@ fn put_procedures<W: Sink>(cert: &Cert<'_>, out: &mut W) -> Result<(), OutFault>
     Ok(())
 }
 
-/// Writes an upgraded certificate.
+/// Writes a certificate, in version 2 if it is of version 1.
 #[tactic(auto, using(crate::proofs::UpgradeLaws::certificate_whole, crate::proofs::UpgradeLaws::certificate_begun, crate::proofs::UpgradeLaws::certificate_headed, crate::proofs::UpgradeLaws::certificate_numbered))]
 fn put_upgraded<W: Sink>(cert: &Cert<'_>, out: &mut W) -> Result<(), OutFault>
     requires { W.has_failed out.old ≡ false }
@@ -86,6 +96,23 @@ fn put_upgraded<W: Sink>(cert: &Cert<'_>, out: &mut W) -> Result<(), OutFault>
     put_all(out, cert.node_bytes())
 }
 
+/// Writes a certificate in the version that is asked for, or in its own where that is a later one.
+fn put_certificate<W: Sink>(cert: &Cert<'_>, to: UpgradeTo, out: &mut W) -> Result<(), OutFault>
+    requires works { W.has_failed out.old ≡ false }
+    requires certificate { IsCertificate cert.now }
+    ensures whole { OnOk result (Gains (W.contents out.old) (text_in to cert.now) (W.contents out.new)) }
+    ensures beginning { OnErr result (GainsBeginning (W.contents out.old) (text_in to cert.now) (W.contents out.new)) }
+    ensures failed { W.has_failed out.new ≡ is_err result }
+{
+    match to {
+        UpgradeTo::Two => put_upgraded(cert, out),
+        UpgradeTo::Three => match Rules::of(cert.version()) {
+            Rules::Simple => put_widened(cert, out),
+            Rules::Extended => put_all(out, cert.bytes()),
+        },
+    }
+}
+
 /// What was written where a fault is met.
 fn fault_outcome(fault: CertFault) -> Upgraded
     ensures { result ≡ fault_outcome fault }
@@ -96,33 +123,39 @@ fn fault_outcome(fault: CertFault) -> Upgraded
     }
 }
 
-/// Writes the certificate that the bytes spell, in version 2 if it is of version 1: the same procedures, nodes and stack
-/// region, with the numbers of nodes in four bytes. One of another version comes out as it is. Where the bytes are no
-/// certificate it writes the line `CERTIFICATE Cn` of their first fault, C9 where memory ran out. It takes the memory that `Cert::parse`
-/// takes, and copies nothing.
+/// Writes the certificate that the bytes spell in the version that is asked for. Version 2 has the same procedures, nodes and
+/// stack region as version 1, with the numbers of nodes in four bytes. In version 3 each state of a procedure other than main
+/// has its return word below its items, and such a procedure needs two bytes more. A certificate of that version or of a
+/// later one comes out as it is. Where the bytes are no certificate it writes the line `CERTIFICATE Cn` of their first fault,
+/// C9 where memory ran out. It takes the memory that `Cert::parse` takes, and copies nothing.
 ///
 /// # Errors
 ///
 /// OutFault where the sink failed during the call; it then has a beginning of what was to be written.
 #[tactic(auto, using(crate::proofs::UpgradeLaws::upgrade_written, crate::proofs::UpgradeLaws::upgrade_gained, crate::proofs::UpgradeLaws::upgrade_begins, crate::proofs::UpgradeLaws::fault_written))]
-pub fn upgrade_bytes<W: Sink>(alloc: Global, cert: &[u8], out: &mut W) -> Result<Upgraded, OutFault>
+pub fn upgrade_bytes<W: Sink>(
+    alloc: Global,
+    cert: &[u8],
+    to: UpgradeTo,
+    out: &mut W,
+) -> Result<Upgraded, OutFault>
     requires { W.has_failed out.old ≡ false }
     // What was written is the upgraded certificate, or the line of the first fault, or where memory ran out its own.
-    ensures written { IfOk result (λ outcome. Gains (W.contents out.old) (written outcome cert.now) (W.contents out.new)) }
+    ensures written { IfOk result (λ outcome. Gains (W.contents out.old) (written to outcome cert.now) (W.contents out.new)) }
     // The outcome names its kind.
     ensures outcome { IfOk result (λ outcome. IsOutcome outcome cert.now) }
-    // Where a certificate was written, both spell the same but for the version.
-    ensures upgraded { IfOk result (λ outcome. IfWritten outcome (GainsUpgrade (W.contents out.old) cert.now (W.contents out.new))) }
-    // One that isn't of version 1 comes out as it is.
-    ensures same { IfOk result (λ outcome. IfWritten outcome (GainsSame (W.contents out.old) cert.now (W.contents out.new))) }
+    // Where a certificate was written, it is the one that the bytes spell, upgraded.
+    ensures upgraded { IfOk result (λ outcome. IfWritten outcome (GainsUpgrade to (W.contents out.old) cert.now (W.contents out.new))) }
+    // One that isn't of an earlier version comes out as it is.
+    ensures same { IfOk result (λ outcome. IfWritten outcome (GainsSame to (W.contents out.old) cert.now (W.contents out.new))) }
     // On OutFault what went out is a beginning of it.
-    ensures beginning { OnErr result (HasBeginning upgraded_text (W.contents out.old) cert.now (W.contents out.new)) }
+    ensures beginning { OnErr result (HasBeginning (text_in to) (W.contents out.old) cert.now (W.contents out.new)) }
     // OutFault exactly where the sink failed.
     ensures failed { W.has_failed out.new ≡ is_err result }
 {
     match Cert::parse(alloc, cert) {
         Ok(cert) => {
-            put_upgraded(&cert, out)?;
+            put_certificate(&cert, to, out)?;
             Ok(Upgraded::Written)
         }
         Err(fault) => {

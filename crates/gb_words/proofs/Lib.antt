@@ -5,3 +5,4 @@ pub mod CommandWalk
 pub mod CommandTaken
 pub mod Frames
 pub mod MetCommand
+pub mod UpgradeWords

@@ -51,7 +51,10 @@ CERT may be - for standard input.";
 pub(crate) const UPGRADE: &str = "\
 It writes the bytes of a certificate of version 1 in version 2 on standard output (status 0), so redirect it:
   gulmyrek upgrade old.cert > new.cert
-A certificate of version 2 or 3 comes out as it is. The verdict on both files is the same.
+With --to 3 it writes one of version 1 or 2 in version 3. These words stand in front of CERT:
+  gulmyrek upgrade --to 3 old.cert > new.cert
+A certificate of that version or a later one comes out as it is. The verdict on one in version 2 is the same; one in
+version 3 is judged by the rules of version 3.
 Where CERT is no certificate it prints one line:
   CERTIFICATE Cn  what is wrong with it (C1 to C8, status 2), or memory ran out (C9, status 3)
 

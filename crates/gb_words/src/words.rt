@@ -1,6 +1,6 @@
 //! The program's words, read by `clap`.
 
-ghost use Rattle.std.specs.Prelude.{◌≡◌, ◌∷◌, ◌≤◌, [], IfErr, IfOk, IsOk, List, Some, codes, decimal, false, is_some, map, true, ℕ};
+ghost use Rattle.std.specs.Prelude.{◌≡◌, ◌∷◌, ◌≤◌, [], IfErr, IfOk, IfSome, IsOk, List, Some, codes, decimal, false, is_some, map, true, ℕ};
 ghost use Rattle.clap.specs.Words.{App, FailsBy, HasMatchesOf, fault_of, first_value, found_of, has_subcommand, is_simple_and_free, kind_of, rule_of, with_rule, with_subcommand};
 ghost use Rattle.gb_words.specs.CommandLine;
 ghost use Rattle.gb_words.specs.Words;
@@ -12,6 +12,13 @@ use std::alloc::{AllocError, Global};
 
 /// The most frames that one run may be asked for.
 const MOST_FRAMES: i64 = 36_000;
+
+/// A version of certificates that one can be upgraded to.
+#[derive(Clone, Copy, Debug, PartialEq, Eq)]
+pub enum Version {
+    Two,
+    Three,
+}
 
 /// What the program is asked to do.
 #[derive(Clone, Copy, PartialEq, Eq)]
@@ -31,9 +38,10 @@ pub enum Task<'a> {
     Show {
         cert: &'a str,
     },
-    /// This certificate in version 2.
+    /// This certificate in this version.
     Upgrade {
         cert: &'a str,
+        to: Version,
     },
     /// A run of so many frames of this cartridge, with the keys of this script.
     Run {
@@ -110,6 +118,16 @@ fn with_arg<'a>(
     command?.arg(arg)
 }
 
+/// A command with another usage line, where it could be built so far.
+fn with_usage<'a>(
+    command: Result<Command<'a>, AllocError>,
+    usage: &'a str,
+) -> Result<Command<'a>, AllocError>
+    ensures { (app : App) → CommandLine.Makes command.entry app → CommandLine.Makes result app }
+{
+    Ok(command?.override_usage(usage))
+}
+
 /// The command `verify`.
 fn verify_command<'a>(alloc: Global) -> Result<Command<'a>, AllocError>
     ensures { CommandLine.Makes result CommandLine.verify_app }
@@ -154,13 +172,14 @@ fn show_command<'a>(alloc: Global) -> Result<Command<'a>, AllocError>
 fn upgrade_command<'a>(alloc: Global) -> Result<Command<'a>, AllocError>
     ensures { CommandLine.Makes result CommandLine.upgrade_app }
 {
-    file_command(
+    let command = file_command(
         alloc,
         "upgrade",
-        "Writes a certificate in version 2 of its format",
+        "Writes a certificate in version 2 or 3 of its format",
         help::UPGRADE,
         cert_arg(alloc),
-    )
+    );
+    with_usage(command, "gulmyrek upgrade [--to 2|3] <CERT>")
 }
 
 /// The command `run`.
@@ -239,6 +258,37 @@ fn value<'a>(matches: &ArgMatches<'a>, id: &str) -> &'a str
     text
 }
 
+/// The version that a word names.
+fn version_named(word: &str) -> Option<Version>
+    ensures some { IfSome result (λ version. word.now ≡ Words.version_word version) }
+    ensures all { (version : Version) → word.now ≡ Words.version_word version → is_some result ≡ true }
+{
+    match word {
+        "2" => Some(Version::Two),
+        "3" => Some(Version::Three),
+        _ => None,
+    }
+}
+
+/// Whether a word may name a file: one that begins with a hyphen does only where it is no more than that.
+fn is_file(word: &str) -> bool
+    ensures { result ≡ Words.is_file word.now }
+{
+    word == "-" || word.is_empty() || word.as_bytes()[0] != b'-'
+}
+
+/// The upgrade that the words `upgrade --to VERSION CERT` ask for, in this order. They are read here: `clap` knows no version.
+fn upgrade_asked<'a>(words: &'a [&'a str]) -> Option<Task<'a>>
+    ensures some { IfSome result (Words.StandFor (map (λ word. word.now) words.now)) }
+    ensures all { (to : Version) (cert : List ℕ) → Words.IsUpgradeTo (map (λ word. word.now) words.now) to cert → is_some result ≡ true }
+{
+    if words.len() != 4 || words[0] != "upgrade" || words[1] != "--to" || !is_file(words[3]) {
+        return None;
+    }
+    let to = version_named(words[2])?;
+    Some(Task::Upgrade { cert: words[3], to })
+}
+
 /// What the words after the program's name ask for. No word asks for the stored cartridge.
 pub fn read_words<'a>(alloc: Global, words: &'a [&'a str]) -> Result<Task<'a>, Error>
     ensures stands { IfOk result (λ task. Words.StandFor (map (λ word. word.now) words.now) task) }
@@ -255,6 +305,7 @@ pub fn read_words<'a>(alloc: Global, words: &'a [&'a str]) -> Result<Task<'a>, E
     ensures upgrade { (cert : List ℕ) → map (λ word. word.now) words.now ≡ codes "upgrade" ∷ cert ∷ []
         → Words.begins_with_hyphen cert ≡ false
         → IfErr result (λ e. kind_of e ≡ ErrorKind.OutOfMemory) }
+    ensures upgrade_to { (to : Version) (cert : List ℕ) → Words.IsUpgradeTo (map (λ word. word.now) words.now) to cert → IsOk result }
     ensures run { (rom script frames : List ℕ) (n : ℕ) → map (λ word. word.now) words.now ≡ codes "run" ∷ rom ∷ script ∷ frames ∷ []
         → Words.begins_with_hyphen rom ≡ false → Words.begins_with_hyphen script ≡ false
         → Words.begins_with_hyphen frames ≡ false → Words.IsFrames frames n
@@ -265,6 +316,9 @@ pub fn read_words<'a>(alloc: Global, words: &'a [&'a str]) -> Result<Task<'a>, E
 {
     if words.is_empty() {
         return Ok(Task::Stored);
+    }
+    if let Some(task) = upgrade_asked(words) {
+        return Ok(task);
     }
     let matches = matches_of(alloc, words)?;
     let Some((name, arguments)) = matches.subcommand() else {
@@ -286,7 +340,10 @@ pub fn read_words<'a>(alloc: Global, words: &'a [&'a str]) -> Result<Task<'a>, E
         }
         "upgrade" => {
             let cert = value(arguments, "cert");
-            Ok(Task::Upgrade { cert })
+            Ok(Task::Upgrade {
+                cert,
+                to: Version::Two,
+            })
         }
         "run" => {
             let rom = value(arguments, "rom");

@@ -1,4 +1,3 @@
-use Rattle.std.proofs.Common.{sym, ◌∙◌}
 use Rattle.std.proofs.lemmas.Result.{err_from_is_err_and}
 use Rattle.gb_cert.proofs.Written.{refused_by, procedure_refused_by}
 use Rattle.gb_cert.proofs.writer.write_certificate.Goals as goal

@@ -1,4 +1,4 @@
-use Rattle.std.proofs.Common.{◌≡◌, ◌∙◌, subst}
+use Rattle.std.proofs.Common.{◌∙◌, subst}
 use Rattle.gb_domain.specs.declared.rules.Rules.{Rules}
 use Rattle.gb_cert.specs.Borrowed.{procedure_in, BodyStands}
 use Rattle.gb_cert.proofs.Lending.{usual-base}

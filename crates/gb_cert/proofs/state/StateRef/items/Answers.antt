@@ -1,0 +1,14 @@
+use Rattle.std.proofs.Common.{◌*◌, ℕ, ◌∙◌, sym, ap, drop}
+use Rattle.gb_cert.specs.Borrowed.{state_in, item_width}
+use Rattle.gb_cert.proofs.Lending.{few-items, CountsOff, items-lent}
+use Rattle.gb_cert.proofs.state.StateRef.items.Goals as goal
+
+pub returns-clause-items : goal.returns-clause-items
+returns-clause-items c =
+    let f : CountsOff (item_width c.self.inside.rules) (drop 40 c.self.inside.bytes.now) c.counted.result.0.now c.counted.result.1.now = λ n xs rest e l. c.counted.ensures n xs rest (c.from_place.ensures ∙ e) (l ∙ ap (λ (w : ℕ). w * n) (sym c.item_width.ensures.exact)) in
+    rw (← c.self.view_is) (items-lent c.self.inside.rules c.self.inside.role c.self.inside.region c.self.inside.bytes.now c.counted.result.0.now c.counted.result.1.now (state_in c.self.inside.rules c.self.inside.role c.self.inside.region c.self.inside.bytes.now) c.self.invariant f).0
+
+pub returns-clause-few : goal.returns-clause-few
+returns-clause-few c =
+    let i = c.self.inside in
+    rw (← c.self.view_is) (few-items i.rules i.role i.region (state_in i.rules i.role i.region i.bytes.now) c.self.invariant.is_state)

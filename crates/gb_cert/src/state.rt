@@ -1,0 +1,129 @@
+//! A state of a certificate, in the bytes of its file.
+
+ghost use Rattle.std.specs.Prelude.{◌≡◌, ◌≤◌, length};
+ghost use Rattle.std.specs.List.{flat_map};
+ghost use Rattle.gb_domain.specs.RelationRules.{compared};
+ghost use Rattle.gb_states.specs.Spelling as spelled;
+ghost use Rattle.gb_cert.specs.Borrowed.{item_width};
+
+use gb_domain::types::Rules;
+use gb_fields::numbers::{counted, from_place};
+use gb_ops::machine::Region;
+use gb_states::fields::test_in;
+use gb_states::relations::relations_by;
+use gb_states::role::Role;
+use std::marker::Model;
+
+/// The bytes of a state before its items.
+pub(crate) const CORE: usize = 40;
+
+/// The bytes of a value.
+const VAL: usize = 3;
+
+/// The bytes of a cell: its address, the low byte first, and its value.
+const CELL: usize = 5;
+
+/// The bytes of one of what items are counted in: of a word in versions 1 and 2, three for each of its bytes; of a byte in
+/// version 3.
+#[inline(always)]
+#[tactic(auto, unfolding(gb_fields::specs::Limits::unit))]
+fn item_width(rules: Rules) -> usize
+    ensures exact { result ≡ item_width rules }
+    ensures few { result ≤ 6 }
+{
+    match rules {
+        Rules::Simple => 6,
+        Rules::Extended => 3,
+    }
+}
+
+/// A state, of a node or an exit. It borrows the certificate's bytes.
+#[derive(Drop)]
+pub struct StateRef<'a> {
+    rules: Rules,
+    role: Role,
+    region: Region,
+    bytes: &'a [u8],
+}
+
+impl<'a> Model for StateRef<'a> {
+    ghost use Rattle.gb_domain.specs.Types.{AbsState};
+
+    ghost Value = { AbsState };
+
+    ghost use Rattle.gb_cert.specs.Borrowed.{state_in, StateStands};
+
+    ghost view = { λ s. state_in s.rules s.role s.region s.bytes.now };
+
+    ghost invariant = { λ s. StateStands s.rules s.role s.region s.bytes.now (state_in s.rules s.role s.region s.bytes.now) };
+}
+
+impl<'a> StateRef<'a> {
+    ghost use Rattle.gb_cert.specs.Borrowed.{state_in, StateStands};
+
+    /// The state at the front of the bytes.
+    pub(crate) fn of_parts(
+        rules: Rules,
+        role: Role,
+        region: Region,
+        bytes: &'a [u8],
+    ) -> StateRef<'a>
+        requires { StateStands rules role region bytes.now (state_in rules role region bytes.now) }
+        ensures { result ≡ state_in rules role region bytes.now }
+    {
+        StateRef {
+            rules,
+            role,
+            region,
+            bytes,
+        }
+    }
+
+    /// What its flags say of A where nothing else is known of several parts together: the value that its test compares with.
+    pub fn test(&self) -> Option<u8>
+        ensures { result ≡ compared self.now.relations.byte.test }
+    {
+        test_in(self.bytes)
+    }
+
+    /// The bytes of its core and its test: they are the same in all versions.
+    pub fn core(&self) -> &'a [u8]
+        ensures { result.now ≡ spelled.core self.now.core (compared self.now.relations.byte.test) }
+    {
+        &self.bytes[..CORE]
+    }
+
+    /// The bytes of its stack items, three each, the oldest first.
+    pub fn items(&self) -> &'a [u8]
+        ensures items { result.now ≡ flat_map spelled.val self.now.items }
+        ensures few { length self.now.items ≤ 255 }
+    {
+        counted(from_place(self.bytes, CORE), item_width(self.rules)).0
+    }
+
+    /// How many stack items it has.
+    pub fn item_count(&self) -> u8
+        ensures { result ≡ length self.now.items }
+    {
+        (self.items().len() / VAL) as u8
+    }
+
+    /// The bytes of its memory cells, five each, in order of address.
+    pub fn cells(&self) -> &'a [u8]
+        ensures cells { result.now ≡ flat_map spelled.cell self.now.cells }
+        ensures few { length self.now.cells ≤ 255 }
+    {
+        let (_, told) = counted(from_place(self.bytes, CORE), item_width(self.rules));
+        match relations_by(self.rules, self.region, self.test(), told) {
+            Ok((_relations, cells)) => counted(cells, CELL).0,
+            Err(_) => unreachable!(),
+        }
+    }
+
+    /// How many memory cells it has.
+    pub fn cell_count(&self) -> u8
+        ensures { result ≡ length self.now.cells }
+    {
+        (self.cells().len() / CELL) as u8
+    }
+}
