@@ -1,5 +1,6 @@
 //! Certificates of many nodes, each with the cartridge that it is for. In all of them each node is right. `Sample` names them.
 
+use crate::calls;
 use gb_cert::{NodePlan, ProcedurePlan, Version, WriteFault, write_certificate};
 use gb_domain::types::{Abs, Core, Val};
 use gb_ops::machine::Region;
@@ -9,7 +10,7 @@ use gb_verify::check::core_at_power_up;
 use std::alloc::{AllocError, Global};
 
 /// The nodes of a certificate in version 1, at most.
-const FEW: u32 = 65_535;
+pub(crate) const FEW: u32 = 65_535;
 
 /// The addresses that have a node in straight-line code: 0000 to 0101, and 0150 to 7FFD.
 const ADDRESSES: u32 = 0x102 + 0x7FFE - 0x150;
@@ -20,16 +21,16 @@ const PROCEDURES: u8 = 32;
 const TWICE: u32 = 1_048_576 - PROCEDURES as u32 * ADDRESSES;
 
 /// The stack region of all of them.
-const REGION: Region = Region {
+pub(crate) const REGION: Region = Region {
     first: 0xDF00,
     last: 0xDFFF,
 };
 
 /// The address above it, which is main's base.
-const BASE: u16 = 0xE000;
+pub(crate) const BASE: u16 = 0xE000;
 
 /// Any byte.
-const ANY: Val = Val {
+pub(crate) const ANY: Val = Val {
     lo: 0,
     hi: 255,
     origin: None,
@@ -110,7 +111,7 @@ fn procedure(entry: u32, base: u16) -> ProcedurePlan<'static> {
 }
 
 /// A node in the bank that is shown at its address.
-fn node(procedure: u8, address: u16, state: &Abs) -> NodePlan<'_> {
+pub(crate) fn node(procedure: u8, address: u16, state: &Abs) -> NodePlan<'_> {
     NodePlan {
         procedure,
         address,
@@ -119,19 +120,18 @@ fn node(procedure: u8, address: u16, state: &Abs) -> NodePlan<'_> {
     }
 }
 
-/// A certificate of main alone, version 1.
-fn main_alone(alloc: Global, entry: u32, nodes: &[NodePlan<'_>]) -> Result<Vec<u8>, WriteFault> {
-    write_certificate(
-        alloc,
-        Version::One,
-        REGION,
-        &[procedure(entry, BASE)],
-        nodes,
-    )
+/// A certificate of main alone.
+fn main_alone(
+    alloc: Global,
+    version: Version,
+    entry: u32,
+    nodes: &[NodePlan<'_>],
+) -> Result<Vec<u8>, WriteFault> {
+    write_certificate(alloc, version, REGION, &[procedure(entry, BASE)], nodes)
 }
 
-/// Straight-line code, version 1: each address has two or three nodes, all in the same state.
-fn straight(alloc: Global, start: Core) -> Result<Vec<u8>, WriteFault> {
+/// Straight-line code: each address has two or three nodes, all in the same state.
+fn straight(alloc: Global, version: Version, start: Core) -> Result<Vec<u8>, WriteFault> {
     let state = Abs::new(start);
     let thirds = FEW - 2 * ADDRESSES;
     let mut nodes = Vec::new(alloc);
@@ -143,7 +143,8 @@ fn straight(alloc: Global, start: Core) -> Result<Vec<u8>, WriteFault> {
         };
         nodes.push(node(0, address_of(place), &state))?;
     }
-    main_alone(alloc, 2 * 0x100 + thirds.min(0x100), nodes.as_slice())
+    let entry = 2 * 0x100 + thirds.min(0x100);
+    main_alone(alloc, version, entry, nodes.as_slice())
 }
 
 /// Adds main's nodes: the first addresses have two.
@@ -201,7 +202,7 @@ fn one_address(alloc: Global, start: Core) -> Result<Vec<u8>, WriteFault> {
     for _ in 0..FEW {
         nodes.push(node(0, 0x100, &state))?;
     }
-    main_alone(alloc, 0, nodes.as_slice())
+    main_alone(alloc, Version::One, 0, nodes.as_slice())
 }
 
 /// For each byte the state with it alone in L, and any value in each other register.
@@ -240,7 +241,7 @@ fn single_values(alloc: Global, start: Core) -> Result<Vec<u8>, WriteFault> {
     nodes.push(node(0, 0x100, &any))?;
     push_singles(states.as_slice(), &mut nodes)?;
     nodes.push(node(0, 0x160, &any))?;
-    main_alone(alloc, 0, nodes.as_slice())
+    main_alone(alloc, Version::One, 0, nodes.as_slice())
 }
 
 /// A certificate of many nodes, and the cartridge that it is for.
@@ -250,6 +251,8 @@ pub enum Sample {
     Procedures,
     OneAddress,
     SingleValues,
+    StraightLineExtended,
+    Calls,
 }
 
 /// All of them, as they are measured.
@@ -258,25 +261,32 @@ pub const SAMPLES: &[Sample] = &[
     Sample::Procedures,
     Sample::OneAddress,
     Sample::SingleValues,
+    Sample::StraightLineExtended,
+    Sample::Calls,
 ];
 
 impl Sample {
     /// What it is.
     pub fn name(self) -> &'static str {
         match self {
-            Sample::StraightLine => "65,535 nodes of straight-line code",
+            Sample::StraightLine => "65,535 nodes of straight-line code, version 1",
             Sample::Procedures => "1,048,576 nodes of 32 procedures",
             Sample::OneAddress => "65,535 nodes at one address",
             Sample::SingleValues => "65,533 single values at one address",
+            Sample::StraightLineExtended => "65,535 nodes of straight-line code, version 3",
+            Sample::Calls => "65,535 nodes of calls, returns and loops, version 3",
         }
     }
 
     /// The cartridge.
     pub fn cartridge(self) -> [u8; 0x8000] {
         match self {
-            Sample::StraightLine | Sample::Procedures => straight_line(),
+            Sample::StraightLine | Sample::Procedures | Sample::StraightLineExtended => {
+                straight_line()
+            }
             Sample::OneAddress => loop_alone(),
             Sample::SingleValues => two_jumps(),
+            Sample::Calls => calls::cartridge(),
         }
     }
 
@@ -284,7 +294,9 @@ impl Sample {
     pub fn bytes(self, alloc: Global, rom: &Rom<'_>) -> Result<Vec<u8>, WriteFault> {
         let start = core_at_power_up(rom, REGION);
         match self {
-            Sample::StraightLine => straight(alloc, start),
+            Sample::StraightLine => straight(alloc, Version::One, start),
+            Sample::StraightLineExtended => straight(alloc, Version::Three, start),
+            Sample::Calls => calls::bytes(alloc, start),
             Sample::Procedures => procedures(alloc, start),
             Sample::OneAddress => one_address(alloc, start),
             Sample::SingleValues => single_values(alloc, start),

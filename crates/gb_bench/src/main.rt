@@ -2,9 +2,10 @@
 //! processor's steps; and frames of a full scene. The times go to standard error; what is printed on standard
 //! output is the same each time.
 //!
-//! Nothing is promised here. `processor.rt`, `picture.rt` and `certificates.rt` have what is measured.
+//! Nothing is promised here. `processor.rt`, `picture.rt`, `certificates.rt` and `calls.rt` have what is measured.
 #![tactic(auto)]
 
+mod calls;
 mod certificates;
 mod picture;
 mod processor;

@@ -1,13 +1,14 @@
 //! What a conditional instruction learns from its condition.
 
-ghost use Rattle.std.specs.Prelude.{◌≡◌, true, false, IfSome};
+ghost use Rattle.std.specs.Prelude.{◌≡◌, Some, true, false, IfSome};
+ghost use Rattle.gb_abs_effects.specs.Sides.{side_of};
 ghost use Rattle.gb_product.specs.Sides as Branching;
 ghost use Rattle.gb_product.specs.Sound.{IsSoundSide, IsSideOf, AreSoundSides, AreSidesOf};
 
 use crate::parts::{Branch, Branches, holds_words};
 use gb_abs::any;
 use gb_abs::covering::cell_at;
-use gb_abs_effects::sides::{condition_of, opposite};
+use gb_abs_effects::sides::{condition_of, opposite, side_of};
 use gb_domain::pairs::{Bounds, WordPair};
 use gb_domain::relations::Relations;
 use gb_domain::types::{Cell, Core, Val};
@@ -90,62 +91,49 @@ fn narrowed_side(
     })
 }
 
-/// The side of a core that the flags leave; without a condition as it stands.
-fn side_where(
-    condition: Option<Condition>,
+/// The side of a core where a condition is met.
+fn side_met(
+    condition: Condition,
     cells: &[Cell],
+    core: &Core,
     relations: &Relations,
-    core: Option<Core>,
 ) -> Option<Branch>
-    ensures { result ≡ Branching.side_where condition cells.now relations.now core }
+    ensures { result ≡ Branching.side_where (Some condition) cells.now relations.now (side_of condition core.now) }
 {
-    let core = core?;
-    match condition {
-        None => Some(Branch {
-            core,
-            relations: *relations,
-            cell: None,
-        }),
-        Some(condition) => narrowed_side(condition, cells, relations, core),
-    }
+    narrowed_side(condition, cells, relations, side_of(condition, core)?)
 }
 
-fn opposite_of(condition: Option<Condition>) -> Option<Condition>
-    ensures { result ≡ Branching.opposite_of condition }
-{
-    Some(opposite(condition?))
-}
-
-#[tactic(auto, unfolding(crate::specs::Sides::taken_side))]
+#[tactic(auto, unfolding(crate::specs::Sides::taken_side, gb_abs_effects::specs::Sides::sides_of))]
 fn where_taken(op: Op, cells: &[Cell], core: &Core, relations: &Relations) -> Option<Branch>
     ensures { result ≡ Branching.taken_side op cells.now core.now relations.now }
 {
-    let flags = gb_abs_effects::sides::sides_of(op, core);
-    side_where(condition_of(op), cells, relations, flags.taken)
+    match condition_of(op) {
+        None => Some(Branch {
+            core: *core,
+            relations: *relations,
+            cell: None,
+        }),
+        Some(condition) => side_met(condition, cells, core, relations),
+    }
 }
 
-#[tactic(auto, unfolding(crate::specs::Sides::not_taken_side))]
+#[tactic(auto, unfolding(crate::specs::Sides::not_taken_side, gb_abs_effects::specs::Sides::sides_of))]
 fn where_not_taken(op: Op, cells: &[Cell], core: &Core, relations: &Relations) -> Option<Branch>
     ensures { result ≡ Branching.not_taken_side op cells.now core.now relations.now }
 {
-    let flags = gb_abs_effects::sides::sides_of(op, core);
-    side_where(
-        opposite_of(condition_of(op)),
-        cells,
-        relations,
-        flags.not_taken,
-    )
+    match condition_of(op) {
+        None => None,
+        Some(condition) => side_met(opposite(condition), cells, core, relations),
+    }
 }
 
-#[tactic(auto, unfolding(crate::specs::Sides::sides_of, crate::specs::Sides::taken_side, crate::specs::Sides::not_taken_side))]
+#[tactic(auto, unfolding(crate::specs::Sides::sides_of))]
 fn both_sides(op: Op, cells: &[Cell], core: &Core, relations: &Relations) -> Branches
     ensures { result ≡ Branching.sides_of op cells.now core.now relations.now }
 {
-    let flags = gb_abs_effects::sides::sides_of(op, core);
-    let condition = condition_of(op);
     Branches {
-        taken: side_where(condition, cells, relations, flags.taken),
-        not_taken: side_where(opposite_of(condition), cells, relations, flags.not_taken),
+        taken: where_taken(op, cells, core, relations),
+        not_taken: where_not_taken(op, cells, core, relations),
     }
 }
 

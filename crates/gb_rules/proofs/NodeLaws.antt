@@ -308,16 +308,16 @@ pub record IsShallow (rom : List ℕ) (cert : Certificate) (n : Node) (row : Row
   pub calls : any_of (calls_too_deep cert (setting_of cert n.procedure) (need_of cert n.procedure)) rom cert n row ≡ false
   pub handles : is_possible cert n ≡ true → handles_too_deep cert n ≡ false
 
-where_possible : (a b : Bool) → (a && b) ≡ false → a ≡ true → b ≡ false
-where_possible true b h e = h
-where_possible false b h e = cc
+where_possible : (a b : Bool) → (a && b) ≡ false → b ≡ true → a ≡ false
+where_possible true b h e = cc
+where_possible false b h e = refl
 
 pub shallow : (rom : List ℕ) (cert : Certificate) (n : Node) (p : Passes rom cert n) → IsShallow rom cert n p.row
 unfolding grows_too_deep
 shallow rom cert n p =
     let parts = or_parts _ _ p.depth in
     let first = or_parts _ _ parts.0 in
-    record { moves = first.0; calls = first.1; handles = where_possible (is_possible cert n) (handles_too_deep cert n) parts.1 }
+    record { moves = first.0; calls = first.1; handles = where_possible (handles_too_deep cert n) (is_possible cert n) parts.1 }
 
 -- what is asked of it while an OAM transfer may run
 pub record IsOpen (rom : List ℕ) (cert : Certificate) (n : Node) (row : Row) : Type 0 where
@@ -328,7 +328,7 @@ pub unlimited : (rom : List ℕ) (cert : Certificate) (n : Node) (p : Passes rom
 unfolding meets_transfer
 unlimited rom cert n p =
     let parts = or_parts _ _ p.oam_transfer in
-    record { accesses = parts.0; dispatches = where_possible (is_possible cert n) (is_dispatch_limited cert.region n) parts.1 }
+    record { accesses = parts.0; dispatches = where_possible (is_dispatch_limited cert.region n) (is_possible cert n) parts.1 }
 
 -- where its procedure's bytes lie
 pub record IsHoused (cert : Certificate) (procedure base : ℕ) : Type 0 where

@@ -351,7 +351,7 @@ unfoldable pub grows_too_deep : List ℕ → Certificate → Node → Row → Bo
 grows_too_deep rom cert n row =
     moves_too_deep (rules_of cert.version) (need_of cert n.procedure) n row.op (ways_of rom cert n row).taken
     || any_of (calls_too_deep cert (node_setting cert n) (need_of cert n.procedure)) rom cert n row
-    || (is_possible cert n && handles_too_deep cert n)
+    || (handles_too_deep cert n && is_possible cert n)
 
 -- a successor may store where no store is allowed
 unfoldable pub stores_outside : List ℕ → Certificate → Node → Row → Bool
@@ -366,7 +366,7 @@ meets_ram rom cert n row = any_of (meets_closed rom n.state.core) rom cert n row
 unfoldable pub meets_transfer : List ℕ → Certificate → Node → Row → Bool
 meets_transfer rom cert n row =
     any_of (λ t. is_code_limited n.state.core n.address row.length || meets_oam_transfer cert.region n.state.core t) rom cert n row
-    || (is_possible cert n && is_dispatch_limited cert.region n)
+    || (is_dispatch_limited cert.region n && is_possible cert n)
 
 -- one may lead anywhere
 unfoldable pub leads_anywhere : List ℕ → Certificate → Node → Row → Bool

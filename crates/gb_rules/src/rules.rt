@@ -20,7 +20,7 @@ use gb_code::code::{
     area_end, is_other_bank, known_byte, known_bytes, leaves_area, lies_in_high_ram,
 };
 use gb_code::{Rom, holds_bytes, known_bank};
-use gb_domain::types::{Abs, Core, Setting};
+use gb_domain::types::{Abs, Core, Rules, Setting};
 use gb_ops::decode::decode;
 use gb_ops::op::{Op, Row};
 use gb_successors::successors::{Successors, product_before, successors_of};
@@ -104,11 +104,15 @@ fn meets_ram(
     ways.meet_closed_ram(rom, state.core())
 }
 
-/// Whether something is meant before the instruction.
+/// Whether something is meant before the instruction; by the rules of versions 1 and 2 always.
+#[tactic(auto, unfolding(gb_successors::specs::Successors::product_before, gb_product::specs::Reduced::reduced))]
 fn is_possible(cert: &Cert<'_>, state: &Abs) -> bool
     ensures { result ≡ is_some (product_before (rules_of cert.now.version) state.now) }
 {
-    product_before(rules_of(cert), state).is_some()
+    match rules_of(cert) {
+        Rules::Simple => true,
+        Rules::Extended => product_before(Rules::Extended, state).is_some(),
+    }
 }
 
 /// Whether an OAM transfer may close a byte of the instruction, or an access of one of its successors,
@@ -132,7 +136,7 @@ fn meets_transfer(
     } else {
         ways.meet_oam_transfer(region, state.core())
     };
-    limited || (is_possible(cert, state) && is_dispatch_limited(region, node, state.core()))
+    limited || (is_dispatch_limited(region, node, state.core()) && is_possible(cert, state))
 }
 
 /// Whether one of them may lead anywhere.
@@ -167,12 +171,12 @@ fn call_too_deep(
         || has_deep(cert, setting, need, &ways.stays, callees.stays)
 }
 
-/// Whether something is meant before the instruction, and an interrupt may come whose dispatch makes the stack too deep.
+/// Whether an interrupt may come whose dispatch makes the stack too deep, and something is meant before the instruction.
 fn dispatches_too_deep(cert: &Cert<'_>, node: &NodeRef<'_>, state: &Abs) -> bool
     requires { state.now ≡ node.now.state }
-    ensures { result ≡ (Ruled.is_possible cert.now node.now && Ruled.handles_too_deep cert.now node.now) }
+    ensures { result ≡ (Ruled.handles_too_deep cert.now node.now && Ruled.is_possible cert.now node.now) }
 {
-    is_possible(cert, state) && handles_too_deep(cert, node, state)
+    handles_too_deep(cert, node, state) && is_possible(cert, state)
 }
 
 /// Whether the stack would grow over the procedure's need.

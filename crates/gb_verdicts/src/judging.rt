@@ -1,8 +1,9 @@
 //! The checker's verdicts.
 
-use gb_console::verify_bytes;
+use gb_console::{UpgradeTo, Upgraded, upgrade_bytes, verify_bytes};
 use gb_text::kept_bytes::KeptBytes;
 use gb_text::line::Line;
+use gb_text::sink::Plain;
 use std::alloc::Global;
 use std::io::{self, Write};
 
@@ -13,9 +14,72 @@ fn verdict_line(alloc: Global, rom: &[u8], cert: &[u8]) -> Line {
     line.into_line()
 }
 
-/// Prints the verdict's line.
-pub fn judge<W: Write>(alloc: Global, out: &mut W, rom: &[u8], cert: &[u8]) -> io::Result<()> {
-    out.write_all(verdict_line(alloc, rom, cert).as_slice())
+/// How many certificates of versions 1 and 2 were accepted, and how many of them are accepted in version 3 too.
+#[derive(Clone, Copy)]
+pub struct Upgrades {
+    pub accepted: u32,
+    pub still: u32,
+}
+
+/// A certificate of version 1 or 2 in version 3; of another version, or of bytes that are none, nothing.
+fn in_version_3(alloc: Global, cert: &[u8]) -> Option<Vec<u8>> {
+    if !cert.starts_with(b"GBBC") {
+        return None;
+    }
+    let mut bytes = Vec::new(alloc);
+    match upgrade_bytes(alloc, cert, UpgradeTo::Three, &mut Plain::new(&mut bytes)) {
+        Ok(Upgraded::Written) => Some(bytes),
+        _ => None,
+    }
+}
+
+/// Prints the verdict on a certificate of version 1 or 2 in version 3, where that is another one than this.
+fn judge_upgraded<W: Write>(
+    alloc: Global,
+    out: &mut W,
+    rom: &[u8],
+    cert: &[u8],
+    line: &[u8],
+    upgrades: &mut Upgrades,
+) -> io::Result<()> {
+    let Some(upgraded) = in_version_3(alloc, cert) else {
+        return Ok(());
+    };
+    let again = verdict_line(alloc, rom, upgraded.as_slice());
+    let is_same = again.as_slice() == line;
+    if line.starts_with(b"ACCEPTED") {
+        upgrades.accepted = upgrades.accepted.saturating_add(1);
+        if is_same {
+            upgrades.still = upgrades.still.saturating_add(1);
+        }
+    }
+    if is_same {
+        return Ok(());
+    }
+    out.write_all(b"In version 3: ")?;
+    out.write_all(again.as_slice())
+}
+
+/// Prints the verdict's line, and that in version 3 where it is another one.
+pub fn judge<W: Write>(
+    alloc: Global,
+    out: &mut W,
+    rom: &[u8],
+    cert: &[u8],
+    upgrades: &mut Upgrades,
+) -> io::Result<()> {
+    let line = verdict_line(alloc, rom, cert);
+    out.write_all(line.as_slice())?;
+    judge_upgraded(alloc, out, rom, cert, line.as_slice(), upgrades)
+}
+
+/// Prints how many certificates of versions 1 and 2 were accepted, and how many of them are in version 3 too.
+pub fn tell_upgrades<W: Write>(out: &mut W, upgrades: &Upgrades) -> io::Result<()> {
+    let Upgrades { accepted, still } = *upgrades;
+    writeln!(
+        out,
+        "{accepted} certificates of versions 1 and 2 are accepted, and in version 3 {still} of them"
+    )
 }
 
 /// The most nodes and procedures that a certificate may have which is made.
@@ -58,6 +122,7 @@ pub fn judge_made<W: Write>(
     rom: &[u8],
     cert: &[u8],
     ceiling: Option<Ceiling>,
+    upgrades: &mut Upgrades,
 ) -> io::Result<()> {
     let line = verdict_line(alloc, rom, cert);
     let text = str::from_utf8(line.as_slice()).unwrap_or("");
@@ -70,5 +135,6 @@ pub fn judge_made<W: Write>(
         };
         out.write_all(says.as_bytes())?;
     }
-    writeln!(out)
+    writeln!(out)?;
+    judge_upgraded(alloc, out, rom, cert, line.as_slice(), upgrades)
 }

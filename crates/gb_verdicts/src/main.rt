@@ -8,7 +8,8 @@
 //! that lie there, beside the start at 0100 and the header; `fill` with the byte that the whole file has, or `length` with the
 //! file's own; `cert` with bytes that follow one another, as often as it takes; `symbol` with a line of its file of symbols;
 //! `keys` with the bytes of a script; `most` with the nodes and the procedures that a certificate which is made may have;
-//! and what is to be done: `verdict`, `certify`, `json`, and `frames` with a number.
+//! and what is to be done: `verdict`, `certify`, `json`, and `frames` with a number. `upgrades` tells how many certificates so
+//! far were accepted in version 1 or 2, and how many of them in version 3 too.
 //! Numbers are hexadecimal, and other lines mean nothing. `examples/text` writes those of the games.
 #![tactic(auto)]
 
@@ -18,20 +19,21 @@ mod running;
 
 use gb_samples::cartridges::put;
 use gb_samples::spelled::{Example, bytes_of, number_of, word_of};
-use judging::{Ceiling, judge};
+use judging::{Ceiling, Upgrades, judge, tell_upgrades};
 use making::{Telling, certify};
 use running::run;
 use std::alloc::Global;
 use std::io::{self, BufRead, BufReader, BufWriter, Write};
 
-/// A cartridge and a certificate, the text of its symbols, the keys that are held in each frame, and how large a
-/// certificate may be that is made.
+/// A cartridge and a certificate, the text of its symbols, the keys that are held in each frame, how large a certificate may be
+/// that is made, and what came of all certificates so far in version 3.
 #[derive(Drop)]
 struct Played {
     files: Example,
     symbols: String,
     keys: Vec<u8>,
     most: Option<Ceiling>,
+    upgrades: Upgrades,
 }
 
 impl Played {
@@ -42,6 +44,10 @@ impl Played {
             symbols: String::new(alloc),
             keys: Vec::new(alloc),
             most: None,
+            upgrades: Upgrades {
+                accepted: 0,
+                still: 0,
+            },
         }
     }
 
@@ -49,15 +55,27 @@ impl Played {
         self.files.rom.as_slice()
     }
 
+    /// Prints the verdict on its certificate.
+    fn judge<W: Write>(&mut self, alloc: Global, out: &mut W) -> io::Result<()> {
+        let (rom, cert) = (self.files.rom.as_slice(), self.files.cert.as_slice());
+        judge(alloc, out, rom, cert, &mut self.upgrades)
+    }
+
     /// Makes a certificate of the cartridge.
-    fn certify<W: Write>(&self, alloc: Global, out: &mut W, telling: Telling) -> io::Result<()> {
+    fn certify<W: Write>(
+        &mut self,
+        alloc: Global,
+        out: &mut W,
+        telling: Telling,
+    ) -> io::Result<()> {
         certify(
             alloc,
             out,
-            self.rom(),
+            self.files.rom.as_slice(),
             self.symbols.as_bytes(),
             telling,
             self.most,
+            &mut self.upgrades,
         )
     }
 }
@@ -102,10 +120,14 @@ fn play<W: Write>(alloc: Global, out: &mut W, played: &mut Played, line: &str) -
     let (word, rest) = word_of(line);
     match word {
         "about" => {
-            *played = Played::new(alloc);
+            *played = Played {
+                upgrades: played.upgrades,
+                ..Played::new(alloc)
+            };
             writeln!(out, "{rest}")
         }
-        "verdict" => judge(alloc, out, played.rom(), played.files.cert.as_slice()),
+        "verdict" => played.judge(alloc, out),
+        "upgrades" => tell_upgrades(out, &played.upgrades),
         "certify" => played.certify(alloc, out, Telling::Words),
         "json" => played.certify(alloc, out, Telling::Json),
         "frames" => run(

@@ -1,6 +1,6 @@
 //! Certificates are made of cartridges, or it is told what is in the way.
 
-use crate::judging::{Ceiling, judge_made};
+use crate::judging::{Ceiling, Upgrades, judge_made};
 use gb_refine::{Limits, Made, Obstacle, Progress, Standing, Symbols, Told, make, obstacle_json};
 use gb_text::Rom;
 use std::alloc::Global;
@@ -88,6 +88,7 @@ pub fn certify<W: Write>(
     symbols: &[u8],
     telling: Telling,
     ceiling: Option<Ceiling>,
+    upgrades: &mut Upgrades,
 ) -> io::Result<()> {
     let Ok(rom) = Rom::parse(cartridge) else {
         return writeln!(out, "no cartridge");
@@ -97,7 +98,7 @@ pub fn certify<W: Write>(
     };
     match (make(alloc, &rom, LIMITS, &mut Silent)?, telling) {
         (Made::Certificate(cert), _) => {
-            judge_made(alloc, out, cartridge, cert.as_slice(), ceiling)
+            judge_made(alloc, out, cartridge, cert.as_slice(), ceiling, upgrades)
         }
         (Made::Obstacles(obstacles), Telling::Words) => {
             tell(alloc, out, obstacles.as_slice(), &symbols)
