@@ -88,15 +88,28 @@ fn known_where(wanted: bool, rom: &Rom<'_>, state: &Abs, address: u16) -> Option
     }
 }
 
-/// The bytes of the instruction at an address, three of them, 00 behind its length. None where one
-/// of them isn't known.
+/// The bytes of the instruction at an address, three of them, 00 behind its length, where its opcode is given as far as it is
+/// known. None where one of them isn't known.
 #[tactic(auto, unfolding(crate::specs::Code::known_bytes))]
-pub fn known_bytes(rom: &Rom<'_>, state: &Abs, address: u16) -> Option<[u8; 3]>
+pub fn known_bytes_from(
+    opcode: Option<u8>,
+    rom: &Rom<'_>,
+    state: &Abs,
+    address: u16,
+) -> Option<[u8; 3]>
+    requires { opcode ≡ known_byte rom.now state.now address }
     ensures { result ≡ known_bytes rom.now state.now address }
 {
-    let opcode = known_byte(rom, state, address)?;
+    let opcode = opcode?;
     let length = length_of(opcode);
     let second = known_where(length >= 2, rom, state, address.wrapping_add(1))?;
     let third = known_where(length >= 3, rom, state, address.wrapping_add(2))?;
     Some([opcode, second, third])
+}
+
+/// The same, with the opcode looked up.
+pub fn known_bytes(rom: &Rom<'_>, state: &Abs, address: u16) -> Option<[u8; 3]>
+    ensures { result ≡ known_bytes rom.now state.now address }
+{
+    known_bytes_from(known_byte(rom, state, address), rom, state, address)
 }

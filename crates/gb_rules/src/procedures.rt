@@ -95,7 +95,7 @@ fn items_of(cert: &Cert<'_>, node: u32) -> u8
     ensures { result ≡ Procedures.items_in (slice_get cert.now.nodes node) }
 {
     if node < cert.nodes() {
-        cert.node(node).state().items().len() as u8
+        cert.node(node).lent().item_count()
     } else {
         0
     }

@@ -3,6 +3,7 @@
 ghost use Rattle.std.specs.Prelude.{◌≡◌, ◌<◌, ◌&&◌, length, find, is_some, Option, Some, None, MatchResult, OnOk};
 ghost use Rattle.gb_domain.specs.Limits.{rules_of};
 ghost use Rattle.gb_successors.specs.Successors.{product_before, any_successor};
+ghost use Rattle.gb_rules.specs.Procedures.{stack_of};
 ghost use Rattle.gb_rules.specs.Rules as Ruled;
 ghost use Rattle.gb_rules.specs.Rules.{ways_of, node_setting, callees_of, row_reasons, way_reasons, target_reasons, reason_at};
 ghost use Rattle.gb_rules.specs.Safety.{IsSafeAt};
@@ -10,19 +11,20 @@ ghost use Rattle.gb_rules.specs.Safety.{IsSafeAt};
 use crate::depth::moves_too_deep;
 use crate::interrupts::{handles_too_deep, is_dispatch_limited};
 use crate::procedures::{
-    Callees, callees_of, has_deep, has_uncallable, has_uncovered, has_unreturnable, need_of,
-    ranges_of, rules_of, setting_of, stack_of,
+    Callees, callees_of, has_deep, has_uncallable, has_uncovered, has_unreturnable, ranges_of,
+    rules_of, stack_of,
 };
 use crate::stacks::breaks_stack;
 use gb_abs::reason::Reason;
 use gb_calls::{Cert, NodeRef};
 use gb_code::code::{
-    area_end, is_other_bank, known_byte, known_bytes, leaves_area, lies_in_high_ram,
+    area_end, is_other_bank, known_byte, known_bytes_from, leaves_area, lies_in_high_ram,
 };
 use gb_code::{Rom, holds_bytes, known_bank};
 use gb_domain::types::{Abs, Core, Rules, Setting};
 use gb_ops::decode::decode;
 use gb_ops::op::{Op, Row};
+use gb_successors::stacks::Stack;
 use gb_successors::successors::{Successors, product_before, successors_of};
 
 fn is_stop(op: Op) -> bool
@@ -77,13 +79,14 @@ fn stores_outside(
     cert: &Cert<'_>,
     node: &NodeRef<'_>,
     row: Row,
+    setting: Setting,
     ways: &Successors<'_>,
 ) -> bool
-    requires { ways.now ≡ ways_of rom.now cert.now node.now row }
+    requires setting { setting ≡ node_setting cert.now node.now }
+    requires ways { ways.now ≡ ways_of rom.now cert.now node.now row }
     ensures { result ≡ Ruled.stores_outside rom.now cert.now node.now row }
 {
     let ranges = ranges_of(cert, node.procedure());
-    let setting = setting_of(cert, node.procedure());
     ways.store_outside(setting, rom.kind(), cert.region(), ranges.as_slice())
 }
 
@@ -180,24 +183,25 @@ fn dispatches_too_deep(cert: &Cert<'_>, node: &NodeRef<'_>, state: &Abs) -> bool
 }
 
 /// Whether the stack would grow over the procedure's need.
-#[tactic(auto, unfolding(crate::specs::Rules::grows_too_deep, crate::specs::Rules::any_of, crate::specs::Procedures::setting_of))]
+#[tactic(auto, unfolding(crate::specs::Rules::grows_too_deep, crate::specs::Rules::any_of, crate::specs::Procedures::stack_of, crate::specs::Procedures::setting_of))]
 fn grows_too_deep(
     rom: &Rom<'_>,
     cert: &Cert<'_>,
     node: &NodeRef<'_>,
     state: &Abs,
     row: Row,
+    stack: Stack,
     ways: &Successors<'_>,
     callees: Callees,
 ) -> bool
     requires state { state.now ≡ node.now.state }
+    requires stack { stack ≡ stack_of cert.now node.now.procedure }
     requires ways { ways.now ≡ ways_of rom.now cert.now node.now row }
     requires callees { callees ≡ callees_of cert.now (node_setting cert.now node.now) ways.now }
     ensures { result ≡ Ruled.grows_too_deep rom.now cert.now node.now row }
 {
-    let procedure = node.procedure();
-    let (setting, need) = (setting_of(cert, procedure), need_of(cert, procedure));
-    moves_too_deep(rules_of(cert), need, node, state, row.op, &ways.taken)
+    let Stack { setting, need, .. } = stack;
+    moves_too_deep(setting.rules, need, node, state, row.op, &ways.taken)
         || call_too_deep(cert, setting, need, ways, callees)
         || dispatches_too_deep(cert, node, state)
 }
@@ -210,15 +214,16 @@ fn leads_uncovered(
     near: u32,
     node: &NodeRef<'_>,
     row: Row,
+    setting: Setting,
     ways: &Successors<'_>,
     callees: Callees,
 ) -> bool
+    requires setting { setting ≡ node_setting cert.now node.now }
     requires ways { ways.now ≡ ways_of rom.now cert.now node.now row }
     requires callees { callees ≡ callees_of cert.now (node_setting cert.now node.now) ways.now }
     ensures { result ≡ Ruled.leads_uncovered rom.now cert.now node.now row }
 {
     let procedure = node.procedure();
-    let setting = setting_of(cert, procedure);
     has_uncovered(cert, setting, near, procedure, &ways.taken, callees.taken)
         || has_uncovered(
             cert,
@@ -238,15 +243,16 @@ fn calls_wrongly(
     cert: &Cert<'_>,
     node: &NodeRef<'_>,
     row: Row,
+    setting: Setting,
     ways: &Successors<'_>,
     callees: Callees,
 ) -> bool
+    requires setting { setting ≡ node_setting cert.now node.now }
     requires ways { ways.now ≡ ways_of rom.now cert.now node.now row }
     requires callees { callees ≡ callees_of cert.now (node_setting cert.now node.now) ways.now }
     ensures { result ≡ Ruled.calls_wrongly rom.now cert.now node.now row }
 {
     let procedure = node.procedure();
-    let setting = setting_of(cert, procedure);
     has_uncallable(cert, setting, procedure, &ways.taken, callees.taken)
         || has_uncallable(cert, setting, procedure, &ways.not_taken, callees.not_taken)
         || has_uncallable(cert, setting, procedure, &ways.stays, callees.stays)
@@ -278,18 +284,20 @@ fn reason_of_targets(
     near: u32,
     node: &NodeRef<'_>,
     row: Row,
+    setting: Setting,
     ways: &Successors<'_>,
     callees: Callees,
 ) -> Option<Reason>
+    requires setting { setting ≡ node_setting cert.now node.now }
     requires ways { ways.now ≡ ways_of rom.now cert.now node.now row }
     requires callees { callees ≡ callees_of cert.now (node_setting cert.now node.now) ways.now }
     ensures { result ≡ find (Ruled.applies_to_row rom.now cert.now node.now row) target_reasons }
 {
     if leads_anywhere(rom, cert, node, row, ways) {
         Some(Reason::JumpHl)
-    } else if leads_uncovered(rom, cert, near, node, row, ways, callees) {
+    } else if leads_uncovered(rom, cert, near, node, row, setting, ways, callees) {
         Some(Reason::Uncovered)
-    } else if calls_wrongly(rom, cert, node, row, ways, callees) {
+    } else if calls_wrongly(rom, cert, node, row, setting, ways, callees) {
         Some(Reason::Callee)
     } else if returns_wrongly(rom, cert, node, row, ways) {
         Some(Reason::Return)
@@ -299,7 +307,7 @@ fn reason_of_targets(
 }
 
 /// The lowest reason against the successors of a node's instruction.
-#[tactic(auto, unfolding(crate::specs::Rules::applies_to_row))]
+#[tactic(auto, unfolding(crate::specs::Rules::applies_to_row, crate::specs::Procedures::stack_of))]
 fn reason_of_ways(
     rom: &Rom<'_>,
     cert: &Cert<'_>,
@@ -307,23 +315,26 @@ fn reason_of_ways(
     node: &NodeRef<'_>,
     state: &Abs,
     row: Row,
+    stack: Stack,
     ways: &Successors<'_>,
 ) -> Option<Reason>
     requires state { state.now ≡ node.now.state }
+    requires stack { stack ≡ stack_of cert.now node.now.procedure }
     requires ways { ways.now ≡ ways_of rom.now cert.now node.now row }
     ensures { result ≡ find (Ruled.applies_to_row rom.now cert.now node.now row) way_reasons }
 {
-    let callees = callees_of(cert, setting_of(cert, node.procedure()), ways);
-    if grows_too_deep(rom, cert, node, state, row, ways, callees) {
+    let setting = stack.setting;
+    let callees = callees_of(cert, setting, ways);
+    if grows_too_deep(rom, cert, node, state, row, stack, ways, callees) {
         Some(Reason::Depth)
-    } else if stores_outside(rom, cert, node, row, ways) {
+    } else if stores_outside(rom, cert, node, row, setting, ways) {
         Some(Reason::Store)
     } else if meets_ram(rom, cert, node, state, row, ways) {
         Some(Reason::CartridgeRam)
     } else if meets_transfer(rom, cert, node, state, row, ways) {
         Some(Reason::OamTransfer)
     } else {
-        reason_of_targets(rom, cert, near, node, row, ways, callees)
+        reason_of_targets(rom, cert, near, node, row, setting, ways, callees)
     }
 }
 
@@ -351,7 +362,7 @@ fn reason_of_row(
         return Some(Reason::Stack);
     }
     let ways = successors_of(stack, rom, row, node.address(), state);
-    reason_of_ways(rom, cert, near, node, state, row, &ways)
+    reason_of_ways(rom, cert, near, node, state, row, stack, &ways)
 }
 
 /// The lowest reason against a node, by the rules of its instruction. Its state is given, so that it is
@@ -369,13 +380,14 @@ pub fn reason_near(
     ensures { result ≡ Ruled.reason_of rom.now cert.now node.now }
 {
     let address = node.address();
-    if leaves_area(address, known_byte(rom, state, address), area_end(address)) {
+    let opcode = known_byte(rom, state, address);
+    if leaves_area(address, opcode, area_end(address)) {
         return Some(Reason::Area);
     }
     if is_other_bank(known_bank(rom, &state.core().ctl, address), node.bank()) {
         return Some(Reason::Bank);
     }
-    let Some(bytes) = known_bytes(rom, state, address) else {
+    let Some(bytes) = known_bytes_from(opcode, rom, state, address) else {
         return Some(Reason::Unreadable);
     };
     match decode(&bytes) {
