@@ -10,7 +10,7 @@ use gb_vals::vals::{any, single};
 
 /// The address above the items, where addresses can be reckoned from it.
 #[tactic(auto, unfolding(crate::specs::Located::stack_base))]
-fn stack_base(setting: Setting, core: &Core) -> Option<u16>
+pub fn stack_base(setting: Setting, core: &Core) -> Option<u16>
     ensures { result ≡ Located.stack_base setting core.now }
 {
     match setting.rules {

@@ -1,32 +1,15 @@
 //! What a store makes of the bytes of the stack, in abstract states: by the rules of version 3 it may meet them.
 
 ghost use Rattle.std.specs.Prelude.{◌≡◌, ◌≤◌, length, replicate};
-ghost use Rattle.gb_abs.specs.Located as Located;
 ghost use Rattle.gb_abs.specs.Below.gb_vals.Vals.{any_val};
 ghost use Rattle.gb_abs_memory.specs.Items as Items;
 
 use arrayvec::ArrayVec;
 use gb_abs::any;
+use gb_abs::located::stack_base;
 use gb_abs::span::Span;
-use gb_domain::types::{Abs, Core, Rules, Setting, Val};
+use gb_domain::types::{Abs, Rules, Setting, Val};
 use gb_ops::machine::Region;
-
-/// The address above the items, where addresses can be reckoned from it.
-#[tactic(auto, unfolding(gb_abs::specs::Located::stack_base))]
-fn stack_base(setting: Setting, core: &Core) -> Option<u16>
-    ensures { result ≡ Located.stack_base setting core.now }
-{
-    match setting.rules {
-        Rules::Simple => None,
-        Rules::Extended => {
-            if core.stack_set {
-                setting.known_base()
-            } else {
-                None
-            }
-        }
-    }
-}
 
 /// An item of this address, after a store that sets those of a span.
 fn item_after(span: Span, val: Val, address: u16, item: Val) -> Val

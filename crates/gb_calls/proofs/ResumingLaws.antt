@@ -455,7 +455,7 @@ IsPairFacts-returned p k f g h i = record { last = by (is_pair_kept p k); link =
     by true = h.last
     by false = i.last
 
-ArePairs-returned : (k : Kept) (s t : Relations) → ArePairs s.pairs → ArePairs t.pairs → ArePairs (returned k s t).pairs
+pub ArePairs-returned : (k : Kept) (s t : Relations) → ArePairs s.pairs → ArePairs t.pairs → ArePairs (returned k s t).pairs
 unfolding returned
 ArePairs-returned k s t h i = record { each = λ p. each p }
   where

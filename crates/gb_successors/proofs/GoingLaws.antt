@@ -167,6 +167,43 @@ goes_to k (op.Restart a) v b next w core entry x l h low high m at taken hl =
 goes_to k o v b next w core entry x l h low high m at taken hl =
     goes_either k.setting.is_main (stack_move k o v b) next entry _ ((target_of_sound o next core (target.At next) refl).gives entry x l h m at taken)
 
+-- ---- what a word leads to is neither a call nor main begun anew
+
+record IsNoJump (x : Target) : Type 0 where
+  pub at : (a : ℕ) → target.At a ≡ x → ⊥
+  pub returned : target.Return ≡ x → ⊥
+  pub lost : target.Lost ≡ x → ⊥
+  pub unknown : target.Unknown ≡ x → ⊥
+
+main_is_no_jump : (a : ℕ) → IsNoJump (target.Main a)
+main_is_no_jump a = record { at = λ b e. cc; returned = λ e. cc; lost = λ e. cc; unknown = λ e. cc }
+
+call_is_no_jump : (a : ℕ) → IsNoJump (target.Call a)
+call_is_no_jump a = record { at = λ b e. cc; returned = λ e. cc; lost = λ e. cc; unknown = λ e. cc }
+
+not_popped : (x : Target) → IsNoJump x → (is_main : Bool) (w : Halves) → popped_target is_main w ≡ x → ⊥
+not_popped x h is_main w = choose (not is_main && is_return_word w) (is_word_known w)
+  where
+    choose : (r s : Bool) → cond r target.Return (cond s (target.At (least_word w)) target.Lost) ≡ x → ⊥
+    choose true s e = h.returned e
+    choose false true e = h.at (least_word w) e
+    choose false false e = h.lost e
+
+not_within : (x : Target) → IsNoJump x → (b : Option Bounds) → target_within b ≡ x → ⊥
+not_within x h None e = h.unknown e
+not_within x h (Some b) e = choose (nat_lt b.first b.last) e
+  where
+    choose : (t : Bool) → cond t target.Unknown (target.At b.first) ≡ x → ⊥
+    choose true e = h.unknown e
+    choose false e = h.at b.first e
+
+not_jumped : (x : Target) → IsNoJump x → (is_main : Bool) (w : Halves) (b : Option Bounds) → jumped_target is_main w b ≡ x → ⊥
+not_jumped x h is_main w b = choose (not is_main && is_return_word w)
+  where
+    choose : (r : Bool) → cond r target.Return (target_within b) ≡ x → ⊥
+    choose true e = h.returned e
+    choose false e = not_within x h b e
+
 -- ---- main alone begins anew
 
 no_main : (a : ℕ) (t : Target) → ((b : ℕ) → t ≡ target.Main b → ⊥) → (m : StackMove) (next : ℕ) → ((n : ℕ) → m ≡ move.Restart n → ⊥) → moved_target m next t ≡ target.Main a → ⊥
@@ -178,37 +215,14 @@ no_main a t h (move.Append n) next other e = h a e
 no_main a t h (move.Set n) next other e = h a e
 no_main a t h move.Lost next other e = h a e
 
-no_main_popped : (is_main : Bool) (w : Halves) (a : ℕ) → popped_target is_main w ≡ target.Main a → ⊥
-no_main_popped is_main w a = choose (not is_main && is_return_word w) (is_word_known w)
-  where
-    choose : (r s : Bool) → cond r target.Return (cond s (target.At (least_word w)) target.Lost) ≡ target.Main a → ⊥
-    choose true s e = cc
-    choose false true e = cc
-    choose false false e = cc
-
-no_main_within : (b : Option Bounds) (a : ℕ) → target_within b ≡ target.Main a → ⊥
-no_main_within None a e = cc
-no_main_within (Some b) a e = choose (nat_lt b.first b.last) e
-  where
-    choose : (t : Bool) → cond t target.Unknown (target.At b.first) ≡ target.Main a → ⊥
-    choose true e = cc
-    choose false e = cc
-
-no_main_jumped : (is_main : Bool) (w : Halves) (b : Option Bounds) (a : ℕ) → jumped_target is_main w b ≡ target.Main a → ⊥
-no_main_jumped is_main w b a = choose (not is_main && is_return_word w)
-  where
-    choose : (r : Bool) → cond r target.Return (target_within b) ≡ target.Main a → ⊥
-    choose true e = cc
-    choose false e = no_main_within b a e
-
 pub main_restarts :
     (z : Setting) (o : Op) (next : ℕ) (w : Halves) (core : Core) (b : Option Bounds) (m : StackMove) (a : ℕ) → ((n : ℕ) → m ≡ move.Restart n → ⊥)
     → extended_target z o next w core b m (target_of o next core) ≡ target.Main a → ⊥
 unfolding target_of
-main_restarts z (op.ReturnIf condition) next w core b m a h e = no_main_popped z.is_main w a e
-main_restarts z op.Return next w core b m a h e = no_main_popped z.is_main w a e
-main_restarts z op.ReturnFromInterrupt next w core b m a h e = no_main_popped z.is_main w a e
-main_restarts z op.JumpHl next w core b m a h e = no_main_jumped z.is_main (pair_halves pair.Hl core) b a e
+main_restarts z (op.ReturnIf condition) next w core b m a h e = not_popped _ (main_is_no_jump a) z.is_main w e
+main_restarts z op.Return next w core b m a h e = not_popped _ (main_is_no_jump a) z.is_main w e
+main_restarts z op.ReturnFromInterrupt next w core b m a h e = not_popped _ (main_is_no_jump a) z.is_main w e
+main_restarts z op.JumpHl next w core b m a h e = not_jumped _ (main_is_no_jump a) z.is_main (pair_halves pair.Hl core) b e
 main_restarts z o next w core b m a h e = no_main a _ (λ c f. cc) m next h e
 
 not_restart : (r : Rules) (m : StackMove) (n k : ℕ) → m ≡ move.Take k → extended r m ≡ move.Restart n → ⊥
@@ -236,37 +250,14 @@ no_call a t h (move.Append n) next e = h a e
 no_call a t h (move.Set n) next e = h a e
 no_call a t h move.Lost next e = h a e
 
-no_call_popped : (is_main : Bool) (w : Halves) (a : ℕ) → popped_target is_main w ≡ target.Call a → ⊥
-no_call_popped is_main w a = choose (not is_main && is_return_word w) (is_word_known w)
-  where
-    choose : (r s : Bool) → cond r target.Return (cond s (target.At (least_word w)) target.Lost) ≡ target.Call a → ⊥
-    choose true s e = cc
-    choose false true e = cc
-    choose false false e = cc
-
-no_call_within : (b : Option Bounds) (a : ℕ) → target_within b ≡ target.Call a → ⊥
-no_call_within None a e = cc
-no_call_within (Some b) a e = choose (nat_lt b.first b.last) e
-  where
-    choose : (t : Bool) → cond t target.Unknown (target.At b.first) ≡ target.Call a → ⊥
-    choose true e = cc
-    choose false e = cc
-
-no_call_jumped : (is_main : Bool) (w : Halves) (b : Option Bounds) (a : ℕ) → jumped_target is_main w b ≡ target.Call a → ⊥
-no_call_jumped is_main w b a = choose (not is_main && is_return_word w)
-  where
-    choose : (r : Bool) → cond r target.Return (target_within b) ≡ target.Call a → ⊥
-    choose true e = cc
-    choose false e = no_call_within b a e
-
 pub call_is :
     (z : Setting) (o : Op) (next : ℕ) (w : Halves) (core : Core) (b : Option Bounds) (m : StackMove) (a : ℕ)
     → extended_target z o next w core b m (target_of o next core) ≡ target.Call a → is_call o ≡ true
 unfolding target_of
-call_is z (op.ReturnIf condition) next w core b m a e = absurd (no_call_popped z.is_main w a e)
-call_is z op.Return next w core b m a e = absurd (no_call_popped z.is_main w a e)
-call_is z op.ReturnFromInterrupt next w core b m a e = absurd (no_call_popped z.is_main w a e)
-call_is z op.JumpHl next w core b m a e = absurd (no_call_jumped z.is_main (pair_halves pair.Hl core) b a e)
+call_is z (op.ReturnIf condition) next w core b m a e = absurd (not_popped _ (call_is_no_jump a) z.is_main w e)
+call_is z op.Return next w core b m a e = absurd (not_popped _ (call_is_no_jump a) z.is_main w e)
+call_is z op.ReturnFromInterrupt next w core b m a e = absurd (not_popped _ (call_is_no_jump a) z.is_main w e)
+call_is z op.JumpHl next w core b m a e = absurd (not_jumped _ (call_is_no_jump a) z.is_main (pair_halves pair.Hl core) b e)
 call_is z (op.CallIf condition c) next w core b m a e = refl
 call_is z (op.Call c) next w core b m a e = refl
 call_is z (op.Restart c) next w core b m a e = refl
