@@ -32,14 +32,19 @@ word_of-is pair.Bc x = refl
 word_of-is pair.De x = refl
 word_of-is pair.Hl x = refl
 
+-- a pair's word, in the box of its bytes
+pub Within-bytes :
+    (p : WordPair) (v : Values) (x : Registers ℕ)
+    → Holds v x → Within (box (get (high_of p) v.registers) (get (low_of p) v.registers)) (word_of p x)
+Within-bytes p v x h =
+    subst (λ w. Within (box (get (high_of p) v.registers) (get (low_of p) v.registers)) w) (word_of-is p x)
+    (Within-box _ _ _ _ (h.registers (high_of p)) (h.registers (low_of p)))
+
 pub Within-bounds_of : (p : WordPair) (v : Values) (x : Registers ℕ) → Holds v x → Within (bounds_of p v) (word_of p x)
 unfolding bounds_of
 Within-bounds_of p v x h =
     let own = h.pairs.each p in
-    let bytes : Within (box (get (high_of p) v.registers) (get (low_of p) v.registers)) (word_of p x) =
-    subst (λ w. Within (box (get (high_of p) v.registers) (get (low_of p) v.registers)) w) (word_of-is p x)
-    (Within-box _ _ _ _ (h.registers (high_of p)) (h.registers (low_of p))) in
-    Within-cut _ _ _ bytes (record { least = own.first; most = own.last })
+    Within-cut _ _ _ (Within-bytes p v x h) (record { least = own.first; most = own.last })
 
 pub Within-bounds_of_other : (o : Other) (v : Values) (x : Registers ℕ) → Holds v x → Within (bounds_of_other o v) (other_of o x)
 unfolding bounds_of_other

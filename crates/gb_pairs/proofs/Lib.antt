@@ -4,6 +4,7 @@ pub mod CoveringLaws
 pub mod CutLaws
 pub mod KeptLaws
 pub mod LinkLaws
+pub mod PlainLaws
 pub mod ReducedLaws
 pub mod RegisterLaws
 pub mod StepLaws

@@ -35,7 +35,7 @@ Holds-with_register :
 Holds-with_register r y v x k h =
     record { registers = each_set (λ q z. In z (get q x)) r y v.registers k h.registers; pairs = h.pairs }
 
-Holds-with_bounds :
+pub Holds-with_bounds :
     (p : WordPair) (b : Bounds) (v : Values) (x : Registers ℕ) → Within b (word_of p x) → Holds v x → Holds (with_bounds p b v) x
 Holds-with_bounds p b v x k h =
     record {

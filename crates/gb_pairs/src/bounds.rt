@@ -68,7 +68,7 @@ pub fn low_of(pair: WordPair) -> Register
 }
 
 /// The words whose bytes are among those of two values.
-fn box_of(high: Val, low: Val) -> Bounds
+pub(crate) fn box_of(high: Val, low: Val) -> Bounds
     ensures { result ≡ box high low }
 {
     Bounds {

@@ -9,6 +9,7 @@
 pub mod bounds;
 pub mod covering;
 pub mod moved;
+mod plain;
 pub mod reduced;
 pub mod values;
 pub mod written;

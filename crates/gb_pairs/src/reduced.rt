@@ -6,6 +6,7 @@ ghost use Rattle.gb_pairs.specs.Reduced.{is_rising, size, pair_at, pairs_at, cut
 ghost use Rattle.gb_pairs.specs.Sound.{IsSoundByLink, IsSoundReducing, IsSoundRestriction, IsCut};
 
 use crate::bounds::{bounds_of, bounds_of_other, cut, facts_of, high_of, is_empty, low_of};
+use crate::plain::{are_plain, with_boxes};
 use crate::values::Values;
 use gb_domain::pairs::{Bounds, Link, Other, PairFacts, WordPair};
 use gb_domain::types::Val;
@@ -277,16 +278,29 @@ fn reduced_once(values: &Values) -> Option<Values>
     reduced_pair(WordPair::Hl, &by_de)
 }
 
-/// The same values, cut to what pairs and links leave: none where they stand for nothing. Each pair may cut what an earlier
-/// one reads, so that all are asked twice.
-#[tactic(auto, using(crate::proofs::ReducedLaws::sound_then, crate::proofs::ReducedLaws::sound_none, crate::proofs::CutLaws::reduced_cuts, crate::proofs::KeptLaws::reduced_kept), unfolding(crate::specs::Reduced::reduced))]
+/// Each pair may cut what an earlier one reads, so that all are asked twice.
+#[tactic(auto, using(crate::proofs::ReducedLaws::sound_then, crate::proofs::ReducedLaws::sound_none), unfolding(crate::specs::Reduced::reduced))]
+fn reduced_twice(values: &Values) -> Option<Values>
+    ensures exact { result ≡ reduced values.now }
+    ensures sound { IsSoundReducing values.now result }
+{
+    reduced_once(&reduced_once(values)?)
+}
+
+/// The same values, cut to what pairs and links leave: none where they stand for nothing. Where no
+/// pair says more than its bytes, that is known at once.
+#[tactic(auto, using(crate::proofs::CutLaws::reduced_cuts, crate::proofs::KeptLaws::reduced_kept, crate::proofs::PlainLaws::reduced_to_cuts, crate::proofs::PlainLaws::reduced_to_kept))]
 pub fn reduced(values: &Values) -> Option<Values>
     ensures exact { result ≡ reduced values.now }
     ensures sound { IsSoundReducing values.now result }
     ensures cuts { IfSome result (IsCut values.now) }
     ensures kept { ArePairs values.now.pairs → IfSome result (λ w. ArePairs w.pairs) }
 {
-    reduced_once(&reduced_once(values)?)
+    if are_plain(values) {
+        Some(with_boxes(values))
+    } else {
+        reduced_twice(values)
+    }
 }
 
 #[tactic(auto, unfolding(crate::specs::Reduced::restricted))]
