@@ -82,15 +82,19 @@ fn any_core(start: Core) -> Core {
     }
 }
 
+/// A byte of the return word.
+fn byte_of(origin: Origin) -> Val {
+    Val {
+        origin: Some(origin),
+        ..ANY
+    }
+}
+
 /// The same with the return word on the stack.
 fn entered(core: Core) -> Abs {
     let mut items = ArrayVec::new();
-    for origin in [Origin::ReturnHigh, Origin::ReturnLow] {
-        items.push(Val {
-            origin: Some(origin),
-            ..ANY
-        });
-    }
+    items.push(byte_of(Origin::ReturnHigh));
+    items.push(byte_of(Origin::ReturnLow));
     Abs::of_parts(core, items, ArrayVec::new(), Relations::default())
 }
 

@@ -1,6 +1,6 @@
 //! Abstract states.
 
-ghost use Rattle.std.specs.Prelude.{◌≡◌, ◌≤◌, length};
+ghost use Rattle.std.specs.Prelude.{◌≡◌, ◌≤◌, ◌<◌, ◌++◌, ◌∷◌, [], length, take};
 ghost use Rattle.gb_domain.specs.Types.{state_of};
 
 use crate::relations::Relations;
@@ -117,6 +117,21 @@ impl Abs {
         self.items = items;
     }
 
+    /// It gets one item more, the newest. All else stays. There must be room.
+    pub fn push_item(&mut self, item: Val)
+        requires { length self.old.items < 255 }
+        ensures { self.new ≡ record self.old { items = self.old.items ++ item ∷ [] } }
+    {
+        self.items.push(item);
+    }
+
+    /// It keeps so many of its items, the oldest. All else stays.
+    pub fn truncate_items(&mut self, count: usize)
+        ensures { self.new ≡ record self.old { items = take count self.old.items } }
+    {
+        self.items.truncate(count);
+    }
+
     /// It gets other cells. All else stays.
     pub fn set_cells(&mut self, cells: ArrayVec<Cell, 64>)
         ensures { self.new ≡ record self.old { cells = cells.items } }
@@ -135,19 +150,22 @@ impl Abs {
     pub fn with_core(&self, core: Core) -> Abs
         ensures { result ≡ record self.now { core = core } }
     {
-        let mut items = ArrayVec::new();
-        if items.try_extend_from_slice(self.items.as_slice()).is_err() {
+        let mut state = Abs::new(core);
+        state.relations = self.relations;
+        if state
+            .items
+            .try_extend_from_slice(self.items.as_slice())
+            .is_err()
+        {
             unreachable!();
         }
-        let mut cells = ArrayVec::new();
-        if cells.try_extend_from_slice(self.cells.as_slice()).is_err() {
+        if state
+            .cells
+            .try_extend_from_slice(self.cells.as_slice())
+            .is_err()
+        {
             unreachable!();
         }
-        Abs {
-            core,
-            relations: self.relations,
-            items,
-            cells,
-        }
+        state
     }
 }

@@ -1,5 +1,4 @@
 pub mod RamLaws
-pub mod StackMoveLaws
 pub mod MovedLaws
 pub mod SimpleLaws
 pub mod PlainLaws

@@ -5,9 +5,8 @@ ghost use Rattle.gb_abs.specs.Bytes as Bytes;
 ghost use Rattle.gb_successors.specs.Stacks as Stacks;
 
 use arrayvec::ArrayVec;
-use gb_abs::bytes::{append_bytes, resize, take_bytes};
+use gb_abs::bytes::{append_bytes, resize};
 use gb_abs::origins::{cells_without_origins, core_without_origins};
-use gb_abs::stack::push;
 use gb_abs_effects::writes::AbsWrite;
 use gb_domain::pairs::Bounds;
 use gb_domain::types::{Abs, Core, Halves, Rules, Setting};
@@ -167,15 +166,16 @@ pub fn stack_move(stack: Stack, op: Op, write: AbsWrite, hl: Option<Bounds>) -> 
     }
 }
 
-/// The states with a word pushed, where there is room for it. What pushes more is refused.
-#[tactic(auto, unfolding(crate::specs::Stacks::pushed_if_room))]
-fn pushed_if_room(setting: Setting, word: Halves, state: &Abs) -> Abs
-    ensures { result ≡ Stacks.pushed_if_room setting word state.now }
+/// A word is pushed, where there is room for it. What pushes more is refused.
+#[tactic(auto, unfolding(crate::specs::Stacks::pushed_if_room, gb_abs::specs::Stack::pushed, gb_domain::specs::Limits::item_room))]
+fn push_if_room(setting: Setting, word: Halves, state: &mut Abs)
+    ensures { state.new ≡ Stacks.pushed_if_room setting word state.old }
 {
-    match push(setting.rules, state, word) {
-        Some(pushed) => pushed,
-        None => state.copied(),
+    if state.items().len() + 2 > setting.rules.item_room() {
+        return;
     }
+    state.push_item(word.high);
+    state.push_item(word.low);
 }
 
 /// The states with bytes of any value put on, where there is room for them.
@@ -189,17 +189,13 @@ fn appended_if_room(setting: Setting, count: u8, state: &Abs) -> Abs
     }
 }
 
-/// The states without the newest bytes. Of fewer none is left.
-#[tactic(auto, using(crate::proofs::StackMoveLaws::taken_few))]
-fn without_newest(count: u8, state: &Abs) -> Abs
-    ensures { result ≡ Bytes.without_newest count state.now }
+/// The newest bytes are taken off. Of fewer none is left.
+#[tactic(auto, unfolding(gb_abs::specs::Bytes::without_newest))]
+fn take_newest(count: u8, state: &mut Abs)
+    ensures { state.new ≡ Bytes.without_newest count state.old }
 {
-    if let Some(taken) = take_bytes(state, count) {
-        return taken;
-    }
-    let mut left = state.copied();
-    left.set_items(ArrayVec::new());
-    left
+    let left = state.items().len().saturating_sub(usize::from(count));
+    state.truncate_items(left);
 }
 
 /// The states with the stack set and so many bytes held, where there is room for them.
@@ -232,8 +228,8 @@ pub(crate) fn move_stack(setting: Setting, stack_move: StackMove, state: &mut Ab
 {
     match stack_move {
         StackMove::Stay | StackMove::Lost => {}
-        StackMove::Push(word) => *state = pushed_if_room(setting, word, state),
-        StackMove::Take(count) => *state = without_newest(count, state),
+        StackMove::Push(word) => push_if_room(setting, word, state),
+        StackMove::Take(count) => take_newest(count, state),
         StackMove::Append(count) => *state = appended_if_room(setting, count, state),
         StackMove::Set(count) => *state = set_if_room(setting, count, state),
         StackMove::Restart(count) => *state = set_if_room(setting, count, &begun_anew(state)),

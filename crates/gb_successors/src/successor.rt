@@ -161,6 +161,7 @@ pub fn pointer_in(stack: Stack, op: Op, product: &Product) -> Option<Bounds>
 }
 
 /// The states behind are reduced; where nothing is meant the successor isn't possible.
+#[inline(always)]
 #[tactic(auto, unfolding(crate::specs::Successors::reduced_successor, gb_product::specs::Reduced::reduced))]
 pub(crate) fn reduced_successor<'a>(rules: Rules, successor: Successor<'a>) -> Option<Successor<'a>>
     ensures { result ≡ Succession.reduced_successor rules successor.entry }
