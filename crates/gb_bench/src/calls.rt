@@ -16,6 +16,7 @@ const INSTRUCTIONS: [u16; 4] = [0, 2, 5, 6];
 
 /// The first loop's address, and how many follow one another.
 const FIRST: u16 = 0x153;
+
 const LOOPS: u16 = 4_053;
 
 /// How often each of main's nodes stands.
