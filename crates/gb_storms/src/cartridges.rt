@@ -95,22 +95,27 @@ fn agree(alloc: Global, file: &[u8], cert: &[u8], fault: Option<HeaderFault>) ->
     }
 }
 
-/// Whether frames with random keys and seconds are whole.
+/// How many frames a changed cartridge runs that is accepted: each key is pressed in one of two.
+pub const FEW: usize = 2;
+
+/// Whether frames with random keys and seconds are whole. In each second frame the keys are held that were not before, so that
+/// each key is pressed in one of two frames that follow one another.
 pub fn runs(alloc: Global, random: &mut Random, rom: &Rom<'_>, frames: usize) -> bool {
     let Ok(mut console) = Console::new(alloc, rom) else {
         return false;
     };
-    for _ in 0..frames {
-        let keys = Keys::from_bits_retain(random.byte());
+    let mut held = 0u8;
+    for i in 0..frames {
+        held = if i % 2 == 0 { random.byte() } else { !held };
         let seconds = (random.below(64) == 0) as u32 * random.byte() as u32;
-        if console.frame(keys, seconds) != Ending::Whole {
+        if console.frame(Keys::from_bits_retain(held), seconds) != Ending::Whole {
             return false;
         }
     }
     true
 }
 
-/// Whether all calls agree on this file; a cartridge that is accepted runs a frame.
+/// Whether all calls agree on this file; a cartridge that is accepted runs.
 fn judge(alloc: Global, random: &mut Random, file: &[u8], cert: &[u8], tally: &mut Tally) -> bool {
     match Rom::parse(file) {
         Ok(rom) => {
@@ -118,7 +123,7 @@ fn judge(alloc: Global, random: &mut Random, file: &[u8], cert: &[u8], tally: &m
             match agree(alloc, file, cert, None) {
                 Some(Outcome::Accepted) => {
                     tally.count_accepted();
-                    runs(alloc, random, &rom, 1)
+                    runs(alloc, random, &rom, FEW)
                 }
                 outcome => outcome == Some(Outcome::Refused),
             }

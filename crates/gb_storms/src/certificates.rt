@@ -119,26 +119,55 @@ fn is_one_line(written: &[u8], beginning: &[u8]) -> bool {
         && written.iter().position(|byte| *byte == b'\n') == written.len().checked_sub(1)
 }
 
-/// Whether the verdict's line is one, and of the kind that the outcome names.
-fn agree_on_verdict(
+/// What the verdict's line tells.
+#[derive(Clone, Copy)]
+pub enum Told {
+    Accepted,
+    Refused { reason: u8 },
+    Unreadable,
+}
+
+/// The number in decimal digits at the end of a line; 0 where none stands there.
+fn last_number(line: &[u8]) -> u8 {
+    let mut number = 0u8;
+    for byte in line {
+        number = match *byte {
+            b'0'..=b'9' => number.wrapping_mul(10).wrapping_add(*byte & 0x0F),
+            b'\n' => number,
+            _ => 0,
+        };
+    }
+    number
+}
+
+/// What the verdict's line tells, if it is one, and of the kind that the outcome names.
+pub fn agree_on_verdict(
     alloc: Global,
     rom: &[u8],
     bytes: &[u8],
     fault: Option<CertFault>,
-) -> Option<Outcome> {
+) -> Option<Told> {
     let mut out = sink();
     let outcome = verify_bytes(alloc, rom, bytes, &mut out).ok()?;
-    let is_right = match (outcome, fault) {
-        (Outcome::Accepted, None) => is_one_line(out.kept(), b"ACCEPTED nodes "),
-        (Outcome::Refused, None) => is_one_line(out.kept(), b"REFUSED node "),
-        (Outcome::Unreadable, Some(fault)) => out.kept() == fault_line(fault).as_slice(),
-        _ => false,
-    };
-    if is_right { Some(outcome) } else { None }
+    let reason = last_number(out.kept());
+    match (outcome, fault) {
+        (Outcome::Accepted, None) if is_one_line(out.kept(), b"ACCEPTED nodes ") => {
+            Some(Told::Accepted)
+        }
+        (Outcome::Refused, None)
+            if is_one_line(out.kept(), b"REFUSED node ") && (1..=17).contains(&reason) => {
+            Some(Told::Refused { reason })
+        }
+        (Outcome::Unreadable, Some(fault)) if out.kept() == fault_line(fault).as_slice() => {
+            Some(Told::Unreadable)
+        }
+        _ => None,
+    }
 }
 
-/// Whether all calls agree on these bytes.
-fn judge(alloc: Global, rom: &[u8], bytes: &[u8], tally: &mut Tally) {
+/// What all calls say of these bytes, and whether they agree.
+fn judge(alloc: Global, rom: &[u8], bytes: &[u8]) -> Tally {
+    let mut tally = Tally::new();
     let (fault, agree) = match Cert::parse(alloc, bytes) {
         Ok(cert) => {
             tally.count_readable();
@@ -149,11 +178,58 @@ fn judge(alloc: Global, rom: &[u8], bytes: &[u8], tally: &mut Tally) {
             (Some(fault), agree_on_fault(alloc, bytes, fault))
         }
     };
-    let verdict = agree_on_verdict(alloc, rom, bytes, fault);
-    if verdict == Some(Outcome::Accepted) {
-        tally.count_accepted();
+    let told = agree_on_verdict(alloc, rom, bytes, fault);
+    match told {
+        Some(Told::Accepted) => tally.count_accepted(),
+        Some(Told::Refused { reason }) => tally.note_reason(reason),
+        Some(Told::Unreadable) | None => {}
     }
-    tally.count(agree && verdict.is_some());
+    tally.count(agree && told.is_some());
+    tally
+}
+
+/// Whether they begin as a certificate of version 3 does.
+pub fn is_third(bytes: &[u8]) -> bool {
+    bytes.starts_with(b"GBBX\x03")
+}
+
+/// A certificate with so many changes.
+pub fn changed(
+    alloc: Global,
+    random: &mut Random,
+    cert: &[u8],
+    count: usize,
+) -> io::Result<Vec<u8>> {
+    let mut bytes = Vec::from_slice(alloc, cert)?;
+    for _ in 0..count {
+        change(random, &mut bytes)?;
+    }
+    Ok(bytes)
+}
+
+/// What came of changed certificates.
+#[derive(Clone, Copy)]
+pub struct Certificates {
+    pub all: Tally,
+    /// Of those alone that begin as one of version 3 does.
+    pub third: Tally,
+}
+
+impl Certificates {
+    pub fn new() -> Certificates {
+        Certificates {
+            all: Tally::new(),
+            third: Tally::new(),
+        }
+    }
+
+    /// Both together.
+    pub fn joined(&self, other: &Certificates) -> Certificates {
+        Certificates {
+            all: self.all.joined(&other.all),
+            third: self.third.joined(&other.third),
+        }
+    }
 }
 
 /// Changes a certificate so many times, a few changes each, and puts it before the calls that read it.
@@ -163,14 +239,16 @@ pub fn storm(
     rom: &[u8],
     cert: &[u8],
     count: usize,
-) -> io::Result<Tally> {
-    let mut tally = Tally::new();
+) -> io::Result<Certificates> {
+    let mut met = Certificates::new();
     for _ in 0..count {
-        let mut bytes = Vec::from_slice(alloc, cert)?;
-        for _ in 0..=random.below(3) {
-            change(random, &mut bytes)?;
+        let changes = 1 + random.below(3);
+        let bytes = changed(alloc, random, cert, changes)?;
+        let one = judge(alloc, rom, bytes.as_slice());
+        met.all = met.all.joined(&one);
+        if is_third(bytes.as_slice()) {
+            met.third = met.third.joined(&one);
         }
-        judge(alloc, rom, bytes.as_slice(), &mut tally);
     }
-    Ok(tally)
+    Ok(met)
 }

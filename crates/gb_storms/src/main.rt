@@ -3,12 +3,14 @@
 //! byte, and a fault's place lies in the file; where the checker accepts, each frame is whole.
 //!
 //! Examples come from standard input, as lines: `about` with a sentence; `sizes`, `rom` and `cert` (gb_samples); then `storm`
-//! with how many certificates, cartridges and frames. `words` reads so many lists of words, and `seen` says which faults were
+//! with how many certificates, cartridges and frames, and `both` with how many cartridges are changed at once with their
+//! certificates. `words` reads so many lists of words, and `seen` says which faults were
 //! met. `cuts` cuts both files off at each of their lengths; `check` with offsets and bytes, as 117=05, gives the verdict on the
 //! certificate with these bytes; `stays` with a number runs a frame, and then so many more, which change nothing where the
 //! console is locked or stopped. The program's word multiplies the storms' numbers, so that `1000` makes storms of millions.
 #![tactic(auto)]
 
+mod both;
 mod cartridges;
 mod certificates;
 mod changes;
@@ -16,6 +18,7 @@ mod random;
 mod tally;
 mod words;
 
+use certificates::Certificates;
 use gb_header::Rom;
 use gb_printed::{Outcome, verify_bytes};
 use gb_samples::spelled::{Example, word_of};
@@ -31,24 +34,14 @@ use tally::Tally;
 struct Weather {
     random: Random,
     factor: usize,
-    certificates: Tally,
+    certificates: Certificates,
     cartridges: Tally,
+    both: Tally,
 }
 
 /// A number of a line, in decimal digits, times the factor.
 fn number_of(digits: &str, factor: usize) -> usize {
     digits.parse::<usize>().unwrap_or(0).wrapping_mul(factor)
-}
-
-/// Adds what one storm met to what all met.
-fn joined(all: &Tally, one: &Tally) -> Tally {
-    Tally {
-        inputs: all.inputs.wrapping_add(one.inputs),
-        wrong: all.wrong.wrapping_add(one.wrong),
-        readable: all.readable.wrapping_add(one.readable),
-        accepted: all.accepted.wrapping_add(one.accepted),
-        faults: all.faults | one.faults,
-    }
 }
 
 /// Whether the example is accepted as it is.
@@ -98,15 +91,38 @@ fn storm<W: Write>(
     writeln!(
         out,
         "{} certificates, {} wrong; {} cartridges, {} wrong",
-        certificates.inputs, certificates.wrong, cartridges.inputs, cartridges.wrong
+        certificates.all.inputs, certificates.all.wrong, cartridges.inputs, cartridges.wrong
     )?;
-    weather.certificates = joined(&weather.certificates, &certificates);
-    weather.cartridges = joined(&weather.cartridges, &cartridges);
+    weather.certificates = weather.certificates.joined(&certificates);
+    weather.cartridges = weather.cartridges.joined(&cartridges);
     if runs(alloc, &mut weather.random, example, counts.2) {
         writeln!(out, "{} frames are whole", counts.2)
     } else {
         writeln!(out, "a frame isn't whole")
     }
+}
+
+/// The storm of an example and its certificate, both changed at once.
+fn storm_of_both<W: Write>(
+    alloc: Global,
+    out: &mut W,
+    weather: &mut Weather,
+    example: &mut Example,
+    count: usize,
+) -> io::Result<()> {
+    let tally = both::storm(
+        alloc,
+        &mut weather.random,
+        example.rom.as_mut_slice(),
+        example.cert.as_slice(),
+        count,
+    )?;
+    weather.both = weather.both.joined(&tally);
+    writeln!(
+        out,
+        "{} cartridges with certificates, {} wrong",
+        tally.inputs, tally.wrong
+    )
 }
 
 fn yes_or_no(is_so: bool) -> &'static str {
@@ -115,7 +131,7 @@ fn yes_or_no(is_so: bool) -> &'static str {
 
 /// Says what the storms met, so that none of them passes by meeting nothing.
 fn write_seen<W: Write>(out: &mut W, weather: &Weather) -> io::Result<()> {
-    let (certificates, cartridges) = (&weather.certificates, &weather.cartridges);
+    let (certificates, cartridges) = (&weather.certificates.all, &weather.cartridges);
     writeln!(
         out,
         "each of C1 to C8 was met: {}; each of H1 to H7: {}",
@@ -135,7 +151,32 @@ fn write_seen<W: Write>(out: &mut W, weather: &Weather) -> io::Result<()> {
         yes_or_no(cartridges.readable > 0),
         yes_or_no(cartridges.accepted > 0),
         yes_or_no(cartridges.accepted < cartridges.readable)
-    )
+    )?;
+    writeln!(
+        out,
+        "both changed, some were accepted: {}; some not: {}",
+        yes_or_no(weather.both.accepted > 0),
+        yes_or_no(weather.both.accepted < weather.both.inputs)
+    )?;
+    write_seen_of_third(out, &weather.certificates.third, &weather.both)
+}
+
+/// Says what was met of version 3.
+fn write_seen_of_third<W: Write>(out: &mut W, third: &Tally, both: &Tally) -> io::Result<()> {
+    writeln!(
+        out,
+        "of version 3: accepted: {}; refused: {}; not readable: {}",
+        yes_or_no(third.accepted > 0),
+        yes_or_no(third.accepted < third.readable),
+        yes_or_no(third.readable < third.inputs)
+    )?;
+    write!(out, "of version 3, refused for the reasons")?;
+    for number in 1..=17u8 {
+        if third.has_reason(number) || both.has_reason(number) {
+            write!(out, " {number}")?;
+        }
+    }
+    writeln!(out)
 }
 
 /// Reads lists of words.
@@ -184,6 +225,10 @@ fn take<W: Write>(
             let count = number_of(rest, weather.factor);
             storm_of_words(alloc, out, &mut weather.random, count)?;
         }
+        "both" => {
+            let count = number_of(rest, weather.factor);
+            storm_of_both(alloc, out, weather, example, count)?;
+        }
         "seen" => write_seen(out, weather)?,
         "cuts" => changes::write_cuts(alloc, out, example)?,
         "check" => changes::write_verdict(alloc, out, example, rest)?,
@@ -204,8 +249,9 @@ fn main(rt: HostRuntime) -> io::Result<()> {
     let mut weather = Weather {
         random: Random::new(0x5DEE_CE66),
         factor,
-        certificates: Tally::new(),
+        certificates: Certificates::new(),
         cartridges: Tally::new(),
+        both: Tally::new(),
     };
     let mut example = Example::new(rt.alloc());
     let mut out = BufWriter::new(rt.alloc(), io::writer(&rt))?;

@@ -12,6 +12,8 @@ pub struct Tally {
     pub accepted: u64,
     /// Bit n where the fault with the number n was among them.
     pub faults: u16,
+    /// Bit n where one was refused for the reason with the number n.
+    pub reasons: u32,
 }
 
 impl Tally {
@@ -22,6 +24,19 @@ impl Tally {
             readable: 0,
             accepted: 0,
             faults: 0,
+            reasons: 0,
+        }
+    }
+
+    /// Both together.
+    pub fn joined(&self, other: &Tally) -> Tally {
+        Tally {
+            inputs: self.inputs.wrapping_add(other.inputs),
+            wrong: self.wrong.wrapping_add(other.wrong),
+            readable: self.readable.wrapping_add(other.readable),
+            accepted: self.accepted.wrapping_add(other.accepted),
+            faults: self.faults | other.faults,
+            reasons: self.reasons | other.reasons,
         }
     }
 
@@ -46,6 +61,18 @@ impl Tally {
         if number < 16 {
             self.faults |= 1 << number;
         }
+    }
+
+    /// Notes a refusal by its reason's number.
+    pub fn note_reason(&mut self, number: u8) {
+        if number < 32 {
+            self.reasons |= 1 << number;
+        }
+    }
+
+    /// Whether one was refused for the reason with this number.
+    pub fn has_reason(&self, number: u8) -> bool {
+        number < 32 && self.reasons & (1 << number) != 0
     }
 
     /// Whether each fault from 1 to this one was among them.
