@@ -2,9 +2,17 @@
 //! cartridges, each with a certificate that lacks something; how instructions are spelled; the names of symbols; and of a
 //! certificate that can't be read, where in the file its fault is.
 //!
-//! Read refusals.rt first; spelled.rt spells certificates.
+//! Read refusals.rt first, then extended.rt, which has the same for version 3; spelled.rt spells certificates.
 #![tactic(auto)]
 
+#[cfg(test)]
+mod extended;
+#[cfg(test)]
+mod extended_calls;
+#[cfg(test)]
+mod extended_pieces;
+#[cfg(test)]
+mod extended_returns;
 #[cfg(test)]
 mod lines;
 #[cfg(test)]

@@ -1,5 +1,6 @@
 //! The printed lines of a refused node.
 
+use gb_abs::Rules;
 use gb_abs::reason::Reason;
 use gb_ops::decode::decode;
 use gb_reports::{Code, Explanation};
@@ -15,6 +16,7 @@ fn lines_of_a_node(rt: HostRuntime) -> Result<(), Fail> {
         address: 0x0152,
         bank: 0x01F,
         code: Code::Instruction(Spelling::new(row, 0x0152)),
+        rules: Rules::Simple,
         reason: Reason::Unreadable,
         finding: None,
     };
@@ -35,5 +37,12 @@ fn lines_of_a_node(rt: HostRuntime) -> Result<(), Fail> {
         let shown = format!(in rt.alloc(); "{}", told.code)?;
         assert_eq!(rt; shown.as_str(), text);
     }
+    told.reason = Reason::Callee;
+    told.rules = Rules::Extended;
+    let text = format!(in rt.alloc(); "{told}")?;
+    assert_eq!(rt;
+        text.as_str(),
+        "node 4: procedure 0, address 0152, bank 01F: bytes that are not known\nThe procedure that is called may write what its caller may not.\nPut each of its ranges inside one of its caller's. What main calls may have any."
+    );
     Ok(())
 }

@@ -1,6 +1,6 @@
 //! What is in the way, worked by hand from the rules.
 
-use crate::spelled::{EMPTY, Node, Procedure, certificate};
+use crate::spelled::{EMPTY, Node, Procedure, Spelled, certificate};
 use gb_abs::reason::Reason;
 use gb_reports::explain;
 use gb_samples::cartridges::{PLAIN, small};
@@ -480,14 +480,33 @@ const EXAMPLES: &[Example] = &[
     },
 ];
 
-/// Whether what is told of an example's files is what it says.
-fn agrees(alloc: Global, example: &Example) -> Result<bool, Fail> {
-    let rom = small(PLAIN, example.program);
-    let cert = certificate(example.procedures, example.nodes);
+/// Whether a certificate is refused at a node for a reason, and what is in the way is told so.
+pub fn is_told(
+    alloc: Global,
+    program: &[u8],
+    cert: &Spelled,
+    node: u32,
+    reason: Reason,
+    text: &str,
+) -> Result<bool, Fail> {
+    let rom = small(PLAIN, program);
     let told = explain(alloc, &rom, cert.as_slice()).ok_or("a refusal")?;
     let finding = told.finding.ok_or("a finding")?;
-    let text = format!(in alloc; "{finding}")?;
-    Ok(told.node == example.node && told.reason == example.reason && text.as_str() == example.text)
+    let shown = format!(in alloc; "{finding}")?;
+    Ok(told.node == node && told.reason == reason && shown.as_str() == text)
+}
+
+/// Whether what is told of an example's files is what it says.
+fn agrees(alloc: Global, example: &Example) -> Result<bool, Fail> {
+    let cert = certificate(example.procedures, example.nodes);
+    is_told(
+        alloc,
+        example.program,
+        &cert,
+        example.node,
+        example.reason,
+        example.text,
+    )
 }
 
 #[test]

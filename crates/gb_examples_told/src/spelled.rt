@@ -27,10 +27,39 @@ pub struct Node {
     pub held: &'static [u8],
 }
 
+/// A state of version 3: the changes of its core, how many items it has, and these, what is known together, and cells.
+#[derive(Clone, Copy)]
+pub struct ExtendedState {
+    pub changes: Changes,
+    pub items: u8,
+    pub held: &'static [u8],
+}
+
+/// A procedure of version 3.
+#[derive(Clone, Copy)]
+pub struct ExtendedProcedure {
+    pub entry: u8,
+    pub base: u16,
+    pub need: u16,
+    pub ranges: &'static [u8],
+    pub exit: Option<ExtendedState>,
+}
+
+/// A node of version 3 in bank 0.
+#[derive(Clone, Copy)]
+pub struct ExtendedNode {
+    pub procedure: u8,
+    pub address: u16,
+    pub state: ExtendedState,
+}
+
+/// The most bytes that are spelled.
+const ROOM: usize = 1280;
+
 /// The bytes of a file from its beginning on, and how many there are.
 #[derive(Drop)]
 pub struct Spelled {
-    bytes: [u8; 640],
+    bytes: [u8; ROOM],
     length: usize,
 }
 
@@ -74,14 +103,45 @@ impl Spelled {
         self.add_core(node.changes);
         self.add(node.held);
     }
+
+    fn add_extended_state(&mut self, state: &ExtendedState) {
+        self.add_core(state.changes);
+        self.add(&[state.items]);
+        self.add(state.held);
+    }
+
+    fn add_extended_procedure(&mut self, procedure: &ExtendedProcedure) {
+        self.add(&[procedure.entry, 0, 0, 0]);
+        self.add(&procedure.base.to_le_bytes());
+        self.add(&procedure.need.to_le_bytes());
+        self.add(procedure.ranges);
+        match procedure.exit {
+            None => self.add(&[0]),
+            Some(state) => {
+                self.add(&[1]);
+                self.add_extended_state(&state);
+            }
+        }
+    }
+
+    fn add_extended_node(&mut self, node: &ExtendedNode) {
+        let [low, high] = node.address.to_le_bytes();
+        self.add(&[node.procedure, low, high, 0, 0]);
+        self.add_extended_state(&node.state);
+    }
+}
+
+/// No bytes yet.
+fn nothing() -> Spelled {
+    Spelled {
+        bytes: [0; ROOM],
+        length: 0,
+    }
 }
 
 /// A certificate of version 1, whose stack region is FF80 to FFFD, so that the stack is set from the start.
 pub fn certificate(procedures: &[Procedure], nodes: &[Node]) -> Spelled {
-    let mut cert = Spelled {
-        bytes: [0; 640],
-        length: 0,
-    };
+    let mut cert = nothing();
     cert.add(&[0x47, 0x42, 0x42, 0x43, 0x01, 0x80, 0xFF, 0xFD, 0xFF]);
     cert.add(&[(procedures.len() % 256) as u8, (nodes.len() % 256) as u8, 0]);
     for procedure in procedures {
@@ -89,6 +149,21 @@ pub fn certificate(procedures: &[Procedure], nodes: &[Node]) -> Spelled {
     }
     for node in nodes {
         cert.add_node(node);
+    }
+    cert
+}
+
+/// A certificate of version 3 with the same stack region, so that main's base is FFFE.
+pub fn extended_certificate(procedures: &[ExtendedProcedure], nodes: &[ExtendedNode]) -> Spelled {
+    let mut cert = nothing();
+    cert.add(&[0x47, 0x42, 0x42, 0x58, 0x03, 0x80, 0xFF, 0xFD, 0xFF]);
+    let (procedure_count, node_count) = (procedures.len() % 256, nodes.len() % 256);
+    cert.add(&[procedure_count as u8, node_count as u8, 0, 0, 0]);
+    for procedure in procedures {
+        cert.add_extended_procedure(procedure);
+    }
+    for node in nodes {
+        cert.add_extended_node(node);
     }
     cert
 }

@@ -31,12 +31,16 @@ pub enum Part {
     Test,
     /// What is known of several parts together, if it isn't a test of A alone.
     Together,
-    /// How many words are on the stack.
+    /// How many words are on the stack, by the rules of versions 1 and 2.
     Words,
     /// The high byte of a word, counted from 1, the oldest first.
     HighByte(usize),
     /// The low byte of a word, counted from 1, the oldest first.
     LowByte(usize),
+    /// How many items are on the stack, by the rules of version 3.
+    Items,
+    /// An item, counted from 0, the oldest first.
+    Item(usize),
     /// The byte at an address.
     Cell(u16),
 }
@@ -51,7 +55,7 @@ pub enum Known {
     Flag(May),
     Gate(May),
     Ime(ImeSet),
-    /// So many M-cycles, or so many words.
+    /// So many M-cycles, words or items.
     Count(usize),
     /// The least and the greatest bank.
     Banks(u16, u16),
@@ -112,6 +116,8 @@ impl Part {
             Part::Words => "words on the stack",
             Part::HighByte(_) => "high byte of word",
             Part::LowByte(_) => "low byte of word",
+            Part::Items => "items on the stack",
+            Part::Item(_) => "item",
             Part::Cell(_) => "cell",
         }
     }
@@ -121,7 +127,9 @@ impl fmt::Display for Part {
     fn fmt<W: fmt::Write>(&self, f: &mut fmt::Formatter<W>) -> fmt::Result {
         let name = self.name();
         match *self {
-            Part::HighByte(word) | Part::LowByte(word) => write!(f, "{name} {word}"),
+            Part::HighByte(number) | Part::LowByte(number) | Part::Item(number) => {
+                write!(f, "{name} {number}")
+            }
             Part::Cell(address) => write!(f, "{name} {address:04X}"),
             _ => write!(f, "{name}"),
         }

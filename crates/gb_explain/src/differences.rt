@@ -8,7 +8,7 @@ ghost use Rattle.gb_explain.specs.Noted.{IsNoted};
 use crate::difference::{Difference, Known, Part};
 use crate::together::{compared, is_test_alone};
 use gb_abs::covering::{cell_at, covers_ime, covers_may, covers_origin, covers_val};
-use gb_abs::{Abs, Cell, Core, Ctl, Flg, May, Val};
+use gb_abs::{Abs, Cell, Core, Ctl, Flg, May, Rules, Val};
 use gb_domain::relations::Relations;
 use gb_ops::op::Register;
 use gb_ops::registers::Registers;
@@ -43,21 +43,26 @@ fn known_together(s: &Relations, t: &Relations) -> (Part, (Known, Known)) {
     }
 }
 
-/// How many words there are, where these are the bytes from one with a number on.
-fn counts(number: usize, s: &[Val], t: &[Val]) -> (Known, Known) {
-    (
-        Known::Count(number.wrapping_add(s.len()) / 2),
-        Known::Count(number.wrapping_add(t.len()) / 2),
-    )
+/// How much is on the stack of both, where these are the bytes from one with a number on.
+fn counts(rules: Rules, number: usize, s: &[Val], t: &[Val]) -> (Part, (Known, Known)) {
+    let left = number.wrapping_add(s.len());
+    let claimed = number.wrapping_add(t.len());
+    match rules {
+        Rules::Simple => (
+            Part::Words,
+            (Known::Count(left / 2), Known::Count(claimed / 2)),
+        ),
+        Rules::Extended => (Part::Items, (Known::Count(left), Known::Count(claimed))),
+    }
 }
 
-/// A byte of the stack, by its number: of which word, and which of its two.
-fn byte_part(number: usize) -> Part {
-    let word = number / 2;
-    if number % 2 == 0 {
-        Part::HighByte(word.wrapping_add(1))
-    } else {
-        Part::LowByte(word.wrapping_add(1))
+/// A byte of the stack, by its number: by the rules of versions 1 and 2 of which word it is, and which of its two.
+fn byte_part(rules: Rules, number: usize) -> Part {
+    let word = (number / 2).wrapping_add(1);
+    match rules {
+        Rules::Simple if number % 2 == 0 => Part::HighByte(word),
+        Rules::Simple => Part::LowByte(word),
+        Rules::Extended => Part::Item(number),
     }
 }
 
@@ -195,19 +200,20 @@ impl Differences {
     }
 
     /// Bytes of both, from that with a number on.
-    fn note_items(&mut self, number: usize, s: &[Val], t: &[Val])
+    fn note_items(&mut self, rules: Rules, number: usize, s: &[Val], t: &[Val])
         ensures { IsNoted self.old.count self.new.count (Covering.covers_items s.now t.now) }
     {
+        let (part, known) = counts(rules, number, s, t);
         let Some((first, rest)) = s.split_first() else {
-            self.note(t.is_empty(), Part::Words, counts(number, s, t));
+            self.note(t.is_empty(), part, known);
             return;
         };
         let Some((other, others)) = t.split_first() else {
-            self.note(false, Part::Words, counts(number, s, t));
+            self.note(false, part, known);
             return;
         };
-        self.note_val(byte_part(number), first, other);
-        self.note_items(number.wrapping_add(1), rest, others);
+        self.note_val(byte_part(rules, number), first, other);
+        self.note_items(rules, number.wrapping_add(1), rest, others);
     }
 
     #[tactic(auto, unfolding(gb_abs::specs::Covering::covers_cells))]
@@ -223,22 +229,22 @@ impl Differences {
     }
 
     #[tactic(auto, unfolding(gb_product::specs::Covering::covers, gb_abs::specs::Covering::covers_parts))]
-    fn note_each(&mut self, s: &Abs, t: &Abs)
+    fn note_each(&mut self, rules: Rules, s: &Abs, t: &Abs)
         ensures { IsNoted self.old.count self.new.count (covers s.now t.now) }
     {
         self.note_core(s.core(), t.core());
         self.note_relations(&s.core().registers, s.relations(), t.relations());
-        self.note_items(0, s.items(), t.items());
+        self.note_items(rules, 0, s.items(), t.items());
         self.note_cells(s.cells(), t.cells());
     }
 
-    /// The parts of s that t doesn't stand for, by the comparisons of `covers`.
-    pub fn of(s: &Abs, t: &Abs) -> Differences
+    /// The parts of s that t doesn't stand for, by the comparisons of `covers`, and told in the words of the rules.
+    pub fn of(rules: Rules, s: &Abs, t: &Abs) -> Differences
         // Where it lists nothing, t stands for s.
         ensures complete { result.count ≡ 0 → covers s.now t.now ≡ true }
     {
         let mut found = Differences::none();
-        found.note_each(s, t);
+        found.note_each(rules, s, t);
         found
     }
 }

@@ -7,13 +7,14 @@ use crate::advice::advice_on;
 use crate::code::Code;
 use crate::finding::finding_of;
 use crate::obstacle::Finding;
+use gb_abs::Rules;
 use gb_abs::reason::Reason;
 use gb_verify::{Cert, Rom};
 use std::fmt;
 
 /// A refused node with its place, its instruction and the reason. It prints three lines, the last without its end: the
-/// place and the instruction, what is wrong, and what usually mends it. Where the reason has to do with other nodes or
-/// with procedures, some lines follow on what is in the way.
+/// place and the instruction, what is wrong, and what usually mends it. Where the reason has to do with the stack's depth,
+/// with other nodes, with procedures or, in version 3, with interrupts, some lines follow on what is in the way.
 #[derive(Clone, Copy)]
 pub struct Explanation {
     pub node: u32,
@@ -22,8 +23,10 @@ pub struct Explanation {
     /// The bank that the certificate claims to be shown at the address.
     pub bank: u16,
     pub code: Code,
+    /// By which rules the certificate is taken on.
+    pub rules: Rules,
     pub reason: Reason,
-    /// What is in the way, where the reason has to do with other nodes or with procedures.
+    /// What is in the way, where the reason has to do with more than the instruction.
     pub finding: Option<Finding>,
 }
 
@@ -45,6 +48,7 @@ impl Explanation {
             address,
             bank: node.bank(),
             code: Code::at(rom, &state, address),
+            rules: Rules::of(cert.version()),
             reason,
             finding: finding_of(rom, cert, &node, reason),
         }
@@ -59,10 +63,11 @@ impl fmt::Display for Explanation {
             address,
             bank,
             code,
+            rules,
             reason,
             finding,
         } = *self;
-        let advice = advice_on(reason);
+        let advice = advice_on(reason, rules);
         write!(
             f,
             "node {node}: procedure {procedure}, address {address:04X}, bank {bank:03X}: {code}\n"

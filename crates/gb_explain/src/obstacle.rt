@@ -1,83 +1,134 @@
-//! What is in the way, where a reason has to do with other nodes or with procedures.
+//! What is in the way, where a reason has to do with the stack, with other nodes, with procedures or with interrupts.
 
-use crate::{Difference, Differences};
-use gb_abs::Range;
-use std::fmt;
+use crate::Differences;
+use gb_abs::{Halves, Range, Rules};
 
-/// So many words on the stack.
+/// How much is on the stack: words by the rules of versions 1 and 2, bytes by those of version 3.
 #[derive(Clone, Copy)]
-pub struct Words(pub usize);
+pub enum Amount {
+    Words(usize),
+    Bytes(usize),
+}
 
-/// Where an instruction goes on, at once or behind the procedure that it calls. It prints as the beginning of a
-/// sentence.
+/// Behind what the program goes on.
+#[derive(Clone, Copy)]
+pub enum Behind {
+    /// The instruction itself.
+    Instruction,
+    /// The procedure that it calls.
+    Call(u8),
+    /// The procedure that handles the interrupt.
+    Handler(u8),
+    /// The instruction by which main begins anew.
+    Restart,
+    /// What is called, where it goes on in this procedure, since none is entered.
+    Inlined(u8),
+}
+
+/// Where the program goes on. It prints as the beginning of a sentence.
 #[derive(Clone, Copy)]
 pub struct Way {
-    pub behind: Option<u8>,
+    pub behind: Behind,
     pub address: u16,
 }
 
-/// What is in the way. Each prints a line; behind one that ends with a colon the parts that differ are to be told.
+/// The stack grows too deep.
 #[derive(Clone, Copy)]
-pub enum Obstacle {
-    /// PUSH would hold more words than the procedure needs.
-    PushOverNeed {
-        words: Words,
+pub enum TooDeep {
+    /// More would be held than the procedure needs.
+    Need {
+        held: Amount,
         procedure: u8,
-        need: u16,
+        need: Amount,
     },
-    /// PUSH would hold more words than a state can.
-    PushOverState {
-        words: Words,
-        room: usize,
+    /// More would be held than a state can.
+    State {
+        held: Amount,
+        room: Amount,
     },
-    /// A call would need more words than the procedure does.
-    Call {
-        held: Words,
+    /// A callee would need more than its caller has.
+    Callee {
+        /// What waits below it.
+        waiting: Amount,
         callee: u8,
-        wanted: u16,
-        sum: usize,
+        wanted: Amount,
+        sum: Amount,
         procedure: u8,
-        need: u16,
+        need: Amount,
     },
-    /// The procedure has no node where it goes on.
-    NoNode {
-        way: Way,
-        procedure: u8,
-    },
-    /// No node stands for what is left, and this one comes nearest.
-    Node {
-        way: Way,
-        node: u32,
-    },
-    /// Nothing is called at an address.
+}
+
+/// No node stands for what is left.
+#[derive(Clone, Copy)]
+pub enum Uncovered {
+    /// The procedure has none where it goes on.
+    NoNode { way: Way, procedure: u8 },
+    /// This one comes nearest.
+    Node { way: Way, node: u32 },
+    /// A callee gives back more items than a state holds beside those that wait.
+    Overfull { way: Way },
+}
+
+/// No procedure is called, or one that may not be.
+#[derive(Clone, Copy)]
+pub enum Uncallable {
+    /// None begins at the address.
     NoProcedure {
         address: u16,
     },
-    /// A procedure begins at an address, but in another state.
+    /// One does, but in another state.
     Entry {
         procedure: u8,
         address: u16,
     },
-    /// A callee may write where its caller may not.
+    /// One does, and takes more items over than its caller has.
+    Items {
+        procedure: u8,
+        address: u16,
+        count: usize,
+        held: usize,
+    },
+    /// One does, and says a base that isn't so many bytes below its caller's, if that is known.
+    Base {
+        procedure: u8,
+        address: u16,
+        base: u16,
+        below: Option<usize>,
+    },
+    /// One may write where its caller may not.
     Range {
         callee: u8,
         range: Range,
         procedure: u8,
     },
+}
+
+/// A return that isn't right.
+#[derive(Clone, Copy)]
+pub enum Unreturnable {
     /// Main returns.
     Main,
     /// A procedure returns that is said not to.
-    NoExit {
-        procedure: u8,
-    },
+    NoExit { procedure: u8 },
     /// Words are left on the stack.
-    Words {
-        held: Words,
-    },
+    Held { held: Amount },
     /// A procedure returns in another state.
-    Exit {
-        procedure: u8,
-    },
+    Exit { procedure: u8 },
+    /// There is no word to pop.
+    NoWord { held: Amount },
+    /// The word that is popped says neither that the procedure returns nor where it goes on.
+    Lost { word: Halves, is_main: bool },
+}
+
+/// What is in the way. Each prints a line; behind one that ends with a colon the parts that differ are to be told.
+#[derive(Clone, Copy)]
+pub enum Obstacle {
+    TooDeep(TooDeep),
+    Uncovered(Uncovered),
+    Uncallable(Uncallable),
+    Unreturnable(Unreturnable),
+    /// The stack isn't set.
+    StackNotSet,
 }
 
 /// Who claims the state that doesn't stand for what is left.
@@ -90,143 +141,59 @@ pub enum Claim {
 /// What is in the way, and the parts that differ, if states are compared. It prints some lines, the last without its
 /// end.
 #[derive(Clone, Copy)]
-pub struct Finding {
+pub struct Hindrance {
     pub obstacle: Obstacle,
     pub compared: Option<(Claim, Differences)>,
 }
 
-impl Words {
-    fn verb(self) -> &'static str {
-        if self.0 == 1 { "is" } else { "are" }
-    }
+/// All that is in the way of where a node goes on. It prints some lines, the last without its end.
+#[derive(Clone, Copy)]
+pub struct Finding {
+    /// The interrupt that comes, if it is in the way of one.
+    pub interrupt: Option<u8>,
+    pub first: Hindrance,
+    /// What is in the way beside it, where one of two would do.
+    pub second: Option<Hindrance>,
 }
 
-impl fmt::Display for Words {
-    fn fmt<W: fmt::Write>(&self, f: &mut fmt::Formatter<W>) -> fmt::Result {
-        match self.0 {
-            1 => write!(f, "1 word"),
-            words => write!(f, "{words} words"),
+impl Amount {
+    /// So many bytes.
+    pub(crate) fn of(rules: Rules, bytes: usize) -> Amount {
+        match rules {
+            Rules::Simple => Amount::Words(bytes / 2),
+            Rules::Extended => Amount::Bytes(bytes),
         }
     }
-}
 
-impl fmt::Display for Way {
-    fn fmt<W: fmt::Write>(&self, f: &mut fmt::Formatter<W>) -> fmt::Result {
-        let Way { behind, address } = *self;
-        match behind {
-            None => write!(f, "It goes on at {address:04X}"),
-            Some(callee) => write!(
-                f,
-                "Behind its call of procedure {callee} it goes on at {address:04X}"
-            ),
-        }
-    }
-}
-
-impl fmt::Display for Claim {
-    fn fmt<W: fmt::Write>(&self, f: &mut fmt::Formatter<W>) -> fmt::Result {
-        match *self {
-            Claim::Node(node) => write!(f, "node {node}"),
-            Claim::Exit => write!(f, "the exit"),
+    pub(crate) fn count(self) -> usize {
+        match self {
+            Amount::Words(count) | Amount::Bytes(count) => count,
         }
     }
 }
 
-impl fmt::Display for Obstacle {
-    fn fmt<W: fmt::Write>(&self, f: &mut fmt::Formatter<W>) -> fmt::Result {
-        match *self {
-            Obstacle::PushOverNeed {
-                words,
-                procedure,
-                need,
-            } => write!(
-                f,
-                "{words} would be held, and procedure {procedure} has {need}"
-            ),
-            Obstacle::PushOverState { words, room } => {
-                write!(f, "{words} would be held, and a state holds {room} at most")
-            }
-            Obstacle::Call {
-                held,
-                callee,
-                wanted,
-                sum,
-                procedure,
-                need,
-            } => write!(
-                f,
-                "{held} {} held, 1 is the return address, procedure {callee} needs {wanted}: {sum}, and procedure {procedure} has {need}",
-                held.verb()
-            ),
-            Obstacle::NoNode { way, procedure } => {
-                write!(f, "{way}, where procedure {procedure} has no node")
-            }
-            Obstacle::Node { way, node } => write!(
-                f,
-                "{way}, where node {node} comes nearest, but:"
-            ),
-            _ => fmt_call(self, f),
+impl Hindrance {
+    /// An obstacle without compared states.
+    pub(crate) fn plain(obstacle: Obstacle) -> Hindrance {
+        Hindrance {
+            obstacle,
+            compared: None,
         }
     }
 }
 
-/// What is in the way of calls and returns.
-fn fmt_call<W: fmt::Write>(obstacle: &Obstacle, f: &mut fmt::Formatter<W>) -> fmt::Result {
-    match *obstacle {
-        Obstacle::NoProcedure { address } => {
-            write!(f, "No procedure but main begins at {address:04X}")
+impl Finding {
+    /// One thing that is in the way.
+    pub(crate) fn of(first: Hindrance) -> Finding {
+        Finding {
+            interrupt: None,
+            first,
+            second: None,
         }
-        Obstacle::Entry { procedure, address } => {
-            write!(f, "Procedure {procedure} begins at {address:04X}, but:")
-        }
-        Obstacle::Range {
-            callee,
-            range,
-            procedure,
-        } => write!(
-            f,
-            "Procedure {callee} may write {:04X}-{:04X}, which lies in no range of procedure {procedure}",
-            range.first, range.last
-        ),
-        Obstacle::NoExit { procedure } => {
-            write!(f, "Procedure {procedure} is said not to return")
-        }
-        Obstacle::Words { held } => write!(f, "{held} {} still held", held.verb()),
-        Obstacle::Exit { procedure } => { write!(f, "Procedure {procedure} returns, but:") }
-        // Main; all others are printed above.
-        _ => write!(f, "This is main, which nothing has called"),
     }
-}
 
-/// A line for each part that differs, as many as are told, and how many more there are.
-fn fmt_differences<W: fmt::Write>(
-    claim: Claim,
-    differences: &Differences,
-    f: &mut fmt::Formatter<W>,
-) -> fmt::Result {
-    for told in &differences.first {
-        if let Some(difference) = *told {
-            let Difference {
-                part,
-                left,
-                claimed,
-            } = difference;
-            write!(f, "\n{part} {left}, {claim} has {claimed}")?;
-        }
-    }
-    match differences.more() {
-        0 => Ok(()),
-        1 => write!(f, "\nand 1 part more"),
-        more => write!(f, "\nand {more} parts more"),
-    }
-}
-
-impl fmt::Display for Finding {
-    fn fmt<W: fmt::Write>(&self, f: &mut fmt::Formatter<W>) -> fmt::Result {
-        write!(f, "{}", self.obstacle)?;
-        match &self.compared {
-            None => Ok(()),
-            Some((claim, differences)) => fmt_differences(*claim, differences, f),
-        }
+    /// An obstacle without compared states.
+    pub(crate) fn plain(obstacle: Obstacle) -> Finding {
+        Finding::of(Hindrance::plain(obstacle))
     }
 }

@@ -1,0 +1,383 @@
+//! What is in the way of calls in version 3: too much on the stack, or nothing where they lead.
+
+use crate::extended_pieces::{
+    A_IS_2, A_PAGE, AT_0100, AT_0101, AT_0150, BEHIND, BYTE, CALLED, CALLED_ALONE, CALLEE, CALLS,
+    EMPTY, ENABLES, Example, FULL, HANDLER, HOLDS_0154, MAIN, NESTED, NODES, PUSHED, PUSHES, STAYS,
+    TAKES_A_BYTE, WITH_HANDLER, WITH_INTERRUPTS,
+};
+use crate::spelled::{ExtendedNode, ExtendedProcedure, ExtendedState};
+use gb_abs::reason::Reason;
+
+/// What the stack holds.
+pub const DEPTHS: &[Example] = &[
+    Example {
+        program: PUSHES,
+        procedures: &[ExtendedProcedure { need: 1, ..MAIN }, CALLEE],
+        nodes: NODES,
+        node: 2,
+        reason: Reason::Depth,
+        text: "2 bytes would be held, and procedure 0 has 1",
+    },
+    // DEC SP.
+    Example {
+        program: TAKES_A_BYTE,
+        procedures: &[MAIN],
+        nodes: &[AT_0100, AT_0101, AT_0150],
+        node: 2,
+        reason: Reason::Depth,
+        text: "1 byte would be held, and procedure 0 has 0",
+    },
+    // ADD SP,-6.
+    Example {
+        program: &[0xE8, 0xFA],
+        procedures: &[ExtendedProcedure { need: 4, ..MAIN }],
+        nodes: &[AT_0100, AT_0101, AT_0150],
+        node: 2,
+        reason: Reason::Depth,
+        text: "6 bytes would be held, and procedure 0 has 4",
+    },
+    // ADD SP,-1 above 255 bytes, in a procedure that nothing calls.
+    Example {
+        program: &[0x18, 0xFE, 0xE8, 0xFF],
+        procedures: &[
+            MAIN,
+            ExtendedProcedure {
+                entry: 3,
+                need: 256,
+                ..STAYS
+            },
+        ],
+        nodes: &[
+            AT_0100,
+            AT_0101,
+            AT_0150,
+            ExtendedNode {
+                procedure: 1,
+                address: 0x0152,
+                state: ExtendedState {
+                    items: 255,
+                    held: FULL,
+                    ..EMPTY
+                },
+            },
+        ],
+        node: 3,
+        reason: Reason::Depth,
+        text: "256 bytes would be held, and a state holds 255 at most",
+    },
+    // CALL pushes two bytes beside the two that are held.
+    Example {
+        program: PUSHES,
+        procedures: &[ExtendedProcedure { need: 3, ..MAIN }, CALLEE],
+        nodes: NODES,
+        node: 3,
+        reason: Reason::Depth,
+        text: "4 bytes would be held, and procedure 0 has 3",
+    },
+    // The callee takes these two over, and the others wait.
+    Example {
+        program: PUSHES,
+        procedures: &[
+            ExtendedProcedure { need: 5, ..MAIN },
+            ExtendedProcedure { need: 4, ..CALLEE },
+        ],
+        nodes: NODES,
+        node: 3,
+        reason: Reason::Depth,
+        text: "2 bytes wait, procedure 1 needs 4: 6, and procedure 0 has 5",
+    },
+    Example {
+        program: TAKES_A_BYTE,
+        procedures: &[
+            ExtendedProcedure { need: 3, ..MAIN },
+            ExtendedProcedure {
+                entry: 4,
+                need: 3,
+                ..CALLEE
+            },
+        ],
+        nodes: &[
+            AT_0100,
+            AT_0101,
+            AT_0150,
+            ExtendedNode {
+                state: ExtendedState {
+                    items: 1,
+                    held: BYTE,
+                    ..EMPTY
+                },
+                ..PUSHED
+            },
+            CALLED,
+        ],
+        node: 3,
+        reason: Reason::Depth,
+        text: "1 byte waits, procedure 1 needs 3: 4, and procedure 0 has 3",
+    },
+    // A dispatch pushes two bytes.
+    Example {
+        program: ENABLES,
+        procedures: &[ExtendedProcedure { need: 1, ..MAIN }],
+        nodes: WITH_INTERRUPTS,
+        node: 3,
+        reason: Reason::Depth,
+        text: "Interrupt 0 may come here:\n2 bytes would be held, and procedure 0 has 1",
+    },
+    Example {
+        program: ENABLES,
+        procedures: &[
+            ExtendedProcedure { need: 2, ..MAIN },
+            ExtendedProcedure { need: 3, ..HANDLER },
+        ],
+        nodes: WITH_HANDLER,
+        node: 3,
+        reason: Reason::Depth,
+        text: "Interrupt 0 may come here:\n0 bytes wait, procedure 1 needs 3: 3, and procedure 0 has 2",
+    },
+];
+
+/// Where a call leads.
+pub const CALLED_OR_INLINED: &[Example] = &[
+    Example {
+        program: PUSHES,
+        procedures: &[ExtendedProcedure { need: 4, ..MAIN }],
+        nodes: &[AT_0100, AT_0101, AT_0150, PUSHED, BEHIND],
+        node: 3,
+        reason: Reason::Uncovered,
+        text: "No procedure but main begins at 0156\nand this state is not covered there in procedure 0 either: it has no node",
+    },
+    // Main has a node at 0156 with another return address.
+    Example {
+        program: PUSHES,
+        procedures: &[ExtendedProcedure { need: 4, ..MAIN }],
+        nodes: &[
+            AT_0100,
+            AT_0101,
+            AT_0150,
+            PUSHED,
+            BEHIND,
+            ExtendedNode {
+                address: 0x0156,
+                state: ExtendedState {
+                    items: 4,
+                    held: &[
+                        0x00, 0x00, 0x03, 0x13, 0x13, 0x04, 0x01, 0x01, 0x00, 0x55, 0x55, 0x00, 0,
+                        0,
+                    ],
+                    ..EMPTY
+                },
+                ..AT_0100
+            },
+        ],
+        node: 3,
+        reason: Reason::Uncovered,
+        text: "No procedure but main begins at 0156\nand this state is not covered there in procedure 0 either: node 5 comes nearest, but:\nitem 3 54, node 5 has 55",
+    },
+    // It has one without the return address, and the callee expects another A.
+    Example {
+        program: PUSHES,
+        procedures: &[
+            ExtendedProcedure { need: 4, ..MAIN },
+            ExtendedProcedure { entry: 6, ..CALLEE },
+        ],
+        nodes: &[
+            AT_0100,
+            AT_0101,
+            AT_0150,
+            PUSHED,
+            BEHIND,
+            ExtendedNode {
+                address: 0x0156,
+                ..PUSHED
+            },
+            ExtendedNode {
+                state: ExtendedState {
+                    changes: A_IS_2,
+                    ..HOLDS_0154
+                },
+                ..CALLED
+            },
+        ],
+        node: 3,
+        reason: Reason::Uncovered,
+        text: "Procedure 1 begins at 0156, but:\nA 01, node 6 has 02\nand this state is not covered there in procedure 0 either: node 5 comes nearest, but:\nitems on the stack 4, node 5 has 2",
+    },
+    // A byte waits, and the callee expects two more beside its return word.
+    Example {
+        program: TAKES_A_BYTE,
+        procedures: &[
+            ExtendedProcedure { need: 3, ..MAIN },
+            ExtendedProcedure { entry: 4, ..CALLEE },
+        ],
+        nodes: &[
+            AT_0100,
+            AT_0101,
+            AT_0150,
+            ExtendedNode {
+                state: ExtendedState {
+                    items: 1,
+                    held: BYTE,
+                    ..EMPTY
+                },
+                ..PUSHED
+            },
+            ExtendedNode {
+                state: ExtendedState {
+                    items: 4,
+                    held: &[
+                        0x00, 0xFF, 0x00, 0x00, 0xFF, 0x00, 0x01, 0x01, 0x0A, 0x54, 0x54, 0x0B, 0,
+                        0,
+                    ],
+                    ..EMPTY
+                },
+                ..CALLED
+            },
+        ],
+        node: 3,
+        reason: Reason::Uncovered,
+        text: "Procedure 1 begins at 0156 with 4 items, and the caller has 3\nand this state is not covered there in procedure 0 either: it has no node",
+    },
+    // Main's base is FFFE, so that the callee's would be FFFC.
+    Example {
+        program: PUSHES,
+        procedures: &[
+            ExtendedProcedure { need: 4, ..MAIN },
+            ExtendedProcedure {
+                base: 0xFFFD,
+                ..CALLEE
+            },
+        ],
+        nodes: NODES,
+        node: 3,
+        reason: Reason::Uncovered,
+        text: "Procedure 1 begins at 0156 with the base FFFD, which is not 2 bytes below the caller's base\nand this state is not covered there in procedure 0 either: it has no node",
+    },
+    // Here nothing waits.
+    Example {
+        program: CALLS,
+        procedures: &[
+            ExtendedProcedure { need: 4, ..MAIN },
+            ExtendedProcedure {
+                entry: 3,
+                base: 0xFFFC,
+                ..STAYS
+            },
+        ],
+        nodes: &[AT_0100, AT_0101, AT_0150, CALLED_ALONE],
+        node: 2,
+        reason: Reason::Uncovered,
+        text: "Procedure 1 begins at 0156 with the base FFFC, which is not the caller's base\nand this state is not covered there in procedure 0 either: it has no node",
+    },
+    Example {
+        program: CALLS,
+        procedures: &[
+            ExtendedProcedure { need: 4, ..MAIN },
+            ExtendedProcedure {
+                entry: 3,
+                need: 4,
+                ..STAYS
+            },
+            ExtendedProcedure {
+                entry: 4,
+                base: 0xFFFC,
+                ..STAYS
+            },
+        ],
+        nodes: NESTED,
+        node: 3,
+        reason: Reason::Uncovered,
+        text: "Procedure 2 begins at 0160 with the base FFFC, and the caller's base is not known\nand this state is not covered there in procedure 1 either: it has no node",
+    },
+    // Two procedures begin there: one expects another A, and the other, which comes nearer, another base.
+    Example {
+        program: PUSHES,
+        procedures: &[
+            ExtendedProcedure { need: 4, ..MAIN },
+            CALLEE,
+            ExtendedProcedure {
+                entry: 6,
+                base: 0xFFFD,
+                ..CALLEE
+            },
+        ],
+        nodes: &[
+            AT_0100,
+            AT_0101,
+            AT_0150,
+            PUSHED,
+            BEHIND,
+            ExtendedNode {
+                state: ExtendedState {
+                    changes: &[(19, 2), (20, 2), (21, 0), (22, 1), (23, 1)],
+                    ..HOLDS_0154
+                },
+                ..CALLED
+            },
+            ExtendedNode {
+                procedure: 2,
+                ..CALLED
+            },
+        ],
+        node: 3,
+        reason: Reason::Uncovered,
+        text: "Procedure 2 begins at 0156 with the base FFFD, which is not 2 bytes below the caller's base\nand this state is not covered there in procedure 0 either: it has no node",
+    },
+    // The items that wait are said to be gone.
+    Example {
+        program: PUSHES,
+        procedures: &[ExtendedProcedure { need: 4, ..MAIN }, CALLEE],
+        nodes: &[
+            AT_0100,
+            AT_0101,
+            AT_0150,
+            PUSHED,
+            ExtendedNode {
+                address: 0x0154,
+                ..AT_0100
+            },
+            CALLED,
+        ],
+        node: 3,
+        reason: Reason::Uncovered,
+        text: "Behind its call of procedure 1 it goes on at 0154, where node 4 comes nearest, but:\nitems on the stack 2, node 4 has 0",
+    },
+    // Two bytes wait, and the callee gives back 255.
+    Example {
+        program: PUSHES,
+        procedures: &[
+            ExtendedProcedure { need: 4, ..MAIN },
+            ExtendedProcedure {
+                exit: Some(ExtendedState {
+                    items: 255,
+                    held: FULL,
+                    ..EMPTY
+                }),
+                ..CALLEE
+            },
+        ],
+        nodes: NODES,
+        node: 3,
+        reason: Reason::Uncovered,
+        text: "Behind its call of procedure 1 it goes on at 0154 with more bytes on the stack than the 255 of a state",
+    },
+    Example {
+        program: CALLS,
+        procedures: &[
+            ExtendedProcedure { need: 4, ..MAIN },
+            ExtendedProcedure {
+                entry: 3,
+                need: 4,
+                ..STAYS
+            },
+            ExtendedProcedure {
+                entry: 4,
+                ranges: A_PAGE,
+                ..STAYS
+            },
+        ],
+        nodes: NESTED,
+        node: 3,
+        reason: Reason::Callee,
+        text: "Procedure 2 may write C000-C0FF, which lies in no range of procedure 1",
+    },
+];

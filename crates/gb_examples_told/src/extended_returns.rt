@@ -1,0 +1,353 @@
+//! What is in the way of returns and of interrupts in version 3.
+
+use crate::extended_pieces::{
+    A_IS_2, A_PAGE, AT_0100, AT_0101, AT_0150, BEFORE_INTERRUPTS, BEHIND, BYTE, BYTES, CALLED,
+    CALLEE, CALLS_WITH_INTERRUPTS, EMPTY, ENABLED, ENABLES, Example, HANDLED, HANDLER, HOLDS_0153,
+    HOLDS_0154, INTERRUPTED, MAIN, MAY_ENABLE, NODES, PUSHED, PUSHES, STAYS, WITH_HANDLER,
+    WITH_INTERRUPTS,
+};
+use crate::spelled::{ExtendedNode, ExtendedProcedure, ExtendedState};
+use gb_abs::reason::Reason;
+
+/// Where a word leads, and where main begins anew.
+pub const RETURNS: &[Example] = &[
+    // PUSH HL and RET: HL is 014D.
+    Example {
+        program: &[0xE5, 0xC9],
+        procedures: &[ExtendedProcedure { need: 2, ..MAIN }],
+        nodes: &[
+            AT_0100,
+            AT_0101,
+            AT_0150,
+            ExtendedNode {
+                state: ExtendedState {
+                    items: 2,
+                    held: &[0x01, 0x01, 0x07, 0x4D, 0x4D, 0x08, 0, 0],
+                    ..EMPTY
+                },
+                ..PUSHED
+            },
+        ],
+        node: 3,
+        reason: Reason::Uncovered,
+        text: "It goes on at 014D, where procedure 0 has no node",
+    },
+    // The low byte is no copy of the return word's.
+    Example {
+        program: PUSHES,
+        procedures: &[ExtendedProcedure { need: 4, ..MAIN }, CALLEE],
+        nodes: &[
+            AT_0100,
+            AT_0101,
+            AT_0150,
+            PUSHED,
+            BEHIND,
+            ExtendedNode {
+                state: ExtendedState {
+                    held: &[0x01, 0x01, 0x0A, 0x50, 0x5F, 0x00, 0, 0],
+                    ..HOLDS_0154
+                },
+                ..CALLED
+            },
+        ],
+        node: 5,
+        reason: Reason::Return,
+        text: "The word that is popped is neither the return word nor known: its high byte is 01 (high byte of the return word), its low byte 50..5F (no copy)",
+    },
+    // DEC SP twice, and RET in main.
+    Example {
+        program: &[0x3B, 0x3B, 0xC9],
+        procedures: &[ExtendedProcedure { need: 2, ..MAIN }],
+        nodes: &[
+            AT_0100,
+            AT_0101,
+            AT_0150,
+            ExtendedNode {
+                state: ExtendedState {
+                    items: 1,
+                    held: BYTE,
+                    ..EMPTY
+                },
+                ..PUSHED
+            },
+            ExtendedNode {
+                address: 0x0152,
+                state: ExtendedState {
+                    items: 2,
+                    held: BYTES,
+                    ..EMPTY
+                },
+                ..AT_0100
+            },
+        ],
+        node: 4,
+        reason: Reason::Return,
+        text: "This is main, which nothing has called, and the word that is popped is not known: its high byte is 00..FF (no copy), its low byte 00..FF (no copy)",
+    },
+    // DEC SP once.
+    Example {
+        program: &[0x3B, 0xC9],
+        procedures: &[ExtendedProcedure { need: 1, ..MAIN }],
+        nodes: &[
+            AT_0100,
+            AT_0101,
+            AT_0150,
+            ExtendedNode {
+                state: ExtendedState {
+                    items: 1,
+                    held: BYTE,
+                    ..EMPTY
+                },
+                ..PUSHED
+            },
+        ],
+        node: 3,
+        reason: Reason::Return,
+        text: "1 byte is on the stack, and a return pops 2",
+    },
+    Example {
+        program: &[0xC9],
+        procedures: &[MAIN],
+        nodes: &[
+            AT_0100,
+            AT_0101,
+            ExtendedNode {
+                state: ExtendedState {
+                    changes: &[(2, 0)],
+                    ..EMPTY
+                },
+                ..AT_0150
+            },
+        ],
+        node: 2,
+        reason: Reason::Return,
+        text: "The stack is not set",
+    },
+    Example {
+        program: PUSHES,
+        procedures: &[ExtendedProcedure { need: 4, ..MAIN }, STAYS],
+        nodes: NODES,
+        node: 5,
+        reason: Reason::Return,
+        text: "Procedure 1 is said not to return",
+    },
+    // The callee takes C over too, which its exit hasn't.
+    Example {
+        program: PUSHES,
+        procedures: &[ExtendedProcedure { need: 4, ..MAIN }, CALLEE],
+        nodes: &[
+            AT_0100,
+            AT_0101,
+            AT_0150,
+            PUSHED,
+            ExtendedNode {
+                state: ExtendedState {
+                    items: 1,
+                    held: &[0x00, 0x00, 0x03, 0, 0],
+                    ..EMPTY
+                },
+                ..BEHIND
+            },
+            ExtendedNode {
+                state: ExtendedState {
+                    items: 3,
+                    held: &[0x13, 0x13, 0x00, 0x01, 0x01, 0x0A, 0x54, 0x54, 0x0B, 0, 0],
+                    ..EMPTY
+                },
+                ..CALLED
+            },
+        ],
+        node: 5,
+        reason: Reason::Return,
+        text: "Procedure 1 returns, but:\nitems on the stack 1, the exit has 0",
+    },
+    // LD SP,FFFE in the callee.
+    Example {
+        program: &[
+            0xC5, 0xCD, 0x56, 0x01, 0x18, 0xFE, 0x31, 0xFE, 0xFF, 0x18, 0xFE,
+        ],
+        procedures: &[ExtendedProcedure { need: 4, ..MAIN }, STAYS],
+        nodes: NODES,
+        node: 5,
+        reason: Reason::Uncovered,
+        text: "Main begins anew at 0159, where no node of it stands",
+    },
+    // Nothing is a copy then, and A is said to be one.
+    Example {
+        program: &[
+            0xC5, 0xCD, 0x56, 0x01, 0x18, 0xFE, 0x31, 0xFE, 0xFF, 0x18, 0xFE,
+        ],
+        procedures: &[
+            ExtendedProcedure { need: 4, ..MAIN },
+            ExtendedProcedure { entry: 6, ..STAYS },
+        ],
+        nodes: &[
+            AT_0100,
+            AT_0101,
+            AT_0150,
+            PUSHED,
+            BEHIND,
+            ExtendedNode {
+                address: 0x0159,
+                state: ExtendedState {
+                    changes: &[
+                        (13, 0),
+                        (15, 0),
+                        (18, 0),
+                        (24, 0),
+                        (27, 0),
+                        (30, 0),
+                        (33, 0),
+                        (36, 0),
+                        (39, 0),
+                    ],
+                    ..EMPTY
+                },
+                ..AT_0100
+            },
+            CALLED,
+        ],
+        node: 6,
+        reason: Reason::Uncovered,
+        text: "Main begins anew at 0159, where node 5 comes nearest, but:\nA 01 (no copy), node 5 has 01 (A at entry)",
+    },
+];
+
+/// What an interrupt meets.
+pub const INTERRUPTS: &[Example] = &[
+    Example {
+        program: ENABLES,
+        procedures: &[ExtendedProcedure { need: 2, ..MAIN }],
+        nodes: WITH_INTERRUPTS,
+        node: 3,
+        reason: Reason::Interrupt,
+        text: "Interrupt 0 may come here:\nNo procedure but main begins at 0040\nand this state is not covered there in procedure 0 either: it has no node",
+    },
+    // LD A,02 and LDH (FF),A before EI: interrupt 1 alone may come.
+    Example {
+        program: &[0x3E, 0x02, 0xE0, 0xFF, 0xFB, 0x18, 0xFE],
+        procedures: &[ExtendedProcedure { need: 2, ..MAIN }],
+        nodes: &[
+            AT_0100,
+            AT_0101,
+            AT_0150,
+            ExtendedNode {
+                address: 0x0152,
+                state: ExtendedState {
+                    changes: A_IS_2,
+                    ..EMPTY
+                },
+                ..AT_0100
+            },
+            ExtendedNode {
+                address: 0x0154,
+                state: ExtendedState {
+                    changes: &[(16, 2), (17, 2), (18, 0), (19, 2), (20, 2), (21, 0)],
+                    ..EMPTY
+                },
+                ..AT_0100
+            },
+            ExtendedNode {
+                address: 0x0155,
+                state: ExtendedState {
+                    changes: &[(0, 6), (16, 2), (17, 2), (18, 0), (19, 2), (20, 2), (21, 0)],
+                    ..EMPTY
+                },
+                ..AT_0100
+            },
+        ],
+        node: 5,
+        reason: Reason::Interrupt,
+        text: "Interrupt 1 may come here:\nNo procedure but main begins at 0048\nand this state is not covered there in procedure 0 either: it has no node",
+    },
+    Example {
+        program: ENABLES,
+        procedures: &[MAIN],
+        nodes: &[
+            AT_0100,
+            AT_0101,
+            ExtendedNode {
+                state: ExtendedState {
+                    changes: &[(2, 0), (17, 1)],
+                    ..EMPTY
+                },
+                ..AT_0150
+            },
+            ExtendedNode {
+                state: ExtendedState {
+                    changes: &[(0, 6), (2, 0), (17, 1)],
+                    ..EMPTY
+                },
+                ..INTERRUPTED
+            },
+        ],
+        node: 3,
+        reason: Reason::Interrupt,
+        text: "Interrupt 0 may come here:\nThe stack is not set",
+    },
+    // The handler leaves another A.
+    Example {
+        program: ENABLES,
+        procedures: &[
+            ExtendedProcedure { need: 2, ..MAIN },
+            ExtendedProcedure {
+                exit: Some(ExtendedState {
+                    changes: &[(0, 4), (17, 1), (19, 2), (20, 2), (21, 0)],
+                    ..EMPTY
+                }),
+                ..HANDLER
+            },
+        ],
+        nodes: WITH_HANDLER,
+        node: 3,
+        reason: Reason::Interrupt,
+        text: "Interrupt 0 may come here:\nBehind procedure 1 it goes on at 0151, where node 3 comes nearest, but:\nA 02 (no copy), node 3 has 01 (A at entry)",
+    },
+    // A procedure without ranges is interrupted, and the handler has one.
+    Example {
+        program: CALLS_WITH_INTERRUPTS,
+        procedures: &[
+            ExtendedProcedure { need: 4, ..MAIN },
+            ExtendedProcedure {
+                entry: 3,
+                need: 4,
+                ..STAYS
+            },
+            ExtendedProcedure {
+                entry: 5,
+                ranges: A_PAGE,
+                ..HANDLER
+            },
+        ],
+        nodes: &[
+            AT_0100,
+            AT_0101,
+            ExtendedNode {
+                address: 0x0150,
+                ..BEFORE_INTERRUPTS
+            },
+            ExtendedNode {
+                state: ExtendedState {
+                    changes: MAY_ENABLE,
+                    ..HOLDS_0153
+                },
+                ..CALLED
+            },
+            ExtendedNode {
+                address: 0x0157,
+                state: ExtendedState {
+                    changes: ENABLED,
+                    ..HOLDS_0153
+                },
+                ..CALLED
+            },
+            ExtendedNode {
+                procedure: 2,
+                ..HANDLED
+            },
+        ],
+        node: 4,
+        reason: Reason::Interrupt,
+        text: "Interrupt 0 may come here:\nProcedure 2 may write C000-C0FF, which lies in no range of procedure 1",
+    },
+];

@@ -1,0 +1,224 @@
+//! Finds what is in the way of calls.
+
+ghost use Rattle.std.specs.Prelude.{◌<◌, ◌≤◌, length, IfSome};
+
+use crate::Differences;
+use crate::covering::{Near, back_finding, nearer, way_hindrance};
+use crate::obstacle::{Behind, Claim, Finding, Hindrance, Obstacle, Uncallable, Way};
+use gb_abs::{Abs, Rules, Setting};
+use gb_verify::{
+    Cert, Successor, Target, are_ranges_inside, callee_at, enter, ranges_of, setting_of, taken_by,
+};
+
+/// The node where a procedure begins, if that has the address.
+fn entry_at(cert: &Cert<'_>, procedure: u8, address: u16) -> Option<u32>
+    ensures { IfSome result (λ node. node < length cert.now.nodes) }
+{
+    if procedure >= cert.procedures() {
+        return None;
+    }
+    let entry = cert.procedure(procedure).entry();
+    if entry < cert.nodes() && cert.node(entry).address() == address {
+        Some(entry)
+    } else {
+        None
+    }
+}
+
+/// The base that a procedure says, where it isn't so many bytes below its caller's. By the rules of versions 1 and 2
+/// none is said.
+fn wrong_base(
+    cert: &Cert<'_>,
+    setting: Setting,
+    procedure: u8,
+    address: u16,
+    below: usize,
+) -> Option<Uncallable>
+    requires { below ≤ 255 }
+{
+    if setting.rules == Rules::Simple {
+        return None;
+    }
+    let base = setting_of(cert, procedure).known_base()?;
+    let below = match setting.known_base() {
+        None => None,
+        Some(caller) if usize::from(base) + below == usize::from(caller) => return None,
+        Some(_) => Some(below),
+    };
+    Some(Uncallable::Base {
+        procedure,
+        address,
+        base,
+        below,
+    })
+}
+
+/// A procedure that takes more items over than its caller has. It is farther than each that doesn't.
+fn taking_too_many(procedure: u8, address: u16, count: usize, held: usize) -> Near {
+    Near {
+        procedure,
+        distance: u32::MAX,
+        hindrance: Hindrance::plain(Obstacle::Uncallable(Uncallable::Items {
+            procedure,
+            address,
+            count,
+            held,
+        })),
+    }
+}
+
+/// How near a procedure that begins at the node comes to be entered at its address from these states; at distance 0
+/// nothing is in the way.
+fn near_entry(cert: &Cert<'_>, setting: Setting, procedure: u8, node: u32, state: &Abs) -> Near
+    requires { node < length cert.now.nodes }
+{
+    let entry = cert.node(node);
+    let address = entry.address();
+    let claimed = entry.state();
+    let (count, held) = (claimed.items().len(), state.items().len());
+    if setting.rules == Rules::Extended && held < count {
+        return taking_too_many(procedure, address, count, held);
+    }
+    let entered = enter(setting.rules, taken_by(cert, procedure), state);
+    let differences = Differences::of(setting.rules, &entered, &claimed);
+    let below = held.saturating_sub(count);
+    match wrong_base(cert, setting, procedure, address, below) {
+        Some(base) if differences.count == 0 => Near {
+            procedure,
+            distance: 1,
+            hindrance: Hindrance::plain(Obstacle::Uncallable(base)),
+        },
+        _ => Near {
+            procedure,
+            distance: differences.count,
+            hindrance: Hindrance {
+                obstacle: Obstacle::Uncallable(Uncallable::Entry { procedure, address }),
+                compared: Some((Claim::Node(node), differences)),
+            },
+        },
+    }
+}
+
+/// The procedure but main that begins at an address and comes nearest to be entered there from these states.
+fn nearest_entry(cert: &Cert<'_>, setting: Setting, address: u16, state: &Abs) -> Option<Near> {
+    let mut nearest = None;
+    for procedure in 1..cert.procedures() {
+        if let Some(node) = entry_at(cert, procedure, address) {
+            let next = near_entry(cert, setting, procedure, node, state);
+            nearest = nearer(nearest, next);
+        }
+    }
+    nearest
+}
+
+/// The procedure that is entered at an address from these states: the first from which nothing keeps them.
+pub(crate) fn entered_at(
+    cert: &Cert<'_>,
+    setting: Setting,
+    address: u16,
+    state: &Abs,
+) -> Option<u8> {
+    match nearest_entry(cert, setting, address, state) {
+        Some(near) if near.distance == 0 => Some(near.procedure),
+        _ => None,
+    }
+}
+
+/// What there is at an address where no procedure is entered from these states.
+fn entry_hindrance(cert: &Cert<'_>, setting: Setting, address: u16, state: &Abs) -> Hindrance {
+    match nearest_entry(cert, setting, address, state) {
+        None => Hindrance::plain(Obstacle::Uncallable(Uncallable::NoProcedure { address })),
+        Some(near) => near.hindrance,
+    }
+}
+
+/// What is in the way where no procedure is entered from these states, which aren't covered at the address in the same
+/// procedure either.
+pub(crate) fn inlined_finding(
+    cert: &Cert<'_>,
+    setting: Setting,
+    procedure: u8,
+    address: u16,
+    state: &Abs,
+) -> Option<Finding> {
+    let way = Way {
+        behind: Behind::Inlined(procedure),
+        address,
+    };
+    let second = way_hindrance(cert, procedure, way, state)?;
+    Some(Finding {
+        interrupt: None,
+        first: entry_hindrance(cert, setting, address, state),
+        second: Some(second),
+    })
+}
+
+/// What there is where a call leads: behind its callee, or where no procedure is entered.
+pub(crate) fn called_finding(
+    cert: &Cert<'_>,
+    procedure: u8,
+    address: u16,
+    successor: &Successor<'_>,
+) -> Option<Finding> {
+    let setting = setting_of(cert, procedure);
+    let state = successor.state();
+    match callee_at(cert, setting, successor) {
+        Some(callee) => {
+            let way = Way {
+                behind: Behind::Call(callee),
+                address: successor.next,
+            };
+            back_finding(cert, procedure, callee, way, &state)
+        }
+        None if setting.rules == Rules::Extended => {
+            inlined_finding(cert, setting, procedure, address, &state)
+        }
+        None => None,
+    }
+}
+
+/// The range of a callee that lies in none of its caller's. By the rules of version 3 main's callees may have any.
+pub(crate) fn range_finding(
+    cert: &Cert<'_>,
+    setting: Setting,
+    procedure: u8,
+    callee: u8,
+) -> Option<Finding> {
+    if setting.rules == Rules::Extended && setting.is_main {
+        return None;
+    }
+    let outer = ranges_of(cert, procedure);
+    let inner = ranges_of(cert, callee);
+    for range in inner.as_slice() {
+        if !are_ranges_inside(&[*range], outer.as_slice()) {
+            return Some(Finding::plain(Obstacle::Uncallable(Uncallable::Range {
+                callee,
+                range: *range,
+                procedure,
+            })));
+        }
+    }
+    None
+}
+
+/// What is in the way of a call. By the rules of version 3 it may do without a callee.
+pub(crate) fn callee_finding(
+    cert: &Cert<'_>,
+    procedure: u8,
+    successor: &Successor<'_>,
+) -> Option<Finding> {
+    let Target::Call(address) = successor.target else {
+        return None;
+    };
+    let setting = setting_of(cert, procedure);
+    match callee_at(cert, setting, successor) {
+        Some(callee) => range_finding(cert, setting, procedure, callee),
+        None if setting.rules == Rules::Simple => Some(Finding::of(entry_hindrance(
+            cert,
+            setting,
+            address,
+            &successor.state(),
+        ))),
+        None => None,
+    }
+}
