@@ -183,24 +183,41 @@ fn fmt_banks<W: fmt::Write>(lo: u16, hi: u16, f: &mut fmt::Formatter<W>) -> fmt:
     }
 }
 
+/// A value with what it is a copy of.
+fn fmt_copy<W: fmt::Write>(val: Val, f: &mut fmt::Formatter<W>) -> fmt::Result {
+    fmt_bytes(val.lo, val.hi, f)?;
+    write!(f, " ({})", origin_text(val.origin))
+}
+
+impl Known {
+    /// The word for it, where it has one.
+    fn word(&self) -> Option<&'static str> {
+        match *self {
+            Known::Flag(flag) => Some(flag_text(flag)),
+            Known::Gate(gate) => Some(gate_text(gate)),
+            Known::Ime(ime) => Some(ime_text(ime)),
+            Known::Kept(is_kept) => Some(if is_kept { "kept" } else { "not kept" }),
+            Known::Set(is_set) => Some(if is_set { "set" } else { "not set" }),
+            Known::Test(None) => Some("none"),
+            _ => None,
+        }
+    }
+}
+
 impl fmt::Display for Known {
     fn fmt<W: fmt::Write>(&self, f: &mut fmt::Formatter<W>) -> fmt::Result {
+        if let Some(word) = self.word() {
+            return write!(f, "{word}");
+        }
         match *self {
             Known::Bytes(lo, hi) => fmt_bytes(lo, hi, f),
-            Known::Copy(val) => {
-                fmt_bytes(val.lo, val.hi, f)?;
-                write!(f, " ({})", origin_text(val.origin))
-            }
-            Known::Flag(flag) => write!(f, "{}", flag_text(flag)),
-            Known::Gate(gate) => write!(f, "{}", gate_text(gate)),
-            Known::Ime(ime) => write!(f, "{}", ime_text(ime)),
+            Known::Copy(val) => fmt_copy(val, f),
             Known::Count(count) => write!(f, "{count}"),
             Known::Banks(lo, hi) => fmt_banks(lo, hi, f),
-            Known::Kept(is_kept) => write!(f, "{}", if is_kept { "kept" } else { "not kept" }),
-            Known::Set(is_set) => write!(f, "{}", if is_set { "set" } else { "not set" }),
-            Known::Test(None) => write!(f, "none"),
             Known::Test(Some(value)) => write!(f, "{value:02X}"),
             Known::Together(relations) => fmt_relations(&relations, f),
+            // What has a word.
+            _ => Ok(()),
         }
     }
 }

@@ -1,6 +1,6 @@
 //! What is known of several parts of a state together, as a person reads it.
 
-use gb_domain::pairs::{Link, Other, PairFacts, WordPair};
+use gb_domain::pairs::{Link, Other, PairFacts, Pairs, WordPair};
 use gb_domain::places::{OneByte, Test};
 use gb_domain::relations::Relations;
 use gb_ops::op::Register;
@@ -135,21 +135,48 @@ fn fmt_pair<W: fmt::Write>(
     Ok(before)
 }
 
+/// Tells the places of a byte with its test, and answers what stands before the next fact.
+fn fmt_byte<W: fmt::Write>(
+    byte: &OneByte,
+    f: &mut fmt::Formatter<W>,
+) -> Result<&'static str, fmt::Error> {
+    let before = fmt_places(byte, f)?;
+    fmt_test(byte.test, f)?;
+    Ok(before)
+}
+
+/// Tells behind this text of which pair Z says whether it is 0, and answers what stands before the next fact.
+fn fmt_zero<W: fmt::Write>(
+    before: &'static str,
+    zero: Option<WordPair>,
+    f: &mut fmt::Formatter<W>,
+) -> Result<&'static str, fmt::Error> {
+    let Some(pair) = zero else {
+        return Ok(before);
+    };
+    write!(f, "{before}{} 0 where Z is set", pair_name(pair))?;
+    Ok(BETWEEN)
+}
+
+/// Tells what is known of all pairs, behind this text, and answers what stands before the next fact.
+fn fmt_pairs<W: fmt::Write>(
+    before: &'static str,
+    pairs: &Pairs,
+    f: &mut fmt::Formatter<W>,
+) -> Result<&'static str, fmt::Error> {
+    let before = fmt_pair(before, WordPair::Bc, &pairs.bc, f)?;
+    let before = fmt_pair(before, WordPair::De, &pairs.de, f)?;
+    fmt_pair(before, WordPair::Hl, &pairs.hl, f)
+}
+
 /// Tells all that is known together.
 pub(crate) fn fmt_relations<W: fmt::Write>(
     relations: &Relations,
     f: &mut fmt::Formatter<W>,
 ) -> fmt::Result {
-    let Relations { byte, zero, pairs } = relations;
-    let mut before = fmt_places(byte, f)?;
-    fmt_test(byte.test, f)?;
-    if let Some(pair) = *zero {
-        write!(f, "{before}{} 0 where Z is set", pair_name(pair))?;
-        before = BETWEEN;
-    }
-    before = fmt_pair(before, WordPair::Bc, &pairs.bc, f)?;
-    before = fmt_pair(before, WordPair::De, &pairs.de, f)?;
-    before = fmt_pair(before, WordPair::Hl, &pairs.hl, f)?;
+    let before = fmt_byte(&relations.byte, f)?;
+    let before = fmt_zero(before, relations.zero, f)?;
+    let before = fmt_pairs(before, &relations.pairs, f)?;
     if before == "" {
         write!(f, "nothing")?;
     }
