@@ -8,6 +8,8 @@
 #[cfg(test)]
 mod lines;
 #[cfg(test)]
+mod pages;
+#[cfg(test)]
 mod places;
 #[cfg(test)]
 mod refusals;

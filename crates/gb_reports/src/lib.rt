@@ -31,6 +31,7 @@ pub use json::obstacle_json;
 pub use listing::Listing;
 pub use obstacle::{Obstacle, Standing};
 pub use path::{Path, Segment, Start};
+pub use state::{ShownCell, ShownFlags, ShownRegisters, fmt_core};
 pub use symbols::{Place, Symbol, Symbols};
 pub use told::Told;
 
