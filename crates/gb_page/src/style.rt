@@ -23,11 +23,13 @@ summary { cursor: pointer; color: var(--quiet); }
 .wide { overflow-x: auto; }
 table { border-collapse: collapse; width: 100%; font-size: .95rem; }
 th, td { text-align: left; vertical-align: top; padding: .3rem .75rem .3rem 0; border-bottom: 1px solid var(--line); overflow-wrap: break-word; }
+td:not(.number) { min-width: 5.5rem; }
 td code, li code { white-space: nowrap; }
+a, .symbol { overflow-wrap: anywhere; }
 th { font-weight: 600; color: var(--quiet); }
 .number { text-align: right; font-variant-numeric: tabular-nums; white-space: nowrap; }
 th.number, td.number { padding-right: 1.5rem; white-space: normal; }
-.item { white-space: nowrap; margin-right: .5rem; }
+.item { display: inline-block; margin-right: .5rem; }
 .strip { display: block; width: 100%; height: 1.1rem; background: var(--panel); outline: 1px solid var(--line); }
 .strip rect { stroke-width: 1px; vector-effect: non-scaling-stroke; }
 rect.code { fill: var(--code); stroke: var(--code); }
@@ -42,7 +44,7 @@ rect.written { fill: var(--written); stroke: var(--written); }
 .head { color: var(--quiet); font-size: .85rem; }
 article { border: 1px solid var(--line); border-radius: 4px; padding: .75rem 1rem; margin: 1rem 0; }
 article:target, .node:target { outline: 2px solid var(--link); }
-dl { display: grid; grid-template-columns: 10rem 1fr; gap: .2rem .75rem; margin: 0 0 .5rem; }
+dl { display: grid; grid-template-columns: 10rem minmax(0, 1fr); gap: .2rem .75rem; margin: 0 0 .5rem; }
 dt { color: var(--quiet); }
 dd { margin: 0; overflow-wrap: anywhere; }
 .listing { margin-top: .25rem; }
@@ -57,7 +59,7 @@ dd { margin: 0; overflow-wrap: anywhere; }
 .ram > svg:first-of-type { grid-column: span 3; order: 3; }
 .ram.head { display: none; }
 .bank { grid-template-columns: 4.5rem 1fr 6.5rem; gap: .5rem; }
-dl { grid-template-columns: 1fr; }
+dl { grid-template-columns: minmax(0, 1fr); }
 dt { margin-top: .3rem; }
 .state { grid-column: 1 / -1; }
 }
