@@ -2,6 +2,7 @@
 use Rattle.std.proofs.Common.{◌≡◌, ℕ, suc, ◌+◌, ◌*◌, ◌/◌, ◌%◌, ◌≤◌, Bool, true, ◌==◌, List, [], ◌∷◌, ◌++◌, length, drop, Option, Some, None, refl, sym, ap, ◌∙◌, append_assoc, length-append, arith}
 use Rattle.std.specs.List.{flat_map}
 use Rattle.std.proofs.lemmas.Bool.{eqb-true}
+use Rattle.std.proofs.lemmas.List.Concat.{flat_map-cons}
 use Rattle.gb_ops.specs.declared.machine.Region.{Region}
 use Rattle.gb_domain.specs.declared.types.Val.{Val}
 use Rattle.gb_ops.specs.declared.registers.Registers.{Registers}
@@ -25,10 +26,10 @@ use Rattle.gb_domain.specs.RelationRules.{has_place, compared, test_alone, IsRel
 use Rattle.gb_fields.specs.Limits.{unit}
 use Rattle.gb_states.specs.Rules.{is_whole, may_be_known}
 use Rattle.gb_states.specs.RelationSpelling as told
-use Rattle.gb_states.specs.Checked.{flg_in, core_in, test_in, begins_with_zero, begins_with_zeros, are_none}
+use Rattle.gb_states.specs.Checked.{flg_in, core_in, test_in, begins_with_zero, begins_with_zeros, are_none, listed_items, cell_of, listed_cells}
 use Rattle.gb_states.proofs.RelationLaws.{is-alone, nothing-told}
 use Rattle.gb_states.proofs.FieldLaws.{and_both, same, Flags, number_of, of-flag, origin_of-number, may-number, ime-number, flags-number, own-again}
-use Rattle.gb_cert.proofs.Lending.{core-long, lists-behind}
+use Rattle.gb_cert.proofs.Lending.{core-long, vals-long, cell-long, lists-behind}
 
 word-again : (w : ℕ) → w % 256 + 256 * (w / 256) ≡ w
 word-again w = omega arith
@@ -158,3 +159,33 @@ plain_state s e f g = by s.items s.cells (test_alone (compared s.relations.byte.
   where
     by : (xs : List Val) (ys : List Cell) (r : Relations) → xs ≡ [] → ys ≡ [] → r ≡ s.relations → record (state_of s.core) { relations = r } ≡ record s { items = xs; cells = ys }
     by xs ys r e f g = rw (e, f, g) refl
+
+-- ---- lists that are read again
+
+items-again : (vs : List Val) → listed_items (flat_map spelled.val vs) ≡ vs
+unfolding listed_items spelled.val
+items-again [] = refl
+items-again (v ∷ vs) = ap listed_items (flat_map-cons spelled.val v vs) ∙ (ap (λ (w : Val). w ∷ listed_items (flat_map spelled.val vs)) (val-again v) ∙ ap (λ (ws : List Val). v ∷ ws) (items-again vs))
+
+make_cell : (a b : ℕ) (v w : Val) → a ≡ b → v ≡ w → (let c : Cell = record { address = a; val = v } in c) ≡ record { address = b; val = w }
+make_cell a b v w e f = rw (e, f) refl
+
+cells-again : (xs : List Cell) → listed_cells (flat_map spelled.cell xs) ≡ xs
+unfolding listed_cells spelled.cell spelled.val spelled.word
+cells-again [] = refl
+cells-again (x ∷ xs) =
+    ap listed_cells (flat_map-cons spelled.cell x xs)
+    ∙ (ap (λ (y : Cell). y ∷ listed_cells (flat_map spelled.cell xs)) (make_cell _ x.address _ x.val (word-again x.address) (val-again x.val))
+    ∙ ap (λ (ys : List Cell). x ∷ ys) (cells-again xs))
+
+pub items_listed : (vs : List Val) (bytes : List ℕ) → bytes ≡ flat_map spelled.val vs → listed_items bytes ≡ vs
+items_listed vs bytes e = ap listed_items e ∙ items-again vs
+
+pub cells_listed : (xs : List Cell) (bytes : List ℕ) → bytes ≡ flat_map spelled.cell xs → listed_cells bytes ≡ xs
+cells_listed xs bytes e = ap listed_cells e ∙ cells-again xs
+
+pub items_long : (vs : List Val) (bytes : List ℕ) → bytes ≡ flat_map spelled.val vs → length bytes ≡ 3 * length vs
+items_long vs bytes e = ap length e ∙ vals-long vs
+
+pub cells_long : (xs : List Cell) (bytes : List ℕ) → bytes ≡ flat_map spelled.cell xs → length bytes ≡ 5 * length xs
+cells_long xs bytes e = ap length e ∙ cell-long xs

@@ -147,7 +147,7 @@ unfolding item_room
 items-few Simple = omega arith
 items-few Extended = omega arith
 
-cells-few : (rules : Rules) → cell_room rules < 256
+cells-few : (rules : Rules) → cell_room rules ≤ 64
 unfolding cell_room
 cells-few Simple = omega arith
 cells-few Extended = omega arith
@@ -158,7 +158,7 @@ few-items rules role region s h =
     let most = h.item_count in
     omega (arith, few, most)
 
-pub few-cells : (rules : Rules) (role : Role) (region : Region) (s : AbsState) → IsState rules role region s → length s.cells ≤ 255
+pub few-cells : (rules : Rules) (role : Role) (region : Region) (s : AbsState) → IsState rules role region s → length s.cells ≤ 64
 few-cells rules role region s h =
     let few = cells-few rules in
     let most = h.cell_count in
@@ -208,6 +208,11 @@ pub told-lent : (rules : Rules) (role : Role) (region : Region) (bytes first sec
 told-lent rules role region bytes first second s h f =
     ap (relations_by rules region (compared s.relations.byte.test)) (items-lent rules role region bytes first second s h f).1
     ∙ (IsFormat-relations_by rules region (compared s.relations.byte.test) (compared-small s.relations.byte.test h.is_state.relations.byte.test)).again s.relations (cells_then s h.tail) (is-told rules region s.relations h.is_state.relations h.is_state.known)
+
+pub relations-lent : (rules : Rules) (role : Role) (region : Region) (bytes first second behind : List ℕ) (r : Relations) (s : AbsState) (h : StateStands rules role region bytes s) → CountsOff (item_width rules) (drop 40 bytes) first second
+    → relations_by rules region (compared s.relations.byte.test) second ≡ Ok (r, behind) → r ≡ s.relations
+relations-lent rules role region bytes first second behind r s h f e =
+    sym (same_pair s.relations r (cells_then s h.tail) behind (sym (told-lent rules role region bytes first second s h f) ∙ e)).0
 
 pub cells-lent : (rules : Rules) (role : Role) (region : Region) (bytes first second behind cells after : List ℕ) (r : Relations) (s : AbsState) (h : StateStands rules role region bytes s) → CountsOff (item_width rules) (drop 40 bytes) first second
     → relations_by rules region (compared s.relations.byte.test) second ≡ Ok (r, behind) → CountsOff 5 behind cells after → cells ≡ flat_map spelled.cell s.cells

@@ -13,7 +13,6 @@ use gb_ops::machine::Region;
 use gb_states::fields::{are_none, core_in, test_in};
 use gb_states::relations::test_alone;
 use gb_states::role::Role;
-use gb_states::states::state_at;
 use std::marker::Model;
 
 /// What a certificate claims for one address of a procedure: the bank shown there, and a state.
@@ -140,22 +139,14 @@ impl<'a> NodeRef<'a> {
     fn read_lists(&self, state: &mut Abs)
         ensures { state.new ≡ self.now.state }
     {
-        *state = self.state();
+        self.lent().read(state);
     }
 
     /// Its state. It takes no memory.
     pub fn state(&self) -> Abs
         ensures { result ≡ self.now.state }
     {
-        match state_at(
-            self.rules,
-            Role::of(self.procedure),
-            self.region,
-            self.state,
-        ) {
-            Ok((state, _)) => state,
-            Err(_) => unreachable!(),
-        }
+        self.lent().state()
     }
 
     /// Its state, in the certificate's bytes.

@@ -3,7 +3,6 @@
 ghost use Rattle.std.specs.Prelude.{◌≡◌, ◌<◌, true, is_ok};
 ghost use Rattle.gb_cert.specs.Borrowed.{exit_in};
 ghost use Rattle.gb_fields.specs.Rules.{usual_base};
-ghost use Rattle.gb_fields.specs.Format.{Gives};
 ghost use Rattle.gb_states.specs.Reading.{exit_at};
 
 use crate::state::StateRef;
@@ -14,7 +13,7 @@ use gb_fields::CertFault;
 use gb_fields::parts::{base_at, need_at, returns_at};
 use gb_ops::machine::Region;
 use gb_states::role::Role;
-use gb_states::states::{ranges_at, state_at};
+use gb_states::states::ranges_at;
 use std::marker::Model;
 
 /// A procedure: where it begins, above which address its items end, how many bytes of stack it needs, what it may write,
@@ -40,25 +39,7 @@ impl<'a> Model for ProcedureRef<'a> {
     ghost invariant = { λ p. BodyStands p.rules p.is_main p.region p.body.now (procedure_in p.rules p.is_main p.entry p.region p.body.now) };
 }
 
-/// In what state a procedure returns, if it does.
-#[tactic(auto, unfolding(gb_states::specs::Reading::exit_at))]
-fn exit_at(
-    rules: Rules,
-    is_main: bool,
-    region: Region,
-    bytes: &[u8],
-) -> Result<(Option<Abs>, &[u8]), CertFault>
-    ensures { Gives (λ x. (x.0, x.1.now)) result (exit_at rules is_main region bytes.now) }
-{
-    let (returns, rest) = returns_at(is_main, bytes)?;
-    if !returns {
-        return Ok((None, rest));
-    }
-    let (exit, rest) = state_at(rules, Role::Exit, region, rest)?;
-    Ok((Some(exit), rest))
-}
-
-/// The same, in the bytes.
+/// In what state a procedure returns, if it does, in the bytes.
 fn exit_lent<'a>(
     rules: Rules,
     is_main: bool,
@@ -162,20 +143,9 @@ impl<'a> ProcedureRef<'a> {
     pub fn exit(&self) -> Option<Abs>
         ensures { result ≡ self.now.exit }
     {
-        let Ok(rest) = skip_base(self.rules, self.is_main, self.region, self.body) else {
-            unreachable!();
-        };
-        let Ok((_, rest)) = need_at(self.rules, self.is_main, self.region, rest) else {
-            unreachable!();
-        };
-        let Ok(rest) = skip_ranges(self.rules, self.is_main, self.region, rest) else {
-            unreachable!();
-        };
-        match exit_at(self.rules, self.is_main, self.region, rest) {
-            Ok((exit, _)) => exit,
-            Err(_) => unreachable!(),
-        }
+        Some(self.lent_exit()?.state())
     }
+
     /// In what state it returns, if it does, in the certificate's bytes.
     pub fn lent_exit(&self) -> Option<StateRef<'a>>
         ensures { result ≡ self.now.exit }

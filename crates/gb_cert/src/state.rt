@@ -6,10 +6,12 @@ ghost use Rattle.gb_domain.specs.RelationRules.{compared};
 ghost use Rattle.gb_states.specs.Spelling as spelled;
 ghost use Rattle.gb_cert.specs.Borrowed.{item_width};
 
-use gb_domain::types::Rules;
+use gb_domain::relations::Relations;
+use gb_domain::types::{Abs, Core, Rules};
 use gb_fields::numbers::{counted, from_place};
 use gb_ops::machine::Region;
-use gb_states::fields::test_in;
+use gb_states::fields::{core_in, test_in};
+use gb_states::listed::{append_cells, append_items};
 use gb_states::relations::relations_by;
 use gb_states::role::Role;
 use std::marker::Model;
@@ -93,6 +95,14 @@ impl<'a> StateRef<'a> {
         &self.bytes[..CORE]
     }
 
+    /// Its core.
+    #[inline(always)]
+    pub fn known_core(&self) -> Core
+        ensures { result ≡ self.now.core }
+    {
+        core_in(self.bytes)
+    }
+
     /// The bytes of its stack items, three each, the oldest first.
     pub fn items(&self) -> &'a [u8]
         ensures items { result.now ≡ flat_map spelled.val self.now.items }
@@ -108,16 +118,32 @@ impl<'a> StateRef<'a> {
         (self.items().len() / VAL) as u8
     }
 
-    /// The bytes of its memory cells, five each, in order of address.
-    pub fn cells(&self) -> &'a [u8]
-        ensures cells { result.now ≡ flat_map spelled.cell self.now.cells }
-        ensures few { length self.now.cells ≤ 255 }
+    /// What is known of several of its parts together, and the bytes of its memory cells.
+    fn told(&self) -> (Relations, &'a [u8])
+        ensures relations { result.0 ≡ self.now.relations }
+        ensures cells { result.1.now ≡ flat_map spelled.cell self.now.cells }
+        ensures few { length self.now.cells ≤ 64 }
     {
         let (_, told) = counted(from_place(self.bytes, CORE), item_width(self.rules));
         match relations_by(self.rules, self.region, self.test(), told) {
-            Ok((_relations, cells)) => counted(cells, CELL).0,
+            Ok((relations, cells)) => (relations, counted(cells, CELL).0),
             Err(_) => unreachable!(),
         }
+    }
+
+    /// What is known of several of its parts together.
+    pub fn relations(&self) -> Relations
+        ensures { result ≡ self.now.relations }
+    {
+        self.told().0
+    }
+
+    /// The bytes of its memory cells, five each, in order of address.
+    pub fn cells(&self) -> &'a [u8]
+        ensures cells { result.now ≡ flat_map spelled.cell self.now.cells }
+        ensures few { length self.now.cells ≤ 64 }
+    {
+        self.told().1
     }
 
     /// How many memory cells it has.
@@ -125,5 +151,25 @@ impl<'a> StateRef<'a> {
         ensures { result ≡ length self.now.cells }
     {
         (self.cells().len() / CELL) as u8
+    }
+    /// It is put in the place of another state. It takes no memory.
+    #[tactic(auto, using(crate::proofs::CheckedLaws::items_listed, crate::proofs::CheckedLaws::cells_listed, crate::proofs::CheckedLaws::items_long, crate::proofs::CheckedLaws::cells_long))]
+    pub fn read(&self, state: &mut Abs)
+        ensures { state.new ≡ self.now }
+    {
+        let (relations, cells) = self.told();
+        state.set_plain(self.known_core());
+        state.set_relations(relations);
+        append_items(state, self.items());
+        append_cells(state, cells);
+    }
+
+    /// It, as a state of its own. It takes no memory.
+    pub fn state(&self) -> Abs
+        ensures { result ≡ self.now }
+    {
+        let mut state = Abs::new(self.known_core());
+        self.read(&mut state);
+        state
     }
 }

@@ -10,11 +10,14 @@ instruction, the rule, the state there, the way there, and what usually mends it
   certify game.gb game.cert --sym game.sym   tells addresses by symbols (RGBDS .sym, SDCC .noi and .map)
   certify --explain game.gb game.cert        reads CERT: its verdict, why it is refused, and what the maker finds
   certify --list game.gb game.cert           reads CERT: its nodes with instructions, registers and cells
+  certify --report page.html game.gb game.cert   a page for a browser: banks, stack, interrupts, RAM, the listing; CERT is
+                                             read, or made first where it isn't there; with --json the same facts
+                                             for programs
 
 It prints one line on standard output:
   ACCEPTED nodes N procedures P  every run of the cartridge from power-up is safe, and CERT is written (status 0)
   NO CERTIFICATE obstacles N     none could be made (status 1); with --json there is an object a line in its place
-  REFUSED node I reason R        with --explain: CERT is refused (status 1)
+  REFUSED node I reason R        with --explain or --report: CERT is refused (status 1)
   CARTRIDGE Hn, CERTIFICATE Cn   a file is none (status 2)
 Beside them status 2 says that the words are wrong or a file of symbols is none, 3 that memory ran out or a file or device
 can't be read or written. ROM may be - for standard input; where CERT is read, it may be - in its place.

@@ -11,6 +11,7 @@ mod messages;
 mod perform;
 mod progress;
 mod reading;
+mod report;
 mod words;
 
 use gb_command_line::status::exit_code;

@@ -15,7 +15,7 @@ use std::rt::Files;
 const ROUNDS: u32 = 400;
 
 /// Whether the checker accepts a certificate, which prints nothing.
-fn is_accepted<R: AllocGlobal>(rt: &R, rom: &[u8], cert: &[u8]) -> bool {
+pub fn is_accepted<R: AllocGlobal>(rt: &R, rom: &[u8], cert: &[u8]) -> bool {
     let mut out = Plain::new(io::sink());
     match verify_bytes(rt.alloc(), rom, cert, &mut out) {
         Ok(outcome) => outcome == Outcome::Accepted,

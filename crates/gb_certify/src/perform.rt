@@ -4,6 +4,7 @@ use crate::files::read_symbols;
 use crate::making::make_file;
 use crate::messages::{PROGRAM, tell_symbols};
 use crate::reading::{explain_file, list_file};
+use crate::report::report_file;
 use crate::words::{Task, Work, read_words};
 use gb_command_line::status::Status;
 use gb_command_line::words::{explain, tell_words, words_of};
@@ -18,6 +19,30 @@ fn inputs(task: &Task<'_>) -> usize {
     names.iter().flatten().filter(|name| is_input(name)).count()
 }
 
+/// What is wrong with the name of the file that is to be written, if something is.
+fn wrong_output(task: &Task<'_>) -> Option<&'static str> {
+    match task.work {
+        Work::Make if is_input(task.cert) => {
+            Some("CERT is written, so it can't be -; a file of that name is ./-")
+        }
+        Work::Make if task.rom == task.cert => {
+            Some("CERT is written, so it can't be the cartridge's own file")
+        }
+        Work::Report(name) if is_input(name) => {
+            Some("FILE is written, so it can't be -; a file of that name is ./-")
+        }
+        Work::Report(name) if is_read(task, name) => {
+            Some("FILE is written, so it can't be a file that is read")
+        }
+        _ => None,
+    }
+}
+
+/// Whether a file of this name is read.
+fn is_read(task: &Task<'_>, name: &str) -> bool {
+    task.rom == name || task.cert == name || task.symbols == Some(name)
+}
+
 /// Does what a task says, with the bytes of its cartridge and its symbols.
 fn work_on<R: Print + Eprint + Input + Files + AllocGlobal>(
     rt: &R,
@@ -30,6 +55,7 @@ fn work_on<R: Print + Eprint + Input + Files + AllocGlobal>(
         Work::Make => make_file(rt, task, bytes, symbols, is_shown),
         Work::Explain => explain_file(rt, task, bytes, symbols, is_shown),
         Work::List => list_file(rt, task, bytes, symbols),
+        Work::Report(name) => report_file(rt, task, name, bytes, symbols, is_shown),
     }
 }
 
@@ -42,17 +68,8 @@ fn perform<R: Print + Eprint + Input + Files + AllocGlobal>(
     if inputs(task) > 1 {
         return Ok(tell_words(rt, "only one of the files can be - for standard input"));
     }
-    if task.work == Work::Make && is_input(task.cert) {
-        return Ok(tell_words(
-            rt,
-            "CERT is written, so it can't be -; a file of that name is ./-",
-        ));
-    }
-    if task.work == Work::Make && task.rom == task.cert {
-        return Ok(tell_words(
-            rt,
-            "CERT is written, so it can't be the cartridge's own file",
-        ));
+    if let Some(text) = wrong_output(task) {
+        return Ok(tell_words(rt, text));
     }
     let bytes = read_cartridge(rt, PROGRAM, task.rom)?;
     let text = read_symbols(rt, task.symbols)?;

@@ -14,19 +14,21 @@ const NODES: u32 = 400_000;
 
 /// What is to be done with the certificate's file.
 #[derive(Clone, Copy, PartialEq, Eq)]
-pub enum Work {
+pub enum Work<'a> {
     /// It is made.
     Make,
     /// It is there, and its refusal is explained.
     Explain,
     /// It is there, and its nodes are listed.
     List,
+    /// It is there or is made, and a page on it is written into this file.
+    Report(&'a str),
 }
 
 /// What the program is asked to do.
 #[derive(Clone, Copy, PartialEq, Eq)]
 pub struct Task<'a> {
-    pub work: Work,
+    pub work: Work<'a>,
     pub rom: &'a str,
     pub cert: &'a str,
     pub symbols: Option<&'a str>,
@@ -117,7 +119,16 @@ fn with_options<'a>(alloc: Global) -> Result<Command<'a>, AllocError> {
         "FIRST..LAST",
         "The stack's addresses, as DF00..DFFF; else the least that is needed below LD SP",
     );
-    with_arg(with_arg(with_arg(command, symbols), nodes), stack)
+    let report = option_arg(
+        alloc,
+        "report",
+        "FILE",
+        "Write a page on CERT into FILE; CERT is made first where it isn't there",
+    );
+    with_arg(
+        with_arg(with_arg(with_arg(command, symbols), nodes), stack),
+        report,
+    )
 }
 
 /// The program's command line.
@@ -132,7 +143,7 @@ fn program_command<'a>(alloc: Global) -> Result<Command<'a>, AllocError> {
     let json = flag_arg(
         alloc,
         "json",
-        "Tell what is in the way as JSON on standard output",
+        "Tell what is in the way as JSON on standard output; with --report, the facts in FILE",
     );
     let command = with_arg(with_arg(command, explain), list);
     with_arg(command, json)
@@ -197,12 +208,18 @@ fn stack_of(alloc: Global, matches: &ArgMatches<'_>) -> Result<Option<Region>, E
 }
 
 /// What is to be done with the certificate's file.
-fn work_of(alloc: Global, matches: &ArgMatches<'_>) -> Result<Work, Error> {
-    match (matches.get_flag("explain"), matches.get_flag("list")) {
-        (false, false) => Ok(Work::Make),
-        (true, false) => Ok(Work::Explain),
-        (false, true) => Ok(Work::List),
-        (true, true) => Err(wrong(alloc, "--explain and --list can't be used together")),
+fn work_of<'a>(alloc: Global, matches: &ArgMatches<'a>) -> Result<Work<'a>, Error> {
+    let is_explained = matches.get_flag("explain");
+    let is_listed = matches.get_flag("list");
+    match (is_explained, is_listed, matches.get_str("report")) {
+        (false, false, None) => Ok(Work::Make),
+        (true, false, None) => Ok(Work::Explain),
+        (false, true, None) => Ok(Work::List),
+        (false, false, Some(name)) => Ok(Work::Report(name)),
+        _ => Err(wrong(
+            alloc,
+            "--explain, --list and --report can't be used together",
+        )),
     }
 }
 

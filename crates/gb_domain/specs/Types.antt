@@ -37,9 +37,12 @@ pub record Node : Type 0 where
 abbrev pub any_val : Val
 any_val = record { lo = 0; hi = 255; origin = None }
 
--- any byte at address 0
-abbrev pub any_cell : Cell
-any_cell = record { address = 0; val = any_val }
+-- A list's unused places hold defaults. Those are zeros, which are written at once.
+abbrev pub zero_val : Val
+zero_val = record { lo = 0; hi = 0; origin = None }
+
+abbrev pub zero_cell : Cell
+zero_cell = record { address = 0; val = zero_val }
 
 -- the first address alone
 abbrev pub least_range : Range

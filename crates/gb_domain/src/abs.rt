@@ -132,6 +132,14 @@ impl Abs {
         self.items.truncate(count);
     }
 
+    /// It gets one cell more, the last. All else stays. There must be room.
+    pub fn push_cell(&mut self, cell: Cell)
+        requires { length self.old.cells < 64 }
+        ensures { self.new ≡ record self.old { cells = self.old.cells ++ cell ∷ [] } }
+    {
+        self.cells.push(cell);
+    }
+
     /// It gets other cells. All else stays.
     pub fn set_cells(&mut self, cells: ArrayVec<Cell, 64>)
         ensures { self.new ≡ record self.old { cells = cells.items } }

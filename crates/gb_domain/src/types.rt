@@ -1,7 +1,7 @@
 //! What a certificate is made of: values, the core of a state, items, cells and ranges.
 
 ghost use Rattle.std.specs.Prelude.{◌≡◌};
-ghost use Rattle.gb_domain.specs.Types.{any_val, any_cell, least_range};
+ghost use Rattle.gb_domain.specs.Types.{zero_val, zero_cell, least_range};
 
 pub use crate::abs::Abs;
 pub use crate::rules::Rules;
@@ -83,28 +83,28 @@ pub struct Cell {
 }
 
 impl Default for Val {
-    ghost is_default = { λ v. v ≡ any_val };
+    ghost is_default = { λ v. v ≡ zero_val };
 
-    /// Any byte.
+    /// Zero.
     fn default() -> Val {
         Val {
             lo: 0,
-            hi: 255,
+            hi: 0,
             origin: None,
         }
     }
 }
 
 impl Default for Cell {
-    ghost is_default = { λ c. c ≡ any_cell };
+    ghost is_default = { λ c. c ≡ zero_cell };
 
-    /// Any byte at address 0.
+    /// Zero at address 0.
     fn default() -> Cell {
         Cell {
             address: 0,
             val: Val {
                 lo: 0,
-                hi: 255,
+                hi: 0,
                 origin: None,
             },
         }

@@ -16,6 +16,8 @@ mod extended_returns;
 #[cfg(test)]
 mod lines;
 #[cfg(test)]
+mod pages;
+#[cfg(test)]
 mod places;
 #[cfg(test)]
 mod refusals;

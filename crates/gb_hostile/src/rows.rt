@@ -208,6 +208,23 @@ const LIST: Row = Row {
     ..VERIFY
 };
 
+/// A page can't be written.
+const REPORT: Row = Row {
+    about: "certify --report: a page that may not be written",
+    program: Program::Certify,
+    words: &[
+        b"certify",
+        b"--report",
+        b"page.html",
+        b"game.gb",
+        b"game.cert",
+    ],
+    written: DEVICE,
+    status: 3,
+    told: "page.html",
+    ..VERIFY
+};
+
 pub const READ: &[Row] = &[
     Row {
         about: "no words",
@@ -463,6 +480,21 @@ pub const FAULTY: &[Row] = &[
         status: 2,
         told: "game.cert",
         ..LIST
+    },
+    REPORT,
+    Row {
+        about: "certify --report: a page in the certificate's own file",
+        words: &[
+            b"certify",
+            b"--report",
+            b"game.cert",
+            b"game.gb",
+            b"game.cert",
+        ],
+        written: NOTHING,
+        status: 2,
+        told: "a file that is read",
+        ..REPORT
     },
     Row {
         about: "certify: a certificate written to standard input",

@@ -29,8 +29,10 @@ pub use fault::{SymbolFault, SymbolFaultKind};
 pub use format::Format;
 pub use json::obstacle_json;
 pub use listing::Listing;
+pub use object::Object;
 pub use obstacle::{Obstacle, Standing};
 pub use path::{Path, Segment, Start};
+pub use state::{ShownCell, ShownFlags, ShownRegisters, fmt_core};
 pub use symbols::{Place, Symbol, Symbols};
 pub use told::Told;
 

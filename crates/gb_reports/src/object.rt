@@ -7,14 +7,14 @@ use std::fmt;
 
 /// An object that isn't whole yet.
 #[derive(Drop)]
-pub(crate) struct Object {
-    pub(crate) alloc: Global,
+pub struct Object {
+    pub alloc: Global,
     members: Map<String, Value>,
 }
 
 impl Object {
     /// No member yet.
-    pub(crate) fn new(alloc: Global) -> Object {
+    pub fn new(alloc: Global) -> Object {
         Object {
             alloc,
             members: Map::new(alloc),
@@ -22,35 +22,35 @@ impl Object {
     }
 
     /// One more member.
-    pub(crate) fn put(&mut self, name: &str, value: Value) -> Result<(), AllocError> {
+    pub fn put(&mut self, name: &str, value: Value) -> Result<(), AllocError> {
         let name = String::from_str(self.alloc, name)?;
         drop(self.members.insert(name, value)?);
         Ok(())
     }
 
     /// A number.
-    pub(crate) fn put_number(&mut self, name: &str, number: u64) -> Result<(), AllocError> {
+    pub fn put_number(&mut self, name: &str, number: u64) -> Result<(), AllocError> {
         self.put(name, Value::from(number))
     }
 
     /// An address.
-    pub(crate) fn put_address(&mut self, name: &str, address: u16) -> Result<(), AllocError> {
+    pub fn put_address(&mut self, name: &str, address: u16) -> Result<(), AllocError> {
         self.put_number(name, u64::from(address))
     }
 
     /// Whether something is so.
-    pub(crate) fn put_flag(&mut self, name: &str, flag: bool) -> Result<(), AllocError> {
+    pub fn put_flag(&mut self, name: &str, flag: bool) -> Result<(), AllocError> {
         self.put(name, Value::from(flag))
     }
 
     /// A text.
-    pub(crate) fn put_text(&mut self, name: &str, text: &str) -> Result<(), AllocError> {
+    pub fn put_text(&mut self, name: &str, text: &str) -> Result<(), AllocError> {
         let text = Value::try_from_str(self.alloc, text)?;
         self.put(name, text)
     }
 
     /// A text, as something prints itself.
-    pub(crate) fn put_shown<T: fmt::Display>(
+    pub fn put_shown<T: fmt::Display>(
         &mut self,
         name: &str,
         shown: &T,
@@ -61,18 +61,18 @@ impl Object {
     }
 
     /// A list of two numbers.
-    pub(crate) fn put_pair(&mut self, name: &str, first: u64, last: u64) -> Result<(), AllocError> {
+    pub fn put_pair(&mut self, name: &str, first: u64, last: u64) -> Result<(), AllocError> {
         let list = pair(self.alloc, first, last)?;
         self.put(name, list)
     }
 
     /// A value's least and greatest byte.
-    pub(crate) fn put_val(&mut self, name: &str, val: Val) -> Result<(), AllocError> {
+    pub fn put_val(&mut self, name: &str, val: Val) -> Result<(), AllocError> {
         self.put_pair(name, u64::from(val.lo), u64::from(val.hi))
     }
 
     /// A list of addresses.
-    pub(crate) fn put_addresses(
+    pub fn put_addresses(
         &mut self,
         name: &str,
         addresses: &[u16],
@@ -82,7 +82,7 @@ impl Object {
     }
 
     /// The whole object.
-    pub(crate) fn finish(self) -> Value {
+    pub fn finish(self) -> Value {
         let Object { members, .. } = self;
         Value::Object(members)
     }

@@ -109,11 +109,15 @@ untaken_target k rom row a s t h = from (product_before k.setting.rules s) h
 
 staying_target : (k : Stack) (rom : List ℕ) (row : Row) (a : ℕ) (s : AbsState) (t : Successor) → (successors_of k rom row a s).stays ≡ Some t → t.target ≡ target.At a
 unfolding successors_of stays staying_successor
-staying_target k rom row a s t h = by (may_stay row.op s.core) h
+staying_target k rom row a s t h = from (product_before k.setting.rules s) h
   where
     by : (b : Bool) → cond b (Some (staying_successor a s)) None ≡ Some t → t.target ≡ target.At a
     by true e = sym (ap (λ (w : Successor). w.target) (same_Some _ _ e))
     by false e = cc
+
+    from : (o : Option Product) → option_and_then (λ (p : Product). stays row a s) o ≡ Some t → t.target ≡ target.At a
+    from None e = cc
+    from (Some p) e = by (may_stay row.op s.core) e
 
 -- ---- what goes somewhere is followed
 

@@ -38,7 +38,8 @@ use Rattle.std.specs.List.{list_any}
 use Rattle.gb_calls.specs.Calls.{callee_of, are_ranges_inside}
 use Rattle.gb_calls.specs.Resuming.{resumed}
 use Rattle.gb_calls.specs.Interrupts.{left_by_dispatch, may_come, handler_of}
-use Rattle.gb_rules.specs.declared.procedures.Callees.{Callees}
+use Rattle.gb_rules.specs.declared.procedures.Called.{Called}
+use Rattle.gb_rules.specs.declared.procedures.Calls.{Calls}
 use Rattle.gb_rules.specs.Covered.{covered_at}
 use Rattle.gb_rules.specs.Procedures.{ranges_of, need_of, setting_of, stack_of, exit_of, taken_by}
 
@@ -174,14 +175,6 @@ callee_by cert z _ s = None
 unfoldable pub callee_at : Certificate → Setting → Successor → Option ℕ
 callee_at cert z t = callee_by cert z t.target t.state
 
-abbrev pub callee_in : Certificate → Setting → Option Successor → Option ℕ
-callee_in cert z None = None
-callee_in cert z (Some t) = callee_at cert z t
-
--- the procedures that the successors call
-unfoldable pub callees_of : Certificate → Setting → Successors → Callees
-callees_of cert z ss = record { taken = callee_in cert z ss.taken; not_taken = callee_in cert z ss.not_taken; stays = callee_in cert z ss.stays }
-
 -- the bytes of a caller that wait below a callee: those that were held and the return address, or, by the rules of version 3,
 -- those that the callee doesn't take over
 abbrev pub waiting_below : Rules → Certificate → ℕ → ℕ → ℕ
@@ -232,6 +225,31 @@ is_uncovered_at z cert procedure _ back s = false
 -- no node stands for the states behind, where they go on in the same procedure, at once or when the callee returns, or in main
 unfoldable pub is_uncovered : Setting → Certificate → ℕ → Successor → Bool
 is_uncovered z cert procedure t = is_uncovered_at z cert procedure t.target t.next t.state
+
+-- what a successor's call asks of the certificate, told together: its callee, whether the stack grows too deep, and whether no
+-- node stands for what it leads to
+abbrev pub called_by : Certificate → Stack → ℕ → ℕ → ℕ → AbsState → Called
+called_by cert k procedure a back s =
+    let callee = callee_of cert k.setting a s in
+    record {
+      callee = callee;
+      is_deep = is_over k.setting.rules cert k.need (length s.items) callee;
+      is_uncovered = is_call_uncovered k.setting.rules cert procedure a back s callee;
+    }
+
+abbrev pub no_call : Called
+no_call = record { callee = None; is_deep = false; is_uncovered = false }
+
+abbrev pub called_to : Certificate → Stack → ℕ → Target → ℕ → AbsState → Called
+called_to cert k procedure (target.Call a) back s = called_by cert k procedure a back s
+called_to cert k procedure _ back s = no_call
+
+abbrev pub called_in : Certificate → Stack → ℕ → Option Successor → Called
+called_in cert k procedure None = no_call
+called_in cert k procedure (Some t) = called_to cert k procedure t.target t.next t.state
+
+unfoldable pub calls_of : Certificate → Stack → ℕ → Successors → Calls
+calls_of cert k procedure ss = record { taken = called_in cert k procedure ss.taken; not_taken = called_in cert k procedure ss.not_taken; stays = called_in cert k procedure ss.stays }
 
 -- By the rules of versions 1 and 2 a callee is asked for, and that it writes where its caller may alone. By those of version 3
 -- main may write anywhere, and what has no callee is inlined.

@@ -16,7 +16,6 @@ use gb_calls::{Cert, Found, NodeRef};
 use gb_domain::relations::Relations;
 use gb_domain::types::{Abs, Core, Rules, Val};
 use gb_ops::op::Register;
-use gb_ops::registers::Registers;
 use gb_product::covering::covers_relations;
 use gb_product::parts::Product;
 use gb_product::reduced::reduced;
@@ -61,11 +60,30 @@ fn relations_of(node: &NodeRef<'_>) -> Relations
     }
 }
 
-/// Whether all that is known together of a node's states is known of others, whose registers these are.
-fn is_known_together(registers: &Registers<Val>, relations: &Relations, node: &NodeRef<'_>) -> bool
-    ensures { result ≡ covers_relations registers.now relations.now node.now.state.relations }
+/// Whether all of a node's states but the core stands for that of others, where it is read from the certificate: once.
+#[inline(never)]
+fn covers_read(states: &States<'_>, node: &NodeRef<'_>) -> bool
+    ensures { result ≡ ((covers_items states.now.lists.now.items node.now.state.items && covers_cells states.now.lists.now.cells node.now.state.cells) && covers_relations states.now.core.now.registers states.now.relations.now node.now.state.relations) }
 {
-    covers_relations(registers, relations, &relations_of(node))
+    let state = node.state();
+    covers_lists(states.lists, &state)
+        && covers_relations(&states.core.registers, states.relations, state.relations())
+}
+
+/// Whether all of a node's states but the core stands for that of others.
+fn covers_rest(states: &States<'_>, node: &NodeRef<'_>) -> bool
+    ensures { result ≡ ((covers_items states.now.lists.now.items node.now.state.items && covers_cells states.now.lists.now.cells node.now.state.cells) && covers_relations states.now.core.now.registers states.now.relations.now node.now.state.relations) }
+{
+    if node.has_lists() {
+        covers_read(states, node)
+    } else {
+        covers_held(states.lists, node)
+            && covers_relations(
+                &states.core.registers,
+                states.relations,
+                &relations_of(node),
+            )
+    }
 }
 
 /// Whether the state of a node stands for each machine state that these stand for. Only its core is read where that doesn't,
@@ -74,9 +92,7 @@ fn is_known_together(registers: &Registers<Val>, relations: &Relations, node: &N
 fn covers_states(states: &States<'_>, node: &NodeRef<'_>) -> bool
     ensures { result ≡ covers (Covered.with_parts states.now.core.now states.now.relations.now states.now.lists.now) node.now.state }
 {
-    covers_core(states.core, &node.core())
-        && covers_held(states.lists, node)
-        && is_known_together(&states.core.registers, states.relations, node)
+    covers_core(states.core, &node.core()) && covers_rest(states, node)
 }
 
 /// Whether one of the nodes that were found stands for these states.

@@ -127,14 +127,6 @@ pub fn exit_of(cert: &Cert<'_>, procedure: u8) -> Option<Abs>
 
 // ---- callees
 
-/// The procedures that the successors of an instruction call. Each is looked up once.
-#[derive(Clone, Copy, PartialEq, Eq)]
-pub(crate) struct Callees {
-    pub taken: Option<u8>,
-    pub not_taken: Option<u8>,
-    pub stays: Option<u8>,
-}
-
 // What few instructions ask for is kept out of line, so that states are cleared and copied only there.
 
 /// The procedure that is called at an address.
@@ -158,27 +150,6 @@ pub fn callee_at(cert: &Cert<'_>, setting: Setting, successor: &Successor<'_>) -
     match successor.target {
         Target::Call(address) => callee_from(cert, setting, address, successor),
         Target::At(_) | Target::Main(_) | Target::Return | Target::Unknown | Target::Lost => None,
-    }
-}
-
-fn callee_in(cert: &Cert<'_>, setting: Setting, way: &Option<Successor<'_>>) -> Option<u8>
-    ensures { result ≡ Ruled.callee_in cert.now setting way.now }
-{
-    match way {
-        None => None,
-        Some(successor) => callee_at(cert, setting, successor),
-    }
-}
-
-/// The procedures that the successors call.
-#[tactic(auto, unfolding(crate::specs::Rules::callees_of))]
-pub(crate) fn callees_of(cert: &Cert<'_>, setting: Setting, ways: &Successors<'_>) -> Callees
-    ensures { result ≡ Ruled.callees_of cert.now setting ways.now }
-{
-    Callees {
-        taken: callee_in(cert, setting, &ways.taken),
-        not_taken: callee_in(cert, setting, &ways.not_taken),
-        stays: callee_in(cert, setting, &ways.stays),
     }
 }
 
@@ -212,49 +183,6 @@ pub(crate) fn is_over(
             let waiting = waiting_below(rules, cert, held, callee);
             usize::from(need) < waiting + usize::from(need_of(cert, callee))
         }
-    }
-}
-
-/// Whether a successor and its callee hold more bytes than the need.
-#[inline(never)]
-fn is_deep_from(
-    rules: Rules,
-    cert: &Cert<'_>,
-    need: u16,
-    successor: &Successor<'_>,
-    callee: Option<u8>,
-) -> bool
-    ensures { result ≡ Ruled.is_over rules cert.now need (length successor.now.state.items) callee }
-{
-    is_over(rules, cert, need, successor.state().items().len(), callee)
-}
-
-fn is_deep(
-    rules: Rules,
-    cert: &Cert<'_>,
-    need: u16,
-    successor: &Successor<'_>,
-    callee: Option<u8>,
-) -> bool
-    ensures { result ≡ Ruled.is_over rules cert.now need (length successor.now.state.items) callee }
-{
-    callee.is_some() && is_deep_from(rules, cert, need, successor, callee)
-}
-
-#[tactic(auto, unfolding(crate::specs::Rules::calls_too_deep))]
-pub(crate) fn has_deep(
-    cert: &Cert<'_>,
-    setting: Setting,
-    need: u16,
-    way: &Option<Successor<'_>>,
-    callee: Option<u8>,
-) -> bool
-    requires { callee ≡ Ruled.callee_in cert.now setting way.now }
-    ensures { result ≡ has (Ruled.calls_too_deep cert.now setting need) way.now }
-{
-    match way {
-        None => false,
-        Some(successor) => is_deep(setting.rules, cert, need, successor, callee),
     }
 }
 
@@ -376,68 +304,7 @@ fn is_covered(
     }
 }
 
-/// Whether no node stands for what a successor's call leads to.
-#[inline(never)]
-fn is_call_missed(
-    rules: Rules,
-    cert: &Cert<'_>,
-    procedure: u8,
-    address: u16,
-    successor: &Successor<'_>,
-    callee: Option<u8>,
-) -> bool
-    ensures { result ≡ Ruled.is_call_uncovered rules cert.now procedure address successor.now.next successor.now.state callee }
-{
-    let call = Call {
-        address,
-        back: successor.next,
-    };
-    is_call_uncovered(rules, cert, procedure, call, &successor.state(), callee)
-}
-
-/// Whether no node stands for the states behind an instruction, where they go on in the same procedure, at once or when the
-/// callee returns, or in main.
-#[tactic(auto, unfolding(crate::specs::Rules::is_uncovered, crate::specs::Rules::callee_at))]
-fn is_uncovered(
-    cert: &Cert<'_>,
-    setting: Setting,
-    near: u32,
-    procedure: u8,
-    successor: &Successor<'_>,
-    callee: Option<u8>,
-) -> bool
-    requires { callee ≡ Ruled.callee_at cert.now setting successor.now }
-    ensures { result ≡ Ruled.is_uncovered setting cert.now procedure successor.now }
-{
-    let rules = setting.rules;
-    match successor.target {
-        Target::At(address) => !is_covered(rules, cert, near, procedure, address, successor),
-        Target::Call(address) => {
-            is_call_missed(rules, cert, procedure, address, successor, callee)
-        }
-        Target::Main(address) => !is_covered(rules, cert, near, 0, address, successor),
-        Target::Return | Target::Unknown | Target::Lost => false,
-    }
-}
-
-pub(crate) fn has_uncovered(
-    cert: &Cert<'_>,
-    setting: Setting,
-    near: u32,
-    procedure: u8,
-    way: &Option<Successor<'_>>,
-    callee: Option<u8>,
-) -> bool
-    requires { callee ≡ Ruled.callee_in cert.now setting way.now }
-    ensures { result ≡ has (Ruled.is_uncovered setting cert.now procedure) way.now }
-{
-    match way {
-        None => false,
-        Some(successor) => is_uncovered(cert, setting, near, procedure, successor, callee),
-    }
-}
-
-// ---- calls and returns
+// ---- calls
 
 /// Whether there is no callee where one is asked for, or one that may write where its caller may not.
 pub(crate) fn is_outside_of(
@@ -460,38 +327,154 @@ pub(crate) fn is_outside_of(
     !are_ranges_inside(inner.as_slice(), outer.as_slice())
 }
 
-#[tactic(auto, unfolding(crate::specs::Rules::is_uncallable, crate::specs::Rules::callee_at))]
-fn is_uncallable(
+// ---- what successors ask
+
+/// What a successor's call asks of the certificate.
+#[derive(Clone, Copy, PartialEq, Eq)]
+pub(crate) struct Called {
+    /// The procedure that is called.
+    pub callee: Option<u8>,
+    /// The bytes that wait and the callee's need are more than the caller's need.
+    pub is_deep: bool,
+    /// No node stands for what the call leads to.
+    pub is_uncovered: bool,
+}
+
+const NO_CALL: Called = Called {
+    callee: None,
+    is_deep: false,
+    is_uncovered: false,
+};
+
+/// What the calls of an instruction's successors ask.
+#[derive(Clone, Copy, PartialEq, Eq)]
+pub(crate) struct Calls {
+    pub taken: Called,
+    pub not_taken: Called,
+    pub stays: Called,
+}
+
+/// What a call at an address asks: the states behind it are built once.
+#[inline(never)]
+fn called_from(
     cert: &Cert<'_>,
-    setting: Setting,
+    stack: Stack,
     procedure: u8,
+    address: u16,
     successor: &Successor<'_>,
-    callee: Option<u8>,
-) -> bool
-    requires { callee ≡ Ruled.callee_at cert.now setting successor.now }
-    ensures { result ≡ Ruled.is_uncallable setting cert.now procedure successor.now }
+) -> Called
+    ensures { result ≡ Ruled.called_by cert.now stack procedure address successor.now.next successor.now.state }
 {
+    let setting = stack.setting;
+    let rules = setting.rules;
+    let state = successor.state();
+    let callee = callee(cert, setting, address, &state);
+    let call = Call {
+        address,
+        back: successor.next,
+    };
+    Called {
+        callee,
+        is_deep: is_over(rules, cert, stack.need, state.items().len(), callee),
+        is_uncovered: is_call_uncovered(rules, cert, procedure, call, &state, callee),
+    }
+}
+
+fn called_in(
+    cert: &Cert<'_>,
+    stack: Stack,
+    procedure: u8,
+    way: &Option<Successor<'_>>,
+) -> Called
+    ensures { result ≡ Ruled.called_in cert.now stack procedure way.now }
+{
+    let Some(successor) = way else { return NO_CALL };
     match successor.target {
-        Target::Call(_) => is_outside_of(cert, setting, procedure, callee),
+        Target::Call(address) => called_from(cert, stack, procedure, address, successor),
+        Target::At(_) | Target::Main(_) | Target::Return | Target::Unknown | Target::Lost => NO_CALL,
+    }
+}
+
+/// What the calls of the successors ask.
+#[tactic(auto, unfolding(crate::specs::Rules::calls_of))]
+pub(crate) fn calls_of(
+    cert: &Cert<'_>,
+    stack: Stack,
+    procedure: u8,
+    ways: &Successors<'_>,
+) -> Calls
+    ensures { result ≡ Ruled.calls_of cert.now stack procedure ways.now }
+{
+    Calls {
+        taken: called_in(cert, stack, procedure, &ways.taken),
+        not_taken: called_in(cert, stack, procedure, &ways.not_taken),
+        stays: called_in(cert, stack, procedure, &ways.stays),
+    }
+}
+
+/// Whether a successor and its callee hold more bytes than the need.
+#[tactic(auto, unfolding(crate::specs::Rules::calls_too_deep, crate::specs::Rules::callee_at))]
+pub(crate) fn has_deep(
+    cert: &Cert<'_>,
+    stack: Stack,
+    procedure: u8,
+    way: &Option<Successor<'_>>,
+    called: Called,
+) -> bool
+    requires { called ≡ Ruled.called_in cert.now stack procedure way.now }
+    ensures { result ≡ has (Ruled.calls_too_deep cert.now stack.setting stack.need) way.now }
+{
+    let Some(successor) = way else { return false };
+    match successor.target {
+        Target::Call(_) => called.is_deep,
         Target::At(_) | Target::Main(_) | Target::Return | Target::Unknown | Target::Lost => false,
     }
 }
 
-pub(crate) fn has_uncallable(
+/// Whether no node stands for the states behind an instruction, where they go on in the same procedure, at once or when the
+/// callee returns, or in main.
+#[tactic(auto, unfolding(crate::specs::Rules::is_uncovered))]
+pub(crate) fn has_uncovered(
     cert: &Cert<'_>,
-    setting: Setting,
+    near: u32,
+    stack: Stack,
     procedure: u8,
     way: &Option<Successor<'_>>,
-    callee: Option<u8>,
+    called: Called,
 ) -> bool
-    requires { callee ≡ Ruled.callee_in cert.now setting way.now }
-    ensures { result ≡ has (Ruled.is_uncallable setting cert.now procedure) way.now }
+    requires { called ≡ Ruled.called_in cert.now stack procedure way.now }
+    ensures { result ≡ has (Ruled.is_uncovered stack.setting cert.now procedure) way.now }
 {
-    match way {
-        None => false,
-        Some(successor) => is_uncallable(cert, setting, procedure, successor, callee),
+    let Some(successor) = way else { return false };
+    let rules = stack.setting.rules;
+    match successor.target {
+        Target::At(address) => !is_covered(rules, cert, near, procedure, address, successor),
+        Target::Call(_) => called.is_uncovered,
+        Target::Main(address) => !is_covered(rules, cert, near, 0, address, successor),
+        Target::Return | Target::Unknown | Target::Lost => false,
     }
 }
+
+/// Whether a successor calls what it may not.
+#[tactic(auto, unfolding(crate::specs::Rules::is_uncallable))]
+pub(crate) fn has_uncallable(
+    cert: &Cert<'_>,
+    stack: Stack,
+    procedure: u8,
+    way: &Option<Successor<'_>>,
+    called: Called,
+) -> bool
+    requires { called ≡ Ruled.called_in cert.now stack procedure way.now }
+    ensures { result ≡ has (Ruled.is_uncallable stack.setting cert.now procedure) way.now }
+{
+    let Some(successor) = way else { return false };
+    match successor.target {
+        Target::Call(_) => is_outside_of(cert, stack.setting, procedure, called.callee),
+        Target::At(_) | Target::Main(_) | Target::Return | Target::Unknown | Target::Lost => false,
+    }
+}
+
+// ---- returns
 
 /// Whether something is left on the stack that an exit of versions 1 and 2 can't say.
 fn leaves_items(rules: Rules, state: &Abs) -> bool

@@ -5,13 +5,13 @@ ghost use Rattle.gb_domain.specs.Limits.{rules_of};
 ghost use Rattle.gb_successors.specs.Successors.{product_before, any_successor};
 ghost use Rattle.gb_rules.specs.Procedures.{stack_of};
 ghost use Rattle.gb_rules.specs.Rules as Ruled;
-ghost use Rattle.gb_rules.specs.Rules.{ways_of, node_setting, callees_of, row_reasons, way_reasons, target_reasons, reason_at};
+ghost use Rattle.gb_rules.specs.Rules.{ways_of, node_setting, calls_of, row_reasons, way_reasons, target_reasons, reason_at};
 ghost use Rattle.gb_rules.specs.Safety.{IsSafeAt};
 
 use crate::depth::moves_too_deep;
 use crate::interrupts::{handles_too_deep, is_dispatch_limited};
 use crate::procedures::{
-    Callees, callees_of, has_deep, has_uncallable, has_uncovered, has_unreturnable, ranges_of,
+    Calls, calls_of, has_deep, has_uncallable, has_uncovered, has_unreturnable, ranges_of,
     rules_of, stack_of,
 };
 use crate::stacks::breaks_stack;
@@ -158,20 +158,20 @@ fn leads_anywhere(
 }
 
 /// Whether one of the successors and its callee hold more bytes than the need.
-#[tactic(auto, unfolding(crate::specs::Rules::callees_of, gb_successors::specs::Successors::any_successor))]
+#[tactic(auto, unfolding(crate::specs::Rules::calls_of, gb_successors::specs::Successors::any_successor))]
 fn call_too_deep(
     cert: &Cert<'_>,
-    setting: Setting,
-    need: u16,
+    stack: Stack,
+    procedure: u8,
     ways: &Successors<'_>,
-    callees: Callees,
+    calls: Calls,
 ) -> bool
-    requires { callees ≡ callees_of cert.now setting ways.now }
-    ensures { result ≡ any_successor (Ruled.calls_too_deep cert.now setting need) ways.now }
+    requires { calls ≡ calls_of cert.now stack procedure ways.now }
+    ensures { result ≡ any_successor (Ruled.calls_too_deep cert.now stack.setting stack.need) ways.now }
 {
-    has_deep(cert, setting, need, &ways.taken, callees.taken)
-        || has_deep(cert, setting, need, &ways.not_taken, callees.not_taken)
-        || has_deep(cert, setting, need, &ways.stays, callees.stays)
+    has_deep(cert, stack, procedure, &ways.taken, calls.taken)
+        || has_deep(cert, stack, procedure, &ways.not_taken, calls.not_taken)
+        || has_deep(cert, stack, procedure, &ways.stays, calls.stays)
 }
 
 /// Whether an interrupt may come whose dispatch makes the stack too deep, and something is meant before the instruction.
@@ -192,70 +192,62 @@ fn grows_too_deep(
     row: Row,
     stack: Stack,
     ways: &Successors<'_>,
-    callees: Callees,
+    calls: Calls,
 ) -> bool
     requires state { state.now ≡ node.now.state }
     requires stack { stack ≡ stack_of cert.now node.now.procedure }
     requires ways { ways.now ≡ ways_of rom.now cert.now node.now row }
-    requires callees { callees ≡ callees_of cert.now (node_setting cert.now node.now) ways.now }
+    requires calls { calls ≡ calls_of cert.now stack node.now.procedure ways.now }
     ensures { result ≡ Ruled.grows_too_deep rom.now cert.now node.now row }
 {
-    let Stack { setting, need, .. } = stack;
-    moves_too_deep(setting.rules, need, node, state, row.op, &ways.taken)
-        || call_too_deep(cert, setting, need, ways, callees)
+    moves_too_deep(stack.setting.rules, stack.need, node, state, row.op, &ways.taken)
+        || call_too_deep(cert, stack, node.procedure(), ways, calls)
         || dispatches_too_deep(cert, node, state)
 }
 
 /// Whether the states behind one of them are not covered.
-#[tactic(auto, unfolding(crate::specs::Rules::leads_uncovered, crate::specs::Rules::callees_of, crate::specs::Rules::any_of, gb_successors::specs::Successors::any_successor))]
+#[tactic(auto, unfolding(crate::specs::Rules::leads_uncovered, crate::specs::Rules::calls_of, crate::specs::Rules::any_of, crate::specs::Procedures::stack_of, gb_successors::specs::Successors::any_successor))]
 fn leads_uncovered(
     rom: &Rom<'_>,
     cert: &Cert<'_>,
     near: u32,
     node: &NodeRef<'_>,
     row: Row,
-    setting: Setting,
+    stack: Stack,
     ways: &Successors<'_>,
-    callees: Callees,
+    calls: Calls,
 ) -> bool
-    requires setting { setting ≡ node_setting cert.now node.now }
+    requires stack { stack ≡ stack_of cert.now node.now.procedure }
     requires ways { ways.now ≡ ways_of rom.now cert.now node.now row }
-    requires callees { callees ≡ callees_of cert.now (node_setting cert.now node.now) ways.now }
+    requires calls { calls ≡ calls_of cert.now stack node.now.procedure ways.now }
     ensures { result ≡ Ruled.leads_uncovered rom.now cert.now node.now row }
 {
     let procedure = node.procedure();
-    has_uncovered(cert, setting, near, procedure, &ways.taken, callees.taken)
-        || has_uncovered(
-            cert,
-            setting,
-            near,
-            procedure,
-            &ways.not_taken,
-            callees.not_taken,
-        )
-        || has_uncovered(cert, setting, near, procedure, &ways.stays, callees.stays)
+    has_uncovered(cert, near, stack, procedure, &ways.taken, calls.taken)
+        || has_uncovered(cert, near, stack, procedure, &ways.not_taken, calls.not_taken)
+        || has_uncovered(cert, near, stack, procedure, &ways.stays, calls.stays)
 }
 
 /// Whether one of them calls what it may not.
-#[tactic(auto, unfolding(crate::specs::Rules::calls_wrongly, crate::specs::Rules::callees_of, crate::specs::Rules::any_of, gb_successors::specs::Successors::any_successor))]
+#[tactic(auto, unfolding(crate::specs::Rules::calls_wrongly, crate::specs::Rules::calls_of, crate::specs::Rules::any_of, crate::specs::Procedures::stack_of, gb_successors::specs::Successors::any_successor))]
 fn calls_wrongly(
     rom: &Rom<'_>,
     cert: &Cert<'_>,
     node: &NodeRef<'_>,
     row: Row,
-    setting: Setting,
+    stack: Stack,
     ways: &Successors<'_>,
-    callees: Callees,
+    calls: Calls,
 ) -> bool
-    requires setting { setting ≡ node_setting cert.now node.now }
+    requires stack { stack ≡ stack_of cert.now node.now.procedure }
     requires ways { ways.now ≡ ways_of rom.now cert.now node.now row }
-    requires callees { callees ≡ callees_of cert.now (node_setting cert.now node.now) ways.now }
+    requires calls { calls ≡ calls_of cert.now stack node.now.procedure ways.now }
     ensures { result ≡ Ruled.calls_wrongly rom.now cert.now node.now row }
 {
     let procedure = node.procedure();
-    has_uncallable(cert, setting, procedure, &ways.taken, callees.taken)
-        || has_uncallable(cert, setting, procedure, &ways.not_taken, callees.not_taken)
-        || has_uncallable(cert, setting, procedure, &ways.stays, callees.stays)
+    has_uncallable(cert, stack, procedure, &ways.taken, calls.taken)
+        || has_uncallable(cert, stack, procedure, &ways.not_taken, calls.not_taken)
+        || has_uncallable(cert, stack, procedure, &ways.stays, calls.stays)
 }
 
 /// Whether one of them returns as it may not.
@@ -284,20 +276,20 @@ fn reason_of_targets(
     near: u32,
     node: &NodeRef<'_>,
     row: Row,
-    setting: Setting,
+    stack: Stack,
     ways: &Successors<'_>,
-    callees: Callees,
+    calls: Calls,
 ) -> Option<Reason>
-    requires setting { setting ≡ node_setting cert.now node.now }
+    requires stack { stack ≡ stack_of cert.now node.now.procedure }
     requires ways { ways.now ≡ ways_of rom.now cert.now node.now row }
-    requires callees { callees ≡ callees_of cert.now (node_setting cert.now node.now) ways.now }
+    requires calls { calls ≡ calls_of cert.now stack node.now.procedure ways.now }
     ensures { result ≡ find (Ruled.applies_to_row rom.now cert.now node.now row) target_reasons }
 {
     if leads_anywhere(rom, cert, node, row, ways) {
         Some(Reason::JumpHl)
-    } else if leads_uncovered(rom, cert, near, node, row, setting, ways, callees) {
+    } else if leads_uncovered(rom, cert, near, node, row, stack, ways, calls) {
         Some(Reason::Uncovered)
-    } else if calls_wrongly(rom, cert, node, row, setting, ways, callees) {
+    } else if calls_wrongly(rom, cert, node, row, stack, ways, calls) {
         Some(Reason::Callee)
     } else if returns_wrongly(rom, cert, node, row, ways) {
         Some(Reason::Return)
@@ -324,8 +316,8 @@ fn reason_of_ways(
     ensures { result ≡ find (Ruled.applies_to_row rom.now cert.now node.now row) way_reasons }
 {
     let setting = stack.setting;
-    let callees = callees_of(cert, setting, ways);
-    if grows_too_deep(rom, cert, node, state, row, stack, ways, callees) {
+    let calls = calls_of(cert, stack, node.procedure(), ways);
+    if grows_too_deep(rom, cert, node, state, row, stack, ways, calls) {
         Some(Reason::Depth)
     } else if stores_outside(rom, cert, node, row, setting, ways) {
         Some(Reason::Store)
@@ -334,7 +326,7 @@ fn reason_of_ways(
     } else if meets_transfer(rom, cert, node, state, row, ways) {
         Some(Reason::OamTransfer)
     } else {
-        reason_of_targets(rom, cert, near, node, row, setting, ways, callees)
+        reason_of_targets(rom, cert, near, node, row, stack, ways, calls)
     }
 }
 

@@ -1,5 +1,6 @@
 pub mod FieldLaws
 pub mod Formats
+pub mod ListedLaws
 pub mod RelationLaws
 pub mod Several
 pub mod StateLaws

@@ -1,5 +1,5 @@
 -- What a state says of several of its parts together: what is read is spelled so, and what is spelled so is read.
-use Rattle.std.proofs.Common.{◌≡◌, ℕ, ◌+◌, ◌*◌, ◌/◌, ◌%◌, ◌<◌, ◌≤◌, Bool, true, false, ◌&&◌, ◌||◌, ◌==◌, nat_le, List, [], ◌∷◌, ◌++◌, Option, Some, None, Ok, refl, sym, ◌∙◌, ap, subst, arith}
+use Rattle.std.proofs.Common.{◌≡◌, ℕ, ◌+◌, ◌*◌, ◌/◌, ◌%◌, ◌<◌, ◌≤◌, Bool, true, false, ◌&&◌, ◌||◌, ◌==◌, nat_le, List, [], ◌∷◌, ◌++◌, Option, Some, None, refl, sym, ◌∙◌, ap, subst, arith}
 use Rattle.std.specs.Prelude.{not, IfSome, is_some, is_none}
 use Rattle.std.proofs.lemmas.Bool.Decides.{nat_tests}
 use Rattle.gb_ops.specs.declared.machine.Region.{Region}
@@ -26,7 +26,7 @@ use Rattle.gb_domain.specs.Places.{no_byte}
 use Rattle.gb_fields.specs.Format.{Read, both, followed, optional, byte}
 use Rattle.gb_fields.specs.Reading.{is_between, is_ordered, word, byte_between, nothing}
 use Rattle.gb_states.specs.declared.relations.Present.{Present}
-use Rattle.gb_domain.specs.RelationRules.{is_some_register, has_address, has_place, operand, compared, bits_of, IsOneByte, is_known, IsRelations, compared_a, test_byte, test_alone, is_a_alone, is_test_byte, are_unknown, is_test_alone}
+use Rattle.gb_domain.specs.RelationRules.{is_some_register, has_place, operand, compared, bits_of, IsOneByte, is_known, IsRelations, test_byte, test_alone, is_a_alone, is_test_byte, are_unknown, is_test_alone}
 use Rattle.gb_states.specs.Rules.{may_be_known}
 use Rattle.gb_states.specs.RelationReading.{defaulted, to_present, is_present, present_at, to_registers, have_place, registers_at, address_at, test_of, to_byte, byte_at, pair_of, pair_at, to_bounds, bounds_at, other_of, other_at, to_factor, factor_at, to_link, link_of, link_at, to_facts, facts_at, to_pairs, pairs_at, to_relations, relations_at, relations_by}
 use Rattle.gb_states.specs.Spelling as spelled

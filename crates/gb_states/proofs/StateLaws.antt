@@ -18,7 +18,7 @@ use Rattle.gb_domain.specs.RelationRules.{compared}
 use Rattle.gb_fields.specs.Limits.{node_limit_by, node_limit, range_room, unit, item_limit, need_limit}
 use Rattle.gb_fields.specs.Rules.{main_base, usual_base, is_base}
 use Rattle.gb_domain.specs.Types.{AbsState, ProcedureParts, Node}
-use Rattle.gb_fields.specs.Format.{both, checked, followed, optional, byte}
+use Rattle.gb_fields.specs.Format.{both, followed, optional, byte}
 use Rattle.gb_domain.specs.Areas.{is_area, meets, is_free_byte}
 use Rattle.gb_domain.specs.Rules.{IsChain, IsVal, IsCell, after_cell}
 use Rattle.gb_states.specs.Rules.{IsRange, IsState, IsProcedure, IsNode, after_range, role_of, may_have_items, may_be_pushed, is_traced, is_core_traced, is_cell_traced, fits, is_base_of, is_whole, key, is_from}

@@ -1,6 +1,7 @@
--- The core at the front of bytes that have been checked, each field at its place (own format).
+-- What stands in bytes that have been checked: the core at their front, each field at its place, and lists (own format).
 use Rattle.std.specs.Prelude.{ℕ, ◌+◌, Bool, false, ◌&&◌, ◌==◌, List, [], ◌∷◌, slice_index, Option}
 use Rattle.gb_ops.specs.declared.registers.Registers.{Registers}
+use Rattle.gb_domain.specs.declared.types.Cell.{Cell}
 use Rattle.gb_domain.specs.declared.types.Val.{Val}
 use Rattle.gb_domain.specs.declared.types.Flg.{Flg}
 use Rattle.gb_domain.specs.declared.types.Ctl.{Ctl}
@@ -61,3 +62,18 @@ are_three_zeros (n ∷ rest) = n == 0 && begins_with_zeros rest
 abbrev pub are_none : Rules → List ℕ → Bool
 are_none Simple b = begins_with_zeros b
 are_none Extended b = are_three_zeros b
+
+-- ---- items and cells that stand one behind the other
+
+-- of items, three bytes each
+unfoldable pub listed_items : List ℕ → List Val
+listed_items (lo ∷ hi ∷ number ∷ rest) = record { lo = lo; hi = hi; origin = origin_of number } ∷ listed_items rest
+listed_items bytes = []
+
+abbrev pub cell_of : ℕ → ℕ → ℕ → ℕ → ℕ → Cell
+cell_of low high lo hi number = record { address = word_of (low, high); val = record { lo = lo; hi = hi; origin = origin_of number } }
+
+-- of cells, five bytes each
+unfoldable pub listed_cells : List ℕ → List Cell
+listed_cells (low ∷ high ∷ lo ∷ hi ∷ number ∷ rest) = cell_of low high lo hi number ∷ listed_cells rest
+listed_cells bytes = []

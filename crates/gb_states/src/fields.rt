@@ -15,7 +15,7 @@ use gb_ops::op::Register;
 use gb_ops::registers::Registers;
 
 #[inline(always)]
-fn origin_of(number: u8) -> Option<Origin>
+pub(crate) fn origin_of(number: u8) -> Option<Origin>
     ensures { result ≡ origin_of number }
 {
     match number {

@@ -6,11 +6,12 @@
 //! `RelationSpelling.antt`, `RelationReading.antt`, `proofs/RelationLaws.antt`).
 //!
 //! To be read in this order: role, then fields, states and relations (reading them, over `gb_fields`; what they
-//! are made of is `gb_domain`'s). All are public for `gb_cert`, which passes over states and lends them, and for
+//! are made of is `gb_domain`'s), and listed (lists that are read again). All are public for `gb_cert`, which passes over states and lends them, and for
 //! `gb_cert_place`, which reads a faulty file again, part by part.
 #![tactic(auto)]
 
 pub mod fields;
+pub mod listed;
 pub mod relations;
 pub mod role;
 pub mod states;

@@ -294,11 +294,15 @@ formed_untaken k rom row a s t formed h = from (reduced k.setting.rules (core_se
 
 formed_staying : (k : Stack) (rom : List ℕ) (row : Row) (a : ℕ) (s : AbsState) (t : Successor) → IsFormed k.region s → (successors_of k rom row a s).stays ≡ Some t → IsFormed k.region t.state
 unfolding successors_of stays
-formed_staying k rom row a s t formed h = by (may_stay row.op s.core) h
+formed_staying k rom row a s t formed h = from (product_before k.setting.rules s) h
   where
     by : (b : Bool) → cond b (Some (staying_successor a s)) None ≡ Some t → IsFormed k.region t.state
     by true e = subst (λ (w : Successor). IsFormed k.region w.state) (same_Some _ _ e) (staying_formed k.region a s formed)
     by false e = cc
+
+    from : (o : Option Product) → option_and_then (λ (p : Product). stays row a s) o ≡ Some t → IsFormed k.region t.state
+    from None e = cc
+    from (Some p) e = by (may_stay row.op s.core) e
 
 -- the states of each successor are such as states may be
 pub IsFormed-successor :

@@ -44,6 +44,7 @@ use Rattle.gb_product.specs.Below.gb_relations.Written.{written as written_regis
 use Rattle.gb_product.proofs.Below.gb_relations_laws.ComparedLaws.{HoldOneByte-only_of_a}
 use Rattle.gb_product.specs.Meaning.{AreRelated}
 use Rattle.gb_product.specs.declared.parts.Branch.{Branch}
+use Rattle.gb_product.specs.declared.parts.Product.{Product}
 use Rattle.gb_product.specs.Reduced.{product_of, reduced}
 use Rattle.gb_product.specs.Sides.{side_where, taken_side, not_taken_side}
 use Rattle.gb_product.specs.Sound.{IsKnown, IsMeantBranch}
@@ -61,7 +62,7 @@ use Rattle.gb_successors.proofs.PlainLaws.{Keeps, Keeps-settle}
 use Rattle.gb_successors.proofs.MarkLaws.{executed_mark}
 use Rattle.gb_successors.proofs.RelatedLaws.{IsAllowed-parts, LeadsSimply-related, by_rules, related_begun, Leads-taken, HoldRelations-same}
 use Rattle.gb_successors.proofs.SuccessorLaws.{begun, given, effect, begun_core, MeansParts-ended, passed_peek, leads_simply, IsTaken, Done}
-use Rattle.gb_successors.proofs.ExtendedWayLaws.{executes_widely}
+use Rattle.gb_successors.proofs.ExtendedWayLaws.{before_of, executes_widely}
 use Rattle.gb_successors.proofs.HaltBugLaws.{halt_repeats_widely}
 use Rattle.gb_successors.proofs.UntakenLaws.{ended_room, bytes_ended, leads_at, simple_untaken, untaken_simply, bytes_untaken, untaken_executes, keeps_side, side_facts}
 use Rattle.gb_successors.proofs.StackWayLaws.{taken_executes}
@@ -219,9 +220,9 @@ stays_way : (row : Row) (a : ℕ) (s : AbsState) → row.op ≡ op.Halt → s.co
 unfolding stays may_stay
 stays_way row a s is pending enable = rw (is, pending, enable) refl
 
-stays_at : (k : Stack) (rom : List ℕ) (row : Row) (a : ℕ) (s : AbsState) → (successors_of k rom row a s).stays ≡ stays row a s
+stays_at : (k : Stack) (rom : List ℕ) (row : Row) (a : ℕ) (s : AbsState) (p : Product) → product_before k.setting.rules s ≡ Some p → (successors_of k rom row a s).stays ≡ stays row a s
 unfolding successors_of
-stays_at k rom row a s = refl
+stays_at k rom row a s p is = ap (option_and_then (λ (q : Product). stays row a s)) is
 
 -- interrupts are on
 woken_core : (s : Core) (entry x : MState) → MeansCore s entry x → MeansCore (woken s) entry (record x { processor = record x.processor { ime = ime.On } })
@@ -244,10 +245,11 @@ unfolding halt_stay within outside staying_successor ended
 halt_stays k rom row a s ranges entry base x stands halt pending enabled =
     let m = stands.means.parts in
     let woke : MState = record x { processor = record x.processor { ime = ime.On } } in
+    let before = before_of k s entry (begun row x) stands.core stands.pairs (begun_core row x s.core entry m.core) (related_begun row x s.relations stands.means.related) in
     record {
       successor = staying_successor a s;
       held = bytes_ended 1 (with_core s (woken s.core));
-      is_way = stays_at k rom row a s ∙ stays_way row a s halt.op_is (pending_known s.core.ime x.processor.ime pending m.core.ime) (enabled_known s.core.ie entry x.storage.ie m.core.ie enabled);
+      is_way = stays_at k rom row a s before.product before.is ∙ stays_way row a s halt.op_is (pending_known s.core.ime x.processor.ime pending m.core.ime) (enabled_known s.core.ie entry x.storage.ie m.core.ie enabled);
       leads = record {
         to = leads_at k.setting k.region a (staying_successor a s) entry base x _ (record {
           means = MeansParts-ended rom (with_core s (woken s.core)) entry base woke.processor (view rom x false) false 1 refl

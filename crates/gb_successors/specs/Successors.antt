@@ -145,7 +145,7 @@ successors_of k rom row a s =
     record {
       taken = option_and_then (taken_from k rom row next s) before;
       not_taken = option_and_then (not_taken_from k row next s) before;
-      stays = stays row a s;
+      stays = option_and_then (λ (p : Product). stays row a s) before;
     }
 
 -- ---- tests of all of them

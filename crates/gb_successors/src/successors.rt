@@ -120,17 +120,16 @@ fn ways<'a>(stack: Stack, rom: &Rom<'_>, row: Row, address: u16, state: &'a Abs)
     ensures { result ≡ Succession.successors_of stack rom.now row address state.now }
 {
     let next = address.wrapping_add(u16::from(row.length));
-    let stays = stays(row, address, state);
     match product_before(stack.setting.rules, state) {
         None => Successors {
             taken: None,
             not_taken: None,
-            stays,
+            stays: None,
         },
         Some(product) => Successors {
             taken: taken_from(stack, rom, row, next, state, &product),
             not_taken: not_taken_from(stack, rom.kind(), row, next, state, &product),
-            stays,
+            stays: stays(row, address, state),
         },
     }
 }

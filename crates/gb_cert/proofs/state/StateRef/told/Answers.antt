@@ -3,8 +3,8 @@ use Rattle.gb_domain.specs.Types.{AbsState}
 use Rattle.gb_domain.specs.RelationRules.{compared}
 use Rattle.gb_states.specs.RelationReading.{relations_by}
 use Rattle.gb_cert.specs.Borrowed.{state_in, item_width}
-use Rattle.gb_cert.proofs.Lending.{few-cells, CountsOff, told-lent, cells-lent, no-error}
-use Rattle.gb_cert.proofs.state.StateRef.cells.Goals as goal
+use Rattle.gb_cert.proofs.Lending.{few-cells, CountsOff, told-lent, relations-lent, cells-lent, no-error}
+use Rattle.gb_cert.proofs.state.StateRef.told.Goals as goal
 
 pub unreachable-requires : goal.unreachable-requires
 unreachable-requires c =
@@ -14,13 +14,21 @@ unreachable-requires c =
     let told = told-lent c.self.inside.rules c.self.inside.role c.self.inside.region c.self.inside.bytes.now c.counted.result.0.now c.counted.result.1.now s c.self.invariant f in
     no-error _ _ _ (ap (λ (t : Option ℕ). relations_by c.self.inside.rules c.self.inside.region t c.counted.result.1.now) test ∙ told) c.in-Err.ensures
 
+pub returns-clause-relations : goal.returns-clause-relations
+returns-clause-relations c =
+    let f : CountsOff (item_width c.self.inside.rules) (drop 40 c.self.inside.bytes.now) c.counted.result.0.now c.counted.result.1.now = λ n xs rest e l. c.counted.ensures n xs rest (c.from_place.ensures ∙ e) (l ∙ ap (λ (w : ℕ). w * n) (sym c.item_width.ensures.exact)) in
+    let s = (state_in c.self.inside.rules c.self.inside.role c.self.inside.region c.self.inside.bytes.now) in
+    let test : c.test.result ≡ compared s.relations.byte.test = c.test.ensures ∙ ap (λ (n : AbsState). compared n.relations.byte.test) (sym c.self.view_is) in
+    let read = sym (ap (λ (t : Option ℕ). relations_by c.self.inside.rules c.self.inside.region t c.counted.result.1.now) test) ∙ c.in-Ok.ensures in
+    rw (← c.self.view_is) (relations-lent c.self.inside.rules c.self.inside.role c.self.inside.region c.self.inside.bytes.now c.counted.result.0.now c.counted.result.1.now c.in-Ok.cells.now c.in-Ok.relations s c.self.invariant f read)
+
 pub returns-clause-cells : goal.returns-clause-cells
 returns-clause-cells c =
     let f : CountsOff (item_width c.self.inside.rules) (drop 40 c.self.inside.bytes.now) c.counted.result.0.now c.counted.result.1.now = λ n xs rest e l. c.counted.ensures n xs rest (c.from_place.ensures ∙ e) (l ∙ ap (λ (w : ℕ). w * n) (sym c.item_width.ensures.exact)) in
     let s = (state_in c.self.inside.rules c.self.inside.role c.self.inside.region c.self.inside.bytes.now) in
     let test : c.test.result ≡ compared s.relations.byte.test = c.test.ensures ∙ ap (λ (n : AbsState). compared n.relations.byte.test) (sym c.self.view_is) in
     let read = sym (ap (λ (t : Option ℕ). relations_by c.self.inside.rules c.self.inside.region t c.counted.result.1.now) test) ∙ c.in-Ok.ensures in
-    rw (← c.self.view_is) (cells-lent c.self.inside.rules c.self.inside.role c.self.inside.region c.self.inside.bytes.now c.counted.result.0.now c.counted.result.1.now c.in-Ok.cells.now c.counted-in-Ok.result.0.now c.counted-in-Ok.result.1.now c.in-Ok._relations s c.self.invariant f read c.counted-in-Ok.ensures)
+    rw (← c.self.view_is) (cells-lent c.self.inside.rules c.self.inside.role c.self.inside.region c.self.inside.bytes.now c.counted.result.0.now c.counted.result.1.now c.in-Ok.cells.now c.counted-in-Ok.result.0.now c.counted-in-Ok.result.1.now c.in-Ok.relations s c.self.invariant f read c.counted-in-Ok.ensures)
 
 pub returns-clause-few : goal.returns-clause-few
 returns-clause-few c =

@@ -1,0 +1,148 @@
+//! A page on a certificate: on one that is there, or on one that is made first.
+
+use crate::files::{is_missing, write_file, write_whole};
+use crate::making::{is_accepted, made, report};
+use crate::messages::PROGRAM;
+use crate::words::Task;
+use gb_command_line::messages::{tell_fault, verify};
+use gb_command_line::status::Status;
+use gb_command_line::{Cert, Rom, Trouble, read_certificate};
+use gb_page::{facts_json, obstacles_page, page_of};
+use gb_refine::{Made, Obstacle, Symbols, obstacle_json};
+use std::alloc::{AllocError, Global};
+use std::fmt;
+use std::io::Input;
+use std::rt::Files;
+
+/// What is written on a certificate: a page, or its facts as JSON.
+fn text_on(
+    alloc: Global,
+    task: &Task<'_>,
+    rom: &Rom<'_>,
+    cert: &Cert<'_>,
+    symbols: &Symbols<'_>,
+) -> Result<String, AllocError> {
+    if task.is_json {
+        facts_json(alloc, rom, cert, symbols)
+    } else {
+        page_of(alloc, rom, cert, symbols)
+    }
+}
+
+/// Texts on lines of their own.
+#[derive(Clone, Copy)]
+struct Lines<'a>(&'a [String]);
+
+impl fmt::Display for Lines<'_> {
+    fn fmt<W: fmt::Write>(&self, f: &mut fmt::Formatter<W>) -> fmt::Result {
+        for line in self.0 {
+            let line = line.as_str();
+            write!(f, "{line}\n")?;
+        }
+        Ok(())
+    }
+}
+
+/// Obstacles as JSON, an object a line.
+fn obstacle_lines(
+    alloc: Global,
+    obstacles: &[Obstacle],
+    symbols: &Symbols<'_>,
+) -> Result<String, AllocError> {
+    let mut lines = Vec::new(alloc);
+    for obstacle in obstacles {
+        lines.push(obstacle_json(alloc, obstacle, symbols)?)?;
+    }
+    let lines = Lines(lines.as_slice());
+    format!(in alloc; "{lines}")
+}
+
+/// What is written where there is no certificate: a page, or the obstacles as JSON.
+fn text_on_obstacles(
+    alloc: Global,
+    task: &Task<'_>,
+    rom: &Rom<'_>,
+    obstacles: &[Obstacle],
+    symbols: &Symbols<'_>,
+) -> Result<String, AllocError> {
+    if task.is_json {
+        obstacle_lines(alloc, obstacles, symbols)
+    } else {
+        obstacles_page(alloc, rom, obstacles, symbols)
+    }
+}
+
+/// Writes a page on a certificate, right or wrong, and prints the verdict's line.
+fn write_page<R: Print + Eprint + Files + AllocGlobal>(
+    rt: &R,
+    task: &Task<'_>,
+    name: &str,
+    bytes: &[u8],
+    cert_bytes: &[u8],
+    symbols: &Symbols<'_>,
+) -> Result<Status, Trouble> {
+    let (Ok(rom), Ok(cert)) = (Rom::parse(bytes), Cert::parse(rt.alloc(), cert_bytes)) else {
+        // The line says which file is none, and what is wrong with it.
+        let status = verify(rt, PROGRAM, bytes, cert_bytes);
+        tell_fault(rt, PROGRAM, task.cert, cert_bytes);
+        return Ok(status);
+    };
+    let page = text_on(rt.alloc(), task, &rom, &cert, symbols)?;
+    write_whole(rt, name, page.as_bytes())?;
+    Ok(verify(rt, PROGRAM, bytes, cert_bytes))
+}
+
+/// Writes a page on what is in the way of a certificate, and says that there is none.
+fn write_obstacles<R: Print + Eprint + Files + AllocGlobal>(
+    rt: &R,
+    task: &Task<'_>,
+    name: &str,
+    rom: &Rom<'_>,
+    obstacles: &[Obstacle],
+    symbols: &Symbols<'_>,
+) -> Result<Status, Trouble> {
+    let page = text_on_obstacles(rt.alloc(), task, rom, obstacles, symbols)?;
+    write_whole(rt, name, page.as_bytes())?;
+    report(rt, task, obstacles, symbols)
+}
+
+/// Makes the certificate first, and writes it where the checker accepts it.
+fn report_made<R: Print + Eprint + Files + AllocGlobal>(
+    rt: &R,
+    task: &Task<'_>,
+    name: &str,
+    bytes: &[u8],
+    symbols: &Symbols<'_>,
+    is_shown: bool,
+) -> Result<Status, Trouble> {
+    let Ok(rom) = Rom::parse(bytes) else {
+        // The line says what is wrong with the cartridge.
+        return Ok(verify(rt, PROGRAM, bytes, b""));
+    };
+    match made(rt, task, &rom, is_shown)? {
+        Made::Obstacles(obstacles) => write_obstacles(rt, task, name, &rom, &obstacles, symbols),
+        Made::Certificate(cert) if is_accepted(rt, bytes, &cert) => {
+            write_file(rt, task.cert, &cert)?;
+            write_page(rt, task, name, bytes, &cert, symbols)
+        }
+        Made::Certificate(_) => {
+            write_obstacles(rt, task, name, &rom, &[Obstacle::Refused], symbols)
+        }
+    }
+}
+
+/// Writes a page on a certificate; where its file isn't there, one is made first.
+pub fn report_file<R: Print + Eprint + Input + Files + AllocGlobal>(
+    rt: &R,
+    task: &Task<'_>,
+    name: &str,
+    bytes: &[u8],
+    symbols: &Symbols<'_>,
+    is_shown: bool,
+) -> Result<Status, Trouble> {
+    if is_missing(rt, task.cert) {
+        return report_made(rt, task, name, bytes, symbols, is_shown);
+    }
+    let cert_bytes = read_certificate(rt, PROGRAM, task.cert)?;
+    write_page(rt, task, name, bytes, &cert_bytes, symbols)
+}

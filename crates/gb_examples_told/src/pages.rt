@@ -1,0 +1,368 @@
+//! The facts of a small game with a call and an interrupt, by hand, and what its page shows of them.
+
+use crate::spelled::{EMPTY, Node, Procedure, Spelled, certificate};
+use gb_facts::{Bound, By, CodeRun, Facts, Interrupt, Link};
+use gb_page::{facts_json, obstacles_page, page_of};
+use gb_reports::{Obstacle, Symbols};
+use gb_samples::cartridges::{PLAIN, SMALLEST, put, small};
+use gb_verify::verdict::Verdict;
+use gb_verify::{Cert, Rom};
+use std::alloc::Global;
+use std::test::Fail;
+
+/// LDH (FF),A at 0150, EI at 0152, CALL 0158 at 0153, JR 0153 at 0156, and NOP and RET at 0158. A is 01 at power-up, so VBlank is
+/// enabled.
+const PROGRAM: &[u8] = &[0xE0, 0xFF, 0xFB, 0xCD, 0x58, 0x01, 0x18, 0xFB, 0x00, 0xC9];
+
+/// IE is 01, as A was; main's own was 00.
+const IE_IS_1: &[(usize, u8)] = &[(16, 1), (17, 1), (18, 0)];
+
+/// Behind EI, or once more: interrupts are on, or on after the next instruction.
+const PENDING: &[(usize, u8)] = &[(0, 6), (16, 1), (17, 1), (18, 0)];
+
+/// Interrupts are on, in main.
+const ON: &[(usize, u8)] = &[(0, 4), (16, 1), (17, 1), (18, 0)];
+
+/// Interrupts are on, and IE is 01 as at entry.
+const OWN_ON: &[(usize, u8)] = &[(0, 4), (16, 1), (17, 1)];
+
+/// Interrupts are off, and IE is 01 as at entry.
+const OWN_OFF: &[(usize, u8)] = &[(16, 1), (17, 1)];
+
+/// A procedure that writes nothing.
+const SILENT: Procedure = Procedure {
+    entry: 0,
+    need: 0,
+    ranges: &[0],
+    exit: None,
+};
+
+/// Main, what it calls, and the handler, with the words of stack that they need.
+const PROCEDURES: &[Procedure] = &[
+    Procedure {
+        entry: 0,
+        need: 2,
+        exit: None,
+        ..SILENT
+    },
+    Procedure {
+        entry: 6,
+        need: 1,
+        exit: Some(OWN_ON),
+        ..SILENT
+    },
+    Procedure {
+        entry: 8,
+        need: 0,
+        exit: Some(OWN_ON),
+        ..SILENT
+    },
+];
+
+/// The same where main may have a word too few.
+const TOO_FEW: &[Procedure] = &[
+    Procedure {
+        entry: 0,
+        need: 1,
+        exit: None,
+        ..SILENT
+    },
+    Procedure {
+        entry: 6,
+        need: 1,
+        exit: Some(OWN_ON),
+        ..SILENT
+    },
+    Procedure {
+        entry: 8,
+        need: 0,
+        exit: Some(OWN_ON),
+        ..SILENT
+    },
+];
+
+/// A node of main that holds nothing.
+const BARE: Node = Node {
+    procedure: 0,
+    address: 0x0100,
+    changes: &[],
+    held: EMPTY,
+};
+
+const NODES: &[Node] = &[
+    Node {
+        procedure: 0,
+        address: 0x0100,
+        changes: &[],
+        ..BARE
+    },
+    Node {
+        procedure: 0,
+        address: 0x0101,
+        changes: &[],
+        ..BARE
+    },
+    Node {
+        procedure: 0,
+        address: 0x0150,
+        changes: &[],
+        ..BARE
+    },
+    Node {
+        procedure: 0,
+        address: 0x0152,
+        changes: IE_IS_1,
+        ..BARE
+    },
+    Node {
+        procedure: 0,
+        address: 0x0153,
+        changes: PENDING,
+        ..BARE
+    },
+    Node {
+        procedure: 0,
+        address: 0x0156,
+        changes: ON,
+        ..BARE
+    },
+    Node {
+        procedure: 1,
+        address: 0x0158,
+        changes: OWN_ON,
+        ..BARE
+    },
+    Node {
+        procedure: 1,
+        address: 0x0159,
+        changes: OWN_ON,
+        ..BARE
+    },
+    Node {
+        procedure: 2,
+        address: 0x0040,
+        changes: OWN_OFF,
+        ..BARE
+    },
+];
+
+const IN_BANK_0: CodeRun = CodeRun {
+    bank: Some(0),
+    first: 0,
+    last: 0,
+};
+
+/// Code: RETI, NOP with the jump, and the program.
+const CODE: &[CodeRun] = &[
+    CodeRun {
+        first: 0x0040,
+        last: 0x0040,
+        ..IN_BANK_0
+    },
+    CodeRun {
+        first: 0x0100,
+        last: 0x0103,
+        ..IN_BANK_0
+    },
+    CodeRun {
+        first: 0x0150,
+        last: 0x0159,
+        ..IN_BANK_0
+    },
+];
+
+/// A call below which a return word waits alone.
+const CALL: Link = Link {
+    caller: 0,
+    callee: None,
+    by: By::Call,
+    nodes: 1,
+    waiting: 2,
+    node: 0,
+};
+
+/// By VBlank.
+const VBLANK: By = By::Interrupt(Interrupt::VBlank);
+
+/// Main calls at 0153; VBlank may come at 0153 and 0156, and at both nodes of what is called.
+const LINKS: &[Link] = &[
+    Link {
+        caller: 0,
+        callee: Some(1),
+        by: By::Call,
+        nodes: 1,
+        node: 4,
+        ..CALL
+    },
+    Link {
+        caller: 0,
+        callee: Some(2),
+        by: VBLANK,
+        nodes: 2,
+        node: 4,
+        ..CALL
+    },
+    Link {
+        caller: 1,
+        callee: Some(2),
+        by: VBLANK,
+        nodes: 2,
+        node: 6,
+        ..CALL
+    },
+];
+
+/// The numbers of each procedure: its first node, its address, its nodes, what it needs, and how deep it gets.
+const NUMBERS: &[(u32, u16, u32, u16, u32)] = &[
+    (0, 0x0100, 6, 4, 4),
+    (6, 0x0158, 2, 2, 2),
+    (8, 0x0040, 1, 0, 0),
+];
+
+/// The game.
+fn game() -> [u8; SMALLEST] {
+    let mut rom = small(PLAIN, PROGRAM);
+    put(&mut rom, 0x40, &[0xD9]);
+    rom
+}
+
+/// Whether the procedures' numbers are those by hand.
+fn are_numbers(facts: &Facts) -> bool {
+    let mut are_equal = facts.procedures.len() == NUMBERS.len();
+    for (procedure, numbers) in facts.procedures.iter().zip(NUMBERS) {
+        let found = (
+            procedure.entry,
+            procedure.address,
+            procedure.nodes,
+            procedure.need,
+            procedure.depth,
+        );
+        are_equal = are_equal && found == *numbers;
+    }
+    are_equal
+}
+
+/// The next procedure on the deepest way.
+fn next_of(facts: &Facts, procedure: u8) -> Option<u8> {
+    facts.step(procedure)?.link?.callee
+}
+
+/// Whether all facts are those by hand.
+fn are_told(facts: &Facts) -> bool {
+    facts.verdict
+        == Verdict::Accepted {
+            nodes: 9,
+            procedures: 3,
+        }
+        && facts.code.as_slice() == CODE
+        && facts.links.as_slice() == LINKS
+        && are_numbers(facts)
+        && facts.bound == Bound::Known
+        && facts.room() == 126
+        && next_of(facts, 0) == Some(1)
+        && next_of(facts, 1) == Some(2)
+        && next_of(facts, 2).is_none()
+}
+
+/// Whether the game's facts are those by hand.
+fn agrees(alloc: Global) -> Option<bool> {
+    let rom = game();
+    let bytes = certificate(PROCEDURES, NODES);
+    let rom = Rom::parse(&rom).ok()?;
+    let cert = Cert::parse(alloc, bytes.as_slice()).ok()?;
+    let facts = Facts::of(alloc, &rom, &cert).ok()?;
+    Some(are_told(&facts))
+}
+
+/// The page of a certificate of the game.
+fn page(alloc: Global, bytes: &Spelled, symbols: &[u8]) -> Option<String> {
+    let rom = game();
+    let rom = Rom::parse(&rom).ok()?;
+    let cert = Cert::parse(alloc, bytes.as_slice()).ok()?;
+    let symbols = Symbols::parse(alloc, symbols).ok()?;
+    page_of(alloc, &rom, &cert, &symbols).ok()
+}
+
+#[test]
+fn facts_of_a_small_game(rt: HostRuntime) {
+    assert!(rt; agrees(rt.alloc()) == Some(true));
+}
+
+#[test]
+fn names_are_escaped(rt: HostRuntime) -> Result<(), Fail> {
+    let bytes = certificate(PROCEDURES, NODES);
+    let page = page(rt.alloc(), &bytes, b"00:0158 <i>&\"'\n").ok_or("a page")?;
+    let text = page.as_str();
+    assert!(rt; text.contains("ACCEPTED nodes 9 procedures 3"));
+    assert!(rt; text.contains("<a href=\"#p1\">&lt;i&gt;&amp;&quot;&#39;</a>"));
+    assert!(rt; !text.contains("<i>"));
+    Ok(())
+}
+
+#[test]
+fn a_refusal_leads_to_its_node(rt: HostRuntime) -> Result<(), Fail> {
+    let bytes = certificate(TOO_FEW, NODES);
+    let page = page(rt.alloc(), &bytes, b"").ok_or("a page")?;
+    let text = page.as_str();
+    assert!(rt; text.contains("REFUSED node 4 reason 9"));
+    assert!(rt; text.contains("is refused at node 4, <a href=\"#n4\">"));
+    Ok(())
+}
+
+/// The page on what is in the way, where the stack begins in ROM and procedures call one another.
+fn obstacles(alloc: Global) -> Option<String> {
+    let rom = game();
+    let rom = Rom::parse(&rom).ok()?;
+    let symbols = Symbols::parse(alloc, b"00:0158 a<b\n").ok()?;
+    let obstacles = [
+        Obstacle::NoStack { sp: 0x8000 },
+        Obstacle::Recursion { target: 0x0158 },
+    ];
+    obstacles_page(alloc, &rom, &obstacles, &symbols).ok()
+}
+
+#[test]
+fn obstacles_are_told(rt: HostRuntime) -> Result<(), Fail> {
+    let page = obstacles(rt.alloc()).ok_or("a page")?;
+    let text = page.as_str();
+    assert!(rt; text.contains("NO CERTIFICATE obstacles 2"));
+    assert!(rt; text.contains("<a href=\"#o2\">"));
+    assert!(rt; text.contains("<section id=\"o2\">"));
+    assert!(rt; text.contains("a&lt;b"));
+    assert!(rt; !text.contains("a<b"));
+    assert!(rt; text.contains("8000"));
+    Ok(())
+}
+
+/// The links by hand as JSON.
+const LINKS_JSON: &str = "\"links\":[{\"by\":\"call\",\"callee\":1,\"caller\":0,\"node\":4,\"nodes\":1,\"waiting\":2},{\"by\":\"VBlank\",\"callee\":2,\"caller\":0,\"node\":4,\"nodes\":2,\"waiting\":2},{\"by\":\"VBlank\",\"callee\":2,\"caller\":1,\"node\":6,\"nodes\":2,\"waiting\":2}]";
+
+/// The game's facts as JSON.
+fn json(alloc: Global, bytes: &Spelled) -> Option<String> {
+    let rom = game();
+    let rom = Rom::parse(&rom).ok()?;
+    let cert = Cert::parse(alloc, bytes.as_slice()).ok()?;
+    let symbols = Symbols::parse(alloc, b"00:0158 a\"b\n").ok()?;
+    facts_json(alloc, &rom, &cert, &symbols).ok()
+}
+
+#[test]
+fn facts_for_programs(rt: HostRuntime) -> Result<(), Fail> {
+    let bytes = certificate(PROCEDURES, NODES);
+    let json = json(rt.alloc(), &bytes).ok_or("facts")?;
+    let text = json.as_str();
+    assert!(rt; text.contains(LINKS_JSON));
+    assert!(rt; text.contains("\"refused\":null"));
+    assert!(rt; text.contains("\"room\":126,\"used\":4"));
+    assert!(rt; text.contains("{\"bank\":0,\"first\":336,\"last\":345}"));
+    assert!(rt; text.contains("\"symbol\":\"a\\\"b\""));
+    Ok(())
+}
+
+#[test]
+fn a_refusal_for_programs(rt: HostRuntime) -> Result<(), Fail> {
+    let bytes = certificate(TOO_FEW, NODES);
+    let json = json(rt.alloc(), &bytes).ok_or("facts")?;
+    assert!(rt; json.as_str().contains("\"refused\":{\"node\":4,\"reason\":9}"));
+    Ok(())
+}

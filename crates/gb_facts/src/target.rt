@@ -1,0 +1,49 @@
+//! To which node an instruction leads.
+
+use gb_ops::decode::decode;
+use gb_verify::{
+    Abs, Cert, NodeRef, Rom, Successor, Target, callee_at, known_bytes, setting_of, stack_of,
+    successors_of,
+};
+
+/// The first node of a procedure at an address.
+fn node_at(cert: &Cert<'_>, procedure: u8, address: u16) -> Option<u32> {
+    let found = cert.find(procedure, address).found;
+    if found.first < found.after {
+        Some(found.first)
+    } else {
+        None
+    }
+}
+
+/// The first node of a callee.
+fn entry_of(cert: &Cert<'_>, callee: u8) -> Option<u32> {
+    if callee < cert.procedures() {
+        Some(cert.procedure(callee).entry())
+    } else {
+        None
+    }
+}
+
+/// The node to which a successor leads, if that isn't the instruction behind.
+fn target_in(cert: &Cert<'_>, procedure: u8, way: &Option<Successor<'_>>) -> Option<u32> {
+    let Some(successor) = way else { return None };
+    match successor.target {
+        Target::At(address) if address != successor.next => node_at(cert, procedure, address),
+        Target::Main(address) => node_at(cert, 0, address),
+        Target::Call(address) => match callee_at(cert, setting_of(cert, procedure), successor) {
+            Some(callee) => entry_of(cert, callee),
+            None => node_at(cert, procedure, address),
+        },
+        _ => None,
+    }
+}
+
+/// The node to which a node's jump or call leads: the first one at the address, whatever state it stands for.
+pub fn target_of(rom: &Rom<'_>, cert: &Cert<'_>, node: &NodeRef<'_>, state: &Abs) -> Option<u32> {
+    let bytes = known_bytes(rom, state, node.address())?;
+    let row = decode(&bytes)?;
+    let procedure = node.procedure();
+    let ways = successors_of(stack_of(cert, procedure), rom, row, node.address(), state);
+    target_in(cert, procedure, &ways.taken)
+}

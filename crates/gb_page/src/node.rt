@@ -1,0 +1,75 @@
+//! A node's lines in the listing.
+
+use crate::names::{Address, SymbolAt};
+use crate::page::Page;
+use gb_facts::target_of;
+use gb_reports::{Code, ShownCell, ShownFlags, ShownRegisters, fmt_core};
+use gb_verify::{Abs, Cell, NodeRef};
+use std::fmt;
+
+/// The instruction, which leads to where it jumps or calls, if that is listed.
+fn fmt_code<W: fmt::Write>(
+    page: &Page<'_, '_, '_, '_>,
+    node: &NodeRef<'_>,
+    state: &Abs,
+    f: &mut fmt::Formatter<W>,
+) -> fmt::Result {
+    // Of an instruction only letters, digits, brackets and signs are printed that mean nothing to HTML.
+    let code = Code::at(page.rom, state, node.address());
+    match target_of(page.rom, page.cert, node, state) {
+        Some(target) if page.is_listed(target) => { write!(f, "<a href=\"#n{target}\">{code}</a>") }
+        _ => write!(f, "{code}"),
+    }
+}
+
+/// Cells one after another.
+fn fmt_cells<W: fmt::Write>(cells: &[Cell], f: &mut fmt::Formatter<W>) -> fmt::Result {
+    for cell in cells {
+        let cell = ShownCell(*cell);
+        write!(f, " {cell}")?;
+    }
+    Ok(())
+}
+
+/// What is known where the node stands.
+fn fmt_state<W: fmt::Write>(state: &Abs, f: &mut fmt::Formatter<W>) -> fmt::Result {
+    let registers = ShownRegisters(state);
+    let flags = ShownFlags(state.core().flags);
+    let held = state.items().len();
+    write!(f, "<span class=\"state\">{registers} {flags}; ")?;
+    fmt_core(state.core(), f)?;
+    write!(f, ", bytes held {held}")?;
+    if !state.cells().is_empty() {
+        write!(f, ";")?;
+        fmt_cells(state.cells(), f)?;
+    }
+    write!(f, "</span></div>\n")
+}
+
+/// A node's lines.
+pub fn fmt_node<W: fmt::Write>(
+    page: &Page<'_, '_, '_, '_>,
+    number: u32,
+    f: &mut fmt::Formatter<W>,
+) -> fmt::Result {
+    if number >= page.cert.nodes() {
+        return Ok(());
+    }
+    let node = page.cert.node(number);
+    let state = node.state();
+    let at = Address {
+        bank: node.bank(),
+        address: node.address(),
+    };
+    let symbol = SymbolAt {
+        symbols: page.symbols,
+        at,
+    };
+    write!(
+        f,
+        "<div class=\"node\" id=\"n{number}\"><a class=\"at\" href=\"#n{number}\">{at}</a><span class=\"symbol\">{symbol}</span><span class=\"op\">"
+    )?;
+    fmt_code(page, &node, &state, f)?;
+    write!(f, "</span>")?;
+    fmt_state(&state, f)
+}

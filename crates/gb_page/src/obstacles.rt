@@ -1,0 +1,75 @@
+//! The page on a cartridge for which no certificate could be made: what is in the way.
+
+use crate::escaped::Escaped;
+use crate::page::{fmt_end, fmt_head};
+use gb_reports::{Obstacle, Symbols, Told};
+use gb_verify::Rom;
+use std::alloc::{AllocError, Global};
+use std::fmt;
+
+/// What is in the way, each obstacle as it is told to a person.
+#[derive(Clone, Copy)]
+struct Obstacles<'a, 'r> {
+    rom: &'a Rom<'r>,
+    told: &'a [String],
+}
+
+/// Where each obstacle is.
+fn fmt_contents<W: fmt::Write>(told: &[String], f: &mut fmt::Formatter<W>) -> fmt::Result {
+    write!(f, "<nav>")?;
+    for place in 0..told.len() {
+        let number = place.saturating_add(1);
+        write!(f, "<a href=\"#o{number}\">Obstacle {number}</a> ")?;
+    }
+    write!(f, "</nav>\n")
+}
+
+/// The obstacles, one after another.
+fn fmt_each<W: fmt::Write>(told: &[String], f: &mut fmt::Formatter<W>) -> fmt::Result {
+    for (place, text) in told.iter().enumerate() {
+        let number = place.saturating_add(1);
+        let text = Escaped(text.as_str());
+        write!(
+            f,
+            "<section id=\"o{number}\"><h2>Obstacle {number}</h2>\n<pre>{text}</pre></section>\n"
+        )?;
+    }
+    Ok(())
+}
+
+impl fmt::Display for Obstacles<'_, '_> {
+    fn fmt<W: fmt::Write>(&self, f: &mut fmt::Formatter<W>) -> fmt::Result {
+        let count = self.told.len();
+        fmt_head("No certificate for", self.rom, f)?;
+        write!(
+            f,
+            "<p class=\"verdict refused\">NO CERTIFICATE obstacles {count}</p>\n<p>No certificate could be made, so nothing is promised of the cartridge. That doesn’t mean that it is wrong. What is in the way stands below, with the state there, the way there, and what usually mends it.</p>\n"
+        )?;
+        fmt_contents(self.told, f)?;
+        fmt_each(self.told, f)?;
+        fmt_end(f)
+    }
+}
+
+/// The page on what is in the way of a certificate, with addresses told by symbols.
+///
+/// # Errors
+///
+/// Where memory ran out.
+pub fn obstacles_page(
+    alloc: Global,
+    rom: &Rom<'_>,
+    obstacles: &[Obstacle],
+    symbols: &Symbols<'_>,
+) -> Result<String, AllocError> {
+    let mut told = Vec::new(alloc);
+    for obstacle in obstacles {
+        let text = Told { obstacle, symbols };
+        told.push(format!(in alloc; "{text}")?)?;
+    }
+    let page = Obstacles {
+        rom,
+        told: told.as_slice(),
+    };
+    format!(in alloc; "{page}")
+}

@@ -1,0 +1,142 @@
+//! The whole page.
+
+use crate::escaped::Escaped;
+use crate::interrupts::fmt_interrupts;
+use crate::procedures::fmt_procedures;
+use crate::ram::fmt_ram;
+use crate::rom::fmt_rom;
+use crate::stack::fmt_stack;
+use crate::style::STYLE;
+use crate::verdict::{fmt_verdict, refusal_of};
+use gb_facts::Facts;
+use gb_reports::Symbols;
+use gb_verify::verdict::Verdict;
+use gb_verify::{Cert, Rom};
+use std::alloc::{AllocError, Global};
+use std::{fmt, str};
+
+/// The most nodes that are listed.
+pub(crate) const LISTED: u32 = 20_000;
+
+/// What the page is made from.
+#[derive(Clone, Copy)]
+pub struct Page<'a, 'r, 'c, 's> {
+    pub rom: &'a Rom<'r>,
+    pub cert: &'a Cert<'c>,
+    pub symbols: &'a Symbols<'s>,
+    pub facts: &'a Facts,
+    /// What there is to say of a refusal; nothing where the certificate is accepted.
+    pub refusal: &'a str,
+}
+
+impl Page<'_, '_, '_, '_> {
+    /// Whether the certificate is refused at a node.
+    fn is_refused(&self, number: u32) -> bool {
+        match self.facts.verdict {
+            Verdict::Refused { node, .. } => node == number,
+            Verdict::Accepted { .. } => false,
+        }
+    }
+
+    /// Whether a node stands in the listing: the first of them, and the refused one.
+    pub(crate) fn is_listed(&self, node: u32) -> bool {
+        node < self.facts.nodes && (node < LISTED || self.is_refused(node))
+    }
+}
+
+/// The title that the cartridge's header gives, as far as it is ASCII.
+fn title_of<'r>(rom: &Rom<'r>) -> &'r str {
+    let bytes = rom.bytes();
+    let field = bytes.get(0x134..0x143).unwrap_or(&[]);
+    let mut length = 0usize;
+    for byte in field {
+        if !(0x20..0x7F).contains(byte) {
+            break;
+        }
+        length = length.wrapping_add(1);
+    }
+    let title = field.get(..length).unwrap_or(&[]);
+    match str::from_utf8(title) {
+        Ok(title) if !title.is_empty() => title,
+        _ => "a cartridge without a title",
+    }
+}
+
+/// What stands before all parts; the title begins with the kind of the page.
+pub(crate) fn fmt_head<W: fmt::Write>(
+    kind: &str,
+    rom: &Rom<'_>,
+    f: &mut fmt::Formatter<W>,
+) -> fmt::Result {
+    let title = Escaped(title_of(rom));
+    write!(
+        f,
+        "<!DOCTYPE html>\n<html lang=\"en\">\n<head>\n<meta charset=\"utf-8\">\n<meta name=\"viewport\" content=\"width=device-width, initial-scale=1\">\n<title>{kind} {title}</title>\n<link rel=\"icon\" href=\"data:,\">\n"
+    )?;
+    write!(
+        f,
+        "<style>\n{STYLE}</style>\n</head>\n<body>\n<main>\n<h1>{kind} {title}</h1>\n"
+    )
+}
+
+/// Where each part is.
+fn fmt_contents<W: fmt::Write>(f: &mut fmt::Formatter<W>) -> fmt::Result {
+    write!(
+        f,
+        "<nav><a href=\"#stack\">Stack</a> <a href=\"#interrupts\">Interrupts</a> <a href=\"#rom\">ROM</a> <a href=\"#ram\">RAM</a> <a href=\"#procedures\">Procedures</a></nav>\n"
+    )
+}
+
+/// What stands behind all parts.
+pub(crate) fn fmt_end<W: fmt::Write>(f: &mut fmt::Formatter<W>) -> fmt::Result {
+    write!(f, "</main>\n</body>\n</html>\n")
+}
+
+impl fmt::Display for Page<'_, '_, '_, '_> {
+    fn fmt<W: fmt::Write>(&self, f: &mut fmt::Formatter<W>) -> fmt::Result {
+        fmt_head("Certificate of", self.rom, f)?;
+        fmt_verdict(self, f)?;
+        fmt_contents(f)?;
+        fmt_stack(self, f)?;
+        fmt_interrupts(self, f)?;
+        fmt_rom(self, f)?;
+        fmt_ram(self, f)?;
+        fmt_procedures(self, f)?;
+        fmt_end(f)
+    }
+}
+
+/// The page with these facts.
+fn shown<'x>(
+    alloc: Global,
+    rom: &'x Rom<'_>,
+    cert: &'x Cert<'_>,
+    symbols: &'x Symbols<'_>,
+    facts: &'x Facts,
+    refusal: &'x str,
+) -> Result<String, AllocError> {
+    let page = Page {
+        rom,
+        cert,
+        symbols,
+        facts,
+        refusal,
+    };
+    format!(in alloc; "{page}")
+}
+
+/// The page of a certificate for a cartridge, right or wrong, with addresses told by symbols.
+///
+/// # Errors
+///
+/// Where memory ran out.
+pub fn page_of(
+    alloc: Global,
+    rom: &Rom<'_>,
+    cert: &Cert<'_>,
+    symbols: &Symbols<'_>,
+) -> Result<String, AllocError> {
+    let facts = Facts::of(alloc, rom, cert)?;
+    let refusal = refusal_of(alloc, rom, cert, facts.verdict)?;
+    shown(alloc, rom, cert, symbols, &facts, refusal.as_str())
+}

@@ -1,0 +1,97 @@
+//! All procedures: as a table, and then one by one.
+
+use crate::names::{Address, ProcedureLink};
+use crate::page::{LISTED, Page};
+use crate::procedure::fmt_procedure;
+use gb_facts::{Bound, Procedure};
+use std::fmt;
+
+/// How deep a procedure gets, where that is known.
+#[derive(Clone, Copy)]
+struct Depth {
+    bound: Bound,
+    bytes: u32,
+}
+
+impl fmt::Display for Depth {
+    fn fmt<W: fmt::Write>(&self, f: &mut fmt::Formatter<W>) -> fmt::Result {
+        let bytes = self.bytes;
+        match self.bound {
+            Bound::Known => write!(f, "{bytes}"),
+            Bound::Circle => write!(f, "not known"),
+        }
+    }
+}
+
+/// A procedure's row.
+fn fmt_row<W: fmt::Write>(
+    page: &Page<'_, '_, '_, '_>,
+    number: u8,
+    procedure: &Procedure,
+    f: &mut fmt::Formatter<W>,
+) -> fmt::Result {
+    let name = ProcedureLink { page, number };
+    let at = Address {
+        bank: procedure.bank,
+        address: procedure.address,
+    };
+    let nodes = procedure.nodes;
+    let own = procedure.own.bytes;
+    let depth = Depth {
+        bound: page.facts.bound,
+        bytes: procedure.depth,
+    };
+    let need = procedure.need;
+    write!(
+        f,
+        "<tr><td>{name}</td><td><code>{at}</code></td><td class=\"number\">{nodes}</td><td class=\"number\">{own}</td>"
+    )?;
+    write!(
+        f,
+        "<td class=\"number\">{depth}</td><td class=\"number\">{need}</td></tr>\n"
+    )
+}
+
+/// The table.
+fn fmt_table<W: fmt::Write>(page: &Page<'_, '_, '_, '_>, f: &mut fmt::Formatter<W>) -> fmt::Result {
+    write!(
+        f,
+        "<div class=\"wide\"><table><thead><tr><th>procedure</th><th>address</th><th class=\"number\">nodes</th><th class=\"number\">holds itself</th><th class=\"number\">deepest</th><th class=\"number\">need</th></tr></thead><tbody>\n"
+    )?;
+    for number in 0..page.cert.procedures() {
+        if let Some(procedure) = page.facts.procedures.get(usize::from(number)) {
+            fmt_row(page, number, procedure, f)?;
+        }
+    }
+    write!(f, "</tbody></table></div>\n")
+}
+
+/// Whether the listing is cut.
+fn fmt_cut<W: fmt::Write>(nodes: u32, f: &mut fmt::Formatter<W>) -> fmt::Result {
+    if nodes <= LISTED {
+        return Ok(());
+    }
+    write!(
+        f,
+        "<p class=\"cut\">Of {nodes} nodes the first {LISTED} are listed here; <code>certify --list</code> has all of them.</p>\n"
+    )
+}
+
+/// The procedures' part.
+pub fn fmt_procedures<W: fmt::Write>(
+    page: &Page<'_, '_, '_, '_>,
+    f: &mut fmt::Formatter<W>,
+) -> fmt::Result {
+    write!(
+        f,
+        "<section id=\"procedures\"><h2>Procedures</h2>\n<p>In bytes of stack: what a procedure’s own nodes hold, the most with all that it calls and all that interrupts it, and what the certificate allows. The first one is where the console starts.</p>\n"
+    )?;
+    fmt_table(page, f)?;
+    fmt_cut(page.facts.nodes, f)?;
+    for number in 0..page.cert.procedures() {
+        if let Some(procedure) = page.facts.procedures.get(usize::from(number)) {
+            fmt_procedure(page, number, procedure, f)?;
+        }
+    }
+    write!(f, "</section>\n")
+}

@@ -1,0 +1,173 @@
+//! The stack: how deep it gets, by which way, and how much room is left.
+
+use crate::interrupts::interrupt_text;
+use crate::names::{NodeLink, ProcedureLink};
+use crate::page::Page;
+use crate::strip::{Area, Shade, fmt_begin, fmt_end, fmt_mark};
+use gb_facts::{Bound, By, Facts, Link, Step};
+use std::fmt;
+
+/// The depth of the first procedure, with all that it calls.
+fn greatest(facts: &Facts) -> u32 {
+    match facts.procedures.first() {
+        Some(main) => main.depth,
+        None => 0,
+    }
+}
+
+/// The first address of the stack that is ever used, if the depth fits.
+fn lowest_used(facts: &Facts) -> u16 {
+    let behind = u32::from(facts.region.last).saturating_add(1);
+    let lowest = behind.saturating_sub(greatest(facts));
+    u16::try_from(lowest).unwrap_or(facts.region.last)
+}
+
+/// The region as a strip.
+fn fmt_region<W: fmt::Write>(facts: &Facts, f: &mut fmt::Formatter<W>) -> fmt::Result {
+    let area = Area {
+        first: facts.region.first,
+        last: facts.region.last,
+        name: "the stack’s region",
+    };
+    fmt_begin(area, f)?;
+    if greatest(facts) > 0 {
+        fmt_mark(area, Shade::Used, lowest_used(facts), area.last, f)?;
+    }
+    fmt_end(f)?;
+    write!(f, "\n")
+}
+
+/// How deep it gets, and what is left.
+fn fmt_sum<W: fmt::Write>(facts: &Facts, f: &mut fmt::Formatter<W>) -> fmt::Result {
+    let first = facts.region.first;
+    let last = facts.region.last;
+    let room = facts.room();
+    let used = greatest(facts);
+    let left = room.saturating_sub(used);
+    write!(
+        f,
+        "<p>The stack’s region is <code>{first:04X}-{last:04X}</code>, {room} bytes. At most <b>{used} bytes</b> of it are ever used, and <b>{left}</b> are left. <span class=\"quiet\">certify takes the least region that suffices, unless --stack names one.</span></p>\n"
+    )
+}
+
+/// By what a link goes on.
+pub fn by_text(by: By) -> &'static str {
+    match by {
+        By::Call => "call",
+        By::Interrupt(interrupt) => interrupt_text(interrupt),
+    }
+}
+
+/// A step by a link.
+fn fmt_link<W: fmt::Write>(
+    page: &Page<'_, '_, '_, '_>,
+    name: ProcedureLink<'_, '_, '_, '_, '_>,
+    link: &Link,
+    f: &mut fmt::Formatter<W>,
+) -> fmt::Result {
+    let by = by_text(link.by);
+    let waiting = link.waiting;
+    let node = NodeLink {
+        page,
+        node: link.node,
+    };
+    write!(
+        f,
+        "<tr><td>{name}</td><td class=\"number\">{waiting}</td><td>{by}</td><td>{node}</td></tr>\n"
+    )
+}
+
+/// The last step: what a procedure holds itself.
+fn fmt_own<W: fmt::Write>(
+    page: &Page<'_, '_, '_, '_>,
+    name: ProcedureLink<'_, '_, '_, '_, '_>,
+    number: u8,
+    f: &mut fmt::Formatter<W>,
+) -> fmt::Result {
+    let Some(procedure) = page.facts.procedures.get(usize::from(number)) else {
+        return Ok(());
+    };
+    let bytes = procedure.own.bytes;
+    let node = NodeLink {
+        page,
+        node: procedure.own.node,
+    };
+    write!(
+        f,
+        "<tr><td>{name}</td><td class=\"number\">{bytes}</td><td>its own bytes</td><td>{node}</td></tr>\n"
+    )
+}
+
+/// A step, and the procedure that comes next.
+fn fmt_step<W: fmt::Write>(
+    page: &Page<'_, '_, '_, '_>,
+    step: Step,
+    f: &mut fmt::Formatter<W>,
+) -> Result<Option<u8>, fmt::Error> {
+    let number = step.procedure;
+    let name = ProcedureLink { page, number };
+    match step.link {
+        Some(link) => {
+            fmt_link(page, name, &link, f)?;
+            Ok(link.callee)
+        }
+        None => {
+            fmt_own(page, name, number, f)?;
+            Ok(None)
+        }
+    }
+}
+
+/// The steps of the way to a procedure's greatest depth. Where the certificate is refused there may be a circle, so no more
+/// steps are shown than there can be procedures.
+fn fmt_steps<W: fmt::Write>(
+    page: &Page<'_, '_, '_, '_>,
+    from: u8,
+    f: &mut fmt::Formatter<W>,
+) -> fmt::Result {
+    let mut next = Some(from);
+    for _ in 0..256 {
+        let Some(number) = next else { break };
+        let Some(step) = page.facts.step(number) else {
+            break;
+        };
+        next = fmt_step(page, step, f)?;
+    }
+    Ok(())
+}
+
+/// The way to a procedure's greatest depth, call by call.
+pub fn fmt_way<W: fmt::Write>(
+    page: &Page<'_, '_, '_, '_>,
+    from: u8,
+    f: &mut fmt::Formatter<W>,
+) -> fmt::Result {
+    write!(
+        f,
+        "<div class=\"wide\"><table><thead><tr><th>procedure</th><th class=\"number\">bytes</th><th>goes on by</th><th>at</th></tr></thead><tbody>\n"
+    )?;
+    fmt_steps(page, from, f)?;
+    write!(f, "</tbody></table></div>\n")
+}
+
+/// The stack's part.
+pub fn fmt_stack<W: fmt::Write>(
+    page: &Page<'_, '_, '_, '_>,
+    f: &mut fmt::Formatter<W>,
+) -> fmt::Result {
+    write!(f, "<section id=\"stack\"><h2>The stack</h2>\n")?;
+    if page.facts.bound == Bound::Circle {
+        return write!(
+            f,
+            "<p>Procedures call one another in a circle, so how deep the stack gets isn’t known.</p></section>\n"
+        );
+    }
+    fmt_sum(page.facts, f)?;
+    fmt_region(page.facts, f)?;
+    write!(
+        f,
+        "<p>The deepest way. The bytes are those that wait while the next procedure runs, the return address among them.</p>\n"
+    )?;
+    fmt_way(page, 0, f)?;
+    write!(f, "</section>\n")
+}
