@@ -335,7 +335,8 @@ fn obstacles_are_told(rt: HostRuntime) -> Result<(), Fail> {
 }
 
 /// The links by hand as JSON.
-const LINKS_JSON: &str = "\"links\":[{\"by\":\"call\",\"callee\":1,\"caller\":0,\"node\":4,\"nodes\":1,\"waiting\":2},{\"by\":\"VBlank\",\"callee\":2,\"caller\":0,\"node\":4,\"nodes\":2,\"waiting\":2},{\"by\":\"VBlank\",\"callee\":2,\"caller\":1,\"node\":6,\"nodes\":2,\"waiting\":2}]";
+const LINKS_JSON: &str =
+    "\"links\":[{\"by\":\"call\",\"callee\":1,\"caller\":0,\"node\":4,\"nodes\":1,\"waiting\":2},{\"by\":\"VBlank\",\"callee\":2,\"caller\":0,\"node\":4,\"nodes\":2,\"waiting\":2},{\"by\":\"VBlank\",\"callee\":2,\"caller\":1,\"node\":6,\"nodes\":2,\"waiting\":2}]";
 
 /// The game's facts as JSON.
 fn json(alloc: Global, bytes: &Spelled) -> Option<String> {
@@ -363,6 +364,9 @@ fn facts_for_programs(rt: HostRuntime) -> Result<(), Fail> {
 fn a_refusal_for_programs(rt: HostRuntime) -> Result<(), Fail> {
     let bytes = certificate(TOO_FEW, NODES);
     let json = json(rt.alloc(), &bytes).ok_or("facts")?;
-    assert!(rt; json.as_str().contains("\"refused\":{\"node\":4,\"reason\":9}"));
+    assert!(rt;
+        json.as_str()
+            .contains("\"refused\":{\"node\":4,\"reason\":9}")
+    );
     Ok(())
 }

@@ -189,11 +189,7 @@ fn all_links(alloc: Global, facts: &Facts) -> Result<Value, AllocError> {
 }
 
 /// The members of the whole.
-fn put_facts(
-    object: &mut Object,
-    facts: &Facts,
-    symbols: &Symbols<'_>,
-) -> Result<(), AllocError> {
+fn put_facts(object: &mut Object, facts: &Facts, symbols: &Symbols<'_>) -> Result<(), AllocError> {
     let alloc = object.alloc;
     object.put("refused", refused_json(alloc, facts.verdict)?)?;
     object.put_number("version", u64::from(facts.version))?;
