@@ -3,7 +3,7 @@
 use crate::order::order;
 use gb_cert::{NodePlan, ProcedurePlan, Version, WriteFault, write_certificate};
 use gb_fixpoint::types::{Node, Procedure, Run};
-use gb_fixpoint::{Abs, covers, known_bank};
+use gb_fixpoint::{Abs, Rules, covers, known_bank};
 use std::alloc::{AllocError, Global};
 
 /// The most nodes of an address that are compared with one another.
@@ -17,8 +17,8 @@ struct Standing {
     node: usize,
 }
 
-/// The bytes of the certificate of a finished run, whose needs were found: in version 1, or in version 2 where it
-/// has more than 65,535 nodes.
+/// The bytes of the certificate of a finished run, whose needs were found: in version 3; or by the rules of versions 1 and 2
+/// in version 1, and in version 2 where it has more than 65,535 nodes.
 ///
 /// # Errors
 ///
@@ -29,7 +29,7 @@ pub fn certificate_of(alloc: Global, run: &Run<'_>) -> Result<Vec<u8>, WriteFaul
     let places = places(alloc, run, standings.as_slice())?;
     let procedures = procedures(alloc, run, order.as_slice(), places.as_slice())?;
     let nodes = nodes(alloc, run, standings.as_slice())?;
-    let version = version_of(nodes.len());
+    let version = version_of(run.rules(), nodes.len());
     let region = run.configuration.region;
     write_certificate(
         alloc,
@@ -41,11 +41,11 @@ pub fn certificate_of(alloc: Global, run: &Run<'_>) -> Result<Vec<u8>, WriteFaul
 }
 
 /// The version of a certificate with so many nodes.
-fn version_of(nodes: usize) -> Version {
-    if nodes > Version::One.node_limit() as usize {
-        Version::Two
-    } else {
-        Version::One
+fn version_of(rules: Rules, nodes: usize) -> Version {
+    match rules {
+        Rules::Extended => Version::Three,
+        Rules::Simple if nodes > Version::One.node_limit() as usize => Version::Two,
+        Rules::Simple => Version::One,
     }
 }
 
@@ -66,12 +66,12 @@ fn procedures<'a>(
     Ok(procedures)
 }
 
-/// The base that versions 1 and 2 mean: main's is the region's end, that of others isn't known.
+/// The base of a procedure. Main's is the region's end, by the rules of versions 1 and 2 too.
 fn base_of(run: &Run<'_>, number: usize) -> u16 {
     if number == 0 {
         run.configuration.region.last.saturating_add(1)
     } else {
-        0
+        run.base_of(number)
     }
 }
 

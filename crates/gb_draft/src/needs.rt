@@ -10,8 +10,8 @@ const PROCEDURES: usize = 255;
 /// For each call the most bytes that its sites hold.
 type Held = BTreeMap<Call, usize>;
 
-/// Finds the least needs of a run's procedures: the bytes that a procedure's own nodes hold, and at each call those, the
-/// return word and the callee's need. Some where there are none: the number of a procedure on a cycle of calls.
+/// Finds the least needs of a run's procedures: the bytes that a procedure's own nodes hold, and at each call those and the
+/// return word, but for what the callee takes over, and the callee's need. Some where there are none: the number of a procedure on a cycle of calls.
 pub fn find_needs(alloc: Global, run: &mut Run<'_>) -> Result<Option<usize>, AllocError> {
     let held = held_at_calls(alloc, run)?;
     set_own_needs(run);
@@ -61,7 +61,10 @@ fn set_own_needs(run: &mut Run<'_>) {
 /// What a caller needs at a call.
 fn need_at(run: &Run<'_>, call: &Call, held: usize) -> usize {
     match run.procedures.get(call.callee) {
-        Some(callee) => held.saturating_add(2).saturating_add(callee.need),
+        Some(callee) => held
+            .saturating_add(2)
+            .saturating_sub(usize::from(callee.key.taken))
+            .saturating_add(callee.need),
         None => 0,
     }
 }

@@ -2,10 +2,10 @@
 //! each call must find its own one before others.
 
 use gb_fixpoint::entries::Entered;
+use gb_fixpoint::keys::ProcedureKey;
 use gb_fixpoint::register_set::REGISTERS;
-use gb_fixpoint::setting::RULES;
-use gb_fixpoint::types::Run;
-use gb_fixpoint::{Abs, Core, ImeSet, Val, covers};
+use gb_fixpoint::types::{Procedure, Run};
+use gb_fixpoint::{Abs, Core, ImeSet, Rules, Val, covers};
 use std::alloc::{AllocError, Global};
 use std::collections::{BTreeMap, BTreeSet};
 
@@ -22,6 +22,9 @@ struct Ranked {
     width: usize,
     number: usize,
 }
+
+/// The most cells of a state by any rules.
+const CELLS: usize = 64;
 
 /// By target, the numbers of the procedures that begin there.
 type Entries = BTreeMap<u16, Vec<usize>>;
@@ -58,9 +61,9 @@ fn core_width(core: &Core) -> usize {
 
 /// How much a state leaves open, memory cells last.
 fn state_width(state: &Abs) -> usize {
-    let unknown = RULES.cell_room().saturating_sub(state.cells().len());
+    let unknown = CELLS.saturating_sub(state.cells().len());
     core_width(state.core())
-        .saturating_mul(64)
+        .saturating_mul(CELLS)
         .saturating_add(unknown)
 }
 
@@ -182,7 +185,7 @@ fn add_of_all(
         if let Some(before) = run.own_procedure(entered)
             && let Some(others) = entries.get(&entered.target)
         {
-            add_others(run, before, others.as_slice(), &entered.state, precedences)?;
+            add_others(run, before, others.as_slice(), entered, precedences)?;
         }
     }
     Ok(())
@@ -193,11 +196,11 @@ fn add_others(
     run: &Run<'_>,
     before: usize,
     others: &[usize],
-    state: &Abs,
+    entered: &Entered,
     precedences: &mut BTreeSet<Precedence>,
 ) -> Result<(), AllocError> {
     for after in others {
-        if *after != before && covers_entry(run, *after, state) {
+        if *after != before && covers_entry(run, *after, entered) {
             precedences.insert(Precedence {
                 before,
                 after: *after,
@@ -207,8 +210,22 @@ fn add_others(
     Ok(())
 }
 
-/// Whether the first node of a procedure stands for a state.
-fn covers_entry(run: &Run<'_>, procedure: usize, state: &Abs) -> bool {
+/// Whether a procedure with a base takes over what the one takes that is entered, its base being right.
+fn fits(run: &Run<'_>, procedure: &Procedure, entered: &Entered) -> bool {
+    let ProcedureKey {
+        base,
+        taken,
+        ..
+    } = procedure.key;
+    let waiting = entered.held.saturating_sub(usize::from(taken));
+    let is_right = base == 0
+        || (entered.caller != 0
+            && usize::from(base).saturating_add(waiting) == usize::from(entered.caller));
+    run.rules() == Rules::Simple || (taken == entered.context.taken && is_right)
+}
+
+/// Whether the first node of a procedure stands for what is entered.
+fn covers_entry(run: &Run<'_>, procedure: usize, entered: &Entered) -> bool {
     let Some(procedure) = run.procedures.get(procedure) else {
         return false;
     };
@@ -216,7 +233,7 @@ fn covers_entry(run: &Run<'_>, procedure: usize, state: &Abs) -> bool {
         return false;
     };
     match run.nodes.get(entry) {
-        Some(node) => covers(state, &node.state),
+        Some(node) => fits(run, procedure, entered) && covers(&entered.state, &node.state),
         None => false,
     }
 }

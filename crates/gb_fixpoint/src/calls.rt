@@ -1,14 +1,14 @@
 //! Calls and dispatches: procedures are found or made, entered, and resumed behind.
 
 use crate::cause::Cause;
+use crate::contexts::Context;
 use crate::keys::{ControllerKey, KnownRegisters, NodeKey, ProcedureKey};
 use crate::register_set::RegisterSet;
 use crate::run::PROCEDURES;
-use crate::setting::RULES;
 use crate::stop::Stop;
 use crate::tracking::keep_tracked;
 use crate::types::{Call, Procedure, Run};
-use gb_verify::{Abs, Core, Range, Resumed, enter, resume};
+use gb_verify::{Abs, Core, Range, Resumed, Rules, enter, resume};
 use std::collections::BTreeSet;
 use std::mem;
 
@@ -27,10 +27,16 @@ impl<'a> Run<'a> {
             return Ok(());
         };
         let procedure = node.key.procedure;
-        let mut entered = enter(RULES, 0, caller);
+        if self.is_inlined(target) {
+            self.returns.insert(back)?;
+            return self.flow(number, target, caller.copied());
+        }
+        self.ask_callee(procedure, caller, target)?;
+        let context = self.context(procedure, caller, target);
+        let mut entered = enter(self.rules(), context.taken, caller);
         keep_tracked(&mut entered, self.tracked.as_slice());
         let cells = self.number_cells(entered.cells())?;
-        let key = self.procedure_key(entered.core(), target, is_handler, cells);
+        let key = self.procedure_key(entered.core(), target, is_handler, cells, context);
         let callee = self.procedure_with(key)?;
         self.link(number, procedure, callee, target)?;
         self.arrive(Some(number), NodeKey::of_entry(callee, target), entered)?;
@@ -48,6 +54,7 @@ impl<'a> Run<'a> {
         target: u16,
         is_handler: bool,
         cells: usize,
+        context: Context,
     ) -> ProcedureKey {
         let is_flat = self.configuration.flat.contains(&target);
         let registers = match self.configuration.parted.get(&target) {
@@ -71,6 +78,8 @@ impl<'a> Run<'a> {
             },
             registers: KnownRegisters::of(&core.registers, &registers),
             cells: if is_flat { 0 } else { cells },
+            base: context.base,
+            taken: context.taken,
         }
     }
 
@@ -142,14 +151,18 @@ impl<'a> Run<'a> {
     fn resumed(&self, callee: usize, caller: &Abs) -> Option<Abs> {
         let called = self.procedures.get(callee)?;
         let exit = called.exit.as_ref()?;
-        match resume(RULES, 0, called.ranges.as_slice(), caller, exit) {
+        let taken = called.key.taken;
+        match resume(self.rules(), taken, called.ranges.as_slice(), caller, exit) {
             Resumed::States(resumed) => Some(resumed),
             Resumed::Nothing | Resumed::TooDeep => None,
         }
     }
 
-    /// What a callee may write its caller may write too.
+    /// What a callee may write its caller may write too; by the rules of version 3 main may write everywhere.
     fn inherit_ranges(&mut self, caller: usize, callee: usize) -> Result<(), Stop> {
+        if caller == 0 && self.rules() == Rules::Extended {
+            return Ok(());
+        }
         let Some(called) = self.procedures.get(callee) else {
             return Ok(());
         };

@@ -10,8 +10,12 @@ pub enum StackMisuse {
     NotSet,
     /// POP where none of the procedure's own words is on the stack.
     PopsReturnWord,
-    /// INC SP, DEC SP, ADD SP,e8 or LD SP,HL.
+    /// INC SP, DEC SP, ADD SP,e8 or LD SP,HL, by the rules of versions 1 and 2.
     Moved,
+    /// More bytes are taken off than the procedure has.
+    TakesTooMany,
+    /// LD SP,HL with HL not known, or neither the procedure's nor main's.
+    SetByHl,
     /// LD SP,n16 in a procedure that is called.
     SetInCallee,
     /// LD SP,n16 with another address than the one before.
@@ -64,6 +68,10 @@ pub enum Cause {
     ReturnInMain,
     /// RET with so many words on the stack.
     ReturnWithWords { words: usize },
+    /// RET with a word that is neither the return word nor known.
+    ReturnToUnknown,
+    /// RET with more or fewer bytes on the stack than another one of the procedure.
+    ReturnWithOthers,
     /// Interrupt 0 to 4 may come before LD SP,n16.
     InterruptWithoutStack { interrupt: u8 },
 }
@@ -78,6 +86,19 @@ pub struct Failure {
     pub registers: RegisterSet,
 }
 
+/// What a run wants its configuration to say.
+#[derive(Clone, Copy, PartialEq, Eq)]
+pub enum Wish {
+    /// Calls of this target are followed in their callers.
+    Inline(u16),
+    /// The procedures that begin there know their base.
+    Base(u16),
+    /// They take over so many more of their callers' bytes.
+    Arguments { target: u16, more: u8 },
+    /// Main's stack begins below this address.
+    Top(u16),
+}
+
 /// What a run came to.
 #[derive(Clone, Copy, PartialEq, Eq)]
 pub enum Outcome {
@@ -86,6 +107,8 @@ pub enum Outcome {
     Failed(Failure),
     /// LD SP,n16 was met for the first time, and sets another stack than the configuration says.
     StackSet { sp: u16 },
+    /// The configuration is to say something else first.
+    Wanted(Wish),
     /// The limit of nodes, of procedures or of steps was met.
     TooLarge,
 }
@@ -106,7 +129,10 @@ impl Cause {
             Cause::CartridgeRam { .. } | Cause::CopiesCartridgeRam { .. } => Reason::CartridgeRam,
             Cause::OamTransfer(_) => Reason::OamTransfer,
             Cause::JumpHl => Reason::JumpHl,
-            Cause::ReturnInMain | Cause::ReturnWithWords { .. } => Reason::Return,
+            Cause::ReturnInMain
+            | Cause::ReturnWithWords { .. }
+            | Cause::ReturnToUnknown
+            | Cause::ReturnWithOthers => Reason::Return,
             Cause::InterruptWithoutStack { .. } => Reason::Interrupt,
         }
     }

@@ -2,6 +2,7 @@
 
 use crate::register_set::RegisterSet;
 use gb_ops::machine::Region;
+use gb_verify::Rules;
 use std::alloc::{AllocError, Global};
 use std::collections::{BTreeSet, HashMap, HashSet};
 
@@ -20,11 +21,15 @@ pub struct Place {
 /// certificate doesn't need is.
 #[derive(Clone, Drop)]
 pub struct Configuration {
+    /// The rules by which states are taken on.
+    pub rules: Rules,
     /// The stack region.
     pub region: Region,
     /// Whether LD SP,n16 was met, by which the region is set.
     pub is_stack_seen: bool,
-    /// The memory cells that are kept, at most 32.
+    /// Whether the user has said where the region lies.
+    pub is_stack_given: bool,
+    /// The memory cells that are kept, as many as a state holds.
     pub tracked: BTreeSet<u16>,
     /// Where the known registers are part of the key.
     pub keyed: HashSet<Place>,
@@ -33,12 +38,23 @@ pub struct Configuration {
     /// The registers of which one is taken value by value on arrival: of those that aren't known the one with the fewest
     /// values. Covering goes value by value over one register alone, so another one has to wait for the next address.
     pub split: HashMap<Place, RegisterSet>,
+    /// The registers whose known values are part of the key: counters of outer loops, whose rounds are told apart.
+    pub counted: HashMap<Place, RegisterSet>,
+    /// The registers of which is part of the key whether they are known to be 0: counters that begin at 0, where the first
+    /// round is told apart.
+    pub peeled: HashMap<Place, RegisterSet>,
     /// By the address where procedures begin, the registers by whose known values they are parted.
     pub parted: HashMap<u16, RegisterSet>,
     /// Where procedures begin that are not parted by the controller and the key cells.
     pub flat: HashSet<u16>,
     /// The cells whose known values are part of every key: shadows of the bank, states.
     pub key_cells: BTreeSet<u16>,
+    /// The targets of calls that are followed in the caller, and begin no procedure.
+    pub inlined: HashSet<u16>,
+    /// Where procedures begin whose base is known, so that there is one for each depth.
+    pub based: HashSet<u16>,
+    /// By the address where procedures begin, the bytes above the return word that they take over.
+    pub arguments: HashMap<u16, u8>,
     /// Places with a failure that stands. Nothing goes on from there; the run goes on elsewhere.
     pub given_up: HashSet<Place>,
     /// The values at which widening stops, besides 0 and 255.
@@ -47,28 +63,63 @@ pub struct Configuration {
     pub limit: usize,
 }
 
+/// The bytes of a return word.
+const RETURN_WORD: u8 = 2;
+
 /// Where widening stops at first.
 const POINTS: [u8; 16] = [0, 1, 2, 3, 4, 7, 8, 15, 16, 31, 32, 63, 64, 127, 128, 255];
 
 impl Configuration {
     /// The coarsest one. Its region is that of the stack at power-up, one word below FFFE.
-    pub fn new(alloc: Global) -> Result<Configuration, AllocError> {
+    pub fn new(alloc: Global, rules: Rules) -> Result<Configuration, AllocError> {
         Ok(Configuration {
+            rules,
             region: Region {
                 first: 0xFFFC,
                 last: 0xFFFD,
             },
             is_stack_seen: false,
+            is_stack_given: false,
             tracked: BTreeSet::new(alloc),
             keyed: HashSet::new(alloc),
             paged: HashSet::new(alloc),
             split: HashMap::new(alloc),
+            counted: HashMap::new(alloc),
+            peeled: HashMap::new(alloc),
             parted: HashMap::new(alloc),
             flat: HashSet::new(alloc),
             key_cells: BTreeSet::new(alloc),
+            inlined: HashSet::new(alloc),
+            based: HashSet::new(alloc),
+            arguments: HashMap::new(alloc),
             given_up: HashSet::new(alloc),
             points: BTreeSet::from_array(alloc, POINTS)?,
             limit: NODES,
         })
+    }
+
+    /// How many of its caller's bytes a procedure takes over that begins at an address: by the rules of versions 1 and 2
+    /// none.
+    pub fn taken_at(&self, target: u16) -> u8 {
+        match self.rules {
+            Rules::Simple => 0,
+            Rules::Extended => RETURN_WORD.saturating_add(self.arguments_at(target)),
+        }
+    }
+
+    /// The bytes above the return word that a procedure takes over.
+    pub fn arguments_at(&self, target: u16) -> u8 {
+        match self.arguments.get(&target) {
+            Some(bytes) => *bytes,
+            None => 0,
+        }
+    }
+
+    /// Calls of a target are followed in their callers from now on.
+    pub fn inline(&mut self, target: u16) -> Result<(), AllocError> {
+        self.inlined.insert(target)?;
+        self.based.remove(&target);
+        self.arguments.remove(&target);
+        Ok(())
     }
 }

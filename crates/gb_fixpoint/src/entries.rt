@@ -1,7 +1,7 @@
 //! What nodes enter, for who puts procedures in order.
 
+use crate::contexts::Context;
 use crate::instruction::decoded;
-use crate::setting::{RULES, stack_of};
 use crate::stepping::FIRST_VECTOR;
 use crate::tracking::keep_tracked;
 use crate::types::Run;
@@ -13,7 +13,13 @@ use std::alloc::AllocError;
 pub struct Entered {
     pub target: u16,
     pub is_handler: bool,
+    /// What the callee begins with.
     pub state: Abs,
+    /// The base of the callee, and how many of its caller's bytes it takes over.
+    pub context: Context,
+    /// The caller's base, and its bytes with the return word.
+    pub caller: u16,
+    pub held: usize,
 }
 
 impl<'a> Run<'a> {
@@ -24,41 +30,47 @@ impl<'a> Run<'a> {
             return Ok(all);
         };
         if let Ok(row) = decoded(self.rom, &node.state, node.key.address) {
-            let stack = stack_of(node.key.procedure, self.configuration.region);
+            let stack = self.stack_of(node.key.procedure);
             let ways = successors_of(stack, self.rom, row, node.key.address, &node.state);
-            let taken = self.called_by(&ways.taken);
-            let not_taken = self.called_by(&ways.not_taken);
-            let stays = self.called_by(&ways.stays);
+            let caller = node.key.procedure;
+            let taken = self.called_by(caller, &ways.taken);
+            let not_taken = self.called_by(caller, &ways.not_taken);
+            let stays = self.called_by(caller, &ways.stays);
             for entered in [taken, not_taken, stays].into_iter().flatten() {
                 all.push(entered)?;
             }
         }
-        let after = left_by_dispatch(RULES, node.key.address, &node.state);
+        let after = left_by_dispatch(self.rules(), node.key.address, &node.state);
         for interrupt in 0..5u8 {
-            if may_come(interrupt, node.state.core()) {
-                let vector = FIRST_VECTOR + 8 * u16::from(interrupt);
-                all.push(self.entered_in(vector, true, &after))?;
+            let vector = FIRST_VECTOR + 8 * u16::from(interrupt);
+            if may_come(interrupt, node.state.core()) && !self.is_inlined(vector) {
+                all.push(self.entered_in(node.key.procedure, vector, true, &after))?;
             }
         }
         Ok(all)
     }
 
-    fn called_by(&self, way: &Option<Successor<'_>>) -> Option<Entered> {
+    fn called_by(&self, caller: usize, way: &Option<Successor<'_>>) -> Option<Entered> {
         let Some(successor) = way else { return None };
         match successor.target {
-            Target::Call(target) => Some(self.entered_in(target, false, &successor.state())),
-            Target::At(_) | Target::Main(_) | Target::Return | Target::Unknown | Target::Lost =>
-                None,
+            Target::Call(target) if !self.is_inlined(target) => {
+                Some(self.entered_in(caller, target, false, &successor.state()))
+            }
+            _ => None,
         }
     }
 
-    fn entered_in(&self, target: u16, is_handler: bool, caller: &Abs) -> Entered {
-        let mut state = enter(RULES, 0, caller);
+    fn entered_in(&self, procedure: usize, target: u16, is_handler: bool, caller: &Abs) -> Entered {
+        let context = self.context(procedure, caller, target);
+        let mut state = enter(self.rules(), context.taken, caller);
         keep_tracked(&mut state, self.tracked.as_slice());
         Entered {
             target,
             is_handler,
             state,
+            context,
+            caller: self.base_of(procedure),
+            held: caller.items().len(),
         }
     }
 
@@ -66,7 +78,13 @@ impl<'a> Run<'a> {
     pub fn own_procedure(&self, entered: &Entered) -> Option<usize> {
         let cells = self.find_cells(entered.state.cells())?;
         let core = entered.state.core();
-        let key = self.procedure_key(core, entered.target, entered.is_handler, cells);
+        let key = self.procedure_key(
+            core,
+            entered.target,
+            entered.is_handler,
+            cells,
+            entered.context,
+        );
         self.procedure_index.get(&key).copied()
     }
 }

@@ -1,15 +1,22 @@
 //! Exits: what procedures return with, and what their callers see of it.
 
-use crate::joining::join;
+use crate::bounds::{WORD_PAIRS, facts_of, halves_of, set_facts};
+use crate::steps::Growth;
 use crate::stop::Stop;
 use crate::types::Run;
 use arrayvec::ArrayVec;
+use gb_domain::pairs::{NOTHING_KNOWN, Pairs};
 use gb_ops::op::Register;
 use gb_ops::registers::Registers;
-use gb_verify::{Abs, Cell, Core, Ctl, Flg, May, Origin, Range, Relations, Val, covers};
+use gb_verify::{
+    Abs, Cell, Core, Ctl, Flg, May, OneByte, Origin, Range, Relations, Val, covers,
+};
 
 /// How often an exit grows before it is widened.
 const GROWTHS: u32 = 40;
+
+/// How often it grows before nothing more is known of pairs.
+const PAIR_GROWTHS: u32 = 400;
 
 /// Any value of a bit.
 const EITHER: May = May {
@@ -89,6 +96,47 @@ fn seen_cells(ranges: &[Range], cells: &[Cell]) -> ArrayVec<Cell, 64> {
     seen
 }
 
+/// The bytes that are left on the stack: they are no copies to the caller.
+fn seen_items(items: &[Val]) -> ArrayVec<Val, 255> {
+    let mut seen = ArrayVec::new();
+    for item in items {
+        let _ = seen.try_push(Val {
+            origin: None,
+            ..*item
+        });
+    }
+    seen
+}
+
+/// What is said of pairs that aren't as they were at entry: the caller's own come back else.
+fn seen_pairs(exit: &Abs) -> Pairs {
+    let registers = &exit.core().registers;
+    let mut pairs = exit.relations().pairs;
+    for pair in WORD_PAIRS {
+        let (high, low) = halves_of(pair);
+        let is_kept = registers.get(high).origin == Some(Origin::Register(high))
+            && registers.get(low).origin == Some(Origin::Register(low));
+        if is_kept && facts_of(pair, &pairs).link.is_none() {
+            set_facts(pair, NOTHING_KNOWN, &mut pairs);
+        }
+    }
+    pairs
+}
+
+/// What is known together: of the one byte the caller's own is meant where the flags are as they were.
+fn seen_relations(exit: &Abs) -> Relations {
+    let relations = *exit.relations();
+    Relations {
+        byte: if exit.core().flags.is_own {
+            OneByte::default()
+        } else {
+            relations.byte
+        },
+        zero: relations.zero,
+        pairs: seen_pairs(exit),
+    }
+}
+
 /// What the callers of a procedure with these ranges see of its exit. Where it is the same, they go on with the same.
 fn seen(ranges: &[Range], exit: &Abs) -> Abs {
     let core = exit.core();
@@ -101,9 +149,9 @@ fn seen(ranges: &[Range], exit: &Abs) -> Abs {
     };
     Abs::of_parts(
         seen,
-        ArrayVec::new(),
+        seen_items(exit.items()),
         seen_cells(ranges, exit.cells()),
-        Relations::default(),
+        seen_relations(exit),
     )
 }
 
@@ -131,12 +179,16 @@ impl<'a> Run<'a> {
             return Some(state);
         };
         if covers(&state, exit) {
-            None
-        } else if left.growths > GROWTHS {
-            Some(self.widening.widen(exit, &state))
-        } else {
-            Some(join(exit, &state))
+            return None;
         }
+        let growth = if left.growths > PAIR_GROWTHS {
+            Growth::WidenedWithoutPairs
+        } else if left.growths > GROWTHS {
+            Growth::Widened
+        } else {
+            Growth::Joined
+        };
+        Some(self.widening.grown(self.rules(), growth, exit, &state))
     }
 
     /// Whether a procedure's callers see that its exit grows to this one.

@@ -1,15 +1,16 @@
 //! States flow to the nodes of their keys.
 
 use crate::configuration::Place;
-use crate::joining::join;
-use crate::keys::NodeKey;
+use crate::keys::{KnownRegisters, NodeKey};
 use crate::register_set::{REGISTERS, RegisterSet};
+use crate::steps::Growth;
 use crate::stop::Stop;
 use crate::tracking::keep_tracked;
 use crate::types::{CellValue, Edge, Node, Run, Spot};
 use arrayvec::ArrayVec;
 use gb_ops::op::Register;
-use gb_verify::{Abs, Cell, Core, cell_at, covers, with_value};
+use gb_product::reduced::reduced;
+use gb_verify::{Abs, Cell, Core, Rules, cell_at, covers, with_value};
 
 /// How often a node grows by joins alone.
 const GROWTHS: u32 = 60;
@@ -17,12 +18,21 @@ const GROWTHS: u32 = 60;
 /// The same, at the head of a loop and where a procedure begins.
 const HEAD_GROWTHS: u32 = 8;
 
+/// The same by the rules of version 3, by which more is known, and lost if it is widened too soon.
+const EXTENDED_GROWTHS: u32 = 150;
+
+/// The same by the rules of version 3, at the head of a loop and where a procedure begins.
+const EXTENDED_HEAD_GROWTHS: u32 = 12;
+
+/// How often a node grows before nothing more is known of pairs.
+const PAIR_GROWTHS: u32 = 400;
+
 /// The most values of H or D that a page is taken by.
 const PAGES: u8 = 8;
 
 impl<'a> Run<'a> {
     /// A state goes on from a node to an address of the same procedure.
-    pub(crate) fn flow(&mut self, from: usize, to: u16, mut state: Abs) -> Result<(), Stop> {
+    pub(crate) fn flow(&mut self, from: usize, to: u16, state: Abs) -> Result<(), Stop> {
         let Some(node) = self.nodes.get(from) else {
             return Ok(());
         };
@@ -31,8 +41,19 @@ impl<'a> Run<'a> {
             address,
             ..
         } = node.key;
-        keep_tracked(&mut state, self.tracked.as_slice());
         self.record_edge(procedure, address, to)?;
+        self.flow_in(from, procedure, to, state)
+    }
+
+    /// A state goes on from a node to an address of a procedure.
+    pub(crate) fn flow_in(
+        &mut self,
+        from: usize,
+        procedure: usize,
+        to: u16,
+        mut state: Abs,
+    ) -> Result<(), Stop> {
+        keep_tracked(&mut state, self.tracked.as_slice());
         let place = Place {
             target: self.target(procedure),
             address: to,
@@ -42,10 +63,20 @@ impl<'a> Run<'a> {
         };
         let val = state.core().registers.get(register);
         for value in val.lo..=val.hi {
-            let core = with_value(register, value, state.core());
-            self.arrive_at(from, procedure, place, state.with_core(core))?;
+            if let Some(single) = self.with_single(register, value, &state) {
+                self.arrive_at(from, procedure, place, single)?;
+            }
         }
         Ok(())
+    }
+
+    /// A state in which a register has one value; none where nothing is meant then.
+    fn with_single(&self, register: Register, value: u8, state: &Abs) -> Option<Abs> {
+        let core = with_value(register, value, state.core());
+        let product = reduced(self.rules(), &core, state.relations())?;
+        let mut single = state.with_core(product.core);
+        single.set_relations(product.relations);
+        Some(single)
     }
 
     /// A way on is recorded, and its target as a loop's head if it leads backward.
@@ -55,7 +86,8 @@ impl<'a> Run<'a> {
             from,
             to,
         };
-        if self.edges.insert(edge)? && to <= from {
+        let is_backward = to < from || (to == from && self.rules() == Rules::Simple);
+        if self.edges.insert(edge)? && is_backward {
             self.heads.insert(Spot {
                 procedure,
                 address: to,
@@ -81,14 +113,38 @@ impl<'a> Run<'a> {
         None
     }
 
+    /// Whether all that is known of registers is part of the key.
+    fn is_keyed(&self, place: Place, core: &Core) -> bool {
+        core.bound != 0 || self.configuration.keyed.contains(&place)
+    }
+
     /// The registers whose known values are part of the key.
-    fn key_registers(&self, place: Place, core: &Core) -> RegisterSet {
-        if core.bound != 0 || self.configuration.keyed.contains(&place) {
-            RegisterSet::all()
-        } else if self.configuration.paged.contains(&place) {
-            RegisterSet::of(&[Register::D, Register::H])
-        } else {
-            RegisterSet::empty()
+    fn key_registers(&self, place: Place, core: &Core) -> KnownRegisters {
+        let values = &core.registers;
+        if self.is_keyed(place, core) {
+            return KnownRegisters::of(values, &RegisterSet::all());
+        }
+        let mut wanted = match self.configuration.counted.get(&place) {
+            Some(registers) => *registers,
+            None => RegisterSet::empty(),
+        };
+        if self.configuration.paged.contains(&place) {
+            wanted = wanted.union(&RegisterSet::of(&[Register::D, Register::H]));
+        }
+        match self.configuration.peeled.get(&place) {
+            Some(peeled) => KnownRegisters::with_zeros(values, &wanted, peeled),
+            None => KnownRegisters::of(values, &wanted),
+        }
+    }
+
+    /// The lowest address of a known stack is recorded.
+    fn record_depth(&mut self, procedure: usize, state: &Abs) {
+        let base = self.base_of(procedure);
+        if base != 0
+            && state.core().stack_set
+            && let Ok(bytes) = u16::try_from(state.items().len())
+        {
+            self.lowest = self.lowest.min(base.saturating_sub(bytes));
         }
     }
 
@@ -100,21 +156,23 @@ impl<'a> Run<'a> {
         state: Abs,
     ) -> Result<(), Stop> {
         let cells = self.number_cells(state.cells())?;
+        let words = self.number_words(&state, self.is_keyed(place, state.core()))?;
+        self.record_depth(procedure, &state);
         let core = state.core();
-        let registers = self.key_registers(place, core);
         let key = NodeKey::of_state(
             procedure,
             place.address,
             core,
             state.items().len(),
-            &registers,
+            self.key_registers(place, core),
             cells,
+            words,
         );
         self.arrive(Some(from), key, state)
     }
 
     /// The key cells that have one value alone.
-    fn cell_values(&self, cells: &[Cell]) -> ArrayVec<CellValue, 32> {
+    fn cell_values(&self, cells: &[Cell]) -> ArrayVec<CellValue, 64> {
         let mut values = ArrayVec::new();
         for address in &self.configuration.key_cells {
             let val = cell_at(*address, cells);
@@ -201,24 +259,38 @@ impl<'a> Run<'a> {
     fn grown_state(&self, number: usize, state: Abs) -> Option<Abs> {
         let node = self.nodes.get(number)?;
         if covers(&state, &node.state) {
-            None
-        } else if node.growths >= self.patience(node.key) {
-            Some(self.widening.widen(&node.state, &state))
-        } else {
-            Some(join(&node.state, &state))
+            return None;
         }
+        let rules = self.rules();
+        let growth = if node.growths >= PAIR_GROWTHS {
+            Growth::WidenedWithoutPairs
+        } else if node.growths >= self.patience(node.key) {
+            Growth::Widened
+        } else if self.is_head(node.key) {
+            Growth::Linked
+        } else {
+            Growth::Joined
+        };
+        Some(self.widening.grown(rules, growth, &node.state, &state))
     }
 
-    /// How often a node grows by joins alone.
-    fn patience(&self, key: NodeKey) -> u32 {
+    /// Whether a node stands at the head of a loop.
+    fn is_head(&self, key: NodeKey) -> bool {
         let spot = Spot {
             procedure: key.procedure,
             address: key.address,
         };
-        if key.is_entry || self.heads.contains(&spot) {
-            HEAD_GROWTHS
-        } else {
-            GROWTHS
+        self.heads.contains(&spot)
+    }
+
+    /// How often a node grows by joins alone.
+    fn patience(&self, key: NodeKey) -> u32 {
+        let is_early = key.is_entry || self.is_head(key);
+        match (self.rules(), is_early) {
+            (Rules::Simple, true) => HEAD_GROWTHS,
+            (Rules::Simple, false) => GROWTHS,
+            (Rules::Extended, true) => EXTENDED_HEAD_GROWTHS,
+            (Rules::Extended, false) => EXTENDED_GROWTHS,
         }
     }
 }

@@ -4,7 +4,7 @@ use crate::cause::{Cause, StackMisuse};
 use gb_ops::decode::decode;
 use gb_ops::op::{Op, Pair, Row};
 use gb_verify::{
-    Abs, Rom, area_end, is_nop_behind, known_bank, known_byte, known_bytes, leaves_area,
+    Abs, Rom, Rules, area_end, is_nop_behind, known_bank, known_byte, known_bytes, leaves_area,
 };
 
 /// The first byte of the instruction at an address that isn't known.
@@ -38,8 +38,8 @@ pub fn decoded(rom: &Rom<'_>, state: &Abs, address: u16) -> Result<Row, Cause> {
     }
 }
 
-/// What an instruction but LD SP,n16 does to the stack that no rule allows.
-fn misuse(state: &Abs, op: Op) -> Option<StackMisuse> {
+/// What an instruction but LD SP,n16 does to the stack that the rules of versions 1 and 2 don't allow.
+fn simple_misuse(state: &Abs, op: Op) -> Option<StackMisuse> {
     match op {
         Op::Push(_) | Op::CallIf(_, _) | Op::Call(_) | Op::Restart(_) | Op::Pop(_)
             if !state.core().stack_set => { Some(StackMisuse::NotSet) }
@@ -50,14 +50,51 @@ fn misuse(state: &Abs, op: Op) -> Option<StackMisuse> {
     }
 }
 
-/// Why a known instruction can't be executed, but for what LD SP,n16 loads.
-pub fn refused(rom: &Rom<'_>, state: &Abs, address: u16, op: Op) -> Option<Cause> {
+/// The bytes that an instruction takes off the stack, where it moves SP.
+fn bytes_moved(op: Op) -> Option<usize> {
+    match op {
+        Op::Push(_) | Op::CallIf(_, _) | Op::Call(_) | Op::Restart(_) => Some(0),
+        Op::Pop(_) => Some(2),
+        Op::IncrementPair(Pair::Sp) => Some(1),
+        Op::DecrementPair(Pair::Sp) => Some(0),
+        Op::AddSp(e8) => Some(if e8 < 128 { usize::from(e8) } else { 0 }),
+        _ => None,
+    }
+}
+
+/// The same by those of version 3, but for LD SP,HL.
+fn extended_misuse(state: &Abs, op: Op) -> Option<StackMisuse> {
+    let bytes = bytes_moved(op)?;
+    if !state.core().stack_set {
+        Some(StackMisuse::NotSet)
+    } else if state.items().len() < bytes {
+        Some(StackMisuse::TakesTooMany)
+    } else {
+        None
+    }
+}
+
+fn misuse(rules: Rules, state: &Abs, op: Op) -> Option<StackMisuse> {
+    match rules {
+        Rules::Simple => simple_misuse(state, op),
+        Rules::Extended => extended_misuse(state, op),
+    }
+}
+
+/// Why a known instruction can't be executed, but for what SP is set to.
+pub fn refused(
+    rules: Rules,
+    rom: &Rom<'_>,
+    state: &Abs,
+    address: u16,
+    op: Op,
+) -> Option<Cause> {
     match op {
         Op::Stop => Some(Cause::Stop),
         Op::Halt
             if state.core().ime.off && !is_nop_behind(rom, state, address, area_end(address)) => {
             Some(Cause::Halt)
         }
-        _ => misuse(state, op).map(Cause::Stack),
+        _ => misuse(rules, state, op).map(Cause::Stack),
     }
 }

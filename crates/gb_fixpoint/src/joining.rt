@@ -1,9 +1,10 @@
 //! The least state above two others.
 
+use crate::relating::{Known, join_relations};
 use arrayvec::ArrayVec;
 use gb_ops::registers::Registers;
 use gb_verify::{
-    Abs, Cell, Core, Ctl, Flg, ImeSet, May, Origin, Relations, Test, Val, any, test_alone,
+    Abs, Cell, Core, Ctl, Flg, ImeSet, May, Origin, Relations, Rules, Test, Val, any, test_alone,
 };
 
 /// The origin of both, if it is one.
@@ -85,7 +86,7 @@ pub fn join_core(a: &Core, b: &Core) -> Core {
     }
 }
 
-/// What the flags' test compares A with, which is all that is known of several parts together.
+/// What the flags' test compares A with, which by the rules of versions 1 and 2 is all that is known of several parts together.
 fn compared(relations: &Relations) -> Option<u8> {
     match relations.byte.test {
         Some(Test::Compare(value)) => Some(value),
@@ -94,9 +95,25 @@ fn compared(relations: &Relations) -> Option<u8> {
 }
 
 /// The test of both, if it is one.
-fn join_relations(a: &Relations, b: &Relations) -> Relations {
+fn join_tests(a: &Relations, b: &Relations) -> Relations {
     let test = compared(a);
     test_alone(if test == compared(b) { test } else { None })
+}
+
+/// The registers of a state, and what is known of several parts of it together.
+pub(crate) fn known_of(state: &Abs) -> Known<'_> {
+    Known {
+        registers: &state.core().registers,
+        relations: state.relations(),
+    }
+}
+
+/// What is known of several parts together in both.
+fn join_all_relations(rules: Rules, a: &Abs, b: &Abs) -> Relations {
+    match rules {
+        Rules::Simple => join_tests(a.relations(), b.relations()),
+        Rules::Extended => join_relations(known_of(a), known_of(b)),
+    }
 }
 
 /// The bytes of both, as far as both have them.
@@ -134,12 +151,12 @@ fn join_cells(a: &[Cell], b: &[Cell]) -> ArrayVec<Cell, 64> {
     cells
 }
 
-/// The least state above both, where both have equally many words on the stack.
-pub fn join(a: &Abs, b: &Abs) -> Abs {
+/// The least state above both, where both have equally many bytes on the stack.
+pub fn join(rules: Rules, a: &Abs, b: &Abs) -> Abs {
     Abs::of_parts(
         join_core(a.core(), b.core()),
         join_items(a.items(), b.items()),
         join_cells(a.cells(), b.cells()),
-        join_relations(a.relations(), b.relations()),
+        join_all_relations(rules, a, b),
     )
 }

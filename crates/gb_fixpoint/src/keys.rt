@@ -1,6 +1,6 @@
 //! What tells the nodes of an address apart, and the procedures of a target.
 
-use crate::register_set::RegisterSet;
+use crate::register_set::{REGISTERS, RegisterSet};
 use gb_ops::op::Register;
 use gb_ops::registers::Registers;
 use gb_verify::{Core, Ctl, Val};
@@ -41,6 +41,8 @@ pub struct NodeKey {
     pub registers: KnownRegisters,
     /// The number of the values that the key cells have.
     pub cells: usize,
+    /// The number of the known words that addresses behind inlined calls are, and of what else is known of the stack.
+    pub words: usize,
 }
 
 /// What tells the procedures of a target apart.
@@ -60,6 +62,10 @@ pub struct ProcedureKey {
     pub registers: KnownRegisters,
     /// The number of the values that the key cells have.
     pub cells: usize,
+    /// The address above its items, 0 where it isn't known.
+    pub base: u16,
+    /// How many of its caller's bytes it takes over.
+    pub taken: u8,
 }
 
 /// The value of an interval that has one alone, if it is wanted.
@@ -85,6 +91,21 @@ impl KnownRegisters {
                 known(registers.l, wanted.contains(Register::L)),
             ],
         }
+    }
+
+    /// Those of these registers that are known, and those of others that are known to be 0.
+    pub fn with_zeros(
+        registers: &Registers<Val>,
+        wanted: &RegisterSet,
+        peeled: &RegisterSet,
+    ) -> KnownRegisters {
+        let mut zeros = RegisterSet::empty();
+        for register in REGISTERS {
+            if peeled.contains(register) && registers.get(register).hi == 0 {
+                zeros.insert(register);
+            }
+        }
+        KnownRegisters::of(registers, &wanted.union(&zeros))
     }
 
     /// No register.
@@ -119,17 +140,19 @@ impl NodeKey {
             ie: (0, 0),
             registers: KnownRegisters::none(),
             cells: 0,
+            words: 0,
         }
     }
 
-    /// The key of a node with this core and so many words on the stack, parted by these registers and key cells.
+    /// The key of a node with this core and so many bytes on the stack, parted by registers, key cells and words.
     pub fn of_state(
         procedure: usize,
         address: u16,
         core: &Core,
         items: usize,
-        registers: &RegisterSet,
+        registers: KnownRegisters,
         cells: usize,
+        words: usize,
     ) -> NodeKey {
         NodeKey {
             procedure,
@@ -141,15 +164,16 @@ impl NodeKey {
             items,
             controller: Some(ControllerKey::of(&core.ctl)),
             ie: (core.ie.lo, core.ie.hi),
-            registers: KnownRegisters::of(&core.registers, registers),
+            registers,
             cells,
+            words,
         }
     }
 }
 
 impl ProcedureKey {
     /// Main's key.
-    pub fn of_main(core: &Core) -> ProcedureKey {
+    pub fn of_main(core: &Core, base: u16) -> ProcedureKey {
         ProcedureKey {
             target: 0x0100,
             is_handler: false,
@@ -159,6 +183,8 @@ impl ProcedureKey {
             ie: (0, 0),
             registers: KnownRegisters::none(),
             cells: 0,
+            base,
+            taken: 0,
         }
     }
 }

@@ -3,39 +3,45 @@
 //! Nothing here is trusted: a certificate that comes out is judged by the checker. Every function is proved safe and
 //! to return.
 //!
-//! States are taken on by the rules of versions 1 and 2 (`setting`).
+//! States are taken on by the rules of version 3, or by those of versions 1 and 2, as the configuration says.
 //! States: `joining`, `steps` and `ranges` join and widen them, `configuration`, `keys` and `register_set` say how
 //! finely they are told apart, `cause` why a run stops. What is against an instruction in a state is `instruction` and
 //! `refusals`, by the checker's own tests; what is asked of the stack is stated again, told apart more finely. The
 //! run: read `types` and `run`, then `stepping`, `flow`, `calls` and `exits`; `entries` is for who orders procedures.
 #![tactic(auto)]
 
+mod asking;
+mod bounds;
 mod calls;
 pub mod cause;
 pub mod configuration;
+mod contexts;
 pub mod entries;
 mod exits;
 mod flow;
 mod instruction;
 mod joining;
 pub mod keys;
+mod linking;
 mod ranges;
 mod reading;
 mod records;
 mod refusals;
 pub mod register_set;
+mod relating;
 mod run;
-pub mod setting;
+mod stacks;
 mod stepping;
 mod steps;
 mod stop;
 mod tracking;
 pub mod types;
+mod words;
 
 // What lies below, for the crates above.
 pub use gb_verify::check::check;
 pub use gb_verify::verdict::Verdict;
 pub use gb_verify::{
-    Abs, Cell, Cert, Core, Ctl, Flg, ImeSet, May, NodeRef, Range, Rom, Span, Val, covers, is_ram,
+    Abs, Cell, Cert, Core, Ctl, Flg, ImeSet, May, NodeRef, Range, Rom, Rules, Span, Val, covers, is_ram,
     known_bank, known_bytes,
 };

@@ -1,13 +1,16 @@
 //! The instruction at a node, and what a run learns of it.
 
-use crate::cause::{Cause, StackMisuse};
+use crate::asking::known_hl;
+use crate::cause::{Cause, StackMisuse, Wish};
 use crate::instruction::{decoded, refused};
 use crate::register_set::RegisterSet;
+use crate::stacks::is_settable;
 use crate::steps::Steps;
 use crate::stop::Stop;
 use crate::types::Run;
 use gb_ops::op::{AluOp, Op, Operand, Pair, Register, Row};
-use gb_verify::{known_byte, length_of};
+use gb_product::reduced::reduced;
+use gb_verify::{Abs, Rules, Span, known_byte, length_of};
 
 impl<'a> Run<'a> {
     /// The instruction at a node. The code bytes in RAM, the values that it compares with or loads, and what LD SP,n16
@@ -19,7 +22,7 @@ impl<'a> Run<'a> {
         let (address, procedure) = (node.key.address, node.key.procedure);
         let opcode = known_byte(self.rom, &node.state, address);
         let found = match decoded(self.rom, &node.state, address) {
-            Ok(row) => match refused(self.rom, &node.state, address, row.op) {
+            Ok(row) => match self.refused_at(procedure, &node.state, address, row.op)? {
                 None => Ok(row),
                 Some(cause) => Err(cause),
             },
@@ -32,8 +35,10 @@ impl<'a> Run<'a> {
             Ok(row) => row,
             Err(cause) => return Err(Run::failure(number, cause, RegisterSet::empty())),
         };
-        if let Op::LoadPair(Pair::Sp, word) = row.op {
-            self.set_stack(number, procedure, word)?;
+        match row.op {
+            Op::LoadPair(Pair::Sp, word) => self.set_stack(number, procedure, word)?,
+            Op::LoadSpHl => self.set_by_hl(number, procedure)?,
+            _ => {}
         }
         self.record_points(row.op)?;
         Ok(row)
@@ -53,15 +58,83 @@ impl<'a> Run<'a> {
         Ok(())
     }
 
-    /// LD SP,n16: main's, to the address behind the region.
+    /// Why a known instruction can't be executed, after what it asks of the configuration.
+    fn refused_at(
+        &self,
+        procedure: usize,
+        state: &Abs,
+        address: u16,
+        op: Op,
+    ) -> Result<Option<Cause>, Stop> {
+        self.ask_before(procedure, state, op)?;
+        Ok(refused(self.rules(), self.rom, state, address, op))
+    }
+
+    /// LD SP,n16: by the rules of versions 1 and 2 main's, to the address behind the region; by those of version 3 to an
+    /// address of the procedure's stack, or of main's.
     fn set_stack(&mut self, number: usize, procedure: usize, word: u16) -> Result<(), Stop> {
+        if self.sp.is_none() {
+            self.sp = Some(word);
+        }
+        match self.rules() {
+            Rules::Simple => self.set_main_stack(number, procedure, word),
+            Rules::Extended => self.set_known_stack(number, procedure, word),
+        }
+    }
+
+    /// SP is set to a known address.
+    fn set_known_stack(&self, number: usize, procedure: usize, word: u16) -> Result<(), Stop> {
+        let last = self.configuration.region.last;
+        let above = u32::from(last).saturating_add(1);
+        if u32::from(word) == above {
+            return Ok(());
+        }
+        if !self.configuration.is_stack_seen {
+            return Err(Stop::StackSet(word));
+        }
+        let is_near = are_in_one_area(last, word.saturating_sub(1));
+        if u32::from(word) > above && is_near && !self.configuration.is_stack_given {
+            return Err(Stop::Wanted(Wish::Top(word)));
+        }
+        if is_settable(self.stack_of(procedure), word) {
+            return Ok(());
+        }
+        let cause = Cause::Stack(StackMisuse::SetAgain(word));
+        Err(Run::failure(number, cause, RegisterSet::empty()))
+    }
+
+    /// LD SP,HL: HL is known, and an address of the procedure's stack or of main's. Where nothing is meant, nothing is asked.
+    fn set_by_hl(&self, number: usize, procedure: usize) -> Result<(), Stop> {
+        let Some(node) = self.nodes.get(number) else {
+            return Ok(());
+        };
+        let state = &node.state;
+        let Some(product) = reduced(self.rules(), state.core(), state.relations()) else {
+            return Ok(());
+        };
+        let mut meant = state.with_core(product.core);
+        meant.set_relations(product.relations);
+        match known_hl(&meant) {
+            Some(word) if is_settable(self.stack_of(procedure), word) => Ok(()),
+            _ => {
+                let registers = RegisterSet::of(&[Register::H, Register::L]);
+                let cause = Cause::Stack(StackMisuse::SetByHl);
+                Err(Run::failure(number, cause, registers))
+            }
+        }
+    }
+
+    /// LD SP,n16: main's, to the address behind the region.
+    fn set_main_stack(
+        &mut self,
+        number: usize,
+        procedure: usize,
+        word: u16,
+    ) -> Result<(), Stop> {
         let none = RegisterSet::empty();
         if procedure != 0 {
             let cause = Cause::Stack(StackMisuse::SetInCallee);
             return Err(Run::failure(number, cause, none));
-        }
-        if self.sp.is_none() {
-            self.sp = Some(word);
         }
         if u32::from(word) == u32::from(self.configuration.region.last) + 1 {
             return Ok(());
@@ -95,4 +168,13 @@ impl<'a> Run<'a> {
         }
         Ok(())
     }
+}
+
+/// Whether both addresses lie in work RAM, or both in high RAM.
+fn are_in_one_area(a: u16, b: u16) -> bool {
+    let span = Span {
+        first: a.min(b),
+        last: a.max(b),
+    };
+    span.is_inside(0xC000, 0xDFFF) || span.is_inside(0xFF80, 0xFFFE)
 }

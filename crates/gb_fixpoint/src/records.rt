@@ -3,7 +3,7 @@
 use crate::stop::Stop;
 use crate::types::{CellStore, Run, Spot};
 use gb_ops::op::{Op, Operand, Register};
-use gb_verify::{AbsRead, AbsWrite, Range, Span, Successors, Val, is_ram};
+use gb_verify::{AbsRead, AbsWrite, Range, Rules, Span, Successors, Val, is_ram};
 
 /// Where the byte at an address is kept: the echo of work RAM is the same byte.
 fn home_of(address: u16) -> u16 {
@@ -99,21 +99,38 @@ impl<'a> Run<'a> {
             if !is_known && stores_a(op) && self.configuration.tracked.contains(&cell) {
                 self.stores.insert(CellStore { cell, spot })?;
             }
-        } else if self.holds_cell(number, span) {
+        } else if self.holds_cell(number, span, val) {
             self.killers.insert(spot)?;
         }
-        let range = Range {
-            first: span.first,
-            last: span.last,
-        };
-        self.record_written(spot.procedure, range)
+        if self.is_ranged(spot.procedure, span) {
+            let range = Range {
+                first: span.first,
+                last: span.last,
+            };
+            self.record_written(spot.procedure, range)?;
+        }
+        Ok(())
     }
 
-    /// Whether a node holds a cell at one of these addresses.
-    fn holds_cell(&self, number: usize, span: Span) -> bool {
+    /// Whether a procedure has to declare that it writes there: by the rules of version 3 main declares nothing, and no
+    /// procedure the bytes of the stack.
+    fn is_ranged(&self, procedure: usize, span: Span) -> bool {
+        let region = self.configuration.region;
+        match self.rules() {
+            Rules::Simple => true,
+            Rules::Extended => procedure != 0 && !span.may_meet(region.first, region.last),
+        }
+    }
+
+    /// Whether a node holds a cell at one of these addresses that the store of a value drops, or by the rules of version 3
+    /// a known one that it widens.
+    fn holds_cell(&self, number: usize, span: Span, val: Val) -> bool {
+        let is_extended = self.rules() == Rules::Extended;
         match self.nodes.get(number) {
             Some(node) => node.state.cells().iter().any(|cell| span.first <= cell.address
-                && cell.address <= span.last),
+                && cell.address <= span.last
+                && (!is_extended || (cell.val.lo == cell.val.hi
+                    && (val.lo < cell.val.lo || cell.val.hi < val.hi)))),
             None => false,
         }
     }

@@ -1,12 +1,13 @@
-//! What is against an instruction with its successors, by the checker's own tests; that a 17th word is pushed is
+//! What is against an instruction with its successors, by the checker's own tests; that too many bytes are pushed is
 //! stated again.
 
 use crate::cause::{Cause, TransferMisuse};
 use crate::register_set::RegisterSet;
-use crate::setting::RULES;
-use gb_ops::op::{Indirect, Op, Operand, Register, Row};
+use arrayvec::ArrayVec;
+use gb_ops::machine::Region;
+use gb_ops::op::{Indirect, Op, Operand, Pair, Register, Row};
 use gb_verify::{
-    Abs, AbsRead, AbsWrite, Core, Range, Rom, Span, Stack, Successors, is_limited,
+    Abs, AbsRead, AbsWrite, Core, Range, Rom, Rules, Span, Stack, Successors, is_limited,
     is_stack_limited, lies_in_high_ram, may_come, meets_closed_ram,
 };
 
@@ -21,6 +22,42 @@ const RAM: [Range; 2] = [
         last: 0xFFFE,
     },
 ];
+
+/// All that a procedure could declare: by the rules of version 3 nothing of the region.
+fn storable(rules: Rules, region: Region) -> ArrayVec<Range, 4> {
+    let mut ranges = ArrayVec::new();
+    for area in RAM {
+        let is_outside = region.last < area.first || area.last < region.first;
+        if rules == Rules::Simple || is_outside {
+            let _ = ranges.try_push(area);
+            continue;
+        }
+        if area.first < region.first {
+            let _ = ranges.try_push(Range {
+                first: area.first,
+                last: region.first.saturating_sub(1),
+            });
+        }
+        if region.last < area.last {
+            let _ = ranges.try_push(Range {
+                first: region.last.saturating_add(1),
+                last: area.last,
+            });
+        }
+    }
+    ranges
+}
+
+/// The bytes that an instruction puts on the stack.
+fn bytes_added(rules: Rules, op: Op) -> usize {
+    match op {
+        Op::Push(_) => 2,
+        Op::CallIf(_, _) | Op::Call(_) | Op::Restart(_) if rules == Rules::Extended => 2,
+        Op::DecrementPair(Pair::Sp) => 1,
+        Op::AddSp(e8) if e8 >= 128 => 256 - usize::from(e8),
+        _ => 0,
+    }
+}
 
 /// A refusal: its cause, and the registers that the access or the jump went by.
 pub type Refusal = (Cause, RegisterSet);
@@ -185,10 +222,12 @@ pub fn refusal(rom: &Rom<'_>, standing: Standing<'_>, ways: &Successors<'_>) -> 
         ..
     } = standing;
     let core = state.core();
-    if matches!(row.op, Op::Push(_)) && state.items().len() + 2 > RULES.item_room() {
+    let rules = stack.setting.rules;
+    if bytes_added(rules, row.op) + state.items().len() > rules.item_room() && ways.taken.is_some() {
         return Some((Cause::PushesTooMany, RegisterSet::empty()));
     }
-    if ways.store_outside(stack.setting, rom.kind(), stack.region, &RAM) {
+    let storable = storable(rules, stack.region);
+    if ways.store_outside(stack.setting, rom.kind(), stack.region, storable.as_slice()) {
         return Some(store_refusal(row.op, ways));
     }
     if ways.meet_closed_ram(rom, core) {

@@ -5,6 +5,7 @@ use crate::configuration::{Configuration, Place};
 use crate::keys::{NodeKey, ProcedureKey};
 use crate::ranges::RangeSet;
 use crate::register_set::RegisterSet;
+use crate::stacks::main_base;
 use crate::steps::Steps;
 use crate::stop::Stop;
 use crate::types::{Procedure, Run, Spot, Turn};
@@ -65,6 +66,7 @@ impl<'a> Run<'a> {
             calls: BTreeSet::new(alloc),
             points,
             sp: None,
+            lowest: u16::MAX,
             failures: Vec::new(alloc),
             steps: 0,
             alloc,
@@ -72,6 +74,8 @@ impl<'a> Run<'a> {
             node_index: HashMap::new(alloc),
             procedure_index: HashMap::new(alloc),
             cell_index: HashMap::new(alloc),
+            word_index: HashMap::new(alloc),
+            returns: BTreeSet::new(alloc),
             cyclic: BTreeSet::new(alloc),
             queue: BTreeSet::new(alloc),
             widening,
@@ -84,6 +88,7 @@ impl<'a> Run<'a> {
             Ok(()) => Ok(Outcome::Finished),
             Err(Stop::Failed(failure)) => Ok(Outcome::Failed(failure)),
             Err(Stop::StackSet(sp)) => Ok(Outcome::StackSet { sp }),
+            Err(Stop::Wanted(wish)) => Ok(Outcome::Wanted(wish)),
             Err(Stop::TooLarge) => Ok(Outcome::TooLarge),
             Err(Stop::Memory(error)) => Err(error),
         }
@@ -105,8 +110,10 @@ impl<'a> Run<'a> {
 
     /// Main is entered.
     fn begin(&mut self) -> Result<(), Stop> {
-        let core = core_at_power_up(self.rom, self.configuration.region);
-        let main = Procedure::new(self.alloc, ProcedureKey::of_main(&core));
+        let region = self.configuration.region;
+        let core = core_at_power_up(self.rom, region);
+        let base = main_base(self.rules(), region);
+        let main = Procedure::new(self.alloc, ProcedureKey::of_main(&core, base));
         self.procedures.push(main)?;
         self.arrive(None, NodeKey::of_entry(0, START), Abs::new(core))
     }

@@ -3,11 +3,10 @@
 use crate::cause::Cause;
 use crate::refusals::{Standing, refusal};
 use crate::register_set::RegisterSet;
-use crate::setting::{RULES, stack_of};
 use crate::stop::Stop;
 use crate::tracking::keep_tracked;
 use crate::types::Run;
-use gb_verify::{Abs, Successor, Target, left_by_dispatch, may_come, successors_of};
+use gb_verify::{Abs, Rules, Successor, Target, left_by_dispatch, may_come, successors_of};
 
 /// The address that interrupt 0 calls; those of the others follow it, 8 bytes apart.
 pub(crate) const FIRST_VECTOR: u16 = 0x40;
@@ -19,10 +18,11 @@ impl<'a> Run<'a> {
         let Some(node) = self.nodes.get(number) else {
             return Ok(());
         };
-        let address = node.key.address;
-        let stack = stack_of(node.key.procedure, self.configuration.region);
+        let (procedure, address) = (node.key.procedure, node.key.address);
+        let stack = self.stack_of(procedure);
         let state = node.state.copied();
         let ways = successors_of(stack, self.rom, row, address, &state);
+        self.ask_behind(procedure, &ways)?;
         let standing = Standing {
             stack,
             state: &state,
@@ -53,7 +53,12 @@ impl<'a> Run<'a> {
                 self.call(number, &successor.state(), address, successor.next, false)
             }
             Target::Return => self.leave(number, successor.state()),
-            Target::Main(_) | Target::Unknown | Target::Lost => Ok(()),
+            Target::Main(address) => self.begin_anew(number, address, successor.state()),
+            Target::Lost => {
+                let cause = Cause::ReturnToUnknown;
+                Err(Run::failure(number, cause, RegisterSet::empty()))
+            }
+            Target::Unknown => Ok(()),
         }
     }
 
@@ -67,7 +72,7 @@ impl<'a> Run<'a> {
         if !core.ime.on {
             return Ok(());
         }
-        let after = left_by_dispatch(RULES, address, &node.state);
+        let after = left_by_dispatch(self.rules(), address, &node.state);
         for interrupt in 0..5u8 {
             if may_come(interrupt, &core) {
                 if !core.stack_set {
@@ -92,11 +97,27 @@ impl<'a> Run<'a> {
             return Err(Run::failure(number, Cause::ReturnInMain, RegisterSet::empty()));
         }
         let words = state.items().len() / 2;
-        if words != 0 {
+        if words != 0 && self.rules() == Rules::Simple {
             let cause = Cause::ReturnWithWords { words };
             return Err(Run::failure(number, cause, RegisterSet::empty()));
         }
         keep_tracked(&mut state, self.tracked.as_slice());
+        if self.leaves_others(procedure, &state) {
+            self.want_inline(procedure)?;
+            let cause = Cause::ReturnWithOthers;
+            return Err(Run::failure(number, cause, RegisterSet::empty()));
+        }
         self.exit(procedure, state)
+    }
+
+    /// Whether a procedure's exit has another number of bytes on the stack than a state.
+    fn leaves_others(&self, procedure: usize, state: &Abs) -> bool {
+        match self.procedures.get(procedure) {
+            Some(left) => match &left.exit {
+                Some(exit) => exit.items().len() != state.items().len(),
+                None => false,
+            },
+            None => false,
+        }
     }
 }

@@ -1,9 +1,14 @@
 //! Widening: bounds that grew go on to the next of some steps, so that they grow a few times only.
 
-use crate::joining::join;
+use crate::bounds::{WORD_PAIRS, facts_of, set_facts};
+use crate::joining::{join, known_of};
+use crate::linking::with_links;
+use crate::relating::without_boxes;
 use arrayvec::ArrayVec;
 use gb_ops::registers::Registers;
-use gb_verify::{Abs, Cell, Core, Val, any, cell_at};
+use gb_domain::pairs::{Bounds, PairFacts, Pairs};
+use gb_product::reduced::reduced;
+use gb_verify::{Abs, Cell, Core, Relations, Rules, Val, any, cell_at, covers};
 use std::collections::BTreeSet;
 
 /// The values at which growing bounds stop: 0, 255 and some more.
@@ -13,6 +18,19 @@ pub struct Steps {
     below: [u8; 256],
     /// The least step that is at least a value.
     above: [u8; 256],
+}
+
+/// How a state becomes one above another one.
+#[derive(Clone, Copy, PartialEq, Eq)]
+pub enum Growth {
+    /// Both are joined.
+    Joined,
+    /// The same at the head of a loop, where links are looked for.
+    Linked,
+    /// Bounds that grow go on to the next step.
+    Widened,
+    /// The same, and nothing more is known of pairs than their bytes.
+    WidenedWithoutPairs,
 }
 
 /// Whether each byte is a point.
@@ -119,14 +137,118 @@ impl Steps {
         cells
     }
 
+    /// The greatest first address of a page that is at most a word; but 1 stays, since 0 is what a pair ends at that is
+    /// counted down.
+    fn page_below(&self, word: u16) -> u16 {
+        let [high, _] = word.to_be_bytes();
+        let first = u16::from_be_bytes([self.below[usize::from(high)], 0]);
+        if first == 0 && word > 0 { 1 } else { first }
+    }
+
+    /// The least last address of a page that is at least a word.
+    fn page_above(&self, word: u16) -> u16 {
+        let [high, _] = word.to_be_bytes();
+        u16::from_be_bytes([self.above[usize::from(high)], 255])
+    }
+
+    fn widen_bounds(&self, old: Bounds, new: Bounds) -> Bounds {
+        Bounds {
+            first: if new.first < old.first {
+                self.page_below(new.first)
+            } else {
+                new.first
+            },
+            last: if new.last > old.last {
+                self.page_above(new.last)
+            } else {
+                new.last
+            },
+        }
+    }
+
+    /// Bounds of pairs that grew go on to the next page that is a step.
+    fn widen_pairs(&self, old: &Abs, new: &Abs) -> Pairs {
+        let before = known_of(old);
+        let mut pairs = new.relations().pairs;
+        for pair in WORD_PAIRS {
+            let facts = facts_of(pair, &pairs);
+            let bounds = self.widen_bounds(before.bounds(pair), facts.bounds);
+            set_facts(pair, PairFacts { bounds, ..facts }, &mut pairs);
+        }
+        pairs
+    }
+
     /// A state above a state and its successor: their join, of which the bounds that grew go on to the next step.
-    pub fn widen(&self, old: &Abs, added: &Abs) -> Abs {
-        let new = join(old, added);
-        Abs::of_parts(
+    fn widen(&self, rules: Rules, old: &Abs, added: &Abs) -> Abs {
+        let new = join(rules, old, added);
+        let relations = match rules {
+            Rules::Simple => *new.relations(),
+            Rules::Extended => Relations {
+                pairs: self.widen_pairs(old, &new),
+                ..*new.relations()
+            },
+        };
+        let widened = Abs::of_parts(
             self.widen_core(old.core(), new.core()),
             self.widen_items(old.items(), new.items()),
             self.widen_cells(old.cells(), new.cells()),
-            *new.relations(),
-        )
+            relations,
+        );
+        match rules {
+            Rules::Simple => widened,
+            Rules::Extended => cut(widened, &new),
+        }
     }
+
+    /// A state above a state and another one.
+    pub fn grown(&self, rules: Rules, growth: Growth, old: &Abs, added: &Abs) -> Abs {
+        let mut grown = self.above(rules, growth, old, added);
+        let relations = without_boxes(&grown.core().registers, grown.relations());
+        grown.set_relations(relations);
+        grown
+    }
+
+    fn above(&self, rules: Rules, growth: Growth, old: &Abs, added: &Abs) -> Abs {
+        match growth {
+            Growth::Joined => join(rules, old, added),
+            Growth::Linked => joined_with_links(rules, old, added),
+            Growth::Widened => self.widen(rules, old, added),
+            Growth::WidenedWithoutPairs => without_pairs(self.widen(rules, old, added)),
+        }
+    }
+}
+
+/// A widened state, reduced, where that still covers what it was widened from.
+fn cut(widened: Abs, new: &Abs) -> Abs {
+    let Some(product) = reduced(Rules::Extended, widened.core(), widened.relations()) else {
+        return widened;
+    };
+    let mut less = widened.with_core(product.core);
+    less.set_relations(product.relations);
+    if covers(new, &less) { less } else { widened }
+}
+
+/// The state, in which nothing more is known of pairs than their bytes.
+fn without_pairs(mut state: Abs) -> Abs {
+    let relations = Relations {
+        pairs: Pairs::default(),
+        ..*state.relations()
+    };
+    state.set_relations(relations);
+    state
+}
+
+/// Both states joined, with links that hold in both.
+fn joined_with_links(rules: Rules, old: &Abs, added: &Abs) -> Abs {
+    let mut joined = join(rules, old, added);
+    if rules == Rules::Extended {
+        let pairs = joined.relations().pairs;
+        let linked = with_links(&pairs, known_of(old), known_of(added));
+        let relations = Relations {
+            pairs: linked,
+            ..*joined.relations()
+        };
+        joined.set_relations(relations);
+    }
+    joined
 }

@@ -1,6 +1,6 @@
 //! What ends a step, or a run.
 
-use crate::cause::Failure;
+use crate::cause::{Failure, Wish};
 use std::alloc::{AllocError, AllocFailed};
 
 /// Why a step, or a run, goes no further.
@@ -9,6 +9,8 @@ pub(crate) enum Stop {
     Failed(Failure),
     /// LD SP,n16 was met for the first time, and sets another stack than the configuration says.
     StackSet(u16),
+    /// The configuration is to say something else first.
+    Wanted(Wish),
     /// A limit was met.
     TooLarge,
     Memory(AllocError),

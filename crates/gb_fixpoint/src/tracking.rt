@@ -1,5 +1,6 @@
 //! States that keep some memory cells alone.
 
+use crate::relating::without_boxes;
 use arrayvec::ArrayVec;
 use gb_verify::{Abs, Cell, any};
 
@@ -14,7 +15,8 @@ fn tracked_cells(cells: &[Cell], tracked: &[u16]) -> ArrayVec<Cell, 64> {
     kept
 }
 
-/// The state keeps the cells that say something and whose addresses are among these, which are in order.
+/// The state keeps the cells that say something and whose addresses are among these, which are in order, and the bounds of
+/// pairs that say something.
 pub fn keep_tracked(state: &mut Abs, tracked: &[u16]) {
     let are_kept = state.cells().iter().all(|cell| cell.val != any()
         && tracked.binary_search(&cell.address).is_ok());
@@ -22,4 +24,6 @@ pub fn keep_tracked(state: &mut Abs, tracked: &[u16]) {
         let cells = tracked_cells(state.cells(), tracked);
         state.set_cells(cells);
     }
+    let relations = without_boxes(&state.core().registers, state.relations());
+    state.set_relations(relations);
 }

@@ -50,6 +50,14 @@ pub struct CellValue {
     pub value: u8,
 }
 
+/// A known word on the stack or in a pair of registers, or a known byte on the stack.
+#[derive(Clone, Copy, Default, PartialEq, Eq, Hash)]
+pub struct PlacedWord {
+    /// The number of its first byte on the stack, or a number above these.
+    pub place: u16,
+    pub word: u16,
+}
+
 /// When a node's turn comes: those of procedures that were found later come first, so that callees are finished
 /// before their callers go on, and of one procedure those at lower addresses, so that loops are finished before what
 /// is behind them.
@@ -91,7 +99,7 @@ pub struct Procedure {
     pub sites: BTreeSet<usize>,
     /// The numbers of the procedures that it calls, or that may interrupt it.
     pub callees: BTreeSet<usize>,
-    /// The words of stack that it needs, once gb_draft's `find_needs` has found them.
+    /// The bytes of stack that it needs, once gb_draft's `find_needs` has found them.
     pub need: usize,
 }
 
@@ -125,6 +133,8 @@ pub struct Run<'a> {
     pub points: BTreeSet<u8>,
     /// What LD SP,n16 loads, once it was met.
     pub sp: Option<u16>,
+    /// The lowest address that a known stack reached.
+    pub lowest: u16,
     /// The failures at places that were given up, the first of each.
     pub failures: Vec<Failure>,
     /// How many nodes were stepped.
@@ -136,6 +146,10 @@ pub struct Run<'a> {
     pub(crate) procedure_index: HashMap<ProcedureKey, usize>,
     /// The numbers of the values that the key cells had, from 1 on.
     pub(crate) cell_index: HashMap<Vec<CellValue>, usize>,
+    /// The numbers of the words that tell nodes apart, from 1 on.
+    pub(crate) word_index: HashMap<Vec<PlacedWord>, usize>,
+    /// The addresses behind inlined calls.
+    pub(crate) returns: BTreeSet<u16>,
     /// Calls that close a cycle of procedures.
     pub(crate) cyclic: BTreeSet<Call>,
     pub(crate) queue: BTreeSet<Turn>,

@@ -17,5 +17,5 @@ mod ways;
 
 pub use cells::pointer_cells;
 pub use plan::{Edit, Plan, parted_by};
-pub use plans::plan_for;
+pub use plans::{inline_plan, plan_for};
 pub use sources::without;

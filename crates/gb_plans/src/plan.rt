@@ -4,7 +4,7 @@ use gb_fixpoint::configuration::{Configuration, Place};
 use gb_fixpoint::register_set::RegisterSet;
 use gb_ops::op::Register;
 use std::alloc::{AllocError, Global};
-use std::collections::BTreeSet;
+use std::collections::{BTreeSet, HashMap};
 
 /// One change of a configuration.
 #[derive(Clone, Copy, PartialEq, Eq)]
@@ -19,6 +19,12 @@ pub enum Edit {
     Part(u16, RegisterSet),
     /// A cell becomes part of every key.
     Cell(u16),
+    /// A register's known values become part of the key at a place.
+    Count(Place, Register),
+    /// Whether a register is known to be 0 becomes part of the key at a place.
+    Peel(Place, Register),
+    /// Calls of a target are followed in their callers.
+    Inline(u16),
 }
 
 /// Changes that are made together.
@@ -89,7 +95,12 @@ impl Plan {
             match edit {
                 Edit::Key(place) => keys.push(*place)?,
                 Edit::Split(..) => return Ok(Vec::new(self.alloc)),
-                Edit::Page(_) | Edit::Part(..) | Edit::Cell(_) => {}
+                Edit::Page(_)
+                | Edit::Part(..)
+                | Edit::Cell(_)
+                | Edit::Count(..)
+                | Edit::Peel(..)
+                | Edit::Inline(_) => {}
             }
         }
         Ok(keys)
@@ -125,16 +136,32 @@ fn apply_edit(edit: Edit, configuration: &mut Configuration) -> Result<(), Alloc
         Edit::Cell(cell) => {
             configuration.key_cells.insert(cell)?;
         }
+        Edit::Count(place, register) => {
+            let mut registers = registers_at(&configuration.counted, place);
+            registers.insert(register);
+            configuration.counted.insert(place, registers)?;
+        }
+        Edit::Peel(place, register) => {
+            let mut registers = registers_at(&configuration.peeled, place);
+            registers.insert(register);
+            configuration.peeled.insert(place, registers)?;
+        }
+        Edit::Inline(target) => configuration.inline(target)?,
     }
     Ok(())
 }
 
-/// The registers that are taken value by value at a place.
-pub(crate) fn split_at(configuration: &Configuration, place: Place) -> RegisterSet {
-    match configuration.split.get(&place) {
+/// The registers of a place.
+pub(crate) fn registers_at(registers: &HashMap<Place, RegisterSet>, place: Place) -> RegisterSet {
+    match registers.get(&place) {
         Some(registers) => *registers,
         None => RegisterSet::empty(),
     }
+}
+
+/// The registers that are taken value by value at a place.
+pub(crate) fn split_at(configuration: &Configuration, place: Place) -> RegisterSet {
+    registers_at(&configuration.split, place)
 }
 
 /// The registers by which the procedures at a target are parted.

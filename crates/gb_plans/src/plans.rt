@@ -6,7 +6,8 @@ use crate::plan::{Edit, Plan, parted_by};
 use crate::slices::{Sought, slice};
 use crate::spots::{is_known, place_of, value_of};
 use crate::ways::Ways;
-use gb_fixpoint::cause::{Cause, Failure};
+use gb_fixpoint::Rules;
+use gb_fixpoint::cause::{Cause, Failure, StackMisuse};
 use gb_fixpoint::register_set::{REGISTERS, RegisterSet};
 use gb_fixpoint::types::{Procedure, Run, Spot};
 use gb_ops::op::Register;
@@ -472,6 +473,51 @@ fn plan_pointer(
     }
 }
 
+/// Whether following a procedure in its callers may help against a failure: more is known of what it is called with then.
+fn may_be_inlined(cause: Cause) -> bool {
+    matches!(
+        cause,
+        Cause::Bank
+            | Cause::Unreadable { .. }
+            | Cause::Stack(_)
+            | Cause::Recursion { .. }
+            | Cause::Store { .. }
+            | Cause::CartridgeRam { .. }
+            | Cause::CopiesCartridgeRam { .. }
+            | Cause::OamTransfer(_)
+            | Cause::JumpHl
+            | Cause::ReturnToUnknown
+            | Cause::ReturnWithOthers
+    )
+}
+
+/// The procedure of a failure is followed in its callers, by the rules of version 3, where it isn't yet.
+pub fn inline_plan(
+    alloc: Global,
+    run: &Run<'_>,
+    failure: &Failure,
+) -> Result<Option<Plan>, AllocError> {
+    let Some(node) = run.nodes.get(failure.node) else {
+        return Ok(None);
+    };
+    let Some(procedure) = run.procedures.get(node.key.procedure) else {
+        return Ok(None);
+    };
+    let target = match failure.cause {
+        Cause::Recursion { target } => target,
+        _ => procedure.key.target,
+    };
+    let is_callee = node.key.procedure != 0 && !procedure.key.is_handler;
+    if run.rules() == Rules::Simple
+        || !is_callee
+        || !may_be_inlined(failure.cause)
+        || run.configuration.inlined.contains(&target)
+    {
+        return Ok(None);
+    }
+    Ok(Some(Plan::of(alloc, Edit::Inline(target))?))
+}
+
 /// What to refine after a failure, if anything may help; whether its pointer is kept in RAM is given.
 pub fn plan_for(
     alloc: Global,
@@ -504,6 +550,7 @@ pub fn plan_for(
         | Cause::CartridgeRam { .. }
         | Cause::CopiesCartridgeRam { .. }
         | Cause::OamTransfer(_)
+        | Cause::Stack(StackMisuse::SetByHl)
         | Cause::JumpHl => plan_pointer(alloc, run, spot, failure, is_kept_in_ram),
         Cause::Area
         | Cause::UndefinedOpcode { .. }
@@ -511,6 +558,8 @@ pub fn plan_for(
         | Cause::Halt
         | Cause::Stack(_)
         | Cause::PushesTooMany
+        | Cause::ReturnToUnknown
+        | Cause::ReturnWithOthers
         | Cause::ReturnInMain
         | Cause::ReturnWithWords { .. }
         | Cause::InterruptWithoutStack { .. } => Ok(None),

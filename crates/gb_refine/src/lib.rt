@@ -12,7 +12,7 @@ mod shrink;
 mod tracking;
 mod written;
 
-use gb_draft::Rom;
+use gb_draft::{Rom, Rules};
 use rounds::Refinement;
 pub use rounds::{Limits, Made, Progress};
 use std::alloc::{AllocError, Global};
@@ -34,7 +34,7 @@ pub fn make<P: Progress>(
     limits: Limits,
     progress: &mut P,
 ) -> Result<Made, AllocError> {
-    let mut refinement = Refinement::new(alloc, rom, limits)?;
+    let mut refinement = Refinement::new(alloc, rom, limits, Rules::Extended)?;
     make_by(&mut refinement, progress)
 }
 

@@ -3,9 +3,11 @@
 use crate::failures::{add_failure, add_failures, tell, told};
 use crate::tracking::Cells;
 use crate::written::written;
-use gb_draft::{Cause, Configuration, Failure, Outcome, Place, Rom, Run, find_needs};
+use gb_draft::{
+    Cause, Configuration, Failure, Outcome, Place, Rom, Rules, Run, Wish, find_needs,
+};
 use gb_ops::machine::Region;
-use gb_plans::{Plan, plan_for};
+use gb_plans::{Plan, inline_plan, plan_for};
 use gb_reports::{Crowd, Obstacle, Standing};
 use std::alloc::{AllocError, Global};
 use std::collections::{BTreeMap, BTreeSet};
@@ -18,6 +20,9 @@ const EDITS_OF_KEPT: u32 = 3;
 
 /// The most obstacles that are told.
 const OBSTACLES: usize = 10;
+
+/// The bytes of a word.
+const WORD: usize = 2;
 
 /// What is told while certificates are made.
 pub trait Progress {
@@ -90,6 +95,10 @@ struct Mending {
 enum Change {
     /// The stack region is this one.
     Region(Region),
+    /// It reaches down to this one's first address.
+    Deepen(Region),
+    /// What a run wants of its configuration.
+    Wish(Wish),
     /// More cells and more values at which widening stops.
     Track(News),
     Mend(Mending),
@@ -136,12 +145,17 @@ pub(crate) struct Refinement<'a> {
 }
 
 /// The first configuration.
-fn first_configuration(alloc: Global, limits: &Limits) -> Result<Configuration, AllocError> {
-    let mut configuration = Configuration::new(alloc)?;
+fn first_configuration(
+    alloc: Global,
+    limits: &Limits,
+    rules: Rules,
+) -> Result<Configuration, AllocError> {
+    let mut configuration = Configuration::new(alloc, rules)?;
     configuration.limit = limits.nodes;
     if let Some(region) = limits.region {
         configuration.region = region;
         configuration.is_stack_seen = true;
+        configuration.is_stack_given = true;
     }
     Ok(configuration)
 }
@@ -169,12 +183,13 @@ impl<'a> Refinement<'a> {
         alloc: Global,
         rom: &'a Rom<'a>,
         limits: Limits,
+        rules: Rules,
     ) -> Result<Refinement<'a>, AllocError> {
         Ok(Refinement {
             alloc,
             rom,
             limits,
-            configuration: first_configuration(alloc, &limits)?,
+            configuration: first_configuration(alloc, &limits, rules)?,
             cells: Cells::new(alloc),
             keyed_loops: Vec::new(alloc),
             before: None,
@@ -189,9 +204,7 @@ impl<'a> Refinement<'a> {
 
     /// The stack region by the first LD SP,n16: one word below it, until more is needed.
     fn learn_stack(&self, sp: u16) -> Result<Lesson, AllocError> {
-        let last = sp.wrapping_sub(1);
-        let first = sp.wrapping_sub(2);
-        let region = Region { first, last };
+        let region = region_below(sp);
         if is_in_ram(region) {
             Ok(Lesson::Change(Change::Region(region)))
         } else {
@@ -312,7 +325,7 @@ impl<'a> Refinement<'a> {
         obstacle: Standing,
     ) -> Result<Lesson, AllocError> {
         let is_kept = !obstacle.kept_in.is_empty() || self.is_kept_in_ram(place);
-        match self.plan_at(run, failure, place, is_kept)? {
+        match self.plan_or_inline(run, failure, place, is_kept)? {
             Some(plan) => Ok(Lesson::Change(Change::Mend(Mending {
                 place,
                 reason: failure.cause.reason().number(),
@@ -339,6 +352,20 @@ impl<'a> Refinement<'a> {
         }
     }
 
+    /// What may help against a failure; else its procedure is followed in its callers.
+    fn plan_or_inline(
+        &self,
+        run: &Run<'_>,
+        failure: &Failure,
+        place: Place,
+        is_kept: bool,
+    ) -> Result<Option<Plan>, AllocError> {
+        match self.plan_at(run, failure, place, is_kept)? {
+            Some(plan) => Ok(Some(plan)),
+            None => inline_plan(self.alloc, run, failure),
+        }
+    }
+
     /// The run has met no failure but those that stand.
     fn learn_end(&self, run: &mut Run<'_>) -> Result<Lesson, AllocError> {
         if !run.failures.is_empty() {
@@ -355,18 +382,45 @@ impl<'a> Refinement<'a> {
 
     /// Whether the stack region is large enough for main, or can be made so.
     fn learn_needs(&self, run: &Run<'_>) -> Result<Lesson, AllocError> {
-        let words = match run.procedures.first() {
-            Some(main) => (main.need / 2).max(1),
-            None => 1,
+        let bytes = match run.procedures.first() {
+            Some(main) => main.need.max(WORD),
+            None => WORD,
         };
         let region = self.configuration.region;
-        match region_of(words, region.last) {
+        match region_of(bytes, region.last) {
             Some(needed) if region.first <= needed.first => { self.learn_certificate(run) }
             Some(needed) if self.limits.region.is_none() && is_in_ram(needed) => {
                 Ok(Lesson::Change(Change::Region(needed)))
             }
-            _ => end_by(self.alloc, Obstacle::StackTooDeep { words, region }),
+            _ => self.end_too_deep(bytes),
         }
+    }
+
+    /// The stack needs more than there is room for.
+    fn end_too_deep(&self, bytes: usize) -> Result<Lesson, AllocError> {
+        let words = bytes.div_ceil(WORD);
+        let region = self.configuration.region;
+        end_by(self.alloc, Obstacle::StackTooDeep { words, region })
+    }
+
+    /// Where a run's stack reached below the region, by the rules of version 3, the region reaches further down first.
+    fn deepening(&self, run: &Run<'_>) -> Result<Option<Lesson>, AllocError> {
+        let region = self.configuration.region;
+        if run.rules() == Rules::Simple
+            || region.first <= run.lowest
+            || self.limits.region.is_some()
+        {
+            return Ok(None);
+        }
+        let deeper = Region {
+            first: run.lowest,
+            last: region.last,
+        };
+        if is_in_ram(deeper) {
+            return Ok(Some(Lesson::Change(Change::Deepen(deeper))));
+        }
+        let bytes = usize::from(region.last.saturating_sub(run.lowest)).saturating_add(1);
+        Ok(Some(self.end_too_deep(bytes)?))
     }
 
     /// The certificate of a run. Where a limit stands against it, it is told as one that the checker refuses.
@@ -379,7 +433,11 @@ impl<'a> Refinement<'a> {
 
     /// What a run teaches.
     fn learn(&self, run: &mut Run<'_>, outcome: Outcome) -> Result<Lesson, AllocError> {
+        if let Some(lesson) = self.deepening(run)? {
+            return Ok(lesson);
+        }
         match outcome {
+            Outcome::Wanted(wish) => Ok(Lesson::Change(Change::Wish(wish))),
             Outcome::TooLarge => Ok(Lesson::TooLarge(Crowd::of(self.alloc, run)?)),
             Outcome::StackSet { sp } => self.learn_stack(sp),
             Outcome::Failed(failure) => self.learn_failed(run, &failure),
@@ -573,6 +631,7 @@ impl<'a> Refinement<'a> {
     /// An older configuration gets what has been learnt since, but for what tells states apart.
     fn keep_learnt(&self, older: &mut Configuration) -> Result<(), AllocError> {
         older.region = self.configuration.region;
+        older.is_stack_given = self.configuration.is_stack_given;
         older.is_stack_seen = self.configuration.is_stack_seen;
         older.tracked = self.configuration.tracked.clone()?;
         add_points(&self.configuration.points, &mut older.points)?;
@@ -605,6 +664,8 @@ impl<'a> Refinement<'a> {
     fn change(&mut self, change: Change) -> Result<(), AllocError> {
         match change {
             Change::Region(region) => self.set_region(region),
+            Change::Deepen(region) => self.deepen(region),
+            Change::Wish(wish) => self.grant(wish),
             Change::Track(news) => self.track(&news),
             Change::Mend(mending) => self.refine(mending),
             Change::GiveUp(place) => self.stand(place),
@@ -615,8 +676,29 @@ impl<'a> Refinement<'a> {
         }
     }
 
+    /// What a run wants becomes part of the configuration.
+    fn grant(&mut self, wish: Wish) -> Result<(), AllocError> {
+        match wish {
+            Wish::Inline(target) => self.configuration.inline(target),
+            Wish::Base(target) => {
+                self.configuration.based.insert(target)?;
+                Ok(())
+            }
+            Wish::Arguments { target, more } => {
+                let bytes = self.configuration.arguments_at(target).saturating_add(more);
+                self.configuration.arguments.insert(target, bytes)?;
+                Ok(())
+            }
+            Wish::Top(sp) => self.set_region(region_below(sp)),
+        }
+    }
+
     fn set_region(&mut self, region: Region) -> Result<(), AllocError> {
         self.configuration.is_stack_seen = true;
+        self.deepen(region)
+    }
+
+    fn deepen(&mut self, region: Region) -> Result<(), AllocError> {
         self.cells
             .set_region(self.alloc, &mut self.configuration, region)
     }
@@ -666,12 +748,20 @@ fn add_points(more: &BTreeSet<u8>, points: &mut BTreeSet<u8>) -> Result<(), Allo
     Ok(())
 }
 
-/// The stack region of so many words, at least one, up to an address.
-fn region_of(words: usize, last: u16) -> Option<Region> {
-    let Ok(bytes) = u16::try_from(words.saturating_mul(2).saturating_sub(1)) else {
+/// The region of one word below an address.
+fn region_below(sp: u16) -> Region {
+    Region {
+        first: sp.wrapping_sub(2),
+        last: sp.wrapping_sub(1),
+    }
+}
+
+/// The stack region of so many bytes, at least one, up to an address.
+fn region_of(bytes: usize, last: u16) -> Option<Region> {
+    let Ok(more) = u16::try_from(bytes.saturating_sub(1)) else {
         return None;
     };
-    let first = last.checked_sub(bytes)?;
+    let first = last.checked_sub(more)?;
     Some(Region { first, last })
 }
 

@@ -1,6 +1,6 @@
 //! Which memory cells are tracked: at most 32, code and what keys go by first.
 
-use gb_draft::{Configuration, RULES, Run, is_ram};
+use gb_draft::{Configuration, Run, is_ram};
 use gb_ops::machine::Region;
 use std::alloc::{AllocError, Global};
 use std::collections::BTreeSet;
@@ -116,7 +116,7 @@ impl Cells {
             }
         }
         for _ in 0..more.len() {
-            if configuration.tracked.len() <= RULES.cell_room() {
+            if configuration.tracked.len() <= configuration.rules.cell_room() {
                 break;
             }
             let Some(cell) = self.least(configuration) else {

@@ -163,6 +163,11 @@ pub(crate) const RETURN_WITH_WORDS: Advice = Advice {
     remedy: "POP before RET on every way. PUSH of an address and RET to it has to become a CALL of a JP HL.",
 };
 
+pub(crate) const RETURN_TO_UNKNOWN: Advice = Advice {
+    rule: "RET must find the word by which its procedure was called, or one that is known.",
+    remedy: "An address that is pushed to return to must be one of a few: take it from a table in ROM by a number that is compared first, or CALL each target by its address.",
+};
+
 pub(crate) const INTERRUPT_WITHOUT_STACK: Advice = Advice {
     rule: "The stack must be set before an interrupt may come.",
     remedy: "Put LD SP before EI.",

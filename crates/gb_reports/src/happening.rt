@@ -42,6 +42,8 @@ fn stack_text(misuse: StackMisuse) -> Option<&'static str> {
             Some("It pops the return address, or a word that was never pushed.")
         }
         StackMisuse::Moved => Some("It moves SP."),
+        StackMisuse::TakesTooMany => Some("It takes more from the stack than is known to be there."),
+        StackMisuse::SetByHl => Some("HL isn't known to be an address of the stack."),
         StackMisuse::SetInCallee => Some("It sets SP where main doesn't run."),
         StackMisuse::SetAgain(_) => None,
     }
@@ -70,9 +72,13 @@ fn plain_text(cause: Cause) -> Option<&'static str> {
         Cause::Bank => Some("The bank shown here isn't known."),
         Cause::Stop => Some("It is STOP."),
         Cause::Halt => Some("Interrupts may be off, and no NOP stands behind."),
-        Cause::PushesTooMany => Some("It would be the 17th word."),
+        Cause::PushesTooMany => Some("More bytes would be on the stack than can be told."),
         Cause::JumpHl => Some("HL isn't known."),
         Cause::ReturnInMain => Some("Main returns."),
+        Cause::ReturnToUnknown => Some("The word on the stack isn't known."),
+        Cause::ReturnWithOthers => {
+            Some("It leaves more or fewer bytes on the stack than another RET of the procedure.")
+        }
         Cause::Stack(misuse) => stack_text(misuse),
         Cause::OamTransfer(misuse) => transfer_text(misuse),
         _ => None,

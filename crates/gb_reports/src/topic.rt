@@ -21,7 +21,8 @@ fn stack_advice(standing: &Standing, misuse: StackMisuse) -> Advice {
     match misuse {
         StackMisuse::NotSet => advice::STACK_NOT_SET,
         StackMisuse::PopsReturnWord => advice::POPS_RETURN_WORD,
-        StackMisuse::Moved => advice::STACK_MOVED,
+        StackMisuse::Moved | StackMisuse::SetByHl => advice::STACK_MOVED,
+        StackMisuse::TakesTooMany => advice::POPS_RETURN_WORD,
         StackMisuse::SetInCallee => set_advice(standing),
         StackMisuse::SetAgain(_) => advice::STACK_SET_AGAIN,
     }
@@ -80,7 +81,8 @@ pub(crate) fn standing_advice(standing: &Standing) -> Advice {
         Cause::OamTransfer(misuse) => transfer_advice(misuse),
         Cause::JumpHl => advice::JUMP_HL,
         Cause::ReturnInMain => advice::RETURN_IN_MAIN,
-        Cause::ReturnWithWords { .. } => advice::RETURN_WITH_WORDS,
+        Cause::ReturnWithWords { .. } | Cause::ReturnWithOthers => advice::RETURN_WITH_WORDS,
+        Cause::ReturnToUnknown => advice::RETURN_TO_UNKNOWN,
         Cause::InterruptWithoutStack { .. } => advice::INTERRUPT_WITHOUT_STACK,
     }
 }
