@@ -266,10 +266,8 @@ impl<'a> Run<'a> {
             Growth::WidenedWithoutPairs
         } else if node.growths >= self.patience(node.key) {
             Growth::Widened
-        } else if self.is_head(node.key) {
-            Growth::Linked
         } else {
-            Growth::Joined
+            Growth::Linked
         };
         Some(self.widening.grown(rules, growth, &node.state, &state))
     }

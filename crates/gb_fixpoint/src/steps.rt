@@ -25,7 +25,7 @@ pub struct Steps {
 pub enum Growth {
     /// Both are joined.
     Joined,
-    /// The same at the head of a loop, where links are looked for.
+    /// The same, and links are looked for that hold in both.
     Linked,
     /// Bounds that grow go on to the next step.
     Widened,
