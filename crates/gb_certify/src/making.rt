@@ -34,6 +34,7 @@ pub fn made<R: Eprint + AllocGlobal>(
         nodes: task.nodes as usize,
         rounds: ROUNDS,
         region: task.region,
+        rules: None,
     };
     let mut progress = Shown::new(rt, is_shown);
     Ok(make(rt.alloc(), rom, limits, &mut progress)?)

@@ -212,11 +212,7 @@ fn add_others(
 
 /// Whether a procedure with a base takes over what the one takes that is entered, its base being right.
 fn fits(run: &Run<'_>, procedure: &Procedure, entered: &Entered) -> bool {
-    let ProcedureKey {
-        base,
-        taken,
-        ..
-    } = procedure.key;
+    let ProcedureKey { base, taken, .. } = procedure.key;
     let waiting = entered.held.saturating_sub(usize::from(taken));
     let is_right = base == 0
         || (entered.caller != 0

@@ -8,7 +8,7 @@ use crate::stop::Stop;
 use crate::types::Run;
 use gb_domain::pairs::WordPair;
 use gb_ops::op::{Indirect, Op, Operand, Pair, Register};
-use gb_verify::{AbsRead, AbsWrite, Abs, Core, Origin, Rules, Span, Successors, Target};
+use gb_verify::{Abs, AbsRead, AbsWrite, Core, Origin, Rules, Span, Successors, Target};
 
 /// The most bytes above the return word that a procedure takes over.
 const ARGUMENTS: u8 = 96;
@@ -105,8 +105,7 @@ impl<'a> Run<'a> {
         match u8::try_from(more) {
             Ok(more)
                 if more <= ARGUMENTS
-                    && self.configuration.arguments_at(target) <= ARGUMENTS - more =>
-            {
+                    && self.configuration.arguments_at(target) <= ARGUMENTS - more => {
                 Err(Stop::Wanted(Wish::Arguments { target, more }))
             }
             _ => self.want_inline(procedure),

@@ -8,9 +8,7 @@ use arrayvec::ArrayVec;
 use gb_domain::pairs::{NOTHING_KNOWN, Pairs};
 use gb_ops::op::Register;
 use gb_ops::registers::Registers;
-use gb_verify::{
-    Abs, Cell, Core, Ctl, Flg, May, OneByte, Origin, Range, Relations, Val, covers,
-};
+use gb_verify::{Abs, Cell, Core, Ctl, Flg, May, OneByte, Origin, Range, Relations, Val, covers};
 
 /// How often an exit grows before it is widened.
 const GROWTHS: u32 = 40;

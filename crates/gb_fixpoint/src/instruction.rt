@@ -82,13 +82,7 @@ fn misuse(rules: Rules, state: &Abs, op: Op) -> Option<StackMisuse> {
 }
 
 /// Why a known instruction can't be executed, but for what SP is set to.
-pub fn refused(
-    rules: Rules,
-    rom: &Rom<'_>,
-    state: &Abs,
-    address: u16,
-    op: Op,
-) -> Option<Cause> {
+pub fn refused(rules: Rules, rom: &Rom<'_>, state: &Abs, address: u16, op: Op) -> Option<Cause> {
     match op {
         Op::Stop => Some(Cause::Stop),
         Op::Halt

@@ -125,12 +125,7 @@ impl<'a> Run<'a> {
     }
 
     /// LD SP,n16: main's, to the address behind the region.
-    fn set_main_stack(
-        &mut self,
-        number: usize,
-        procedure: usize,
-        word: u16,
-    ) -> Result<(), Stop> {
+    fn set_main_stack(&mut self, number: usize, procedure: usize, word: u16) -> Result<(), Stop> {
         let none = RegisterSet::empty();
         if procedure != 0 {
             let cause = Cause::Stack(StackMisuse::SetInCallee);

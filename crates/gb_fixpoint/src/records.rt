@@ -129,8 +129,9 @@ impl<'a> Run<'a> {
         match self.nodes.get(number) {
             Some(node) => node.state.cells().iter().any(|cell| span.first <= cell.address
                 && cell.address <= span.last
-                && (!is_extended || (cell.val.lo == cell.val.hi
-                    && (val.lo < cell.val.lo || cell.val.hi < val.hi)))),
+                && (!is_extended
+                    || (cell.val.lo == cell.val.hi
+                        && (val.lo < cell.val.lo || cell.val.hi < val.hi)))),
             None => false,
         }
     }

@@ -223,7 +223,9 @@ pub fn refusal(rom: &Rom<'_>, standing: Standing<'_>, ways: &Successors<'_>) -> 
     } = standing;
     let core = state.core();
     let rules = stack.setting.rules;
-    if bytes_added(rules, row.op) + state.items().len() > rules.item_room() && ways.taken.is_some() {
+    if bytes_added(rules, row.op) + state.items().len() > rules.item_room()
+        && ways.taken.is_some()
+    {
         return Some((Cause::PushesTooMany, RegisterSet::empty()));
     }
     let storable = storable(rules, stack.region);

@@ -134,7 +134,10 @@ pub(crate) fn without_boxes(registers: &Registers<Val>, relations: &Relations) -
             set_facts(pair, PairFacts { bounds, ..facts }, &mut pairs);
         }
     }
-    Relations { pairs, ..*relations }
+    Relations {
+        pairs,
+        ..*relations
+    }
 }
 
 /// What is known of several parts together in both, by the rules of version 3.

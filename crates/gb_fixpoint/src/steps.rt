@@ -5,8 +5,8 @@ use crate::joining::{join, known_of};
 use crate::linking::with_links;
 use crate::relating::without_boxes;
 use arrayvec::ArrayVec;
-use gb_ops::registers::Registers;
 use gb_domain::pairs::{Bounds, PairFacts, Pairs};
+use gb_ops::registers::Registers;
 use gb_product::reduced::reduced;
 use gb_verify::{Abs, Cell, Core, Relations, Rules, Val, any, cell_at, covers};
 use std::collections::BTreeSet;
@@ -18,7 +18,16 @@ pub struct Steps {
     below: [u8; 256],
     /// The least step that is at least a value.
     above: [u8; 256],
+    /// The same of a pair's high byte, for which the areas' ends are steps too.
+    high_below: [u8; 256],
+    high_above: [u8; 256],
 }
+
+/// The high bytes of the first addresses of areas: ROM's second half, video RAM with its parts, cartridge RAM, work RAM and
+/// its second half, the echo, objects and registers.
+const AREAS: [u8; 11] = [
+    0x40, 0x80, 0x88, 0x90, 0x98, 0x9C, 0xA0, 0xC0, 0xD0, 0xE0, 0xFE,
+];
 
 /// How a state becomes one above another one.
 #[derive(Clone, Copy, PartialEq, Eq)]
@@ -38,6 +47,16 @@ fn marks(points: &BTreeSet<u8>) -> [bool; 256] {
     let mut marks = [false; 256];
     for point in points {
         marks[usize::from(*point)] = true;
+    }
+    marks
+}
+
+/// The same marks, with those of the areas' ends: the last page of one, and the first page of the next.
+fn with_areas(marks: &[bool; 256]) -> [bool; 256] {
+    let mut marks = *marks;
+    for first in AREAS {
+        marks[usize::from(first)] = true;
+        marks[usize::from(first.saturating_sub(1))] = true;
     }
     marks
 }
@@ -72,9 +91,12 @@ fn next_marked(marks: &[bool; 256]) -> [u8; 256] {
 impl Steps {
     pub fn new(points: &BTreeSet<u8>) -> Steps {
         let marks = marks(points);
+        let high_marks = with_areas(&marks);
         Steps {
             below: last_marked(&marks),
             above: next_marked(&marks),
+            high_below: last_marked(&high_marks),
+            high_above: next_marked(&high_marks),
         }
     }
 
@@ -141,14 +163,14 @@ impl Steps {
     /// counted down.
     fn page_below(&self, word: u16) -> u16 {
         let [high, _] = word.to_be_bytes();
-        let first = u16::from_be_bytes([self.below[usize::from(high)], 0]);
+        let first = u16::from_be_bytes([self.high_below[usize::from(high)], 0]);
         if first == 0 && word > 0 { 1 } else { first }
     }
 
     /// The least last address of a page that is at least a word.
     fn page_above(&self, word: u16) -> u16 {
         let [high, _] = word.to_be_bytes();
-        u16::from_be_bytes([self.above[usize::from(high)], 255])
+        u16::from_be_bytes([self.high_above[usize::from(high)], 255])
     }
 
     fn widen_bounds(&self, old: Bounds, new: Bounds) -> Bounds {

@@ -8,7 +8,7 @@ use crate::ways::Ways;
 use gb_fixpoint::configuration::Place;
 use gb_fixpoint::register_set::RegisterSet;
 use gb_fixpoint::types::{Run, Spot};
-use gb_ops::op::Register;
+use gb_ops::op::{Op, Register};
 use std::alloc::{AllocError, Global};
 
 /// How many instructions a slice goes back.
@@ -139,10 +139,12 @@ impl Walk {
         let Some(op) = op_at(run, spot) else {
             return Ok(false);
         };
-        let Some(wanted) = sources(op, &self.wanted) else {
+        // What is known at the spot needs no source.
+        let open = open_at(run, self.spot(), &self.wanted, true);
+        let Some(wanted) = sources_before(op, self.at, &open) else {
             return Ok(false);
         };
-        if let Some((high, _)) = pointer_of(op, &self.wanted) {
+        if let Some((high, _)) = pointer_of(op, &open) {
             self.is_behind_table = self.is_behind_table || points_to_rom(run, spot, high);
         }
         self.wanted = wanted;
@@ -170,6 +172,16 @@ impl Walk {
         };
         plan.add(Edit::Split(place, cut.register))?;
         Ok(Some(plan))
+    }
+}
+
+/// The registers before an instruction from which the wanted ones get their values at an address: an inlined call changes
+/// none on its way in.
+fn sources_before(op: Op, at: u16, wanted: &RegisterSet) -> Option<RegisterSet> {
+    match op {
+        Op::Call(target) | Op::CallIf(_, target) if target == at => Some(*wanted),
+        Op::Restart(target) if u16::from(target) == at => Some(*wanted),
+        _ => sources(op, wanted),
     }
 }
 

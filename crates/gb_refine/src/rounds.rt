@@ -3,9 +3,7 @@
 use crate::failures::{add_failure, add_failures, tell, told};
 use crate::tracking::Cells;
 use crate::written::written;
-use gb_draft::{
-    Cause, Configuration, Failure, Outcome, Place, Rom, Rules, Run, Wish, find_needs,
-};
+use gb_draft::{Cause, Configuration, Failure, Outcome, Place, Rom, Rules, Run, Wish, find_needs};
 use gb_ops::machine::Region;
 use gb_plans::{Plan, inline_plan, plan_for};
 use gb_reports::{Crowd, Obstacle, Standing};
@@ -48,6 +46,8 @@ pub struct Limits {
     pub rounds: u32,
     /// The stack region, where the user has said which.
     pub region: Option<Region>,
+    /// The rules by which certificates are sought, where the user has said which.
+    pub rules: Option<Rules>,
 }
 
 /// What became of a cartridge.

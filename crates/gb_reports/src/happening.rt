@@ -42,7 +42,9 @@ fn stack_text(misuse: StackMisuse) -> Option<&'static str> {
             Some("It pops the return address, or a word that was never pushed.")
         }
         StackMisuse::Moved => Some("It moves SP."),
-        StackMisuse::TakesTooMany => Some("It takes more from the stack than is known to be there."),
+        StackMisuse::TakesTooMany => Some(
+            "It takes more from the stack than is known to be there.",
+        ),
         StackMisuse::SetByHl => Some("HL isn't known to be an address of the stack."),
         StackMisuse::SetInCallee => Some("It sets SP where main doesn't run."),
         StackMisuse::SetAgain(_) => None,

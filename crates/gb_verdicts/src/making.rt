@@ -11,6 +11,7 @@ const LIMITS: Limits = Limits {
     nodes: 4_000,
     rounds: 400,
     region: None,
+    rules: None,
 };
 
 /// A maker that tells nothing on its way.
