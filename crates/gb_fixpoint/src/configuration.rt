@@ -40,8 +40,8 @@ pub struct Configuration {
     pub split: HashMap<Place, RegisterSet>,
     /// The registers whose known values are part of the key: counters of outer loops, whose rounds are told apart.
     pub counted: HashMap<Place, RegisterSet>,
-    /// The registers of which is part of the key whether they are known to be 0: counters that begin at 0, where the first
-    /// round is told apart.
+    /// The registers of which is part of the key whether they are 0, or FF: counters that begin at 0, or that are counted down
+    /// before they are looked at, where the first or the last round is told apart.
     pub peeled: HashMap<Place, RegisterSet>,
     /// By the address where procedures begin, the registers by whose known values they are parted.
     pub parted: HashMap<u16, RegisterSet>,

@@ -10,7 +10,7 @@ use crate::types::{CellValue, Edge, Node, Run, Spot};
 use arrayvec::ArrayVec;
 use gb_ops::op::Register;
 use gb_product::reduced::reduced;
-use gb_verify::{Abs, Cell, Core, Rules, cell_at, covers, with_value};
+use gb_verify::{Abs, Cell, Core, Rules, Val, cell_at, covers};
 
 /// How often a node grows by joins alone.
 const GROWTHS: u32 = 60;
@@ -59,20 +59,54 @@ impl<'a> Run<'a> {
             address: to,
         };
         let Some(register) = self.split_register(place, state.core()) else {
-            return self.arrive_at(from, procedure, place, state);
+            return self.arrive_peeled(from, procedure, place, state);
         };
         let val = state.core().registers.get(register);
         for value in val.lo..=val.hi {
-            if let Some(single) = self.with_single(register, value, &state) {
+            if let Some(single) = self.with_bounds(register, value, value, &state) {
                 self.arrive_at(from, procedure, place, single)?;
             }
         }
         Ok(())
     }
 
-    /// A state in which a register has one value; none where nothing is meant then.
-    fn with_single(&self, register: Register, value: u8, state: &Abs) -> Option<Abs> {
-        let core = with_value(register, value, state.core());
+    /// A state arrives: where a counter that is told apart may be 0 and more, in two parts.
+    fn arrive_peeled(
+        &mut self,
+        from: usize,
+        procedure: usize,
+        place: Place,
+        state: Abs,
+    ) -> Result<(), Stop> {
+        let Some(register) = self.peeled_register(place, state.core()) else {
+            return self.arrive_at(from, procedure, place, state);
+        };
+        let last = state.core().registers.get(register).hi;
+        for (lo, hi) in [(0, 0), (1, last)] {
+            if let Some(part) = self.with_bounds(register, lo, hi, &state) {
+                self.arrive_at(from, procedure, place, part)?;
+            }
+        }
+        Ok(())
+    }
+
+    /// The counter that is told apart at a place and may be 0 and more.
+    fn peeled_register(&self, place: Place, core: &Core) -> Option<Register> {
+        let peeled = self.configuration.peeled.get(&place)?;
+        for register in REGISTERS {
+            let val = core.registers.get(register);
+            if peeled.contains(register) && val.lo == 0 && val.hi > 0 {
+                return Some(register);
+            }
+        }
+        None
+    }
+
+    /// A state in which a register has other bounds; none where nothing is meant then.
+    fn with_bounds(&self, register: Register, lo: u8, hi: u8, state: &Abs) -> Option<Abs> {
+        let mut core = *state.core();
+        let val = core.registers.get(register);
+        core.registers.set(register, Val { lo, hi, ..val });
         let product = reduced(self.rules(), &core, state.relations())?;
         let mut single = state.with_core(product.core);
         single.set_relations(product.relations);
@@ -132,7 +166,7 @@ impl<'a> Run<'a> {
             wanted = wanted.union(&RegisterSet::of(&[Register::D, Register::H]));
         }
         match self.configuration.peeled.get(&place) {
-            Some(peeled) => KnownRegisters::with_zeros(values, &wanted, peeled),
+            Some(peeled) => KnownRegisters::with_ends(values, &wanted, peeled),
             None => KnownRegisters::of(values, &wanted),
         }
     }

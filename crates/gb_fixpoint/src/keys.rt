@@ -93,19 +93,20 @@ impl KnownRegisters {
         }
     }
 
-    /// Those of these registers that are known, and those of others that are known to be 0.
-    pub fn with_zeros(
+    /// Those of these registers that are known, and those of others that are known to be 0, or FF, to which 0 is counted down.
+    pub fn with_ends(
         registers: &Registers<Val>,
         wanted: &RegisterSet,
         peeled: &RegisterSet,
     ) -> KnownRegisters {
-        let mut zeros = RegisterSet::empty();
+        let mut ends = RegisterSet::empty();
         for register in REGISTERS {
-            if peeled.contains(register) && registers.get(register).hi == 0 {
-                zeros.insert(register);
+            let val = registers.get(register);
+            if peeled.contains(register) && (val.hi == 0 || val.lo == u8::MAX) {
+                ends.insert(register);
             }
         }
-        KnownRegisters::of(registers, &wanted.union(&zeros))
+        KnownRegisters::of(registers, &wanted.union(&ends))
     }
 
     /// No register.

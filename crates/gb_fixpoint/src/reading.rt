@@ -12,36 +12,57 @@ use gb_ops::op::{AluOp, Op, Operand, Pair, Register, Row};
 use gb_product::reduced::reduced;
 use gb_verify::{Abs, Rules, Span, known_byte, length_of};
 
+/// What stands at a node.
+#[derive(Clone, Copy)]
+struct Found {
+    address: u16,
+    /// The number of its procedure.
+    procedure: usize,
+    opcode: Option<u8>,
+    /// The instruction, or why there is none that can be executed.
+    row: Result<Row, Cause>,
+}
+
 impl<'a> Run<'a> {
     /// The instruction at a node. The code bytes in RAM, the values that it compares with or loads, and what LD SP,n16
     /// loads are recorded.
     pub(crate) fn instruction_at(&mut self, number: usize) -> Result<Row, Stop> {
+        let found = self.found_at(number)?;
+        if found.address >= 0x8000 {
+            self.record_code(found.address, found.opcode)?;
+        }
+        let row = match found.row {
+            Ok(row) => row,
+            Err(cause) => return Err(Run::failure(number, cause, RegisterSet::empty())),
+        };
+        match row.op {
+            Op::LoadPair(Pair::Sp, word) => self.set_stack(number, found.procedure, word)?,
+            Op::LoadSpHl => self.set_by_hl(number, found.procedure)?,
+            _ => {}
+        }
+        self.record_points(row.op)?;
+        Ok(row)
+    }
+
+    /// What stands at a node, and what it asks of the configuration.
+    fn found_at(&self, number: usize) -> Result<Found, Stop> {
         let Some(node) = self.nodes.get(number) else {
             return Err(Run::failure(number, Cause::Area, RegisterSet::empty()));
         };
         let (address, procedure) = (node.key.address, node.key.procedure);
-        let opcode = known_byte(self.rom, &node.state, address);
-        let found = match decoded(self.rom, &node.state, address) {
+        let row = match decoded(self.rom, &node.state, address) {
             Ok(row) => match self.refused_at(procedure, &node.state, address, row.op)? {
                 None => Ok(row),
                 Some(cause) => Err(cause),
             },
             Err(cause) => Err(cause),
         };
-        if address >= 0x8000 {
-            self.record_code(address, opcode)?;
-        }
-        let row = match found {
-            Ok(row) => row,
-            Err(cause) => return Err(Run::failure(number, cause, RegisterSet::empty())),
-        };
-        match row.op {
-            Op::LoadPair(Pair::Sp, word) => self.set_stack(number, procedure, word)?,
-            Op::LoadSpHl => self.set_by_hl(number, procedure)?,
-            _ => {}
-        }
-        self.record_points(row.op)?;
-        Ok(row)
+        Ok(Found {
+            address,
+            procedure,
+            opcode: known_byte(self.rom, &node.state, address),
+            row,
+        })
     }
 
     /// The bytes of an instruction in RAM are wanted, as far as its length is known.

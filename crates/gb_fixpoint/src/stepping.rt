@@ -6,7 +6,10 @@ use crate::register_set::RegisterSet;
 use crate::stop::Stop;
 use crate::tracking::keep_tracked;
 use crate::types::Run;
-use gb_verify::{Abs, Rules, Successor, Target, left_by_dispatch, may_come, successors_of};
+use gb_ops::op::Op;
+use gb_verify::{
+    Abs, Rules, Successor, Successors, Target, left_by_dispatch, may_come, successors_of,
+};
 
 /// The address that interrupt 0 calls; those of the others follow it, 8 bytes apart.
 pub(crate) const FIRST_VECTOR: u16 = 0x40;
@@ -19,8 +22,8 @@ impl<'a> Run<'a> {
             return Ok(());
         };
         let (procedure, address) = (node.key.procedure, node.key.address);
-        let stack = self.stack_of(procedure);
         let state = node.state.copied();
+        let stack = self.stack_of(procedure);
         let ways = successors_of(stack, self.rom, row, address, &state);
         self.ask_behind(procedure, &ways)?;
         let standing = Standing {
@@ -32,6 +35,7 @@ impl<'a> Run<'a> {
         if let Some((cause, registers)) = refusal(self.rom, standing, &ways) {
             return Err(Run::failure(number, cause, registers));
         }
+        self.refuse_return(number, row.op, &ways)?;
         self.record_accesses(number, row.op, &ways)?;
         let taken = self.follow(number, ways.taken);
         self.keep(taken)?;
@@ -40,6 +44,29 @@ impl<'a> Run<'a> {
         let stays = self.follow(number, ways.stays);
         self.keep(stays)?;
         self.interrupt(number)
+    }
+
+    /// RETI of a handler that goes on at a word which it has pushed: no rule is against it, but no one means it.
+    fn refuse_return(&self, number: usize, op: Op, ways: &Successors<'_>) -> Result<(), Stop> {
+        let Some(node) = self.nodes.get(number) else {
+            return Ok(());
+        };
+        let is_handler = match self.procedures.get(node.key.procedure) {
+            Some(procedure) => procedure.key.is_handler,
+            None => false,
+        };
+        match &ways.taken {
+            Some(taken)
+                if is_handler
+                    && op == Op::ReturnFromInterrupt
+                    && matches!(taken.target, Target::At(_)) =>
+            {
+                let words = (node.state.items().len() / 2).saturating_sub(1);
+                let cause = Cause::ReturnWithWords { words };
+                Err(Run::failure(number, cause, RegisterSet::empty()))
+            }
+            _ => Ok(()),
+        }
     }
 
     /// Goes on by one way.
@@ -72,7 +99,7 @@ impl<'a> Run<'a> {
         if !core.ime.on {
             return Ok(());
         }
-        let after = left_by_dispatch(self.rules(), address, &node.state);
+        let after = left_by_dispatch(self.configuration.rules, address, &node.state);
         for interrupt in 0..5u8 {
             if may_come(interrupt, &core) {
                 if !core.stack_set {

@@ -162,8 +162,8 @@ fn at_all(
     Ok(plan)
 }
 
-/// Whether a register may be 0 and more in a node where a loop is entered: a counter that began at 0.
-fn begins_at_zero(run: &Run<'_>, procedure: usize, heads: &[u16], register: Register) -> bool {
+/// Whether a register may be 0 and more in a node where a loop is entered: a counter that began at 0, or ends there.
+fn may_be_zero(run: &Run<'_>, procedure: usize, heads: &[u16], register: Register) -> bool {
     for head in heads {
         let spot = Spot {
             procedure,
@@ -172,7 +172,7 @@ fn begins_at_zero(run: &Run<'_>, procedure: usize, heads: &[u16], register: Regi
         for number in run.nodes_at(spot) {
             if let Some(node) = run.nodes.get(*number) {
                 let val = value_of(node, register);
-                if !node.key.is_entry && val.lo == 0 && val.hi == u8::MAX {
+                if !node.key.is_entry && val.lo == 0 && val.hi > 0 {
                     return true;
                 }
             }
@@ -181,7 +181,7 @@ fn begins_at_zero(run: &Run<'_>, procedure: usize, heads: &[u16], register: Regi
     false
 }
 
-/// The first round of a loop is told apart whose counter begins at 0.
+/// The first or the last round of a loop is told apart whose counter may be 0.
 fn peel_loop(
     alloc: Global,
     run: &Run<'_>,
@@ -195,7 +195,7 @@ fn peel_loop(
     for register in REGISTERS {
         if counters.contains(register)
             && !is_told(&run.configuration.peeled, target, around, register)
-            && begins_at_zero(run, procedure, heads.as_slice(), register)
+            && may_be_zero(run, procedure, heads.as_slice(), register)
         {
             return Ok(Some(at_all(alloc, target, around, register, true)?));
         }

@@ -21,7 +21,7 @@ pub enum Edit {
     Cell(u16),
     /// A register's known values become part of the key at a place.
     Count(Place, Register),
-    /// Whether a register is known to be 0 becomes part of the key at a place.
+    /// Whether a register is 0 becomes part of the key at a place.
     Peel(Place, Register),
     /// Calls of a target are followed in their callers.
     Inline(u16),

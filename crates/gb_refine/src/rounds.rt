@@ -116,6 +116,8 @@ enum Lesson {
     TooLarge(Crowd),
     /// What stands in the way for good.
     End(Vec<Obstacle>),
+    /// What was first met at a place stands in the way for good.
+    EndAt(Place),
     /// A certificate, which no one has checked yet.
     Certificate(Vec<u8>),
 }
@@ -302,6 +304,21 @@ impl<'a> Refinement<'a> {
         before.cause == Cause::JumpHl && is_no_code && comes_from(run, failure.node, before.place)
     }
 
+    /// The place where a procedure calls itself that was followed in its callers, where it pushes without an end.
+    fn recursion_behind(&self, failure: &Failure) -> Option<Place> {
+        if failure.cause != Cause::PushesTooMany {
+            return None;
+        }
+        for (place, standing) in self.first.iter() {
+            if let Cause::Recursion { target } = standing.cause
+                && self.configuration.inlined.contains(&target)
+            {
+                return Some(*place);
+            }
+        }
+        None
+    }
+
     /// A failure: what to refine, if anything may help.
     fn learn_failure(&self, run: &Run<'_>, failure: &Failure) -> Result<Lesson, AllocError> {
         let Some(place) = run.place_of(failure.node) else {
@@ -309,6 +326,9 @@ impl<'a> Refinement<'a> {
         };
         if self.leads_nowhere(run, failure) {
             return Ok(Lesson::Change(Change::TakeBack));
+        }
+        if let Some(place) = self.recursion_behind(failure) {
+            return Ok(Lesson::EndAt(place));
         }
         match told(self.alloc, run, failure)? {
             Some(obstacle) => self.mend(run, failure, place, obstacle),
@@ -595,6 +615,14 @@ impl<'a> Refinement<'a> {
         }
     }
 
+    /// The failure at a place is told alone, as it was first met.
+    fn end_as_first(&mut self, place: Place) -> Result<Made, AllocError> {
+        match self.first.remove(&place) {
+            Some(standing) => end_alone(self.alloc, Obstacle::Standing(standing)),
+            None => end_alone(self.alloc, Obstacle::Refused),
+        }
+    }
+
     /// An obstacle as it was first met, where its pointer is kept in RAM: later ones are told apart value by value.
     fn as_first_met(&mut self, obstacle: Obstacle) -> Obstacle {
         match obstacle {
@@ -657,6 +685,7 @@ impl<'a> Refinement<'a> {
             }
             Lesson::TooLarge(crowd) => self.shrink_back(crowd),
             Lesson::End(obstacles) => Ok(Some(self.end(obstacles)?)),
+            Lesson::EndAt(place) => Ok(Some(self.end_as_first(place)?)),
             Lesson::Certificate(bytes) => Ok(Some(Made::Certificate(bytes))),
         }
     }
