@@ -59,8 +59,7 @@ impl<'a> Run<'a> {
             Some(taken)
                 if is_handler
                     && op == Op::ReturnFromInterrupt
-                    && matches!(taken.target, Target::At(_)) =>
-            {
+                    && matches!(taken.target, Target::At(_)) => {
                 let words = (node.state.items().len() / 2).saturating_sub(1);
                 let cause = Cause::ReturnWithWords { words };
                 Err(Run::failure(number, cause, RegisterSet::empty()))
