@@ -22,6 +22,9 @@ const OBSTACLES: usize = 10;
 /// The bytes of a word.
 const WORD: usize = 2;
 
+/// How many steps of nodes all rounds together may take: no more is begun behind them.
+const STEPS: u64 = 12_000_000;
+
 /// What is told while certificates are made.
 pub trait Progress {
     /// A round begins.
@@ -144,6 +147,8 @@ pub(crate) struct Refinement<'a> {
     pub(crate) targets: BTreeMap<u16, usize>,
     /// The steps of the last run.
     pub(crate) steps: u64,
+    /// The steps of all runs.
+    spent: u64,
 }
 
 /// The first configuration.
@@ -201,6 +206,7 @@ impl<'a> Refinement<'a> {
             too_large: BTreeSet::new(alloc),
             targets: BTreeMap::new(alloc),
             steps: 0,
+            spent: 0,
         })
     }
 
@@ -518,6 +524,7 @@ impl<'a> Refinement<'a> {
         progress.ran(run.nodes.len(), run.procedures.len());
         self.cells.learn(run)?;
         self.steps = run.steps;
+        self.spent = self.spent.saturating_add(run.steps);
         self.targets = targets_of(self.alloc, run)?;
         self.learn(run, outcome)
     }
@@ -739,11 +746,9 @@ impl<'a> Refinement<'a> {
         self.cells.track(&mut self.configuration, &news.cells)
     }
 
-    /// There were more rounds than allowed: the failure that was to be mended last is told.
-    fn out_of_rounds(&mut self) -> Result<Made, AllocError> {
-        let rounds = Obstacle::Rounds {
-            rounds: self.limits.rounds,
-        };
+    /// There were more rounds than allowed, or they took too long: the failure that was to be mended last is told.
+    fn out_of_rounds(&mut self, rounds: u32) -> Result<Made, AllocError> {
+        let rounds = Obstacle::Rounds { rounds };
         match self.before.take() {
             Some(before) => self.end_at(before.place, rounds),
             None => end_alone(self.alloc, rounds),
@@ -757,8 +762,11 @@ impl<'a> Refinement<'a> {
             if let Some(made) = self.round(progress)? {
                 return Ok(made);
             }
+            if self.spent > STEPS {
+                return self.out_of_rounds(round.saturating_add(1));
+            }
         }
-        self.out_of_rounds()
+        self.out_of_rounds(self.limits.rounds)
     }
 
     pub(crate) fn alloc(&self) -> Global {
