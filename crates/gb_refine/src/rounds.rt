@@ -148,8 +148,12 @@ pub(crate) struct Refinement<'a> {
     too_large: BTreeSet<Place>,
     /// How many procedures began at each address in the last run.
     pub(crate) targets: BTreeMap<u16, usize>,
-    /// The steps of the last run.
+    /// The nodes and the steps of the last run.
+    pub(crate) nodes: usize,
     pub(crate) steps: u64,
+    /// How many pairs of nodes the last run had at one address: a state that no node covers is sought among them value by
+    /// value.
+    pub(crate) pairs: u64,
     /// The steps of all runs.
     spent: u64,
     /// Whether the limit of nodes or of steps was met.
@@ -210,7 +214,9 @@ impl<'a> Refinement<'a> {
             given_up: Vec::new(alloc),
             too_large: BTreeSet::new(alloc),
             targets: BTreeMap::new(alloc),
+            nodes: 0,
             steps: 0,
+            pairs: 0,
             spent: 0,
             is_limited: false,
         })
@@ -529,7 +535,9 @@ impl<'a> Refinement<'a> {
         let outcome = run.run()?;
         progress.ran(run.nodes.len(), run.procedures.len());
         self.cells.learn(run)?;
+        self.nodes = run.nodes.len();
         self.steps = run.steps;
+        self.pairs = pairs_of(run);
         self.spent = self.spent.saturating_add(run.steps);
         self.targets = targets_of(self.alloc, run)?;
         self.learn(run, outcome)
@@ -832,6 +840,16 @@ fn comes_from(run: &Run<'_>, number: usize, place: Place) -> bool {
         };
     }
     false
+}
+
+/// How many pairs of nodes there are at one address of a run.
+fn pairs_of(run: &Run<'_>) -> u64 {
+    let mut pairs: u64 = 0;
+    for nodes in run.at.values() {
+        let count = nodes.len() as u64;
+        pairs = pairs.saturating_add(count.saturating_mul(count));
+    }
+    pairs
 }
 
 /// How many procedures of a run begin at each address.
