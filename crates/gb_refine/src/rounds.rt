@@ -1,26 +1,19 @@
 //! The rounds: a run, what is learnt from where it stopped, and a finer configuration.
 
-use crate::failures::{add_failure, add_failures, tell, told};
+use crate::failures::tell;
 use crate::tracking::Cells;
-use crate::written::written;
-use gb_draft::{Cause, Configuration, Failure, Outcome, Place, Rom, Rules, Run, Wish, find_needs};
+use gb_draft::{Cause, Configuration, Place, Rom, Rules, Run, Wish};
 use gb_ops::machine::Region;
-use gb_plans::{Plan, inline_plan, plan_for};
+use gb_plans::Plan;
 use gb_reports::{Crowd, Obstacle, Standing};
 use std::alloc::{AllocError, Global};
 use std::collections::{BTreeMap, BTreeSet};
 
-/// The most edits for one place and reason.
-const EDITS: u32 = 12;
-
-/// The most edits for one place and reason, where the pointer is kept in RAM: it would be told apart through all memory.
-const EDITS_OF_KEPT: u32 = 6;
-
 /// The most obstacles that are told.
-const OBSTACLES: usize = 10;
+pub(crate) const OBSTACLES: usize = 10;
 
 /// The bytes of a word.
-const WORD: usize = 2;
+pub(crate) const WORD: usize = 2;
 
 /// How many steps of nodes all rounds together may take: no more is begun behind them.
 const STEPS: u64 = 12_000_000;
@@ -67,38 +60,38 @@ pub enum Made {
 
 /// An edit that may have to be taken back: what was before it, and the failure that it was to mend.
 #[derive(Drop)]
-struct Before {
-    configuration: Configuration,
-    place: Place,
-    cause: Cause,
+pub(crate) struct Before {
+    pub(crate) configuration: Configuration,
+    pub(crate) place: Place,
+    pub(crate) cause: Cause,
 }
 
 /// A place and a reason, by whose number edits are counted.
 #[derive(Clone, Copy, PartialEq, Eq, PartialOrd, Ord)]
-struct Tried {
-    place: Place,
-    reason: u8,
+pub(crate) struct Tried {
+    pub(crate) place: Place,
+    pub(crate) reason: u8,
 }
 
 /// Cells that aren't tracked yet, and values at which widening doesn't stop yet.
 #[derive(Drop)]
-struct News {
-    cells: Vec<u16>,
-    points: Vec<u8>,
+pub(crate) struct News {
+    pub(crate) cells: Vec<u16>,
+    pub(crate) points: Vec<u8>,
 }
 
 /// Something is to be refined; the failure stands otherwise.
 #[derive(Drop)]
-struct Mending {
-    place: Place,
-    reason: u8,
-    plan: Plan,
-    obstacle: Standing,
+pub(crate) struct Mending {
+    pub(crate) place: Place,
+    pub(crate) reason: u8,
+    pub(crate) plan: Plan,
+    pub(crate) obstacle: Standing,
 }
 
 /// What is to be done otherwise in the next round.
 #[derive(Drop)]
-enum Change {
+pub(crate) enum Change {
     /// The stack region is this one.
     Region(Region),
     /// It reaches down to this one's first address.
@@ -116,7 +109,7 @@ enum Change {
 
 /// What a run teaches.
 #[derive(Drop)]
-enum Lesson {
+pub(crate) enum Lesson {
     Change(Change),
     /// The run was too large.
     TooLarge(Crowd),
@@ -131,21 +124,21 @@ enum Lesson {
 /// The refinement of one cartridge.
 #[derive(Drop)]
 pub(crate) struct Refinement<'a> {
-    alloc: Global,
+    pub(crate) alloc: Global,
     rom: &'a Rom<'a>,
-    limits: Limits,
+    pub(crate) limits: Limits,
     pub(crate) configuration: Configuration,
-    cells: Cells,
+    pub(crate) cells: Cells,
     /// Loops that were keyed, which shrinking may take back.
     pub(crate) keyed_loops: Vec<Vec<Place>>,
-    before: Option<Before>,
+    pub(crate) before: Option<Before>,
     /// The failures at places that were refined, as they were first met.
-    first: BTreeMap<Place, Standing>,
-    tried: BTreeMap<Tried, u32>,
+    pub(crate) first: BTreeMap<Place, Standing>,
+    pub(crate) tried: BTreeMap<Tried, u32>,
     /// Where failures stand, in the order in which they were met.
-    given_up: Vec<Place>,
+    pub(crate) given_up: Vec<Place>,
     /// Where a finer configuration made the run too large.
-    too_large: BTreeSet<Place>,
+    pub(crate) too_large: BTreeSet<Place>,
     /// How many procedures began at each address in the last run.
     pub(crate) targets: BTreeMap<u16, usize>,
     /// The nodes and the steps of the last run.
@@ -177,15 +170,10 @@ fn first_configuration(
 }
 
 /// One obstacle alone.
-fn alone(alloc: Global, obstacle: Obstacle) -> Result<Vec<Obstacle>, AllocError> {
+pub(crate) fn alone(alloc: Global, obstacle: Obstacle) -> Result<Vec<Obstacle>, AllocError> {
     let mut obstacles = Vec::new(alloc);
     obstacles.push(obstacle)?;
     Ok(obstacles)
-}
-
-/// What stands in the way for good, and nothing else.
-fn end_by(alloc: Global, obstacle: Obstacle) -> Result<Lesson, AllocError> {
-    Ok(Lesson::End(alone(alloc, obstacle)?))
 }
 
 /// One obstacle is told at the end.
@@ -220,286 +208,6 @@ impl<'a> Refinement<'a> {
             spent: 0,
             is_limited: false,
         })
-    }
-
-    /// The stack region by the first LD SP,n16: one word below it, until more is needed.
-    fn learn_stack(&self, sp: u16) -> Result<Lesson, AllocError> {
-        let region = region_below(sp);
-        if is_in_ram(region) {
-            Ok(Lesson::Change(Change::Region(region)))
-        } else {
-            end_by(self.alloc, Obstacle::NoStack { sp })
-        }
-    }
-
-    /// What a run wants to know besides what is known.
-    fn news(&self, run: &Run<'_>) -> Result<News, AllocError> {
-        let tracked = &self.configuration.tracked;
-        let cells = self.cells.missing(self.alloc, &run.wanted, tracked)?;
-        let points = self.new_points(&run.points)?;
-        Ok(News { cells, points })
-    }
-
-    /// The values at which widening had better stop, and that aren't known yet.
-    fn new_points(&self, wanted: &BTreeSet<u8>) -> Result<Vec<u8>, AllocError> {
-        let mut points = Vec::new(self.alloc);
-        for point in wanted {
-            if !self.configuration.points.contains(point) {
-                points.push(*point)?;
-            }
-        }
-        Ok(points)
-    }
-
-    /// How often a place was refined for a reason.
-    fn edits_at(&self, place: Place, reason: u8) -> u32 {
-        match self.tried.get(&Tried { place, reason }) {
-            Some(count) => *count,
-            None => 0,
-        }
-    }
-
-    /// The failures of a run at places that were given up, in the order in which they were met, and one more.
-    fn standing(&self, run: &Run<'_>, last: Option<&Failure>) -> Result<Vec<Obstacle>, AllocError> {
-        let mut obstacles = Vec::new(self.alloc);
-        self.add_standing(run, last, &mut obstacles)?;
-        obstacles.truncate(OBSTACLES);
-        Ok(obstacles)
-    }
-
-    fn add_standing(
-        &self,
-        run: &Run<'_>,
-        last: Option<&Failure>,
-        obstacles: &mut Vec<Obstacle>,
-    ) -> Result<(), AllocError> {
-        for place in &self.given_up {
-            let is_too_large = self.too_large.contains(place);
-            add_failures(self.alloc, run, *place, is_too_large, obstacles)?;
-        }
-        match last {
-            Some(failure) => add_failure(self.alloc, run, failure, false, obstacles),
-            None => Ok(()),
-        }
-    }
-
-    /// Nothing more helps against a failure.
-    fn give_up(
-        &self,
-        run: &Run<'_>,
-        failure: &Failure,
-        place: Place,
-    ) -> Result<Lesson, AllocError> {
-        let is_last = self.given_up.len() + 1 >= OBSTACLES;
-        if is_last || self.configuration.given_up.contains(&place) {
-            Ok(Lesson::End(self.standing(run, Some(failure))?))
-        } else {
-            Ok(Lesson::Change(Change::GiveUp(place)))
-        }
-    }
-
-    /// Whether a place's pointer is kept in RAM, as its failure was first met.
-    fn is_kept_in_ram(&self, place: Place) -> bool {
-        match self.first.get(&place) {
-            Some(standing) => !standing.kept_in.is_empty(),
-            None => false,
-        }
-    }
-
-    /// Whether a failure means that there is no code, and was reached by a jump whose targets were told apart last.
-    fn leads_nowhere(&self, run: &Run<'_>, failure: &Failure) -> bool {
-        let Some(before) = &self.before else {
-            return false;
-        };
-        let is_no_code = matches!(
-            failure.cause,
-            Cause::Area
-                | Cause::Unreadable { .. }
-                | Cause::UndefinedOpcode { .. }
-                | Cause::Stop
-                | Cause::Recursion { target: 0x38 }
-        );
-        before.cause == Cause::JumpHl && is_no_code && comes_from(run, failure.node, before.place)
-    }
-
-    /// The place where a procedure calls itself that was followed in its callers, where it pushes without an end.
-    fn recursion_behind(&self, failure: &Failure) -> Option<Place> {
-        if failure.cause != Cause::PushesTooMany {
-            return None;
-        }
-        for (place, standing) in self.first.iter() {
-            if let Cause::Recursion { target } = standing.cause
-                && self.configuration.inlined.contains(&target)
-            {
-                return Some(*place);
-            }
-        }
-        None
-    }
-
-    /// A failure: what to refine, if anything may help.
-    fn learn_failure(&self, run: &Run<'_>, failure: &Failure) -> Result<Lesson, AllocError> {
-        let Some(place) = run.place_of(failure.node) else {
-            return Ok(Lesson::End(self.standing(run, None)?));
-        };
-        if self.leads_nowhere(run, failure) {
-            return Ok(Lesson::Change(Change::TakeBack));
-        }
-        if let Some(place) = self.recursion_behind(failure) {
-            return Ok(Lesson::EndAt(place));
-        }
-        match told(self.alloc, run, failure)? {
-            Some(obstacle) => self.mend(run, failure, place, obstacle),
-            None => self.give_up(run, failure, place),
-        }
-    }
-
-    /// A failure that there is something to tell of.
-    fn mend(
-        &self,
-        run: &Run<'_>,
-        failure: &Failure,
-        place: Place,
-        obstacle: Standing,
-    ) -> Result<Lesson, AllocError> {
-        let is_kept = !obstacle.kept_in.is_empty() || self.is_kept_in_ram(place);
-        match self.plan_or_inline(run, failure, place, is_kept)? {
-            Some(plan) => Ok(Lesson::Change(Change::Mend(Mending {
-                place,
-                reason: failure.cause.reason().number(),
-                plan,
-                obstacle,
-            }))),
-            None => self.give_up(run, failure, place),
-        }
-    }
-
-    /// What may help against a failure, unless its place was refined too often.
-    fn plan_at(
-        &self,
-        run: &Run<'_>,
-        failure: &Failure,
-        place: Place,
-        is_kept: bool,
-    ) -> Result<Option<Plan>, AllocError> {
-        let most = if is_kept { EDITS_OF_KEPT } else { EDITS };
-        if self.edits_at(place, failure.cause.reason().number()) >= most {
-            Ok(None)
-        } else {
-            plan_for(self.alloc, run, failure, is_kept)
-        }
-    }
-
-    /// What may help against a failure; else its procedure is followed in its callers.
-    fn plan_or_inline(
-        &self,
-        run: &Run<'_>,
-        failure: &Failure,
-        place: Place,
-        is_kept: bool,
-    ) -> Result<Option<Plan>, AllocError> {
-        match self.plan_at(run, failure, place, is_kept)? {
-            Some(plan) => Ok(Some(plan)),
-            None => inline_plan(self.alloc, run, failure),
-        }
-    }
-
-    /// The run has met no failure but those that stand.
-    fn learn_end(&self, run: &mut Run<'_>) -> Result<Lesson, AllocError> {
-        if !run.failures.is_empty() {
-            return Ok(Lesson::End(self.standing(run, None)?));
-        }
-        match find_needs(self.alloc, run)? {
-            Some(procedure) => {
-                let target = run.target(procedure);
-                end_by(self.alloc, Obstacle::Recursion { target })
-            }
-            None => self.learn_needs(run),
-        }
-    }
-
-    /// Whether the stack region is large enough for main, or can be made so.
-    fn learn_needs(&self, run: &Run<'_>) -> Result<Lesson, AllocError> {
-        let bytes = match run.procedures.first() {
-            Some(main) => main.need.max(WORD),
-            None => WORD,
-        };
-        let region = self.configuration.region;
-        match region_of(bytes, region.last) {
-            Some(needed) if region.first <= needed.first => { self.learn_certificate(run) }
-            Some(needed) if self.limits.region.is_none() && is_in_ram(needed) => {
-                Ok(Lesson::Change(Change::Region(needed)))
-            }
-            _ => self.end_too_deep(bytes),
-        }
-    }
-
-    /// The stack needs more than there is room for.
-    fn end_too_deep(&self, bytes: usize) -> Result<Lesson, AllocError> {
-        let words = bytes.div_ceil(WORD);
-        let region = self.configuration.region;
-        end_by(self.alloc, Obstacle::StackTooDeep { words, region })
-    }
-
-    /// Where a run's stack reached below the region, by the rules of version 3, the region reaches further down first.
-    fn deepening(&self, run: &Run<'_>) -> Result<Option<Lesson>, AllocError> {
-        let region = self.configuration.region;
-        if run.rules() == Rules::Simple
-            || region.first <= run.lowest
-            || self.limits.region.is_some()
-        {
-            return Ok(None);
-        }
-        let deeper = Region {
-            first: run.lowest,
-            last: region.last,
-        };
-        if is_in_ram(deeper) {
-            return Ok(Some(Lesson::Change(Change::Deepen(deeper))));
-        }
-        let bytes = usize::from(region.last.saturating_sub(run.lowest)).saturating_add(1);
-        Ok(Some(self.end_too_deep(bytes)?))
-    }
-
-    /// The certificate of a run. Where a limit stands against it, it is told as one that the checker refuses.
-    fn learn_certificate(&self, run: &Run<'_>) -> Result<Lesson, AllocError> {
-        match written(self.alloc, run)? {
-            Some(bytes) => Ok(Lesson::Certificate(bytes)),
-            None => end_by(self.alloc, Obstacle::Refused),
-        }
-    }
-
-    /// What a run teaches.
-    fn learn(&self, run: &mut Run<'_>, outcome: Outcome) -> Result<Lesson, AllocError> {
-        if let Some(lesson) = self.deepening(run)? {
-            return Ok(lesson);
-        }
-        match outcome {
-            Outcome::Wanted(wish) => Ok(Lesson::Change(Change::Wish(wish))),
-            Outcome::TooLarge => Ok(Lesson::TooLarge(Crowd::of(self.alloc, run)?)),
-            Outcome::StackSet { sp } => self.learn_stack(sp),
-            Outcome::Failed(failure) => self.learn_failed(run, &failure),
-            Outcome::Finished => self.learn_finished(run),
-        }
-    }
-
-    /// A failure is looked into only where no more can be known of cells and widening.
-    fn learn_failed(&self, run: &Run<'_>, failure: &Failure) -> Result<Lesson, AllocError> {
-        let news = self.news(run)?;
-        if news.cells.is_empty() && news.points.is_empty() {
-            self.learn_failure(run, failure)
-        } else {
-            Ok(Lesson::Change(Change::Track(news)))
-        }
-    }
-
-    fn learn_finished(&self, run: &mut Run<'_>) -> Result<Lesson, AllocError> {
-        let news = self.news(run)?;
-        if news.cells.is_empty() {
-            self.learn_end(run)
-        } else {
-            Ok(Lesson::Change(Change::Track(news)))
-        }
     }
 
     /// One round; something where it is the last one.
@@ -807,39 +515,11 @@ fn add_points(more: &BTreeSet<u8>, points: &mut BTreeSet<u8>) -> Result<(), Allo
 }
 
 /// The region of one word below an address.
-fn region_below(sp: u16) -> Region {
+pub(crate) fn region_below(sp: u16) -> Region {
     Region {
         first: sp.wrapping_sub(2),
         last: sp.wrapping_sub(1),
     }
-}
-
-/// The stack region of so many bytes, at least one, up to an address.
-fn region_of(bytes: usize, last: u16) -> Option<Region> {
-    let Ok(more) = u16::try_from(bytes.saturating_sub(1)) else {
-        return None;
-    };
-    let first = last.checked_sub(more)?;
-    Some(Region { first, last })
-}
-
-/// How many nodes are gone back to a jump.
-const STEPS_BACK: u32 = 16;
-
-/// Whether a node was first reached from a place within a few steps.
-fn comes_from(run: &Run<'_>, number: usize, place: Place) -> bool {
-    let mut at = Some(number);
-    for _ in 0..STEPS_BACK {
-        let Some(number) = at else { return false };
-        if run.place_of(number) == Some(place) {
-            return true;
-        }
-        at = match run.nodes.get(number) {
-            Some(node) => node.via,
-            None => None,
-        };
-    }
-    false
 }
 
 /// How many pairs of nodes there are at one address of a run.
@@ -863,7 +543,7 @@ fn targets_of(alloc: Global, run: &Run<'_>) -> Result<BTreeMap<u16, usize>, Allo
 }
 
 /// Whether a region lies in work RAM or in high RAM.
-fn is_in_ram(region: Region) -> bool {
+pub(crate) fn is_in_ram(region: Region) -> bool {
     let is_work_ram = 0xC000 <= region.first && region.last <= 0xDFFF;
     let is_high_ram = 0xFF80 <= region.first && region.last <= 0xFFFE;
     region.first <= region.last && (is_work_ram || is_high_ram)

@@ -1,0 +1,335 @@
+//! What a run teaches, and what is to be done otherwise in the next round.
+
+use crate::failures::{add_failure, add_failures, told};
+use crate::rounds::{
+    Change, Lesson, Mending, News, OBSTACLES, Refinement, Tried, WORD, alone, is_in_ram,
+    region_below,
+};
+use crate::written::written;
+use gb_draft::{Cause, Failure, Outcome, Place, Rules, Run, find_needs};
+use gb_ops::machine::Region;
+use gb_plans::{Plan, inline_plan, plan_for};
+use gb_reports::{Crowd, Obstacle, Standing};
+use std::alloc::{AllocError, Global};
+use std::collections::BTreeSet;
+
+/// The most edits for one place and reason.
+const EDITS: u32 = 12;
+
+/// The most edits for one place and reason, where the pointer is kept in RAM: it would be told apart through all memory.
+const EDITS_OF_KEPT: u32 = 6;
+
+/// What stands in the way for good, and nothing else.
+fn end_by(alloc: Global, obstacle: Obstacle) -> Result<Lesson, AllocError> {
+    Ok(Lesson::End(alone(alloc, obstacle)?))
+}
+
+impl<'a> Refinement<'a> {
+    /// The stack region by the first LD SP,n16: one word below it, until more is needed.
+    fn learn_stack(&self, sp: u16) -> Result<Lesson, AllocError> {
+        let region = region_below(sp);
+        if is_in_ram(region) {
+            Ok(Lesson::Change(Change::Region(region)))
+        } else {
+            end_by(self.alloc, Obstacle::NoStack { sp })
+        }
+    }
+
+    /// What a run wants to know besides what is known.
+    fn news(&self, run: &Run<'_>) -> Result<News, AllocError> {
+        let tracked = &self.configuration.tracked;
+        let cells = self.cells.missing(self.alloc, &run.wanted, tracked)?;
+        let points = self.new_points(&run.points)?;
+        Ok(News { cells, points })
+    }
+
+    /// The values at which widening had better stop, and that aren't known yet.
+    fn new_points(&self, wanted: &BTreeSet<u8>) -> Result<Vec<u8>, AllocError> {
+        let mut points = Vec::new(self.alloc);
+        for point in wanted {
+            if !self.configuration.points.contains(point) {
+                points.push(*point)?;
+            }
+        }
+        Ok(points)
+    }
+
+    /// How often a place was refined for a reason.
+    pub(crate) fn edits_at(&self, place: Place, reason: u8) -> u32 {
+        match self.tried.get(&Tried { place, reason }) {
+            Some(count) => *count,
+            None => 0,
+        }
+    }
+
+    /// The failures of a run at places that were given up, in the order in which they were met, and one more.
+    fn standing(&self, run: &Run<'_>, last: Option<&Failure>) -> Result<Vec<Obstacle>, AllocError> {
+        let mut obstacles = Vec::new(self.alloc);
+        self.add_standing(run, last, &mut obstacles)?;
+        obstacles.truncate(OBSTACLES);
+        Ok(obstacles)
+    }
+
+    fn add_standing(
+        &self,
+        run: &Run<'_>,
+        last: Option<&Failure>,
+        obstacles: &mut Vec<Obstacle>,
+    ) -> Result<(), AllocError> {
+        for place in &self.given_up {
+            let is_too_large = self.too_large.contains(place);
+            add_failures(self.alloc, run, *place, is_too_large, obstacles)?;
+        }
+        match last {
+            Some(failure) => add_failure(self.alloc, run, failure, false, obstacles),
+            None => Ok(()),
+        }
+    }
+
+    /// Nothing more helps against a failure.
+    fn give_up(
+        &self,
+        run: &Run<'_>,
+        failure: &Failure,
+        place: Place,
+    ) -> Result<Lesson, AllocError> {
+        let is_last = self.given_up.len() + 1 >= OBSTACLES;
+        if is_last || self.configuration.given_up.contains(&place) {
+            Ok(Lesson::End(self.standing(run, Some(failure))?))
+        } else {
+            Ok(Lesson::Change(Change::GiveUp(place)))
+        }
+    }
+
+    /// Whether a place's pointer is kept in RAM, as its failure was first met.
+    fn is_kept_in_ram(&self, place: Place) -> bool {
+        match self.first.get(&place) {
+            Some(standing) => !standing.kept_in.is_empty(),
+            None => false,
+        }
+    }
+
+    /// Whether a failure means that there is no code, and was reached by a jump whose targets were told apart last.
+    fn leads_nowhere(&self, run: &Run<'_>, failure: &Failure) -> bool {
+        let Some(before) = &self.before else {
+            return false;
+        };
+        let is_no_code = matches!(
+            failure.cause,
+            Cause::Area
+                | Cause::Unreadable { .. }
+                | Cause::UndefinedOpcode { .. }
+                | Cause::Stop
+                | Cause::Recursion { target: 0x38 }
+        );
+        before.cause == Cause::JumpHl && is_no_code && comes_from(run, failure.node, before.place)
+    }
+
+    /// The place where a procedure calls itself that was followed in its callers, where it pushes without an end.
+    fn recursion_behind(&self, failure: &Failure) -> Option<Place> {
+        if failure.cause != Cause::PushesTooMany {
+            return None;
+        }
+        for (place, standing) in self.first.iter() {
+            if let Cause::Recursion { target } = standing.cause
+                && self.configuration.inlined.contains(&target)
+            {
+                return Some(*place);
+            }
+        }
+        None
+    }
+
+    /// A failure: what to refine, if anything may help.
+    fn learn_failure(&self, run: &Run<'_>, failure: &Failure) -> Result<Lesson, AllocError> {
+        let Some(place) = run.place_of(failure.node) else {
+            return Ok(Lesson::End(self.standing(run, None)?));
+        };
+        if self.leads_nowhere(run, failure) {
+            return Ok(Lesson::Change(Change::TakeBack));
+        }
+        if let Some(place) = self.recursion_behind(failure) {
+            return Ok(Lesson::EndAt(place));
+        }
+        match told(self.alloc, run, failure)? {
+            Some(obstacle) => self.mend(run, failure, place, obstacle),
+            None => self.give_up(run, failure, place),
+        }
+    }
+
+    /// A failure that there is something to tell of.
+    fn mend(
+        &self,
+        run: &Run<'_>,
+        failure: &Failure,
+        place: Place,
+        obstacle: Standing,
+    ) -> Result<Lesson, AllocError> {
+        let is_kept = !obstacle.kept_in.is_empty() || self.is_kept_in_ram(place);
+        match self.plan_or_inline(run, failure, place, is_kept)? {
+            Some(plan) => Ok(Lesson::Change(Change::Mend(Mending {
+                place,
+                reason: failure.cause.reason().number(),
+                plan,
+                obstacle,
+            }))),
+            None => self.give_up(run, failure, place),
+        }
+    }
+
+    /// What may help against a failure, unless its place was refined too often.
+    fn plan_at(
+        &self,
+        run: &Run<'_>,
+        failure: &Failure,
+        place: Place,
+        is_kept: bool,
+    ) -> Result<Option<Plan>, AllocError> {
+        let most = if is_kept { EDITS_OF_KEPT } else { EDITS };
+        if self.edits_at(place, failure.cause.reason().number()) >= most {
+            Ok(None)
+        } else {
+            plan_for(self.alloc, run, failure, is_kept)
+        }
+    }
+
+    /// What may help against a failure; else its procedure is followed in its callers.
+    fn plan_or_inline(
+        &self,
+        run: &Run<'_>,
+        failure: &Failure,
+        place: Place,
+        is_kept: bool,
+    ) -> Result<Option<Plan>, AllocError> {
+        match self.plan_at(run, failure, place, is_kept)? {
+            Some(plan) => Ok(Some(plan)),
+            None => inline_plan(self.alloc, run, failure),
+        }
+    }
+
+    /// The run has met no failure but those that stand.
+    fn learn_end(&self, run: &mut Run<'_>) -> Result<Lesson, AllocError> {
+        if !run.failures.is_empty() {
+            return Ok(Lesson::End(self.standing(run, None)?));
+        }
+        match find_needs(self.alloc, run)? {
+            Some(procedure) => {
+                let target = run.target(procedure);
+                end_by(self.alloc, Obstacle::Recursion { target })
+            }
+            None => self.learn_needs(run),
+        }
+    }
+
+    /// Whether the stack region is large enough for main, or can be made so.
+    fn learn_needs(&self, run: &Run<'_>) -> Result<Lesson, AllocError> {
+        let bytes = match run.procedures.first() {
+            Some(main) => main.need.max(WORD),
+            None => WORD,
+        };
+        let region = self.configuration.region;
+        match region_of(bytes, region.last) {
+            Some(needed) if region.first <= needed.first => { self.learn_certificate(run) }
+            Some(needed) if self.limits.region.is_none() && is_in_ram(needed) => {
+                Ok(Lesson::Change(Change::Region(needed)))
+            }
+            _ => self.end_too_deep(bytes),
+        }
+    }
+
+    /// The stack needs more than there is room for.
+    fn end_too_deep(&self, bytes: usize) -> Result<Lesson, AllocError> {
+        let words = bytes.div_ceil(WORD);
+        let region = self.configuration.region;
+        end_by(self.alloc, Obstacle::StackTooDeep { words, region })
+    }
+
+    /// Where a run's stack reached below the region, by the rules of version 3, the region reaches further down first.
+    fn deepening(&self, run: &Run<'_>) -> Result<Option<Lesson>, AllocError> {
+        let region = self.configuration.region;
+        if run.rules() == Rules::Simple
+            || region.first <= run.lowest
+            || self.limits.region.is_some()
+        {
+            return Ok(None);
+        }
+        let deeper = Region {
+            first: run.lowest,
+            last: region.last,
+        };
+        if is_in_ram(deeper) {
+            return Ok(Some(Lesson::Change(Change::Deepen(deeper))));
+        }
+        let bytes = usize::from(region.last.saturating_sub(run.lowest)).saturating_add(1);
+        Ok(Some(self.end_too_deep(bytes)?))
+    }
+
+    /// The certificate of a run. Where a limit stands against it, it is told as one that the checker refuses.
+    fn learn_certificate(&self, run: &Run<'_>) -> Result<Lesson, AllocError> {
+        match written(self.alloc, run)? {
+            Some(bytes) => Ok(Lesson::Certificate(bytes)),
+            None => end_by(self.alloc, Obstacle::Refused),
+        }
+    }
+
+    /// What a run teaches.
+    pub(crate) fn learn(&self, run: &mut Run<'_>, outcome: Outcome) -> Result<Lesson, AllocError> {
+        if let Some(lesson) = self.deepening(run)? {
+            return Ok(lesson);
+        }
+        match outcome {
+            Outcome::Wanted(wish) => Ok(Lesson::Change(Change::Wish(wish))),
+            Outcome::TooLarge => Ok(Lesson::TooLarge(Crowd::of(self.alloc, run)?)),
+            Outcome::StackSet { sp } => self.learn_stack(sp),
+            Outcome::Failed(failure) => self.learn_failed(run, &failure),
+            Outcome::Finished => self.learn_finished(run),
+        }
+    }
+
+    /// A failure is looked into only where no more can be known of cells and widening.
+    fn learn_failed(&self, run: &Run<'_>, failure: &Failure) -> Result<Lesson, AllocError> {
+        let news = self.news(run)?;
+        if news.cells.is_empty() && news.points.is_empty() {
+            self.learn_failure(run, failure)
+        } else {
+            Ok(Lesson::Change(Change::Track(news)))
+        }
+    }
+
+    fn learn_finished(&self, run: &mut Run<'_>) -> Result<Lesson, AllocError> {
+        let news = self.news(run)?;
+        if news.cells.is_empty() {
+            self.learn_end(run)
+        } else {
+            Ok(Lesson::Change(Change::Track(news)))
+        }
+    }
+}
+
+/// The stack region of so many bytes, at least one, up to an address.
+fn region_of(bytes: usize, last: u16) -> Option<Region> {
+    let Ok(more) = u16::try_from(bytes.saturating_sub(1)) else {
+        return None;
+    };
+    let first = last.checked_sub(more)?;
+    Some(Region { first, last })
+}
+
+/// How many nodes are gone back to a jump.
+const STEPS_BACK: u32 = 16;
+
+/// Whether a node was first reached from a place within a few steps.
+fn comes_from(run: &Run<'_>, number: usize, place: Place) -> bool {
+    let mut at = Some(number);
+    for _ in 0..STEPS_BACK {
+        let Some(number) = at else { return false };
+        if run.place_of(number) == Some(place) {
+            return true;
+        }
+        at = match run.nodes.get(number) {
+            Some(node) => node.via,
+            None => None,
+        };
+    }
+    false
+}
