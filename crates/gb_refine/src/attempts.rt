@@ -143,7 +143,7 @@ impl Limited {
 
 /// A certificate by the rules that the limits name, or else by those of version 3 and then by those of versions 1 and 2.
 /// Where there is none, what is in the way by the first rules is told.
-pub(crate) fn attempts<P: Progress>(
+pub(crate) fn made_certificate<P: Progress>(
     alloc: Global,
     rom: &Rom<'_>,
     limits: Limits,

@@ -14,7 +14,7 @@ mod shrink;
 mod tracking;
 mod written;
 
-use attempts::attempts;
+use attempts::made_certificate;
 use gb_draft::Rom;
 pub use rounds::{Limits, Made, Progress};
 use std::alloc::{AllocError, Global};
@@ -37,7 +37,7 @@ pub fn make<P: Progress>(
     limits: Limits,
     progress: &mut P,
 ) -> Result<Made, AllocError> {
-    let made = attempts(alloc, rom, limits, progress)?;
+    let made = made_certificate(alloc, rom, limits, progress)?;
     progress.done();
     Ok(made)
 }
