@@ -2,7 +2,7 @@
 
 use crate::spelled::{EMPTY, Node, Procedure, Spelled, certificate};
 use gb_facts::{Bound, By, CodeRun, Facts, Interrupt, Link};
-use gb_page::{facts_json, obstacles_page, page_of};
+use gb_page::{Extras, facts_json, obstacles_page, page_of};
 use gb_reports::{Obstacle, Symbols};
 use gb_samples::cartridges::{PLAIN, SMALLEST, put, small};
 use gb_verify::verdict::Verdict;
@@ -280,7 +280,7 @@ fn page(alloc: Global, bytes: &Spelled, symbols: &[u8]) -> Option<String> {
     let rom = Rom::parse(&rom).ok()?;
     let cert = Cert::parse(alloc, bytes.as_slice()).ok()?;
     let symbols = Symbols::parse(alloc, symbols).ok()?;
-    page_of(alloc, &rom, &cert, &symbols).ok()
+    page_of(alloc, &rom, &cert, &symbols, Extras::none()).ok()
 }
 
 #[test]
@@ -335,7 +335,8 @@ fn obstacles_are_told(rt: HostRuntime) -> Result<(), Fail> {
 }
 
 /// The links by hand as JSON.
-const LINKS_JSON: &str = "\"links\":[{\"by\":\"call\",\"callee\":1,\"caller\":0,\"node\":4,\"nodes\":1,\"waiting\":2},{\"by\":\"VBlank\",\"callee\":2,\"caller\":0,\"node\":4,\"nodes\":2,\"waiting\":2},{\"by\":\"VBlank\",\"callee\":2,\"caller\":1,\"node\":6,\"nodes\":2,\"waiting\":2}]";
+const LINKS_JSON: &str =
+    "\"links\":[{\"by\":\"call\",\"callee\":1,\"caller\":0,\"node\":4,\"nodes\":1,\"waiting\":2},{\"by\":\"VBlank\",\"callee\":2,\"caller\":0,\"node\":4,\"nodes\":2,\"waiting\":2},{\"by\":\"VBlank\",\"callee\":2,\"caller\":1,\"node\":6,\"nodes\":2,\"waiting\":2}]";
 
 /// The game's facts as JSON.
 fn json(alloc: Global, bytes: &Spelled) -> Option<String> {
@@ -343,7 +344,7 @@ fn json(alloc: Global, bytes: &Spelled) -> Option<String> {
     let rom = Rom::parse(&rom).ok()?;
     let cert = Cert::parse(alloc, bytes.as_slice()).ok()?;
     let symbols = Symbols::parse(alloc, b"00:0158 a\"b\n").ok()?;
-    facts_json(alloc, &rom, &cert, &symbols).ok()
+    facts_json(alloc, &rom, &cert, &symbols, Extras::none()).ok()
 }
 
 #[test]
@@ -363,6 +364,9 @@ fn facts_for_programs(rt: HostRuntime) -> Result<(), Fail> {
 fn a_refusal_for_programs(rt: HostRuntime) -> Result<(), Fail> {
     let bytes = certificate(TOO_FEW, NODES);
     let json = json(rt.alloc(), &bytes).ok_or("facts")?;
-    assert!(rt; json.as_str().contains("\"refused\":{\"node\":4,\"reason\":9}"));
+    assert!(rt;
+        json.as_str()
+            .contains("\"refused\":{\"node\":4,\"reason\":9}")
+    );
     Ok(())
 }
