@@ -13,9 +13,8 @@ instruction, the rule, the state there, the way there, and what usually mends it
   certify --report page.html game.gb game.cert   a page for a browser: banks, stack, interrupts, RAM, the listing; CERT is
                                              read, or made first where it isn't there; with --json the same facts
                                              for programs
-
-  certify --compare old.cert game.gb game.cert   beside an older certificate: what the new build changed, a line each behind
-                                             the verdict's, or as JSON; with --report on the page too. --old-rom and
+  certify --compare old.cert game.gb game.cert   what the new build changed beside an older certificate, a line each behind
+                                             the verdict's, or as JSON, and with --report on the page; --old-rom and
                                              --old-sym name the older cartridge and its symbols
 
 It prints one line on standard output:
