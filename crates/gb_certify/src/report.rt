@@ -27,7 +27,7 @@ fn page_with_screen(
     if !is_right(rom, cert) {
         let extras = Extras {
             changes,
-            screen: None,
+            ..Extras::none()
         };
         return page_of(alloc, rom, cert, symbols, extras);
     }
@@ -35,6 +35,7 @@ fn page_with_screen(
     let extras = Extras {
         changes,
         screen: Some(console.screen()),
+        ..Extras::none()
     };
     page_of(alloc, rom, cert, symbols, extras)
 }
@@ -53,7 +54,7 @@ fn text_on(
     }
     let extras = Extras {
         changes,
-        screen: None,
+        ..Extras::none()
     };
     facts_json(alloc, rom, cert, symbols, extras)
 }

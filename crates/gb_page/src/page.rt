@@ -17,8 +17,8 @@ use gb_verify::{Cert, Rom};
 use std::alloc::{AllocError, Global};
 use std::{fmt, str};
 
-/// The most nodes that are listed.
-pub(crate) const LISTED: u32 = 20_000;
+/// The most nodes that are listed, where nothing else is said.
+const LISTED: u32 = 20_000;
 
 /// What is told besides a certificate's own facts, where it is at hand.
 #[derive(Clone, Copy)]
@@ -27,6 +27,8 @@ pub struct Extras<'a> {
     pub changes: Option<&'a Changes>,
     /// The console's screen after 120 frames.
     pub screen: Option<&'a Screen>,
+    /// The most nodes that are listed.
+    pub listed: u32,
 }
 
 impl Extras<'_> {
@@ -35,6 +37,7 @@ impl Extras<'_> {
         Extras {
             changes: None,
             screen: None,
+            listed: LISTED,
         }
     }
 }
@@ -64,7 +67,7 @@ impl Page<'_, '_, '_, '_> {
 
     /// Whether a node stands in the listing: the first of them, and the refused one.
     pub(crate) fn is_listed(&self, node: u32) -> bool {
-        node < self.facts.nodes && (node < LISTED || self.is_refused(node))
+        node < self.facts.nodes && (node < self.extras.listed || self.is_refused(node))
     }
 }
 
