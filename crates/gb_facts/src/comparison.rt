@@ -114,7 +114,7 @@ fn add_address(runs: &mut Vec<Range>, address: u16) -> Result<(), AllocError> {
 }
 
 /// The addresses of some ranges that don't lie in others.
-fn runs_beyond(
+pub(crate) fn runs_beyond(
     alloc: Global,
     ranges: &[Range],
     others: &[Range],

@@ -1,5 +1,6 @@
 //! What a certificate says by itself, without its cartridge.
 
+use crate::comparison::runs_beyond;
 use crate::depth::way_from;
 use crate::facts::Facts;
 use crate::interrupt::{INTERRUPTS, Interrupt};
@@ -67,6 +68,17 @@ fn add_ranges(sketch: &mut Sketch, ranges: &[Range]) -> Result<(), AllocError> {
 fn add_claim(sketch: &mut Sketch, need: u16, ranges: &[Range]) -> Result<(), AllocError> {
     sketch.need = sketch.need.max(need);
     add_ranges(sketch, ranges)
+}
+
+impl Sketch {
+    /// The RAM that they may write, in order, as runs of addresses one after another.
+    ///
+    /// # Errors
+    ///
+    /// Where memory ran out.
+    pub fn written(&self, alloc: Global) -> Result<Vec<Range>, AllocError> {
+        runs_beyond(alloc, self.ranges.as_slice(), &[])
+    }
 }
 
 impl Outline {

@@ -380,29 +380,20 @@ fn called_from(
     }
 }
 
-fn called_in(
-    cert: &Cert<'_>,
-    stack: Stack,
-    procedure: u8,
-    way: &Option<Successor<'_>>,
-) -> Called
+fn called_in(cert: &Cert<'_>, stack: Stack, procedure: u8, way: &Option<Successor<'_>>) -> Called
     ensures { result ≡ Ruled.called_in cert.now stack procedure way.now }
 {
     let Some(successor) = way else { return NO_CALL };
     match successor.target {
         Target::Call(address) => called_from(cert, stack, procedure, address, successor),
-        Target::At(_) | Target::Main(_) | Target::Return | Target::Unknown | Target::Lost => NO_CALL,
+        Target::At(_) | Target::Main(_) | Target::Return | Target::Unknown | Target::Lost =>
+            NO_CALL,
     }
 }
 
 /// What the calls of the successors ask.
 #[tactic(auto, unfolding(crate::specs::Rules::calls_of))]
-pub(crate) fn calls_of(
-    cert: &Cert<'_>,
-    stack: Stack,
-    procedure: u8,
-    ways: &Successors<'_>,
-) -> Calls
+pub(crate) fn calls_of(cert: &Cert<'_>, stack: Stack, procedure: u8, ways: &Successors<'_>) -> Calls
     ensures { result ≡ Ruled.calls_of cert.now stack procedure ways.now }
 {
     Calls {

@@ -200,8 +200,14 @@ fn grows_too_deep(
     requires calls { calls ≡ calls_of cert.now stack node.now.procedure ways.now }
     ensures { result ≡ Ruled.grows_too_deep rom.now cert.now node.now row }
 {
-    moves_too_deep(stack.setting.rules, stack.need, node, state, row.op, &ways.taken)
-        || call_too_deep(cert, stack, node.procedure(), ways, calls)
+    moves_too_deep(
+        stack.setting.rules,
+        stack.need,
+        node,
+        state,
+        row.op,
+        &ways.taken,
+    ) || call_too_deep(cert, stack, node.procedure(), ways, calls)
         || dispatches_too_deep(cert, node, state)
 }
 
@@ -224,7 +230,14 @@ fn leads_uncovered(
 {
     let procedure = node.procedure();
     has_uncovered(cert, near, stack, procedure, &ways.taken, calls.taken)
-        || has_uncovered(cert, near, stack, procedure, &ways.not_taken, calls.not_taken)
+        || has_uncovered(
+            cert,
+            near,
+            stack,
+            procedure,
+            &ways.not_taken,
+            calls.not_taken,
+        )
         || has_uncovered(cert, near, stack, procedure, &ways.stays, calls.stays)
 }
 

@@ -98,7 +98,7 @@ impl Report<'_, '_> {
         let need = sketch.need;
         write!(out, "  {name}: {need} bytes")?;
         if !sketch.is_main {
-            tell_ranges(out, sketch.ranges.as_slice())?;
+            tell_ranges(out, sketch.written(self.alloc)?.as_slice())?;
         }
         for interrupt in &sketch.comings {
             let bit = interrupt.bit();
