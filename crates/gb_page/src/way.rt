@@ -69,15 +69,21 @@ fn fmt_start<W: fmt::Write>(way: &Way<'_, '_, '_>, f: &mut fmt::Formatter<W>) ->
 
 /// A link to the first instruction of a segment.
 fn fmt_link<W: fmt::Write>(
-    number: usize,
+    way: &Way<'_, '_, '_>,
     place: usize,
     segment: Segment,
     f: &mut fmt::Formatter<W>,
 ) -> fmt::Result {
+    let number = way.number;
     let Segment { first, last } = segment;
+    let symbol = way.symbol(first);
+    write!(f, "<li><a href=\"#o{number}s{place}\"><code>{first:04X}")?;
+    if first < last {
+        write!(f, "-{last:04X}")?;
+    }
     write!(
         f,
-        "<li><a href=\"#o{number}s{place}\"><code>{first:04X}-{last:04X}</code></a></li>\n"
+        "</code></a> <span class=\"symbol\">{symbol}</span></li>\n"
     )
 }
 
@@ -92,7 +98,7 @@ fn fmt_steps<W: fmt::Write>(way: &Way<'_, '_, '_>, f: &mut fmt::Formatter<W>) ->
         write!(f, "<li>steps that are left out</li>\n")?;
     }
     for (place, segment) in way.standing.path.segments.iter().enumerate() {
-        fmt_link(way.number, place, *segment, f)?;
+        fmt_link(way, place, *segment, f)?;
     }
     write!(f, "</ol>\n")
 }
