@@ -186,9 +186,7 @@ fn tell_way<W: Write>(
     for (place, segment) in standing.path.segments.iter().enumerate() {
         let (first, last) = (segment.first, segment.last);
         write!(out, " {first:04X}-{last:04X}")?;
-        let link = format!(in alloc;
-            "<a href=\"#o1s{place}\"><code>{first:04X}-{last:04X}</code></a>"
-        )?;
+        let link = format!(in alloc; "<a href=\"#o1s{place}\"><code>{first:04X}")?;
         is_told = is_told && page.contains(link.as_str());
     }
     writeln!(out)?;
