@@ -34,6 +34,14 @@ fn inputs(task: &Task<'_>) -> usize {
     inputs_among(&names).saturating_add(inputs_among(&names_before(task)))
 }
 
+/// Whether the older cartridge has this name.
+fn is_old_cartridge(task: &Task<'_>, name: &str) -> bool {
+    match task.before {
+        Some(before) => before.rom == Some(name),
+        None => false,
+    }
+}
+
 /// What is wrong with the name of the file that is to be written, if something is.
 fn wrong_output(task: &Task<'_>) -> Option<&'static str> {
     match task.work {
@@ -42,6 +50,9 @@ fn wrong_output(task: &Task<'_>) -> Option<&'static str> {
         }
         Work::Make if task.rom == task.cert => {
             Some("CERT is written, so it can't be the cartridge's own file")
+        }
+        Work::Make if is_old_cartridge(task, task.cert) => {
+            Some("CERT is written, so it can't be the older cartridge's file")
         }
         Work::Report(name) if is_input(name) => {
             Some("FILE is written, so it can't be -; a file of that name is ./-")

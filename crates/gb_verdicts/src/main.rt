@@ -2,7 +2,9 @@
 //! makes or tells of the cartridges, and how some of them run, so that the gate compares them with worked examples.
 //!
 //! The lines of given certificates come from the rules by hand, and from an independent implementation; those of the games'
-//! broken variants come from the bugs by hand: the place from the assembler's listing, the cause from the rules.
+//! broken variants come from the bugs by hand: the place from the assembler's listing, the cause from the rules, and the way
+//! there from the bytes. The facts of the games come from their certificates' bytes by a program that shares nothing with this
+//! one, and how deep the stack gets from their sources by hand.
 //!
 //! An example is some lines: `about` with a sentence; `sizes` with the bytes 0147 to 0149; `rom` with an offset and bytes
 //! that lie there, beside the start at 0100 and the header; `fill` with the byte that the whole file has, or `length` with the
