@@ -50,11 +50,7 @@ impl Object {
     }
 
     /// A text, as something prints itself.
-    pub fn put_shown<T: fmt::Display>(
-        &mut self,
-        name: &str,
-        shown: &T,
-    ) -> Result<(), AllocError> {
+    pub fn put_shown<T: fmt::Display>(&mut self, name: &str, shown: &T) -> Result<(), AllocError> {
         let alloc = self.alloc;
         let text = format!(in alloc; "{shown}")?;
         self.put(name, Value::String(text))
@@ -72,11 +68,7 @@ impl Object {
     }
 
     /// A list of addresses.
-    pub fn put_addresses(
-        &mut self,
-        name: &str,
-        addresses: &[u16],
-    ) -> Result<(), AllocError> {
+    pub fn put_addresses(&mut self, name: &str, addresses: &[u16]) -> Result<(), AllocError> {
         let list = list_of(self.alloc, addresses)?;
         self.put(name, list)
     }
