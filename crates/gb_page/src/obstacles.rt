@@ -92,6 +92,25 @@ impl fmt::Display for Obstacles<'_, '_, '_> {
     }
 }
 
+/// The page with these texts.
+fn shown<'x>(
+    alloc: Global,
+    rom: &'x Rom<'_>,
+    obstacles: &'x [Obstacle],
+    symbols: &'x Symbols<'_>,
+    told: &'x [String],
+    are_new: bool,
+) -> Result<String, AllocError> {
+    let page = Obstacles {
+        rom,
+        symbols,
+        obstacles,
+        told,
+        are_new,
+    };
+    format!(in alloc; "{page}")
+}
+
 /// The page on what is in the way of a certificate, with addresses told by symbols; it says whether all of it is new, since the
 /// build before has a certificate.
 ///
@@ -110,12 +129,5 @@ pub fn obstacles_page(
         let text = Told { obstacle, symbols };
         told.push(format!(in alloc; "{text}")?)?;
     }
-    let page = Obstacles {
-        rom,
-        symbols,
-        obstacles,
-        told: told.as_slice(),
-        are_new,
-    };
-    format!(in alloc; "{page}")
+    shown(alloc, rom, obstacles, symbols, told.as_slice(), are_new)
 }
