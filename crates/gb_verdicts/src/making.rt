@@ -1,7 +1,7 @@
 //! Certificates are made of cartridges, or it is told what is in the way.
 
 use crate::judging::{Ceiling, Upgrades, judge_made};
-use crate::reporting::{report, report_obstacles};
+use crate::reporting::{report_obstacles, tell_report};
 use gb_refine::{Limits, Made, Obstacle, Progress, Standing, Symbols, Told, make, obstacle_json};
 use gb_text::Rom;
 use std::alloc::Global;
@@ -104,7 +104,7 @@ pub fn certify<W: Write>(
             let cert = cert.as_slice();
             judge_made(alloc, out, cartridge, cert, ceiling, upgrades)?;
             if telling == Telling::Report {
-                report(alloc, out, &rom, cert, &symbols)?;
+                tell_report(alloc, out, &rom, cert, &symbols)?;
             }
             Ok(())
         }

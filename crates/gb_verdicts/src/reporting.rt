@@ -160,7 +160,7 @@ impl Report<'_, '_> {
 }
 
 /// Prints the facts of a certificate.
-pub fn report<W: Write>(
+pub fn tell_report<W: Write>(
     alloc: Global,
     out: &mut W,
     rom: &Rom<'_>,
