@@ -35,4 +35,4 @@ unpack:
 	jr	nz, 1$
 	jr	unpack
 
-packed:	.db	32, 1, 4, 2, 24, 3, 4, 2, 32, 1, 0
+packed:	.db	8, 1, 4, 2, 8, 1, 0

@@ -42,6 +42,6 @@ mod words;
 pub use gb_verify::check::check;
 pub use gb_verify::verdict::Verdict;
 pub use gb_verify::{
-    Abs, Cell, Cert, Core, Ctl, Flg, ImeSet, May, NodeRef, Range, Rom, Rules, Span, Val, covers,
-    is_ram, known_bank, known_bytes,
+    Abs, Cell, Cert, Core, Ctl, Flg, ImeSet, May, NodeRef, Range, Rom, Rules, Span, Val, cell_at,
+    covers, is_ram, known_bank, known_bytes,
 };

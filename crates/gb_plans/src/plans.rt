@@ -6,10 +6,10 @@ use crate::plan::{Edit, Plan, parted_by};
 use crate::slices::{Sought, slice};
 use crate::spots::{is_known, place_of, value_of};
 use crate::ways::Ways;
-use gb_fixpoint::Rules;
 use gb_fixpoint::cause::{Cause, Failure, StackMisuse};
 use gb_fixpoint::register_set::{REGISTERS, RegisterSet};
 use gb_fixpoint::types::{Procedure, Run, Spot};
+use gb_fixpoint::{Rules, cell_at};
 use gb_ops::op::Register;
 use std::alloc::{AllocError, Global};
 use std::collections::BTreeSet;
@@ -436,6 +436,46 @@ fn plan_recursion(alloc: Global, run: &Run<'_>, number: usize) -> Result<Option<
     Ok(None)
 }
 
+/// Whether a procedure is entered with a cell known, and left with several values in it.
+fn joins_cell(run: &Run<'_>, procedure: &Procedure, cell: u16) -> bool {
+    let Some(exit) = &procedure.exit else {
+        return false;
+    };
+    let Some(entry) = procedure.entry else {
+        return false;
+    };
+    match run.nodes.get(entry) {
+        Some(node) => {
+            let before = cell_at(cell, node.state.cells());
+            let behind = cell_at(cell, exit.cells());
+            before.lo == before.hi && behind.lo < behind.hi
+        }
+        None => false,
+    }
+}
+
+/// A procedure that leaves by different values of a key cell, the innermost one, is followed in its callers, or where it
+/// comes in between: its exit is one state, in which they are joined.
+fn part_exits(alloc: Global, run: &Run<'_>) -> Result<Option<Plan>, AllocError> {
+    if run.rules() == Rules::Simple {
+        return Ok(None);
+    }
+    let mut target = None;
+    for cell in run.configuration.key_cells.iter() {
+        for procedure in &run.procedures {
+            if joins_cell(run, procedure, *cell) {
+                target = Some(procedure.key.target);
+            }
+        }
+    }
+    match target {
+        Some(target) if !run.configuration.inlined.contains(&target) => {
+            Ok(Some(Plan::of(alloc, Edit::Inline(target))?))
+        }
+        _ => Ok(None),
+    }
+}
+
 /// A pointer is too wide, or one that is known ran too far.
 fn plan_pointer(
     alloc: Global,
@@ -469,7 +509,10 @@ fn plan_pointer(
     };
     match plan_at(alloc, run, spot, &trouble)? {
         Some(plan) => Ok(Some(plan)),
-        None => key_cells(alloc, run, spot, &wanted),
+        None => match key_cells(alloc, run, spot, &wanted)? {
+            Some(plan) => Ok(Some(plan)),
+            None => part_exits(alloc, run),
+        },
     }
 }
 

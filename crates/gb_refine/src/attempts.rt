@@ -1,30 +1,143 @@
 //! The attempts at a cartridge: by the rules of version 3, and where these lead to no certificate, by those of versions 1
-//! and 2, by which states are told apart otherwise. So nothing is lost that these rules certify.
+//! and 2, by which states are told apart otherwise. So nothing is lost that these rules certify. Both are tried with few
+//! nodes first, since an edit that leads into very many is mostly one that doesn't help.
 
 use crate::rounds::{Limits, Made, Progress, Refinement};
 use crate::shrink::shrink;
 use gb_draft::{Rom, Rules};
+use gb_reports::Obstacle;
 use std::alloc::{AllocError, Global};
 
-/// A certificate by some rules, or what is in the way.
-fn attempt<P: Progress>(
+/// The most nodes of the first attempts.
+const FEW_NODES: usize = 20_000;
+
+/// The attempts so far.
+#[derive(Drop)]
+struct Attempts<'a> {
     alloc: Global,
-    rom: &Rom<'_>,
+    rom: &'a Rom<'a>,
     limits: Limits,
-    rules: Rules,
-    progress: &mut P,
-) -> Result<Made, AllocError> {
-    let mut refinement = Refinement::new(alloc, rom, limits, rules)?;
-    finish(&mut refinement, progress)
+    /// What is in the way by the rules that are tried first.
+    obstacles: Vec<Obstacle>,
 }
 
-fn finish<P: Progress>(
-    refinement: &mut Refinement<'_>,
-    progress: &mut P,
-) -> Result<Made, AllocError> {
-    match refinement.make(progress)? {
-        Made::Certificate(bytes) => Ok(Made::Certificate(shrink(refinement, bytes, progress)?)),
-        Made::Obstacles(obstacles) => Ok(Made::Obstacles(obstacles)),
+impl<'a> Attempts<'a> {
+    /// Whether there is a way to go by some rules that the limits allow.
+    fn are_wanted(&self, rules: Rules) -> bool {
+        match self.limits.rules {
+            Some(wanted) => wanted == rules,
+            None => true,
+        }
+    }
+
+    /// A certificate by some rules with so many nodes; whether more nodes might lead further where there is none.
+    fn attempt<P: Progress>(
+        &mut self,
+        rules: Rules,
+        nodes: usize,
+        progress: &mut P,
+    ) -> Result<Attempted, AllocError> {
+        let limits = Limits {
+            nodes,
+            ..self.limits
+        };
+        let mut refinement = Refinement::new(self.alloc, self.rom, limits, rules)?;
+        match refinement.make(progress)? {
+            Made::Certificate(bytes) => {
+                Ok(Attempted::Certificate(shrink(&refinement, bytes, progress)?))
+            }
+            Made::Obstacles(obstacles) => {
+                self.keep(rules, obstacles);
+                Ok(Attempted::Nothing {
+                    is_limited: refinement.is_limited,
+                })
+            }
+        }
+    }
+
+    /// What is in the way is kept by the first rules alone.
+    fn keep(&mut self, rules: Rules, obstacles: Vec<Obstacle>) {
+        if rules == Rules::Extended || !self.are_wanted(Rules::Extended) {
+            self.obstacles = obstacles;
+        }
+    }
+
+    /// Certificates by both rules with so many nodes, where they might lead further than before.
+    fn attempt_all<P: Progress>(
+        &mut self,
+        nodes: usize,
+        before: Limited,
+        progress: &mut P,
+    ) -> Result<Both, AllocError> {
+        let mut limited = Limited::neither();
+        if before.by_extended && self.are_wanted(Rules::Extended) {
+            match self.attempt(Rules::Extended, nodes, progress)? {
+                Attempted::Certificate(bytes) => return Ok(Both::Certificate(bytes)),
+                Attempted::Nothing { is_limited } => limited.by_extended = is_limited,
+            }
+        }
+        if before.by_simple && self.are_wanted(Rules::Simple) {
+            match self.attempt(Rules::Simple, nodes, progress)? {
+                Attempted::Certificate(bytes) => return Ok(Both::Certificate(bytes)),
+                Attempted::Nothing { is_limited } => limited.by_simple = is_limited,
+            }
+        }
+        Ok(Both::Nothing(limited))
+    }
+
+    /// All attempts.
+    fn make<P: Progress>(mut self, progress: &mut P) -> Result<Made, AllocError> {
+        let nodes = self.limits.nodes;
+        let few = nodes.min(FEW_NODES);
+        match self.attempt_all(few, Limited::both(), progress)? {
+            Both::Certificate(bytes) => return Ok(Made::Certificate(bytes)),
+            Both::Nothing(limited) => {
+                if few < nodes {
+                    if let Both::Certificate(bytes) = self.attempt_all(nodes, limited, progress)? {
+                        return Ok(Made::Certificate(bytes));
+                    }
+                }
+            }
+        }
+        let Attempts { obstacles, .. } = self;
+        Ok(Made::Obstacles(obstacles))
+    }
+}
+
+/// What came of an attempt.
+#[derive(Drop)]
+enum Attempted {
+    Certificate(Vec<u8>),
+    Nothing { is_limited: bool },
+}
+
+/// What came of attempts by both rules.
+#[derive(Drop)]
+enum Both {
+    Certificate(Vec<u8>),
+    Nothing(Limited),
+}
+
+/// By which rules more nodes might lead further.
+#[derive(Clone, Copy)]
+struct Limited {
+    by_extended: bool,
+    by_simple: bool,
+}
+
+impl Limited {
+    fn both() -> Limited {
+        Limited {
+            by_extended: true,
+            by_simple: true,
+        }
+    }
+
+    fn neither() -> Limited {
+        Limited {
+            by_extended: false,
+            by_simple: false,
+        }
     }
 }
 
@@ -36,16 +149,11 @@ pub(crate) fn attempts<P: Progress>(
     limits: Limits,
     progress: &mut P,
 ) -> Result<Made, AllocError> {
-    if let Some(rules) = limits.rules {
-        return attempt(alloc, rom, limits, rules, progress);
-    }
-    match attempt(alloc, rom, limits, Rules::Extended, progress)? {
-        Made::Certificate(bytes) => Ok(Made::Certificate(bytes)),
-        Made::Obstacles(obstacles) => {
-            match attempt(alloc, rom, limits, Rules::Simple, progress)? {
-                Made::Certificate(bytes) => Ok(Made::Certificate(bytes)),
-                Made::Obstacles(_) => Ok(Made::Obstacles(obstacles)),
-            }
-        }
-    }
+    let attempts = Attempts {
+        alloc,
+        rom,
+        limits,
+        obstacles: Vec::new(alloc),
+    };
+    attempts.make(progress)
 }

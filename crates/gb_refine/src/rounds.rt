@@ -14,7 +14,7 @@ use std::collections::{BTreeMap, BTreeSet};
 const EDITS: u32 = 12;
 
 /// The most edits for one place and reason, where the pointer is kept in RAM: it would be told apart through all memory.
-const EDITS_OF_KEPT: u32 = 3;
+const EDITS_OF_KEPT: u32 = 6;
 
 /// The most obstacles that are told.
 const OBSTACLES: usize = 10;
@@ -24,6 +24,9 @@ const WORD: usize = 2;
 
 /// How many steps of nodes all rounds together may take: no more is begun behind them.
 const STEPS: u64 = 12_000_000;
+
+/// The same for each node that is allowed.
+const STEPS_A_NODE: u64 = 100;
 
 /// What is told while certificates are made.
 pub trait Progress {
@@ -145,10 +148,16 @@ pub(crate) struct Refinement<'a> {
     too_large: BTreeSet<Place>,
     /// How many procedures began at each address in the last run.
     pub(crate) targets: BTreeMap<u16, usize>,
-    /// The steps of the last run.
+    /// The nodes and the steps of the last run.
+    pub(crate) nodes: usize,
     pub(crate) steps: u64,
+    /// How many pairs of nodes the last run had at one address: a state that no node covers is sought among them value by
+    /// value.
+    pub(crate) pairs: u64,
     /// The steps of all runs.
     spent: u64,
+    /// Whether the limit of nodes or of steps was met.
+    pub(crate) is_limited: bool,
 }
 
 /// The first configuration.
@@ -205,8 +214,11 @@ impl<'a> Refinement<'a> {
             given_up: Vec::new(alloc),
             too_large: BTreeSet::new(alloc),
             targets: BTreeMap::new(alloc),
+            nodes: 0,
             steps: 0,
+            pairs: 0,
             spent: 0,
+            is_limited: false,
         })
     }
 
@@ -523,7 +535,9 @@ impl<'a> Refinement<'a> {
         let outcome = run.run()?;
         progress.ran(run.nodes.len(), run.procedures.len());
         self.cells.learn(run)?;
+        self.nodes = run.nodes.len();
         self.steps = run.steps;
+        self.pairs = pairs_of(run);
         self.spent = self.spent.saturating_add(run.steps);
         self.targets = targets_of(self.alloc, run)?;
         self.learn(run, outcome)
@@ -600,6 +614,7 @@ impl<'a> Refinement<'a> {
 
     /// A run was too large: the last edit was too much, or there was none.
     fn shrink_back(&mut self, crowd: Crowd) -> Result<Option<Made>, AllocError> {
+        self.is_limited = true;
         match self.take_back()? {
             Some(place) if self.given_up.len() < OBSTACLES => {
                 self.too_large.insert(place)?;
@@ -746,6 +761,11 @@ impl<'a> Refinement<'a> {
         self.cells.track(&mut self.configuration, &news.cells)
     }
 
+    /// How many steps of nodes all rounds together may take: fewer where there are to be few nodes.
+    fn most_steps(&self) -> u64 {
+        STEPS.min((self.limits.nodes as u64).saturating_mul(STEPS_A_NODE))
+    }
+
     /// There were more rounds than allowed, or they took too long: the failure that was to be mended last is told.
     fn out_of_rounds(&mut self, rounds: u32) -> Result<Made, AllocError> {
         let rounds = Obstacle::Rounds { rounds };
@@ -762,7 +782,8 @@ impl<'a> Refinement<'a> {
             if let Some(made) = self.round(progress)? {
                 return Ok(made);
             }
-            if self.spent > STEPS {
+            if self.spent > self.most_steps() {
+                self.is_limited = true;
                 return self.out_of_rounds(round.saturating_add(1));
             }
         }
@@ -819,6 +840,16 @@ fn comes_from(run: &Run<'_>, number: usize, place: Place) -> bool {
         };
     }
     false
+}
+
+/// How many pairs of nodes there are at one address of a run.
+fn pairs_of(run: &Run<'_>) -> u64 {
+    let mut pairs: u64 = 0;
+    for nodes in run.at.values() {
+        let count = nodes.len() as u64;
+        pairs = pairs.saturating_add(count.saturating_mul(count));
+    }
+    pairs
 }
 
 /// How many procedures of a run begin at each address.

@@ -10,10 +10,16 @@ use gb_plans::{parted_by, without};
 use std::alloc::{AllocError, Global};
 
 /// About how many steps of nodes all attempts together may take.
-const STEPS: u64 = 3_000_000;
+const STEPS: u64 = 1_500_000;
+
+/// What the check of a pair of nodes at one address may take, in steps of nodes.
+const STEPS_A_PAIR: u64 = 16;
 
 /// The most attempts.
 const ATTEMPTS: u64 = 60;
+
+/// How many nodes an attempt may have beside twice as many as before.
+const SPARE_NODES: usize = 1_000;
 
 /// What is taken back by halves.
 #[derive(Clone, Copy, PartialEq, Eq)]
@@ -255,21 +261,29 @@ pub(crate) fn shrink<P: Progress>(
     progress: &mut P,
 ) -> Result<Vec<u8>, AllocError> {
     progress.shrinks();
+    let mut configuration = refinement.configuration.clone()?;
+    configuration.limit = configuration.limit.min(most_nodes(refinement.nodes));
     let mut shrinking = Shrinking {
         alloc: refinement.alloc(),
         rom: refinement.rom(),
-        configuration: refinement.configuration.clone()?,
+        configuration,
         best,
-        attempts: attempts_of(refinement.steps),
+        attempts: attempts_of(refinement.steps, refinement.pairs),
     };
     shrinking.shrink(refinement)?;
     let Shrinking { best, .. } = shrinking;
     Ok(best)
 }
 
-/// How many attempts there are, where each takes so many steps.
-fn attempts_of(steps: u64) -> u64 {
-    match STEPS.checked_div(steps) {
+/// The most nodes of an attempt at a smaller certificate than one with so many: a run of more is given up.
+fn most_nodes(nodes: usize) -> usize {
+    nodes.saturating_mul(2).saturating_add(SPARE_NODES)
+}
+
+/// How many attempts there are, where each takes so many steps, and the check looks at so many pairs of nodes.
+fn attempts_of(steps: u64, pairs: u64) -> u64 {
+    let cost = steps.saturating_add(pairs.saturating_mul(STEPS_A_PAIR));
+    match STEPS.checked_div(cost) {
         Some(attempts) => attempts.min(ATTEMPTS),
         None => ATTEMPTS,
     }

@@ -9,7 +9,7 @@ use std::io::{self, Write};
 
 /// What the maker may use.
 const LIMITS: Limits = Limits {
-    nodes: 4_000,
+    nodes: 12_000,
     rounds: 400,
     region: None,
     rules: None,
