@@ -54,7 +54,7 @@ fn bytes_added(rules: Rules, op: Op) -> usize {
         Op::Push(_) => 2,
         Op::CallIf(_, _) | Op::Call(_) | Op::Restart(_) if rules == Rules::Extended => 2,
         Op::DecrementPair(Pair::Sp) => 1,
-        Op::AddSp(e8) if e8 >= 128 => 256 - usize::from(e8),
+        Op::AddSp(e8) if e8 >= 128 => usize::from(e8.wrapping_neg()),
         _ => 0,
     }
 }
@@ -223,9 +223,8 @@ pub fn refusal(rom: &Rom<'_>, standing: Standing<'_>, ways: &Successors<'_>) -> 
     } = standing;
     let core = state.core();
     let rules = stack.setting.rules;
-    if bytes_added(rules, row.op) + state.items().len() > rules.item_room()
-        && ways.taken.is_some()
-    {
+    let bytes = bytes_added(rules, row.op).saturating_add(state.items().len());
+    if bytes > rules.item_room() && ways.taken.is_some() {
         return Some((Cause::PushesTooMany, RegisterSet::empty()));
     }
     let storable = storable(rules, stack.region);

@@ -43,33 +43,33 @@ pub(crate) const STACK_NOT_SET: Advice = Advice {
 };
 
 pub(crate) const POPS_RETURN_WORD: Advice = Advice {
-    rule: "A procedure may not POP the word that its caller will return by.",
-    remedy: "Where data stands behind the call, or a jump table is called by RST: pass the table's address in HL instead (LD HL,table, then a CALL or a JP). Where a procedure wants to leave its caller too: return a code, and let the caller look at it.",
+    rule: "No more may be taken from the stack than is known to be there.",
+    remedy: "A handler may not take what was on the stack before it, and main has nothing above its stack. Look for a POP, or an ADD SP, that runs more often than what it takes was put on.",
 };
 
 pub(crate) const STACK_MOVED: Advice = Advice {
-    rule: "SP may not be moved by INC SP, DEC SP, ADD SP or LD SP,HL.",
-    remedy: "Copies that go by the stack (LD SP,HL and POP) have to go by (HL+) or (DE). Words on the stack are dropped by POP.",
+    rule: "SP may be set to a known address of the stack alone, the procedure's own or main's.",
+    remedy: "Copies that go by the stack (LD SP,HL and POP) have to go by (HL+) or (DE). SP that is kept in RAM must be loaded again where it is still known: in the same procedure, with no store by a pointer between that may reach it.",
 };
 
 /// LD SP,n16 of another address than the stack's: for a copy by POP or PUSH.
 pub(crate) const STACK_BORROWED: Advice = Advice {
-    rule: "SP may not be used for anything but the stack: LD SP may load the stack's address alone, in main.",
+    rule: "SP may not be used for anything but the stack.",
     remedy: "Copies that go by the stack (LD SP and POP, or LD SP and PUSH) have to go by (HL+) or (DE).",
 };
 
 pub(crate) const STACK_SET_IN_CALLEE: Advice = Advice {
-    rule: "LD SP may stand in main alone, and not in what is called or handles an interrupt.",
+    rule: "By the rules of versions 1 and 2 LD SP may stand in main alone, and not in what is called or handles an interrupt.",
     remedy: "For a soft reset or a game over: set a variable, return, and let main's loop look at the variable and JP to the beginning, where LD SP stands.",
 };
 
 pub(crate) const STACK_SET_AGAIN: Advice = Advice {
-    rule: "All LD SP of a program must load the same address.",
-    remedy: "Use one stack: let each LD SP load the address behind it.",
+    rule: "LD SP may load the address behind the stack, or one at most 255 bytes below it.",
+    remedy: "Use one stack: let each LD SP load the address behind it. Copies that go by the stack (LD SP and POP, or LD SP and PUSH) have to go by (HL+) or (DE).",
 };
 
 pub(crate) const PUSHES_TOO_MANY: Advice = Advice {
-    rule: "A procedure may have 16 pushed words at most.",
+    rule: "A procedure may have 255 bytes on the stack at most, with what it takes over from its caller.",
     remedy: "Look for a loop that pushes more than it pops, or keep the values in variables.",
 };
 
@@ -86,8 +86,8 @@ pub(crate) const PADDING: Advice = Advice {
 
 /// A store that runs over work RAM and the stack in it.
 pub(crate) const CLEARS_STACK: Advice = Advice {
-    rule: "No store but a PUSH, a CALL or a dispatch may reach the stack region.",
-    remedy: "Clear RAM up to the stack and not over it: the usual loop over C000-DFFF at the start has to end where the stack begins (with the stack at the end of work RAM, a page or a few words earlier), or the stack moves to high RAM.",
+    rule: "In what is called, or handles an interrupt, a store may not reach bytes of the stack that aren't its own.",
+    remedy: "Clear RAM in the main program itself, before the first CALL, or up to the stack and not over it (with the stack at the end of work RAM, a page earlier). A pointer must be bounded before the store: AND the index, or compare it (CP, then JR NC).",
 };
 
 /// A store by a pointer that is kept in RAM.
@@ -160,7 +160,7 @@ pub(crate) const RETURN_IN_MAIN: Advice = Advice {
 
 pub(crate) const RETURN_WITH_WORDS: Advice = Advice {
     rule: "A procedure may return only when it has popped all that it pushed.",
-    remedy: "POP before RET on every way. PUSH of an address and RET to it has to become a CALL of a JP HL.",
+    remedy: "POP before RET or RETI on every way, as often as was pushed.",
 };
 
 pub(crate) const RETURN_TO_UNKNOWN: Advice = Advice {

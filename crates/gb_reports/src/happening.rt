@@ -108,7 +108,7 @@ fn fmt_detailed<W: fmt::Write>(cause: Cause, f: &mut fmt::Formatter<W>) -> fmt::
         }
         Cause::Stack(StackMisuse::SetAgain(sp)) => write!(
             f,
-            "It sets SP to {sp:04X}, and an LD SP before it set something else."
+            "It sets SP to {sp:04X}, which is no address of the stack."
         ),
         cause => fmt_access(cause, f),
     }

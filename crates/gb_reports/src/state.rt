@@ -122,10 +122,10 @@ pub fn fmt_core<W: fmt::Write>(core: &Core, f: &mut fmt::Formatter<W>) -> fmt::R
     write!(f, "{ime}, IE={ie}, {controller}")
 }
 
-/// How many words were pushed.
-fn fmt_words<W: fmt::Write>(state: &Abs, f: &mut fmt::Formatter<W>) -> fmt::Result {
-    let words = state.items().len() / 2;
-    write!(f, ", pushed words: {words}")
+/// How many bytes are on the stack.
+fn fmt_bytes<W: fmt::Write>(state: &Abs, f: &mut fmt::Formatter<W>) -> fmt::Result {
+    let bytes = state.items().len();
+    write!(f, ", bytes on the stack: {bytes}")
 }
 
 /// How long an OAM transfer may still run, if one may.
@@ -160,7 +160,7 @@ impl fmt::Display for ShownState<'_> {
         let flags = ShownFlags(state.core().flags);
         write!(f, "    {registers} {flags}\n    ")?;
         fmt_core(state.core(), f)?;
-        fmt_words(state, f)?;
+        fmt_bytes(state, f)?;
         fmt_bound(state.core().bound, f)?;
         fmt_cells(state.cells(), f)
     }
