@@ -36,7 +36,7 @@ pub fn made<R: Eprint + AllocGlobal>(
         nodes: task.nodes as usize,
         rounds: ROUNDS,
         region: task.region,
-        rules: None,
+        rules: task.rules,
     };
     let mut progress = Shown::new(rt, is_shown);
     Ok(make(rt.alloc(), rom, limits, &mut progress)?)

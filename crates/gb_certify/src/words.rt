@@ -4,6 +4,7 @@ use crate::help;
 use clap::error::ErrorKind;
 use clap::{Arg, ArgAction, ArgMatches, Command, Error};
 use gb_ops::machine::Region;
+use gb_refine::Rules;
 use std::alloc::{AllocError, Global};
 
 /// The most nodes that may be allowed: a certificate of version 2 has no more.
@@ -44,6 +45,8 @@ pub struct Task<'a> {
     pub before: Option<Before<'a>>,
     pub nodes: u32,
     pub region: Option<Region>,
+    /// The rules by which alone a certificate is sought.
+    pub rules: Option<Rules>,
     pub is_json: bool,
 }
 
@@ -129,16 +132,21 @@ fn with_options<'a>(alloc: Global) -> Result<Command<'a>, AllocError> {
         "FIRST..LAST",
         "The stack's addresses, as DF00..DFFF; else the least that is needed below LD SP",
     );
+    let rules = option_arg(
+        alloc,
+        "rules",
+        "N",
+        "Make it by the rules of version N alone, 1, 2 or 3; else by those of 3, and then by those of 1 and 2",
+    )
+    .value_parser(clap::value_parser!(u32).range(1..=3));
     let report = option_arg(
         alloc,
         "report",
         "FILE",
         "Write a page on CERT into FILE; CERT is made first where it isn't there",
     );
-    with_arg(
-        with_arg(with_arg(with_arg(command, symbols), nodes), stack),
-        report,
-    )
+    let command = with_arg(with_arg(command, symbols), nodes);
+    with_arg(with_arg(with_arg(command, stack), rules), report)
 }
 
 /// The program with the options for an older certificate.
@@ -241,6 +249,15 @@ fn stack_of(alloc: Global, matches: &ArgMatches<'_>) -> Result<Option<Region>, E
     }
 }
 
+/// By which rules alone a certificate is sought.
+fn rules_of(matches: &ArgMatches<'_>) -> Option<Rules> {
+    match matches.get_one::<u32>("rules") {
+        Some(3) => Some(Rules::Extended),
+        Some(_) => Some(Rules::Simple),
+        None => None,
+    }
+}
+
 /// What is to be done with the certificate's file.
 fn work_of<'a>(alloc: Global, matches: &ArgMatches<'a>) -> Result<Work<'a>, Error> {
     let is_explained = matches.get_flag("explain");
@@ -297,6 +314,7 @@ pub fn read_words<'a>(alloc: Global, words: &'a [&'a str]) -> Result<Task<'a>, E
         before: before_of(alloc, &matches, work)?,
         nodes,
         region: stack_of(alloc, &matches)?,
+        rules: rules_of(&matches),
         is_json: matches.get_flag("json"),
     })
 }

@@ -1,7 +1,8 @@
 //! Loops: paged, then keyed, and their counters split.
 
 use crate::plan::{Edit, Plan, registers_at, split_at};
-use crate::spots::{op_at, place_of, value_of};
+use crate::sources::{sources, without, written};
+use crate::spots::{op_at, open_at, place_of, value_of};
 use crate::ways::{Loop, Ways};
 use gb_fixpoint::Rules;
 use gb_fixpoint::configuration::Place;
@@ -30,16 +31,19 @@ fn is_paged(run: &Run<'_>, target: u16, around: &Loop) -> bool {
     }))
 }
 
-/// A loop is paged, or keyed if it is paged already.
+/// A loop is paged, or keyed if it is paged already; by the rules of version 3 it is paged only where it looks at a page, since
+/// pairs have bounds.
 fn refine_loop(
     alloc: Global,
     run: &Run<'_>,
-    target: u16,
+    procedure: usize,
     around: &Loop,
 ) -> Result<Option<Plan>, AllocError> {
+    let target = run.target(procedure);
+    let is_whole = run.rules() == Rules::Extended && !tests_page(run, procedure, around);
     if is_keyed(run, target, around) {
         Ok(None)
-    } else if is_paged(run, target, around) {
+    } else if is_whole || is_paged(run, target, around) {
         Ok(Some(Plan::key_all(alloc, target, around)?))
     } else {
         Ok(Some(Plan::page_all(alloc, target, around)?))
@@ -225,6 +229,148 @@ fn count_rounds(
     Ok(None)
 }
 
+/// The registers that no instruction of a loop changes.
+fn unwritten(run: &Run<'_>, procedure: usize, around: &Loop) -> RegisterSet {
+    let mut kept = RegisterSet::all();
+    for address in around.iter() {
+        let spot = Spot {
+            procedure,
+            address: *address,
+        };
+        if let Some(op) = op_at(run, spot) {
+            let changed = written(op);
+            for register in REGISTERS {
+                if changed.contains(register) {
+                    kept = without(&kept, register);
+                }
+            }
+        }
+    }
+    kept
+}
+
+/// Whether a register isn't known behind the instruction at an address.
+fn is_open(run: &Run<'_>, procedure: usize, address: u16, register: Register) -> bool {
+    let spot = Spot { procedure, address };
+    let Some(op) = op_at(run, spot) else {
+        return true;
+    };
+    match sources(op, &RegisterSet::of(&[register])) {
+        Some(from) => !open_at(run, spot, &from, true).is_empty(),
+        None => true,
+    }
+}
+
+/// Whether an instruction of a loop looks at the page of HL or DE, or counts it.
+fn tests_page(run: &Run<'_>, procedure: usize, around: &Loop) -> bool {
+    around.iter().any(|address| {
+        let spot = Spot {
+            procedure,
+            address: *address,
+        };
+        matches!(
+            op_at(run, spot),
+            Some(
+                Op::Load(
+                    Operand::Register(Register::A),
+                    Operand::Register(Register::D | Register::H)
+                ) | Op::Bit(_, Operand::Register(Register::D | Register::H))
+                    | Op::Increment(Operand::Register(Register::D | Register::H))
+                    | Op::Decrement(Operand::Register(Register::D | Register::H))
+            )
+        )
+    })
+}
+
+/// Whether a loop is entered with a counter that isn't known.
+fn begins_unknown(
+    run: &Run<'_>,
+    ways: &Ways,
+    procedure: usize,
+    around: &Loop,
+) -> Result<bool, AllocError> {
+    let counters = counters_of(run, procedure, around, None);
+    for head in &ways.heads(around)? {
+        for before in &ways.before(*head)? {
+            if around.contains(before) {
+                continue;
+            }
+            for register in REGISTERS {
+                if counters.contains(register) && is_open(run, procedure, *before, register) {
+                    return Ok(true);
+                }
+            }
+        }
+    }
+    Ok(false)
+}
+
+/// Whether a pair that may be a pointer is among registers.
+fn has_pointer(registers: &RegisterSet) -> bool {
+    RegisterSet::of(&[Register::H, Register::L]).is_inside(registers)
+        || RegisterSet::of(&[Register::D, Register::E]).is_inside(registers)
+}
+
+/// The edits that tell an outer loop's states apart, as far as they are new, and those of an inner one by what it doesn't
+/// change, where a pointer is left, or all of them.
+fn edits_of_outer(
+    alloc: Global,
+    run: &Run<'_>,
+    procedure: usize,
+    around: &Loop,
+    innermost: &Loop,
+) -> Result<Option<Plan>, AllocError> {
+    let target = run.target(procedure);
+    let kept = unwritten(run, procedure, innermost);
+    let mut plan = Plan::new(alloc);
+    let mut is_new = false;
+    for address in around.iter() {
+        let place = Place {
+            target,
+            address: *address,
+        };
+        if run.configuration.keyed.contains(&place) {
+            continue;
+        }
+        if !innermost.contains(address) || !has_pointer(&kept) {
+            plan.add(Edit::Key(place))?;
+            is_new = true;
+            continue;
+        }
+        for register in REGISTERS {
+            let counted = registers_at(&run.configuration.counted, place);
+            if kept.contains(register) && !counted.contains(register) {
+                plan.add(Edit::Count(place, register))?;
+                is_new = true;
+            }
+        }
+    }
+    if is_new { Ok(Some(plan)) } else { Ok(None) }
+}
+
+/// A loop around one whose counter isn't known where it begins is told apart value by value, so that it becomes known: the
+/// inner one would be walked through all of memory else.
+fn key_outer(
+    alloc: Global,
+    run: &Run<'_>,
+    ways: &Ways,
+    procedure: usize,
+    loops: &[Loop],
+) -> Result<Option<Plan>, AllocError> {
+    let [innermost, outer @ ..] = loops else {
+        return Ok(None);
+    };
+    if !begins_unknown(run, ways, procedure, innermost)? {
+        return Ok(None);
+    }
+    for around in outer {
+        if !ways.is_endless(around) {
+            return edits_of_outer(alloc, run, procedure, around, innermost);
+        }
+    }
+    Ok(None)
+}
+
 /// Counters of loops are told apart, by the rules of version 3: pointers beside the innermost one's counter are known by it.
 fn refine_counters(
     alloc: Global,
@@ -251,7 +397,7 @@ fn refine_counters(
             return Ok(Some(plan));
         }
     }
-    Ok(None)
+    key_outer(alloc, run, ways, procedure, loops)
 }
 
 /// Refines a loop around a spot: the innermost first, those without an end last, if they are wanted, and counters between.
@@ -269,7 +415,7 @@ pub(crate) fn refine_loops(
     }
     for around in &loops {
         if !ways.is_endless(around) {
-            if let Some(plan) = refine_loop(alloc, run, target, around)? {
+            if let Some(plan) = refine_loop(alloc, run, spot.procedure, around)? {
                 return Ok(Some(plan));
             }
         }
@@ -283,7 +429,7 @@ pub(crate) fn refine_loops(
     }
     for around in &loops {
         if with_endless && ways.is_endless(around) {
-            if let Some(plan) = refine_loop(alloc, run, target, around)? {
+            if let Some(plan) = refine_loop(alloc, run, spot.procedure, around)? {
                 return Ok(Some(plan));
             }
         }

@@ -152,6 +152,61 @@ fn load_sources(at: Indirect, wanted: &RegisterSet) -> RegisterSet {
     }
 }
 
+/// The register of an operand.
+fn register_in(operand: Operand) -> RegisterSet {
+    match operand {
+        Operand::Register(register) => RegisterSet::of(&[register]),
+        Operand::AtHl => RegisterSet::empty(),
+    }
+}
+
+/// The registers that a load or a store of A by a pair counts.
+fn counted_by(at: Indirect) -> RegisterSet {
+    match at {
+        Indirect::Bc | Indirect::De => RegisterSet::empty(),
+        Indirect::HlIncrement | Indirect::HlDecrement => hl(),
+    }
+}
+
+/// The registers that an instruction may change; of a call all of them.
+pub fn written(op: Op) -> RegisterSet {
+    let a = RegisterSet::of(&[Register::A]);
+    match op {
+        Op::LoadPair(pair, _) | Op::IncrementPair(pair) | Op::DecrementPair(pair) => halves(pair),
+        Op::StoreA(at) => counted_by(at),
+        Op::LoadA(at) => a.union(&counted_by(at)),
+        Op::Increment(operand)
+        | Op::Decrement(operand)
+        | Op::LoadImmediate(operand, _)
+        | Op::Load(operand, _)
+        | Op::Shift(_, operand)
+        | Op::Reset(_, operand)
+        | Op::Set(_, operand) => register_in(operand),
+        Op::Alu(AluOp::Cp, _) | Op::AluImmediate(AluOp::Cp, _) => RegisterSet::empty(),
+        Op::RotateA(_)
+        | Op::DecimalAdjust
+        | Op::Complement
+        | Op::Alu(..)
+        | Op::AluImmediate(..)
+        | Op::LoadHigh(_)
+        | Op::LoadHighC
+        | Op::LoadAbsolute(_) => a,
+        Op::AddHl(_) | Op::LoadHlSp(_) => hl(),
+        Op::Pop(pair) => popped(pair),
+        Op::Call(_) | Op::CallIf(..) | Op::Restart(_) => RegisterSet::of(&REGISTERS),
+        _ => RegisterSet::empty(),
+    }
+}
+
+/// The registers that POP changes.
+fn popped(pair: StackPair) -> RegisterSet {
+    let mut registers = RegisterSet::empty();
+    for register in stacked(pair).iter().flatten() {
+        registers.insert(*register);
+    }
+    registers
+}
+
 /// A register that comes from RAM or from a port: then nothing is known of where from.
 fn unless_wanted(register: Register, wanted: &RegisterSet) -> Option<RegisterSet> {
     if wanted.contains(register) {
