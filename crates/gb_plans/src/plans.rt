@@ -534,6 +534,9 @@ fn may_be_inlined(cause: Cause) -> bool {
     )
 }
 
+/// Where RST 38 calls itself, in ROM that is filled with FF.
+const PADDING: u16 = 0x38;
+
 /// The procedure of a failure is followed in its callers, by the rules of version 3, where it isn't yet.
 pub fn inline_plan(
     alloc: Global,
@@ -550,7 +553,7 @@ pub fn inline_plan(
         Cause::Recursion { target } => target,
         _ => procedure.key.target,
     };
-    let is_callee = node.key.procedure != 0 && !procedure.key.is_handler;
+    let is_callee = node.key.procedure != 0 && !procedure.key.is_handler && target != PADDING;
     if run.rules() == Rules::Simple
         || !is_callee
         || !may_be_inlined(failure.cause)
