@@ -98,7 +98,7 @@ fn text_on_obstacles(
     if task.is_json {
         obstacle_lines(alloc, obstacles, symbols)
     } else {
-        obstacles_page(alloc, rom, obstacles, symbols)
+        obstacles_page(alloc, rom, obstacles, symbols, task.before.is_some())
     }
 }
 

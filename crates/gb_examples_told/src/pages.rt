@@ -323,7 +323,7 @@ fn obstacles(alloc: Global) -> Option<String> {
         Obstacle::NoStack { sp: 0x8000 },
         Obstacle::Recursion { target: 0x0158 },
     ];
-    obstacles_page(alloc, &rom, &obstacles, &symbols).ok()
+    obstacles_page(alloc, &rom, &obstacles, &symbols, true).ok()
 }
 
 #[test]
@@ -331,6 +331,7 @@ fn obstacles_are_told(rt: HostRuntime) -> Result<(), Fail> {
     let page = obstacles(rt.alloc()).ok_or("a page")?;
     let text = page.as_str();
     assert!(rt; text.contains("NO CERTIFICATE obstacles 2"));
+    assert!(rt; text.contains("so all of it is new"));
     assert!(rt; text.contains("<a href=\"#o2\">"));
     assert!(rt; text.contains("<section id=\"o2\">"));
     assert!(rt; text.contains("a&lt;b"));

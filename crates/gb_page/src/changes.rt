@@ -142,33 +142,47 @@ impl Build {
     }
 }
 
-/// What is otherwise, where each sketch has its key. A symbol is a key only where both builds have their symbols.
-fn compared<'s>(
+/// What two builds have not in common.
+#[derive(Drop)]
+struct Comparison {
+    differences: Vec<Difference>,
+    is_same_way: bool,
+}
+
+/// What two builds have not in common, where their sketches have these keys.
+fn compare<'x>(
     alloc: Global,
-    before: Build,
-    now: Build,
-    old: Option<&Symbols<'s>>,
-    new: Option<&Symbols<'s>>,
-) -> Result<Changes, AllocError> {
-    let old_keys = keys_of(alloc, &before.outline, old)?;
-    let new_keys = keys_of(alloc, &now.outline, new)?;
+    before: &'x Build,
+    old_keys: &'x [Key<'x>],
+    now: &'x Build,
+    new_keys: &'x [Key<'x>],
+) -> Result<Comparison, AllocError> {
     let old = Keyed {
         outline: &before.outline,
-        keys: old_keys.as_slice(),
+        keys: old_keys,
     };
     let new = Keyed {
         outline: &now.outline,
-        keys: new_keys.as_slice(),
+        keys: new_keys,
     };
-    let differences = differences(alloc, &old, &new)?;
-    let is_same_way = before.way.is_empty()
-        || is_same_way(&old, before.way.as_slice(), &new, now.way.as_slice());
-    Ok(Changes {
-        before,
-        now,
-        differences,
-        is_same_way,
+    Ok(Comparison {
+        differences: differences(alloc, &old, &new)?,
+        is_same_way: before.way.is_empty()
+            || is_same_way(&old, before.way.as_slice(), &new, now.way.as_slice()),
     })
+}
+
+/// The same, where each sketch gets its key. A symbol is one only where both builds have their symbols.
+fn compare_by<'x>(
+    alloc: Global,
+    before: &'x Build,
+    now: &'x Build,
+    old: Option<&Symbols<'x>>,
+    new: Option<&Symbols<'x>>,
+) -> Result<Comparison, AllocError> {
+    let old_keys = keys_of(alloc, &before.outline, old)?;
+    let new_keys = keys_of(alloc, &now.outline, new)?;
+    compare(alloc, before, old_keys.as_slice(), now, new_keys.as_slice())
 }
 
 impl Changes {
@@ -191,10 +205,19 @@ impl Changes {
             symbols: Some(symbols),
         };
         let now = Build::of(alloc, &newer)?;
-        match older.symbols {
-            Some(old) => compared(alloc, before, now, Some(old), Some(symbols)),
-            None => compared(alloc, before, now, None, None),
-        }
+        let Comparison {
+            differences,
+            is_same_way,
+        } = match older.symbols {
+            Some(old) => compare_by(alloc, &before, &now, Some(old), Some(symbols))?,
+            None => compare_by(alloc, &before, &now, None, None)?,
+        };
+        Ok(Changes {
+            before,
+            now,
+            differences,
+            is_same_way,
+        })
     }
 
     /// Whether nothing that is compared is otherwise.

@@ -36,3 +36,7 @@ pub use json::facts_json;
 pub use obstacles::obstacles_page;
 pub use page::{Extras, page_of};
 pub use screen::Screen;
+
+// What lies below, for the crates above.
+pub use gb_facts::{Facts, Outline, Sketch};
+pub use gb_reports::{Obstacle, Symbols};

@@ -15,6 +15,8 @@ struct Obstacles<'a, 'r, 's> {
     symbols: &'a Symbols<'s>,
     obstacles: &'a [Obstacle],
     told: &'a [String],
+    /// There is an older certificate, for which nothing was in the way.
+    are_new: bool,
 }
 
 /// Where each obstacle is.
@@ -45,6 +47,21 @@ fn fmt_way<W: fmt::Write>(
     Ok(())
 }
 
+/// What is said of all of them.
+fn fmt_meaning<W: fmt::Write>(are_new: bool, f: &mut fmt::Formatter<W>) -> fmt::Result {
+    write!(
+        f,
+        "<p>No certificate could be made, so nothing is promised of the cartridge. That doesn’t mean that it is wrong. What is in the way stands below: the rule that asks for something, what usually mends it, the state there, and the way there.</p>\n"
+    )?;
+    if are_new {
+        write!(
+            f,
+            "<p>The build before has a certificate, so all of it is new.</p>\n"
+        )?;
+    }
+    Ok(())
+}
+
 /// The obstacles, one after another.
 fn fmt_each<W: fmt::Write>(page: &Obstacles<'_, '_, '_>, f: &mut fmt::Formatter<W>) -> fmt::Result {
     for (place, text) in page.told.iter().enumerate() {
@@ -66,15 +83,36 @@ impl fmt::Display for Obstacles<'_, '_, '_> {
         fmt_head("No certificate for", self.rom, f)?;
         write!(
             f,
-            "<p class=\"verdict refused\">NO CERTIFICATE obstacles {count}</p>\n<p>No certificate could be made, so nothing is promised of the cartridge. That doesn’t mean that it is wrong. What is in the way stands below: the rule that asks for something, what usually mends it, the state there, and the way there.</p>\n"
+            "<p class=\"verdict refused\">NO CERTIFICATE obstacles {count}</p>\n"
         )?;
+        fmt_meaning(self.are_new, f)?;
         fmt_contents(self.told, f)?;
         fmt_each(self, f)?;
         fmt_end(f)
     }
 }
 
-/// The page on what is in the way of a certificate, with addresses told by symbols.
+/// The page with these texts.
+fn shown<'x>(
+    alloc: Global,
+    rom: &'x Rom<'_>,
+    obstacles: &'x [Obstacle],
+    symbols: &'x Symbols<'_>,
+    told: &'x [String],
+    are_new: bool,
+) -> Result<String, AllocError> {
+    let page = Obstacles {
+        rom,
+        symbols,
+        obstacles,
+        told,
+        are_new,
+    };
+    format!(in alloc; "{page}")
+}
+
+/// The page on what is in the way of a certificate, with addresses told by symbols; it says whether all of it is new, since the
+/// build before has a certificate.
 ///
 /// # Errors
 ///
@@ -84,17 +122,12 @@ pub fn obstacles_page(
     rom: &Rom<'_>,
     obstacles: &[Obstacle],
     symbols: &Symbols<'_>,
+    are_new: bool,
 ) -> Result<String, AllocError> {
     let mut told = Vec::new(alloc);
     for obstacle in obstacles {
         let text = Told { obstacle, symbols };
         told.push(format!(in alloc; "{text}")?)?;
     }
-    let page = Obstacles {
-        rom,
-        symbols,
-        obstacles,
-        told: told.as_slice(),
-    };
-    format!(in alloc; "{page}")
+    shown(alloc, rom, obstacles, symbols, told.as_slice(), are_new)
 }

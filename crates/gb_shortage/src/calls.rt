@@ -9,10 +9,11 @@ use gb_cert::{
 use gb_console::{
     Console, Ending, Keys, Outcome, UpgradeTo, Upgraded, upgrade_bytes, verify_bytes,
 };
-use gb_facts::Facts;
 use gb_header::Rom;
-use gb_page::{Changes, Extras, Older, changes_json, facts_json, obstacles_page, page_of};
-use gb_reports::{Obstacle, Symbols};
+use gb_page::{
+    Changes, Extras, Facts, Obstacle, Older, Symbols, changes_json, facts_json, obstacles_page,
+    page_of,
+};
 use gb_text::kept_bytes::KeptBytes;
 use gb_words::{Task, read_words};
 use std::alloc::{AllocError, Global};
@@ -199,7 +200,7 @@ fn page(alloc: Global, files: &Files<'_>) -> Answer {
 fn page_of_obstacles(alloc: Global, files: &Files<'_>) -> Answer {
     let symbols = Symbols::none(alloc);
     let obstacles = [Obstacle::NoStack { sp: 0x8000 }];
-    let made = obstacles_page(alloc, files.rom, &obstacles, &symbols);
+    let made = obstacles_page(alloc, files.rom, &obstacles, &symbols, false);
     text_with(made, "LD SP,8000 leaves no room", "</html>\n")
 }
 

@@ -22,7 +22,8 @@ use hoard::{Hoard, use_stack};
 use std::alloc::{AllocError, Global};
 use std::io;
 
-/// A call with its name, how many holes it is made with, and by how much each is larger than the one before.
+/// A call with its name, how many holes it is made with, and by how much each is larger than the one before. Blocks of 128 KiB
+/// an allocator may give back to the system, and no smaller one is then found in their place: so the largest hole is below.
 struct Row {
     name: &'static str,
     call: Call,
@@ -111,19 +112,19 @@ const ROWS: &[Row] = &[
     Row {
         name: "Facts::of",
         call: Call::Facts,
-        holes: 128,
+        holes: 112,
         step: 1_024,
     },
     Row {
         name: "facts_json",
         call: Call::FactsJson,
-        holes: 128,
+        holes: 112,
         step: 1_024,
     },
     Row {
         name: "page_of",
         call: Call::Page,
-        holes: 256,
+        holes: 120,
         step: 1_024,
     },
     Row {
@@ -135,7 +136,7 @@ const ROWS: &[Row] = &[
     Row {
         name: "Changes::of and changes_json",
         call: Call::Changes,
-        holes: 128,
+        holes: 112,
         step: 1_024,
     },
     Row {

@@ -1,11 +1,10 @@
 //! The reports on a cartridge: facts of a certificate, and whether its page and its object for programs have them, or the way to
 //! what is in the way.
 
-use gb_facts::{Facts, Outline, Sketch};
-use gb_page::{Extras, facts_json, obstacles_page, page_of};
+use gb_console::Cert;
+use gb_page::{Extras, Facts, Outline, Sketch, facts_json, obstacles_page, page_of};
 use gb_refine::{Obstacle, Standing, Symbols};
 use gb_text::Rom;
-use gb_verify::{Cert, Range};
 use std::alloc::{AllocError, Global};
 use std::fmt;
 use std::io::{self, Write};
@@ -91,6 +90,15 @@ impl Report<'_, '_> {
         writeln!(out)
     }
 
+    /// Prints what may be written.
+    fn tell_written<W: Write>(&self, out: &mut W, sketch: &Sketch) -> io::Result<()> {
+        for range in &sketch.written(self.alloc)? {
+            let (first, last) = (range.first, range.last);
+            write!(out, ", writes {first:04X}-{last:04X}")?;
+        }
+        Ok(())
+    }
+
     /// Prints what there is to say of where procedures begin: the bytes of stack that they are allowed, what they may write,
     /// which main always may, and which interrupts may come, by their bits.
     fn tell_sketch<W: Write>(&self, out: &mut W, sketch: &Sketch) -> io::Result<()> {
@@ -98,7 +106,7 @@ impl Report<'_, '_> {
         let need = sketch.need;
         write!(out, "  {name}: {need} bytes")?;
         if !sketch.is_main {
-            tell_ranges(out, sketch.written(self.alloc)?.as_slice())?;
+            self.tell_written(out, sketch)?;
         }
         for interrupt in &sketch.comings {
             let bit = interrupt.bit();
@@ -117,7 +125,7 @@ impl Report<'_, '_> {
     fn has_ranges(&self) -> Result<bool, AllocError> {
         for procedure in &self.facts.procedures {
             for range in procedure.ranges.as_slice() {
-                let Range { first, last } = *range;
+                let (first, last) = (range.first, range.last);
                 if first < last
                     && !self.has(format!(in self.alloc; "<code>{first:04X}-{last:04X}</code>"))?
                 {
@@ -149,15 +157,6 @@ impl Report<'_, '_> {
             writeln!(out, "  The page or the object says otherwise")
         }
     }
-}
-
-/// Prints ranges.
-fn tell_ranges<W: Write>(out: &mut W, ranges: &[Range]) -> io::Result<()> {
-    for range in ranges {
-        let Range { first, last } = *range;
-        write!(out, ", writes {first:04X}-{last:04X}")?;
-    }
-    Ok(())
 }
 
 /// Prints the facts of a certificate.
@@ -201,7 +200,7 @@ pub fn report_obstacles<W: Write>(
     obstacles: &[Obstacle],
     symbols: &Symbols<'_>,
 ) -> io::Result<()> {
-    let page = obstacles_page(alloc, rom, obstacles, symbols)?;
+    let page = obstacles_page(alloc, rom, obstacles, symbols, false)?;
     let Some(Obstacle::Standing(standing)) = obstacles.first() else {
         return Ok(());
     };
