@@ -63,7 +63,10 @@ pub fn tell_obstacles<R: Eprint>(rt: &R, obstacles: &[Obstacle], symbols: &Symbo
             obstacle: &*obstacle,
             symbols: &*symbols,
         };
-        let _ = eprintln!(rt; "{number}. {told}");
+        let _ = match obstacle.line(symbols) {
+            Some(line) => eprintln!(rt; "{line}: {number}. {told}"),
+            None => eprintln!(rt; "{number}. {told}"),
+        };
     }
 }
 

@@ -9,13 +9,13 @@ use crate::words::{Task, Work, read_words};
 use gb_command_line::status::Status;
 use gb_command_line::words::{explain, tell_words, words_of};
 use gb_command_line::{Trouble, is_input, read_cartridge};
-use gb_refine::Symbols;
+use gb_refine::{SymbolFault, Symbols};
 use std::io::Input;
 use std::rt::{Env, Files};
 
 /// How many of the files are standard input, which can be read only once.
 fn inputs(task: &Task<'_>) -> usize {
-    let names = [Some(task.rom), Some(task.cert), task.symbols];
+    let names = [Some(task.rom), Some(task.cert), task.symbols, task.lines];
     names.iter().flatten().filter(|name| is_input(name)).count()
 }
 
@@ -40,7 +40,7 @@ fn wrong_output(task: &Task<'_>) -> Option<&'static str> {
 
 /// Whether a file of this name is read.
 fn is_read(task: &Task<'_>, name: &str) -> bool {
-    task.rom == name || task.cert == name || task.symbols == Some(name)
+    task.rom == name || task.cert == name || task.symbols == Some(name) || task.lines == Some(name)
 }
 
 /// Does what a task says, with the bytes of its cartridge and its symbols.
@@ -73,12 +73,28 @@ fn perform<R: Print + Eprint + Input + Files + AllocGlobal>(
     }
     let bytes = read_cartridge(rt, PROGRAM, task.rom)?;
     let text = read_symbols(rt, task.symbols)?;
-    match Symbols::parse(rt.alloc(), &text) {
-        Ok(symbols) => work_on(rt, task, &bytes, &symbols, is_shown),
-        Err(fault) => match task.symbols {
-            Some(name) => Ok(tell_symbols(rt, name, fault)),
-            None => Err(Trouble::Memory),
-        },
+    let lines = read_symbols(rt, task.lines)?;
+    let mut symbols = match Symbols::parse(rt.alloc(), &text) {
+        Ok(symbols) => symbols,
+        Err(fault) => return tell_fault(rt, task.symbols, fault),
+    };
+    if task.lines.is_some()
+        && let Err(fault) = symbols.add_lines(rt.alloc(), &lines)
+    {
+        return tell_fault(rt, task.lines, fault);
+    }
+    work_on(rt, task, &bytes, &symbols, is_shown)
+}
+
+/// Says what is wrong with a file of symbols or of lines; where none is named, memory ran out.
+fn tell_fault<R: Eprint>(
+    rt: &R,
+    name: Option<&str>,
+    fault: SymbolFault,
+) -> Result<Status, Trouble> {
+    match name {
+        Some(name) => Ok(tell_symbols(rt, name, fault)),
+        None => Err(Trouble::Memory),
     }
 }
 

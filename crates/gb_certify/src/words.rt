@@ -33,6 +33,8 @@ pub struct Task<'a> {
     pub rom: &'a str,
     pub cert: &'a str,
     pub symbols: Option<&'a str>,
+    /// The file of the author's lines.
+    pub lines: Option<&'a str>,
     pub nodes: u32,
     pub region: Option<Region>,
     /// The rules by which alone a certificate is sought.
@@ -109,6 +111,12 @@ fn with_options<'a>(alloc: Global) -> Result<Command<'a>, AllocError> {
         "FILE",
         "Tell addresses by the symbols of this file",
     );
+    let lines = option_arg(
+        alloc,
+        "lines",
+        "FILE",
+        "Tell the lines of sources by this file, SDCC's .cdb",
+    );
     let nodes = option_arg(
         alloc,
         "nodes",
@@ -135,7 +143,7 @@ fn with_options<'a>(alloc: Global) -> Result<Command<'a>, AllocError> {
         "FILE",
         "Write a page on CERT into FILE; CERT is made first where it isn't there",
     );
-    let command = with_arg(with_arg(command, symbols), nodes);
+    let command = with_arg(with_arg(with_arg(command, symbols), lines), nodes);
     with_arg(with_arg(with_arg(command, stack), rules), report)
 }
 
@@ -255,6 +263,7 @@ pub fn read_words<'a>(alloc: Global, words: &'a [&'a str]) -> Result<Task<'a>, E
         rom,
         cert,
         symbols: matches.get_str("sym"),
+        lines: matches.get_str("lines"),
         nodes,
         region: stack_of(alloc, &matches)?,
         rules: rules_of(&matches),

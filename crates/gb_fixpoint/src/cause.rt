@@ -66,8 +66,8 @@ pub enum Cause {
     JumpHl,
     /// RET in main.
     ReturnInMain,
-    /// RET with so many words on the stack.
-    ReturnWithWords { words: usize },
+    /// RET with so many bytes on the stack beside the return word.
+    ReturnWithBytes { bytes: usize },
     /// RET with a word that is neither the return word nor known.
     ReturnToUnknown,
     /// RET with more or fewer bytes on the stack than another one of the procedure.
@@ -130,7 +130,7 @@ impl Cause {
             Cause::OamTransfer(_) => Reason::OamTransfer,
             Cause::JumpHl => Reason::JumpHl,
             Cause::ReturnInMain
-            | Cause::ReturnWithWords { .. }
+            | Cause::ReturnWithBytes { .. }
             | Cause::ReturnToUnknown
             | Cause::ReturnWithOthers => Reason::Return,
             Cause::InterruptWithoutStack { .. } => Reason::Interrupt,

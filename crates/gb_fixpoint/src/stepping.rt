@@ -14,6 +14,9 @@ use gb_verify::{
 /// The address that interrupt 0 calls; those of the others follow it, 8 bytes apart.
 pub(crate) const FIRST_VECTOR: u16 = 0x40;
 
+/// The bytes of a return word.
+const RETURN_WORD: usize = 2;
+
 impl<'a> Run<'a> {
     /// Executes the instruction at a node, and dispatches each interrupt that may come there.
     pub(crate) fn step(&mut self, number: usize) -> Result<(), Stop> {
@@ -60,8 +63,8 @@ impl<'a> Run<'a> {
                 if is_handler
                     && op == Op::ReturnFromInterrupt
                     && matches!(taken.target, Target::At(_)) => {
-                let words = (node.state.items().len() / 2).saturating_sub(1);
-                let cause = Cause::ReturnWithWords { words };
+                let bytes = node.state.items().len().saturating_sub(RETURN_WORD);
+                let cause = Cause::ReturnWithBytes { bytes };
                 Err(Run::failure(number, cause, RegisterSet::empty()))
             }
             _ => Ok(()),
@@ -122,9 +125,9 @@ impl<'a> Run<'a> {
         if procedure == 0 {
             return Err(Run::failure(number, Cause::ReturnInMain, RegisterSet::empty()));
         }
-        let words = state.items().len() / 2;
-        if words != 0 && self.rules() == Rules::Simple {
-            let cause = Cause::ReturnWithWords { words };
+        let bytes = state.items().len();
+        if bytes != 0 && self.rules() == Rules::Simple {
+            let cause = Cause::ReturnWithBytes { bytes };
             return Err(Run::failure(number, cause, RegisterSet::empty()));
         }
         keep_tracked(&mut state, self.tracked.as_slice());

@@ -122,13 +122,13 @@ const LISTED: Written = Written::Text(
     "\
 stack DF00-DFFF, procedures 1, nodes 3\n\
 \n\
-procedure 0: 0 words of stack, does not return, writes no RAM\n    \
+procedure 0: 0 bytes of stack, does not return, writes no RAM\n    \
     00:0100  NOP\n        \
-        A=01 B=00 C=13 D=00 E=D8 H=01 L=4D Z=1 C=1; interrupts off, IE=00, bank 01, cartridge RAM closed, words 0\n    \
+        A=01 B=00 C=13 D=00 E=D8 H=01 L=4D Z=1 C=1; interrupts off, IE=00, bank 01, cartridge RAM closed, bytes 0\n    \
     00:0101  JP $0150\n        \
-        A=01 B=00 C=13 D=00 E=D8 H=01 L=4D Z=1 C=1; interrupts off, IE=00, bank 01, cartridge RAM closed, words 0\n    \
+        A=01 B=00 C=13 D=00 E=D8 H=01 L=4D Z=1 C=1; interrupts off, IE=00, bank 01, cartridge RAM closed, bytes 0\n    \
     00:0150  JR $0150\n        \
-        A=01 B=00 C=13 D=00 E=D8 H=01 L=4D Z=1 C=1; interrupts off, IE=00, bank 01, cartridge RAM closed, words 0\n",
+        A=01 B=00 C=13 D=00 E=D8 H=01 L=4D Z=1 C=1; interrupts off, IE=00, bank 01, cartridge RAM closed, bytes 0\n",
 );
 
 /// Both files are read, and the verdict is written.

@@ -13,6 +13,7 @@ mod plans;
 mod slices;
 mod sources;
 mod spots;
+mod waiting;
 mod ways;
 
 pub use cells::pointer_cells;

@@ -607,7 +607,7 @@ pub fn plan_for(
         | Cause::ReturnToUnknown
         | Cause::ReturnWithOthers
         | Cause::ReturnInMain
-        | Cause::ReturnWithWords { .. }
+        | Cause::ReturnWithBytes { .. }
         | Cause::InterruptWithoutStack { .. } => Ok(None),
     }
 }

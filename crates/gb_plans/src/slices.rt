@@ -1,9 +1,10 @@
-//! Slices: straight-line code backwards, to where the wanted registers come from one register that can be taken value by
-//! value.
+//! Slices: straight-line code backwards, through the stack too, to where the wanted registers come from one register that can be
+//! taken value by value.
 
 use crate::plan::{Edit, Plan, split_at};
-use crate::sources::{count, first, pointer_of, sources};
+use crate::sources::{count, first, pointer_of};
 use crate::spots::{has_entry, narrower, op_at, open_at, place_of, points_to_rom, width_at};
+use crate::waiting::Waiting;
 use crate::ways::Ways;
 use gb_fixpoint::configuration::Place;
 use gb_fixpoint::register_set::RegisterSet;
@@ -43,6 +44,8 @@ struct Walk {
     procedure: usize,
     at: u16,
     wanted: RegisterSet,
+    /// The bytes of the stack that are to be known as well.
+    waiting: Waiting,
     /// A load from a table in ROM lies behind.
     is_behind_table: bool,
     /// The addresses so far, the last instruction first.
@@ -112,7 +115,13 @@ impl Walk {
     fn look(&mut self, run: &Run<'_>, sought: &Sought) -> bool {
         let spot = self.spot();
         let open = open_at(run, spot, &self.wanted, false);
-        if open.is_empty() || run.nodes_at(spot).is_empty() {
+        if run.nodes_at(spot).is_empty() {
+            return false;
+        }
+        if !self.waiting.is_empty() {
+            return true;
+        }
+        if open.is_empty() {
             return false;
         }
         let may_split = !has_entry(run, spot) && (!sought.by_table || self.is_behind_table);
@@ -125,7 +134,7 @@ impl Walk {
     }
 
     /// Goes back by one instruction; whether that was possible.
-    fn step_back(&mut self, run: &Run<'_>, ways: &Ways) -> Result<bool, AllocError> {
+    fn step_back(&mut self, alloc: Global, run: &Run<'_>, ways: &Ways) -> Result<bool, AllocError> {
         let Some(before) = ways.only_before(self.at) else {
             return Ok(false);
         };
@@ -141,8 +150,14 @@ impl Walk {
         };
         // What is known at the spot needs no source.
         let open = open_at(run, self.spot(), &self.wanted, true);
-        let Some(wanted) = sources_before(op, self.at, &open) else {
-            return Ok(false);
+        self.waiting.keep_open(alloc, run, self.spot())?;
+        let wanted = if is_inlined_call(op, self.at) {
+            open
+        } else {
+            match self.waiting.before(run, spot, &open)? {
+                Some(wanted) => wanted,
+                None => return Ok(false),
+            }
         };
         if let Some((high, _)) = pointer_of(op, &open) {
             self.is_behind_table = self.is_behind_table || points_to_rom(run, spot, high);
@@ -175,13 +190,12 @@ impl Walk {
     }
 }
 
-/// The registers before an instruction from which the wanted ones get their values at an address: an inlined call changes
-/// none on its way in.
-fn sources_before(op: Op, at: u16, wanted: &RegisterSet) -> Option<RegisterSet> {
+/// Whether an instruction is a call that leads to an address itself: an inlined call changes no register on its way in.
+fn is_inlined_call(op: Op, at: u16) -> bool {
     match op {
-        Op::Call(target) | Op::CallIf(_, target) if target == at => Some(*wanted),
-        Op::Restart(target) if u16::from(target) == at => Some(*wanted),
-        _ => sources(op, wanted),
+        Op::Call(target) | Op::CallIf(_, target) => target == at,
+        Op::Restart(target) => u16::from(target) == at,
+        _ => false,
     }
 }
 
@@ -199,13 +213,14 @@ pub(crate) fn slice(
         procedure: spot.procedure,
         at: spot.address,
         wanted: sought.wanted,
+        waiting: Waiting::new(alloc),
         is_behind_table: false,
         chain,
         one: None,
         two: None,
     };
     for _ in 0..LENGTH {
-        if !walk.look(run, sought) || !walk.step_back(run, ways)? {
+        if !walk.look(run, sought) || !walk.step_back(alloc, run, ways)? {
             break;
         }
     }

@@ -239,9 +239,8 @@ impl<'a> Refinement<'a> {
 
     /// The stack needs more than there is room for.
     fn end_too_deep(&self, bytes: usize) -> Result<Lesson, AllocError> {
-        let words = bytes.div_ceil(WORD);
         let region = self.configuration.region;
-        end_by(self.alloc, Obstacle::StackTooDeep { words, region })
+        end_by(self.alloc, Obstacle::StackTooDeep { bytes, region })
     }
 
     /// Where a run's stack reached below the region, by the rules of version 3, the region reaches further down first.

@@ -158,7 +158,7 @@ pub(crate) const RETURN_IN_MAIN: Advice = Advice {
     remedy: "End main in a loop. An address that was pushed to return to has to become a CALL of a JP HL.",
 };
 
-pub(crate) const RETURN_WITH_WORDS: Advice = Advice {
+pub(crate) const RETURN_WITH_BYTES: Advice = Advice {
     rule: "A procedure may return only when it has popped all that it pushed.",
     remedy: "POP before RET or RETI on every way, as often as was pushed.",
 };

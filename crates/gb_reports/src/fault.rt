@@ -1,4 +1,4 @@
-//! Why a file of symbols can't be read.
+//! Why a file of symbols or of lines can't be read.
 
 use std::alloc::{AllocError, AllocFailed};
 use std::fmt;
@@ -12,6 +12,8 @@ pub enum SymbolFaultKind {
     NoFormat,
     /// A line has no bank, address and name, as the format wants them.
     Line,
+    /// The file tells of no source's line.
+    NoLines,
     Memory,
 }
 
@@ -23,12 +25,14 @@ pub struct SymbolFault {
 }
 
 impl SymbolFault {
+    /// What is wrong with the file as a whole.
+    pub(crate) fn of(kind: SymbolFaultKind) -> SymbolFault {
+        SymbolFault { kind, line: 0 }
+    }
+
     /// Want of memory, in no line.
     fn memory() -> SymbolFault {
-        SymbolFault {
-            kind: SymbolFaultKind::Memory,
-            line: 0,
-        }
+        SymbolFault::of(SymbolFaultKind::Memory)
     }
 }
 
@@ -56,6 +60,10 @@ impl fmt::Display for SymbolFault {
             SymbolFaultKind::Line => write!(
                 f,
                 "line {line} has no bank, address and name as the lines before it"
+            ),
+            SymbolFaultKind::NoLines => write!(
+                f,
+                "it has no lines of sources: none is L:C$FILE$N..:ADDR or L:A$MODULE$N:ADDR (SDCC .cdb)"
             ),
             SymbolFaultKind::Memory => write!(f, "memory ran out"),
         }

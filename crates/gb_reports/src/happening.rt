@@ -96,8 +96,8 @@ fn fmt_detailed<W: fmt::Write>(cause: Cause, f: &mut fmt::Formatter<W>) -> fmt::
             f,
             "The procedure at {target:04X} may run already when it is called or dispatched here."
         ),
-        Cause::ReturnWithWords { words } => {
-            write!(f, "Words that are still on the stack: {words}.")
+        Cause::ReturnWithBytes { bytes } => {
+            write!(f, "Bytes that are still on the stack: {bytes}.")
         }
         Cause::InterruptWithoutStack { interrupt } => {
             let vector = 0x40 + 8 * u16::from(interrupt);

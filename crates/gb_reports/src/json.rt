@@ -63,13 +63,13 @@ fn put_values(object: &mut Object, state: &Abs) -> Result<(), AllocError> {
     object.put("cells", cells)
 }
 
-/// A state's registers, cells, banks, words on the stack, interrupts and gate.
+/// A state's registers, cells, banks, bytes on the stack, interrupts and gate.
 fn put_state(object: &mut Object, state: &Abs) -> Result<(), AllocError> {
     let core = state.core();
     let ctl = core.ctl;
     put_values(object, state)?;
     object.put_pair("bank", u64::from(ctl.bank_lo), u64::from(ctl.bank_hi))?;
-    object.put_number("words", (state.items().len() / 2) as u64)?;
+    object.put_number("bytes", state.items().len() as u64)?;
     object.put_text("interrupts", ime_text(core.ime))?;
     object.put_text("gate", gate_text(ctl.gate))
 }
@@ -173,7 +173,11 @@ fn put_place(
         Some(bank) => object.put_address("bank", bank)?,
         None => object.put("bank", Value::Null)?,
     }
-    put_symbol(object, symbols, standing.bank, standing.address)
+    put_symbol(object, symbols, standing.bank, standing.address)?;
+    match standing.line(symbols) {
+        Some(line) => object.put_shown("line", &line),
+        None => object.put("line", Value::Null),
+    }
 }
 
 /// What fails.

@@ -1,7 +1,7 @@
 //! What is told of certificates and of what stands in their way: symbols of other tools' files, listings, and
 //! obstacles: where, by which rule, in what state, on which way it was reached, and what usually mends it.
 //!
-//! Read `symbols` with `format`; then `listing`, with `state` and `named` for states and addresses as a person reads
+//! Read `symbols` with `format` and `lines`; then `listing`, with `state` and `named` for states and addresses as a person reads
 //! them; then `obstacle`, which takes what is to be told from a run, `topic` and `advice` (all texts of rules and of
 //! what mends them stand there), `happening` and `told` (lines for a person), `object` and `json`. Of the texts nothing
 //! is promised.
@@ -14,6 +14,7 @@ mod format;
 mod handlers;
 mod happening;
 mod json;
+mod lines;
 mod listing;
 mod named;
 mod object;
@@ -28,6 +29,7 @@ pub use crowd::Crowd;
 pub use fault::{SymbolFault, SymbolFaultKind};
 pub use format::Format;
 pub use json::obstacle_json;
+pub use lines::SourceLine;
 pub use listing::Listing;
 pub use object::Object;
 pub use obstacle::{Obstacle, Standing};

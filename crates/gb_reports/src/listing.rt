@@ -39,7 +39,7 @@ fn fmt_procedure<W: fmt::Write>(
         return Ok(());
     }
     let procedure = listing.cert.procedure(number);
-    let need = procedure.need() / 2;
+    let need = procedure.need();
     let returns = if procedure.exit().is_some() {
         "returns"
     } else {
@@ -47,7 +47,7 @@ fn fmt_procedure<W: fmt::Write>(
     };
     write!(
         f,
-        "\nprocedure {number}: {need} words of stack, {returns}, writes"
+        "\nprocedure {number}: {need} bytes of stack, {returns}, writes"
     )?;
     fmt_ranges(procedure.ranges().as_slice(), f)
 }
@@ -59,10 +59,10 @@ fn fmt_registers<W: fmt::Write>(state: &Abs, f: &mut fmt::Formatter<W>) -> fmt::
     write!(f, "        {registers} {flags}; ")
 }
 
-/// How many words were pushed, to the end of the line.
-fn fmt_words<W: fmt::Write>(state: &Abs, f: &mut fmt::Formatter<W>) -> fmt::Result {
-    let words = state.items().len() / 2;
-    write!(f, ", words {words}\n")
+/// How many bytes are on the stack, to the end of the line.
+fn fmt_bytes<W: fmt::Write>(state: &Abs, f: &mut fmt::Formatter<W>) -> fmt::Result {
+    let bytes = state.items().len();
+    write!(f, ", bytes {bytes}\n")
 }
 
 /// Cells one after another.
@@ -78,7 +78,7 @@ fn fmt_cells<W: fmt::Write>(cells: &[Cell], f: &mut fmt::Formatter<W>) -> fmt::R
 fn fmt_state<W: fmt::Write>(state: &Abs, f: &mut fmt::Formatter<W>) -> fmt::Result {
     fmt_registers(state, f)?;
     fmt_core(state.core(), f)?;
-    fmt_words(state, f)?;
+    fmt_bytes(state, f)?;
     if state.cells().is_empty() {
         return Ok(());
     }

@@ -2,7 +2,9 @@
 
 use crate::crowd::Crowd;
 use crate::handlers::switching_handlers;
-use crate::path::{Path, bank_of};
+use crate::lines::SourceLine;
+use crate::path::{Path, Start, bank_of};
+use crate::symbols::Symbols;
 use gb_explain::Code;
 use gb_fixpoint::cause::{Cause, Failure};
 use gb_fixpoint::configuration::Place;
@@ -48,8 +50,8 @@ pub enum Obstacle {
     TooLarge(Crowd),
     /// LD SP,n16 leaves no room for a stack in work RAM or high RAM.
     NoStack { sp: u16 },
-    /// The stack needs more words than there is room for.
-    StackTooDeep { words: usize, region: Region },
+    /// The stack needs more bytes than there is room for.
+    StackTooDeep { bytes: usize, region: Region },
     /// A procedure may be running when it is called.
     Recursion { target: u16 },
     /// States were told apart further so many times, and it wasn't enough.
@@ -65,7 +67,27 @@ fn op_of(run: &Run<'_>, node: &Node) -> Option<Op> {
     Some(row.op)
 }
 
+impl Obstacle {
+    /// The author's line, of a failure at an instruction.
+    pub fn line<'a>(&self, symbols: &Symbols<'a>) -> Option<SourceLine<'a>> {
+        match self {
+            Obstacle::Standing(standing) => standing.line(symbols),
+            _ => None,
+        }
+    }
+}
+
 impl Standing {
+    /// The author's line: of the instruction, or else of the call of its procedure.
+    pub(crate) fn line<'a>(&self, symbols: &Symbols<'a>) -> Option<SourceLine<'a>> {
+        let bank = self.bank.unwrap_or(0);
+        match (symbols.line(bank, self.address), self.path.start) {
+            (Some(line), _) => Some(line),
+            (None, Start::Call { from, .. }) => symbols.line(bank, from),
+            (None, Start::PowerUp | Start::Interrupt { .. }) => None,
+        }
+    }
+
     /// What there is to tell of a run's failure.
     pub fn of(
         alloc: Global,

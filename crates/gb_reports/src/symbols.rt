@@ -1,7 +1,8 @@
-//! The symbols of a file, and which of them an address belongs to.
+//! The symbols of a file, and which of them an address belongs to; beside them the author's lines.
 
 use crate::fault::{SymbolFault, SymbolFaultKind};
 use crate::format::{Format, Line, Named};
+use crate::lines::{Lines, SourceLine};
 use std::alloc::Global;
 use std::{fmt, str};
 
@@ -32,11 +33,12 @@ impl fmt::Display for Place<'_> {
     }
 }
 
-/// The symbols of a file.
+/// The symbols of a file, and the lines of another one.
 #[derive(Drop)]
 pub struct Symbols<'a> {
     format: Option<Format>,
     symbols: Vec<Symbol<'a>>,
+    lines: Lines<'a>,
 }
 
 /// The first address of the part of memory in which an address lies; a symbol tells nothing of addresses in other parts.
@@ -60,6 +62,7 @@ impl<'a> Symbols<'a> {
         Symbols {
             format: None,
             symbols: Vec::new(alloc),
+            lines: Lines::none(alloc),
         }
     }
 
@@ -70,16 +73,10 @@ impl<'a> Symbols<'a> {
     /// What is wrong with the file: it isn't text, has no known format, or has a line that doesn't fit its format.
     pub fn parse(alloc: Global, bytes: &'a [u8]) -> Result<Symbols<'a>, SymbolFault> {
         let Ok(text) = str::from_utf8(bytes) else {
-            return Err(SymbolFault {
-                kind: SymbolFaultKind::NotText,
-                line: 0,
-            });
+            return Err(SymbolFault::of(SymbolFaultKind::NotText));
         };
         let Some(format) = Format::of(text) else {
-            return Err(SymbolFault {
-                kind: SymbolFaultKind::NoFormat,
-                line: 0,
-            });
+            return Err(SymbolFault::of(SymbolFaultKind::NoFormat));
         };
         let mut symbols = Vec::new(alloc);
         for (number, line) in text.lines().enumerate() {
@@ -107,7 +104,24 @@ impl<'a> Symbols<'a> {
         Ok(Symbols {
             format: Some(format),
             symbols,
+            lines: Lines::none(alloc),
         })
+    }
+
+    /// Reads the lines of sources from a `.cdb` file's bytes.
+    ///
+    /// # Errors
+    ///
+    /// Where the file isn't text or tells of no line, and where memory ran out; no lines are known then.
+    pub fn add_lines(&mut self, alloc: Global, bytes: &'a [u8]) -> Result<(), SymbolFault> {
+        self.lines = Lines::parse(alloc, bytes)?;
+        Ok(())
+    }
+
+    /// The line of a source that an address comes from, where it is known. The bank counts for 4000-7FFF alone.
+    pub fn line(&self, bank: u16, address: u16) -> Option<SourceLine<'a>> {
+        let bank = if part_of(address) == 0x4000 { bank } else { 0 };
+        self.lines.line(bank, address)
     }
 
     /// Who wrote the file, if there was one.

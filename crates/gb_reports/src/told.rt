@@ -247,12 +247,12 @@ fn fmt_crowd<W: fmt::Write>(
     fmt_counts(&crowd.entered, symbols, f)
 }
 
-/// A stack that needs more words than there is room for.
-fn fmt_deep<W: fmt::Write>(words: usize, region: Region, f: &mut fmt::Formatter<W>) -> fmt::Result {
+/// A stack that needs more bytes than there is room for.
+fn fmt_deep<W: fmt::Write>(bytes: usize, region: Region, f: &mut fmt::Formatter<W>) -> fmt::Result {
     let Region { first, last } = region;
     write!(
         f,
-        "The stack needs {words} words, which don't fit below its end: it is {first:04X}..{last:04X} so far."
+        "The stack needs {bytes} bytes, which don't fit below its end: it is {first:04X}..{last:04X} so far."
     )
 }
 
@@ -286,7 +286,7 @@ fn fmt_other<W: fmt::Write>(
             let sp = *sp;
             write!(f, "LD SP,{sp:04X} leaves no room for a stack.")
         }
-        Obstacle::StackTooDeep { words, region } => fmt_deep(*words, *region, f),
+        Obstacle::StackTooDeep { bytes, region } => fmt_deep(*bytes, *region, f),
         Obstacle::Recursion { target } => fmt_recursion(*target, symbols, f),
         Obstacle::Rounds { rounds } => {
             let rounds = *rounds;

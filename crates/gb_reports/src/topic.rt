@@ -81,7 +81,7 @@ pub(crate) fn standing_advice(standing: &Standing) -> Advice {
         Cause::OamTransfer(misuse) => transfer_advice(misuse),
         Cause::JumpHl => advice::JUMP_HL,
         Cause::ReturnInMain => advice::RETURN_IN_MAIN,
-        Cause::ReturnWithWords { .. } | Cause::ReturnWithOthers => advice::RETURN_WITH_WORDS,
+        Cause::ReturnWithBytes { .. } | Cause::ReturnWithOthers => advice::RETURN_WITH_BYTES,
         Cause::ReturnToUnknown => advice::RETURN_TO_UNKNOWN,
         Cause::InterruptWithoutStack { .. } => advice::INTERRUPT_WITHOUT_STACK,
     }
