@@ -2,12 +2,10 @@
 
 use crate::order::order;
 use gb_cert::{NodePlan, ProcedurePlan, Version, WriteFault, write_certificate};
+use gb_fixpoint::limits::COMPARED;
 use gb_fixpoint::types::{Node, Procedure, Run};
 use gb_fixpoint::{Abs, Rules, covers, known_bank};
 use std::alloc::{AllocError, Global};
-
-/// The most nodes of an address that are compared with one another.
-const COMPARED: usize = 400;
 
 /// Where a node stands in a certificate: by its procedure, then by its address.
 #[derive(Clone, Copy, PartialEq, Eq, PartialOrd, Ord)]

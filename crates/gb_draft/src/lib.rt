@@ -18,4 +18,4 @@ pub use gb_fixpoint::cause::{Cause, Failure, Outcome, StackMisuse, Wish};
 pub use gb_fixpoint::configuration::{Configuration, Place};
 pub use gb_fixpoint::register_set::REGISTERS;
 pub use gb_fixpoint::types::{Run, Spot};
-pub use gb_fixpoint::{Cert, Rom, Rules, Verdict, check, is_ram};
+pub use gb_fixpoint::{Cert, Rom, Rules, Verdict, check, is_ram, limits};

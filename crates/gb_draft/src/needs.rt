@@ -1,11 +1,9 @@
 //! The bytes of stack that procedures need.
 
+use gb_fixpoint::limits::PROCEDURES;
 use gb_fixpoint::types::{Call, Run};
 use std::alloc::{AllocError, Global};
 use std::collections::{BTreeMap, BTreeSet};
-
-/// The most procedures of a certificate.
-const PROCEDURES: usize = 255;
 
 /// For each call the most bytes that its sites hold.
 type Held = BTreeMap<Call, usize>;

@@ -4,14 +4,12 @@
 
 use crate::bounds::bounds_of;
 use crate::cause::Wish;
+use crate::limits::ARGUMENTS;
 use crate::stop::Stop;
 use crate::types::Run;
 use gb_domain::pairs::WordPair;
 use gb_ops::op::{Indirect, Op, Operand, Pair, Register};
 use gb_verify::{Abs, AbsRead, AbsWrite, Core, Origin, Rules, Span, Successors, Target};
-
-/// The most bytes above the return word that a procedure takes over.
-const ARGUMENTS: u8 = 96;
 
 /// The bytes that an instruction takes off the stack.
 fn bytes_taken(op: Op) -> usize {

@@ -3,8 +3,8 @@
 use crate::cause::Cause;
 use crate::contexts::Context;
 use crate::keys::{ControllerKey, KnownRegisters, NodeKey, ProcedureKey};
+use crate::limits::PROCEDURES;
 use crate::register_set::RegisterSet;
-use crate::run::PROCEDURES;
 use crate::stop::Stop;
 use crate::tracking::keep_tracked;
 use crate::types::{Call, Procedure, Run};

@@ -1,13 +1,11 @@
 //! How finely a run tells states apart.
 
+use crate::limits::NODES;
 use crate::register_set::RegisterSet;
 use gb_ops::machine::Region;
 use gb_verify::Rules;
 use std::alloc::{AllocError, Global};
 use std::collections::{BTreeSet, HashMap, HashSet};
-
-/// The most nodes of a run, where nothing else is said.
-pub const NODES: usize = 400_000;
 
 /// An address in the procedures that begin at another one.
 #[derive(Clone, Copy, PartialEq, Eq, PartialOrd, Ord, Hash)]

@@ -1,6 +1,7 @@
 //! Exits: what procedures return with, and what their callers see of it.
 
 use crate::bounds::{WORD_PAIRS, facts_of, halves_of, set_facts};
+use crate::limits::{EXIT_GROWTHS, PAIR_GROWTHS};
 use crate::steps::Growth;
 use crate::stop::Stop;
 use crate::types::Run;
@@ -9,12 +10,6 @@ use gb_domain::pairs::{NOTHING_KNOWN, Pairs};
 use gb_ops::op::Register;
 use gb_ops::registers::Registers;
 use gb_verify::{Abs, Cell, Core, Ctl, Flg, May, OneByte, Origin, Range, Relations, Val, covers};
-
-/// How often an exit grows before it is widened.
-const GROWTHS: u32 = 40;
-
-/// How often it grows before nothing more is known of pairs.
-const PAIR_GROWTHS: u32 = 400;
 
 /// Any value of a bit.
 const EITHER: May = May {
@@ -181,7 +176,7 @@ impl<'a> Run<'a> {
         }
         let growth = if left.growths > PAIR_GROWTHS {
             Growth::WidenedWithoutPairs
-        } else if left.growths > GROWTHS {
+        } else if left.growths > EXIT_GROWTHS {
             Growth::Widened
         } else {
             Growth::Joined

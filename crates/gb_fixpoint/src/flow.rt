@@ -2,6 +2,9 @@
 
 use crate::configuration::Place;
 use crate::keys::{KnownRegisters, NodeKey};
+use crate::limits::{
+    GROWTHS, HEAD_GROWTHS, PAGES, PAIR_GROWTHS, SIMPLE_GROWTHS, SIMPLE_HEAD_GROWTHS,
+};
 use crate::register_set::{REGISTERS, RegisterSet};
 use crate::steps::Growth;
 use crate::stop::Stop;
@@ -11,24 +14,6 @@ use arrayvec::ArrayVec;
 use gb_ops::op::Register;
 use gb_product::reduced::reduced;
 use gb_verify::{Abs, Cell, Core, Rules, Val, cell_at, covers};
-
-/// How often a node grows by joins alone.
-const GROWTHS: u32 = 60;
-
-/// The same, at the head of a loop and where a procedure begins.
-const HEAD_GROWTHS: u32 = 8;
-
-/// The same by the rules of version 3, by which more is known, and lost if it is widened too soon.
-const EXTENDED_GROWTHS: u32 = 150;
-
-/// The same by the rules of version 3, at the head of a loop and where a procedure begins.
-const EXTENDED_HEAD_GROWTHS: u32 = 12;
-
-/// How often a node grows before nothing more is known of pairs.
-const PAIR_GROWTHS: u32 = 400;
-
-/// The most values of H or D that a page is taken by.
-const PAGES: u8 = 8;
 
 impl<'a> Run<'a> {
     /// A state goes on from a node to an address of the same procedure.
@@ -319,10 +304,10 @@ impl<'a> Run<'a> {
     fn patience(&self, key: NodeKey) -> u32 {
         let is_early = key.is_entry || self.is_head(key);
         match (self.rules(), is_early) {
-            (Rules::Simple, true) => HEAD_GROWTHS,
-            (Rules::Simple, false) => GROWTHS,
-            (Rules::Extended, true) => EXTENDED_HEAD_GROWTHS,
-            (Rules::Extended, false) => EXTENDED_GROWTHS,
+            (Rules::Simple, true) => SIMPLE_HEAD_GROWTHS,
+            (Rules::Simple, false) => SIMPLE_GROWTHS,
+            (Rules::Extended, true) => HEAD_GROWTHS,
+            (Rules::Extended, false) => GROWTHS,
         }
     }
 }

@@ -22,6 +22,7 @@ mod flow;
 mod instruction;
 mod joining;
 pub mod keys;
+pub mod limits;
 mod linking;
 mod ranges;
 mod reading;

@@ -3,13 +3,11 @@
 //! each of its values.
 
 use crate::bounds::{WORD_PAIRS, facts_of, halves_of, set_facts};
+use crate::limits::FACTOR;
 use crate::register_set::REGISTERS;
 use crate::relating::{Known, are_same_pairs};
 use gb_domain::pairs::{Link, Other, PairFacts, Pairs, WordPair};
 use gb_ops::op::Register;
-
-/// The greatest factor of a link, and how far below 0 the least is.
-const FACTOR: u16 = 127;
 
 pub(crate) fn are_same_links(a: &Link, b: &Link) -> bool {
     let are_same_others = match (a.other, b.other) {

@@ -3,6 +3,7 @@
 use crate::cause::{Cause, Failure, Outcome};
 use crate::configuration::{Configuration, Place};
 use crate::keys::{NodeKey, ProcedureKey};
+use crate::limits::{PROCEDURES, RUN_STEPS};
 use crate::ranges::RangeSet;
 use crate::register_set::RegisterSet;
 use crate::stacks::main_base;
@@ -17,12 +18,6 @@ use std::collections::{BTreeSet, HashMap, HashSet};
 
 /// Where main begins.
 const START: u16 = 0x0100;
-
-/// The most procedures of a certificate.
-pub(crate) const PROCEDURES: usize = 255;
-
-/// The most steps of a run.
-const STEPS: u64 = 60_000_000;
 
 impl Procedure {
     pub(crate) fn new(alloc: Global, key: ProcedureKey) -> Procedure {
@@ -96,7 +91,7 @@ impl<'a> Run<'a> {
 
     fn run_to_stop(&mut self) -> Result<(), Stop> {
         self.begin()?;
-        for _ in 0..STEPS {
+        for _ in 0..RUN_STEPS {
             let Some(turn) = self.queue.pop_first() else {
                 return Ok(());
             };

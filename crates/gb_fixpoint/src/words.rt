@@ -1,14 +1,12 @@
 //! Known words that tell nodes apart: where states of different words were joined, it would no longer be known where a
 //! return leads.
 
+use crate::limits::WORDS;
 use crate::stop::Stop;
 use crate::types::{PlacedWord, Run};
 use arrayvec::ArrayVec;
 use gb_ops::registers::Registers;
 use gb_verify::{Abs, Rules, Val};
-
-/// The most words that tell nodes apart.
-const WORDS: usize = 48;
 
 /// The places of words in pairs of registers: BC, DE and HL.
 const IN_PAIRS: [u16; 3] = [0x100, 0x101, 0x102];

@@ -4,14 +4,15 @@ use crate::plan::{Edit, Plan};
 use crate::sources::{copied, pointer_of, sources, stacked, without};
 use crate::spots::{has_entry, op_at, open_at, pointed_at};
 use crate::ways::Ways;
+use gb_fixpoint::limits::SPOTS;
 use gb_fixpoint::register_set::{REGISTERS, RegisterSet};
 use gb_fixpoint::types::{Run, Spot};
 use gb_ops::op::{Op, Operand, Register, StackPair};
 use std::alloc::{AllocError, Global};
 use std::collections::{BTreeMap, BTreeSet};
 
-/// How many spots are looked at on the way back to cells.
-const SPOTS: usize = 3000;
+/// The last address of ROM.
+const ROM: u16 = 0x7FFF;
 
 /// A spot with the registers whose source is sought.
 #[derive(Clone, Copy, PartialEq, Eq)]
@@ -183,6 +184,12 @@ impl Search {
         let Some(op) = op_at(run, spot) else {
             return Ok(());
         };
+        // A byte of ROM at a known address is known itself, so that what is computed comes from elsewhere.
+        if let Some(cell) = pointer_of(op, wanted).and_then(|pair| pointed_at(run, spot, pair))
+            && (self.is_of_copies || ROM < cell)
+        {
+            return self.meet_pointed(run, spot, cell, op, wanted);
+        }
         let before = if self.is_of_copies {
             copied(op, wanted)
         } else {
@@ -190,9 +197,6 @@ impl Search {
         };
         if let Some(before) = before {
             return self.ask(spot, before);
-        }
-        if let Some(cell) = pointer_of(op, wanted).and_then(|pair| pointed_at(run, spot, pair)) {
-            return self.meet_pointed(run, spot, cell, op, wanted);
         }
         match op {
             Op::LoadHigh(low) => self.meet_cell(run, spot, 0xFF00 | u16::from(low), wanted),

@@ -6,14 +6,12 @@ use crate::spots::{op_at, open_at, place_of, value_of};
 use crate::ways::{Loop, Ways};
 use gb_fixpoint::Rules;
 use gb_fixpoint::configuration::Place;
+use gb_fixpoint::limits::COUNTER;
 use gb_fixpoint::register_set::{REGISTERS, RegisterSet};
 use gb_fixpoint::types::{Run, Spot};
 use gb_ops::op::{Op, Operand, Register};
 use std::alloc::{AllocError, Global};
 use std::collections::HashMap;
-
-/// The most values, less one, that a counter is split into.
-const COUNT: u8 = 128;
 
 /// Whether all addresses of a loop are keyed.
 fn is_keyed(run: &Run<'_>, target: u16, around: &Loop) -> bool {
@@ -55,7 +53,7 @@ fn is_wide_count(run: &Run<'_>, spot: Spot, register: Register) -> bool {
     for number in run.nodes_at(spot) {
         if let Some(node) = run.nodes.get(*number) {
             let val = value_of(node, register);
-            if !node.key.is_entry && val.lo < val.hi && val.hi.saturating_sub(val.lo) <= COUNT {
+            if !node.key.is_entry && val.lo < val.hi && val.hi.saturating_sub(val.lo) <= COUNTER {
                 return true;
             }
         }

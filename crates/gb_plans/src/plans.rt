@@ -1,30 +1,19 @@
 //! What to refine after a failure.
 
-use crate::cells::key_cells;
+use crate::cells::{key_cells, pointer_cells};
 use crate::loops::refine_loops;
 use crate::plan::{Edit, Plan, parted_by};
 use crate::slices::{Sought, slice};
 use crate::spots::{is_known, place_of, value_of};
 use crate::ways::Ways;
 use gb_fixpoint::cause::{Cause, Failure, StackMisuse};
+use gb_fixpoint::limits::{ALL_VALUES, CALL_KINDS, CALL_VALUES, CALLERS, FEW_VALUES, VISITS};
 use gb_fixpoint::register_set::{REGISTERS, RegisterSet};
 use gb_fixpoint::types::{Procedure, Run, Spot};
 use gb_fixpoint::{Rules, cell_at};
 use gb_ops::op::Register;
 use std::alloc::{AllocError, Global};
 use std::collections::BTreeSet;
-
-/// How many calls are gone back from a failure.
-const CALLERS: u32 = 6;
-
-/// How many procedures are looked at for one failure.
-const PROCEDURES: usize = 200;
-
-/// The most values of a register by which calls are told apart at once.
-const VALUES: usize = 24;
-
-/// The most different calls by which a procedure is parted.
-const KINDS: usize = 40;
 
 /// What is too wide, and where.
 #[derive(Clone, Copy, PartialEq, Eq)]
@@ -88,7 +77,7 @@ fn is_known_by_calls(
         }
         values.insert(value_of(node, register).lo)?;
     }
-    Ok(values.len() <= VALUES)
+    Ok(values.len() <= CALL_VALUES)
 }
 
 /// The registers that a procedure's first node doesn't know.
@@ -228,7 +217,7 @@ fn plan_near(
         return Ok(Some(plan));
     }
     let ways = Ways::of(alloc, run, spot.procedure)?;
-    if let Some(plan) = slice_to(alloc, run, &ways, spot, trouble, 64)? {
+    if let Some(plan) = slice_to(alloc, run, &ways, spot, trouble, FEW_VALUES)? {
         return Ok(Some(plan));
     }
     if trouble.is_jump {
@@ -242,7 +231,7 @@ fn plan_near(
     if trouble.is_jump {
         return Ok(None);
     }
-    slice_to(alloc, run, &ways, spot, trouble, 256)
+    slice_to(alloc, run, &ways, spot, trouble, ALL_VALUES)
 }
 
 /// What there is to refine in the procedure of a spot.
@@ -258,7 +247,7 @@ fn plan_in(
     let wide = wide_at_entry(run, spot.procedure, &trouble.wanted);
     let parted = part(alloc, run, spot.procedure, &wide)?;
     let kinds = kinds_of_calls(alloc, run, spot.procedure)?;
-    if parted.is_some() && kinds > 1 && kinds <= KINDS {
+    if parted.is_some() && kinds > 1 && kinds <= CALL_KINDS {
         return Ok(parted);
     }
     if trouble.is_kept_in_ram {
@@ -299,7 +288,7 @@ fn plan_at(
     let mut seen = BTreeSet::new(alloc);
     let mut left = Vec::new(alloc);
     left.push((spot, 0u32))?;
-    for _ in 0..PROCEDURES {
+    for _ in 0..VISITS {
         let Some((spot, depth)) = left.pop() else {
             break
         };
@@ -342,7 +331,7 @@ fn plan_code(alloc: Global, run: &Run<'_>, byte: u16) -> Result<Option<Plan>, Al
     }
     let sought = Sought {
         wanted: RegisterSet::of(&[Register::A]),
-        most: 256,
+        most: ALL_VALUES,
         by_table: false,
     };
     let mut is_stored = false;
@@ -507,12 +496,30 @@ fn plan_pointer(
         is_jump: failure.cause == Cause::JumpHl,
         is_kept_in_ram,
     };
-    match plan_at(alloc, run, spot, &trouble)? {
+    if let Some(plan) = plan_at(alloc, run, spot, &trouble)? {
+        return Ok(Some(plan));
+    }
+    if let Some(plan) = key_cells(alloc, run, spot, &wanted)? {
+        return Ok(Some(plan));
+    }
+    match plan_written(alloc, run, spot, &wanted)? {
         Some(plan) => Ok(Some(plan)),
-        None => match key_cells(alloc, run, spot, &wanted)? {
-            Some(plan) => Ok(Some(plan)),
-            None => part_exits(alloc, run),
-        },
+        None => part_exits(alloc, run),
+    }
+}
+
+/// A pointer comes from cells that a loop has written among others, as one that copies what variables begin with: the rounds
+/// of that loop are told apart.
+fn plan_written(
+    alloc: Global,
+    run: &Run<'_>,
+    spot: Spot,
+    wanted: &RegisterSet,
+) -> Result<Option<Plan>, AllocError> {
+    if run.rules() == Rules::Simple || pointer_cells(alloc, run, spot, wanted)?.is_empty() {
+        Ok(None)
+    } else {
+        plan_loops(alloc, run, &run.killers)
     }
 }
 

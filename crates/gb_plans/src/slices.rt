@@ -7,16 +7,11 @@ use crate::spots::{has_entry, narrower, op_at, open_at, place_of, points_to_rom,
 use crate::waiting::Waiting;
 use crate::ways::Ways;
 use gb_fixpoint::configuration::Place;
+use gb_fixpoint::limits::{ALL_VALUES, PAIRS, SLICE};
 use gb_fixpoint::register_set::RegisterSet;
 use gb_fixpoint::types::{Run, Spot};
-use gb_ops::op::{Op, Register};
+use gb_ops::op::{AluOp, Op, Operand, Register};
 use std::alloc::{AllocError, Global};
-
-/// How many instructions a slice goes back.
-const LENGTH: u32 = 40;
-
-/// The most pairs of values, where one register of two is split and the other follows.
-const PAIRS: u32 = 1024;
 
 /// What is sought.
 #[derive(Clone, Copy, PartialEq, Eq)]
@@ -46,8 +41,10 @@ struct Walk {
     wanted: RegisterSet,
     /// The bytes of the stack that are to be known as well.
     waiting: Waiting,
-    /// A load from a table in ROM lies behind.
+    /// A load from a table in ROM lies behind, or an index that is added to its address.
     is_behind_table: bool,
+    /// A number is compared with a wanted register behind, so that each value's way is known there.
+    is_compared: bool,
     /// The addresses so far, the last instruction first.
     chain: Vec<u16>,
     /// The best register to split alone, and the best of two.
@@ -126,11 +123,37 @@ impl Walk {
         }
         let may_split = !has_entry(run, spot) && (!sought.by_table || self.is_behind_table);
         match count(&open) {
-            1 if may_split => self.note_one(run, &open, sought.most),
+            1 if may_split => self.note_one(run, &open, self.most(sought)),
             2 if may_split => self.note_two(run, &open),
             _ => {}
         }
         true
+    }
+
+    /// The most values that a register is split into: a comparison leaves few of all of them.
+    fn most(&self, sought: &Sought) -> u32 {
+        if self.is_compared {
+            ALL_VALUES.max(sought.most)
+        } else {
+            sought.most
+        }
+    }
+
+    /// An instruction compares a known number with one of some registers. What was found behind it is of use only where it has
+    /// few values.
+    fn note_comparison(&mut self, run: &Run<'_>, spot: Spot, op: Op, open: &RegisterSet) {
+        let Op::Alu(AluOp::Cp | AluOp::Sub, Operand::Register(register)) = op else {
+            return;
+        };
+        let a = RegisterSet::of(&[Register::A]);
+        if !open.contains(register) || !open_at(run, spot, &a, true).is_empty() {
+            return;
+        }
+        self.is_compared = true;
+        self.is_behind_table = true;
+        if self.one.is_some_and(|cut| cut.width == ALL_VALUES) {
+            self.one = None;
+        }
     }
 
     /// Goes back by one instruction; whether that was possible.
@@ -162,6 +185,10 @@ impl Walk {
         if let Some((high, _)) = pointer_of(op, &open) {
             self.is_behind_table = self.is_behind_table || points_to_rom(run, spot, high);
         }
+        if matches!(op, Op::AddHl(_)) && open.contains(Register::L) {
+            self.is_behind_table = true;
+        }
+        self.note_comparison(run, spot, op, &open);
         self.wanted = wanted;
         self.at = before;
         self.chain.push(before)?;
@@ -215,11 +242,12 @@ pub(crate) fn slice(
         wanted: sought.wanted,
         waiting: Waiting::new(alloc),
         is_behind_table: false,
+        is_compared: false,
         chain,
         one: None,
         two: None,
     };
-    for _ in 0..LENGTH {
+    for _ in 0..SLICE {
         if !walk.look(run, sought) || !walk.step_back(alloc, run, ways)? {
             break;
         }

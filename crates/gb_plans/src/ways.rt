@@ -1,11 +1,9 @@
 //! The ways inside one procedure, and the loops that they make.
 
+use gb_fixpoint::limits::NESTING;
 use gb_fixpoint::types::Run;
 use std::alloc::{AllocError, Global};
 use std::collections::BTreeSet;
-
-/// The most loops around an address that are told apart.
-const NESTING: usize = 32;
 
 /// A way on from an address to the next.
 #[derive(Clone, Copy, PartialEq, Eq)]

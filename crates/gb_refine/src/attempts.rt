@@ -4,12 +4,10 @@
 
 use crate::rounds::{Limits, Made, Progress, Refinement};
 use crate::shrink::shrink;
+use gb_draft::limits::FEW_NODES;
 use gb_draft::{Rom, Rules};
 use gb_reports::Obstacle;
 use std::alloc::{AllocError, Global};
-
-/// The most nodes of the first attempts.
-const FEW_NODES: usize = 20_000;
 
 /// The attempts so far.
 #[derive(Drop)]

@@ -2,22 +2,16 @@
 
 use crate::failures::{add_failure, add_failures, told};
 use crate::rounds::{
-    Change, Lesson, Mending, News, OBSTACLES, Refinement, Tried, WORD, alone, is_in_ram,
-    region_below,
+    Change, Lesson, Mending, News, Refinement, Tried, WORD, alone, is_in_ram, region_below,
 };
 use crate::written::written;
+use gb_draft::limits::{EDITS, EDITS_OF_KEPT, OBSTACLES, STEPS_BACK};
 use gb_draft::{Cause, Failure, Outcome, Place, Rules, Run, find_needs};
 use gb_ops::machine::Region;
 use gb_plans::{Plan, inline_plan, plan_for};
 use gb_reports::{Crowd, Obstacle, Standing};
 use std::alloc::{AllocError, Global};
 use std::collections::BTreeSet;
-
-/// The most edits for one place and reason.
-const EDITS: u32 = 12;
-
-/// The most edits for one place and reason, where the pointer is kept in RAM: it would be told apart through all memory.
-const EDITS_OF_KEPT: u32 = 6;
 
 /// What stands in the way for good, and nothing else.
 fn end_by(alloc: Global, obstacle: Obstacle) -> Result<Lesson, AllocError> {
@@ -125,19 +119,29 @@ impl<'a> Refinement<'a> {
         before.cause == Cause::JumpHl && is_no_code && comes_from(run, failure.node, before.place)
     }
 
-    /// The place where a procedure calls itself that was followed in its callers, where it pushes without an end.
+    /// The call that closes a circle of procedures that were followed in their callers, where these push without an end: the one
+    /// that was met first, when the others of the circle were procedures still.
     fn recursion_behind(&self, failure: &Failure) -> Option<Place> {
         if failure.cause != Cause::PushesTooMany {
             return None;
         }
-        for (place, standing) in self.first.iter() {
-            if let Cause::Recursion { target } = standing.cause
-                && self.configuration.inlined.contains(&target)
-            {
+        for place in &self.circles {
+            if self.is_followed_call(*place) {
                 return Some(*place);
             }
         }
         None
+    }
+
+    /// Whether what is called at a place is followed in its callers.
+    fn is_followed_call(&self, place: Place) -> bool {
+        match self.first.get(&place) {
+            Some(standing) => match standing.cause {
+                Cause::Recursion { target } => self.configuration.inlined.contains(&target),
+                _ => false,
+            },
+            None => false,
+        }
     }
 
     /// A failure: what to refine, if anything may help.
@@ -313,9 +317,6 @@ fn region_of(bytes: usize, last: u16) -> Option<Region> {
     let first = last.checked_sub(more)?;
     Some(Region { first, last })
 }
-
-/// How many nodes are gone back to a jump.
-const STEPS_BACK: u32 = 16;
 
 /// Whether a node was first reached from a place within a few steps.
 fn comes_from(run: &Run<'_>, number: usize, place: Place) -> bool {

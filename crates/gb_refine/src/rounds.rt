@@ -2,6 +2,7 @@
 
 use crate::failures::tell;
 use crate::tracking::Cells;
+use gb_draft::limits::{ALL_STEPS, OBSTACLES, STEPS_A_NODE};
 use gb_draft::{Cause, Configuration, Place, Rom, Rules, Run, Wish};
 use gb_ops::machine::Region;
 use gb_plans::Plan;
@@ -9,17 +10,8 @@ use gb_reports::{Crowd, Obstacle, Standing};
 use std::alloc::{AllocError, Global};
 use std::collections::{BTreeMap, BTreeSet};
 
-/// The most obstacles that are told.
-pub(crate) const OBSTACLES: usize = 10;
-
 /// The bytes of a word.
 pub(crate) const WORD: usize = 2;
-
-/// How many steps of nodes all rounds together may take: no more is begun behind them.
-const STEPS: u64 = 12_000_000;
-
-/// The same for each node that is allowed.
-const STEPS_A_NODE: u64 = 100;
 
 /// What is told while certificates are made.
 pub trait Progress {
@@ -134,6 +126,8 @@ pub(crate) struct Refinement<'a> {
     pub(crate) before: Option<Before>,
     /// The failures at places that were refined, as they were first met.
     pub(crate) first: BTreeMap<Place, Standing>,
+    /// The calls of procedures that may run already, in the order in which they were met.
+    pub(crate) circles: Vec<Place>,
     pub(crate) tried: BTreeMap<Tried, u32>,
     /// Where failures stand, in the order in which they were met.
     pub(crate) given_up: Vec<Place>,
@@ -198,6 +192,7 @@ impl<'a> Refinement<'a> {
             keyed_loops: Vec::new(alloc),
             before: None,
             first: BTreeMap::new(alloc),
+            circles: Vec::new(alloc),
             tried: BTreeMap::new(alloc),
             given_up: Vec::new(alloc),
             too_large: BTreeSet::new(alloc),
@@ -292,6 +287,9 @@ impl<'a> Refinement<'a> {
     /// A failure is kept as it was first met.
     fn keep_first(&mut self, place: Place, obstacle: Standing) -> Result<(), AllocError> {
         if !self.first.contains_key(&place) {
+            if let Cause::Recursion { .. } = obstacle.cause {
+                self.circles.push(place)?;
+            }
             self.first.insert(place, obstacle)?;
         }
         Ok(())
@@ -471,7 +469,7 @@ impl<'a> Refinement<'a> {
 
     /// How many steps of nodes all rounds together may take: fewer where there are to be few nodes.
     fn most_steps(&self) -> u64 {
-        STEPS.min((self.limits.nodes as u64).saturating_mul(STEPS_A_NODE))
+        ALL_STEPS.min((self.limits.nodes as u64).saturating_mul(STEPS_A_NODE))
     }
 
     /// There were more rounds than allowed, or they took too long: the failure that was to be mended last is told.

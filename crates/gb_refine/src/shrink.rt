@@ -2,24 +2,13 @@
 
 use crate::rounds::{Progress, Refinement};
 use crate::written::written;
+use gb_draft::limits::{SHRINK_ATTEMPTS, SHRINK_STEPS, SPARE_NODES, STEPS_A_PAIR};
 use gb_draft::{
     Cert, Configuration, Outcome, Place, REGISTERS, Rom, Run, Verdict, check, find_needs,
 };
 use gb_ops::op::Register;
 use gb_plans::{parted_by, without};
 use std::alloc::{AllocError, Global};
-
-/// About how many steps of nodes all attempts together may take.
-const STEPS: u64 = 1_500_000;
-
-/// What the check of a pair of nodes at one address may take, in steps of nodes.
-const STEPS_A_PAIR: u64 = 16;
-
-/// The most attempts.
-const ATTEMPTS: u64 = 60;
-
-/// How many nodes an attempt may have beside twice as many as before.
-const SPARE_NODES: usize = 1_000;
 
 /// What is taken back by halves.
 #[derive(Clone, Copy, PartialEq, Eq)]
@@ -128,7 +117,7 @@ impl Shrinking<'_> {
     }
 
     fn by_parts(&mut self, kind: Kind, left: &mut Vec<&[u16]>) -> Result<(), AllocError> {
-        for _ in 0..2 * ATTEMPTS {
+        for _ in 0..2 * SHRINK_ATTEMPTS {
             let Some(part) = left.pop() else { break };
             if part.is_empty() || self.attempts == 0 {
                 continue;
@@ -283,8 +272,8 @@ fn most_nodes(nodes: usize) -> usize {
 /// How many attempts there are, where each takes so many steps, and the check looks at so many pairs of nodes.
 fn attempts_of(steps: u64, pairs: u64) -> u64 {
     let cost = steps.saturating_add(pairs.saturating_mul(STEPS_A_PAIR));
-    match STEPS.checked_div(cost) {
-        Some(attempts) => attempts.min(ATTEMPTS),
-        None => ATTEMPTS,
+    match SHRINK_STEPS.checked_div(cost) {
+        Some(attempts) => attempts.min(SHRINK_ATTEMPTS),
+        None => SHRINK_ATTEMPTS,
     }
 }

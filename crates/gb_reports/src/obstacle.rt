@@ -78,13 +78,20 @@ impl Obstacle {
 }
 
 impl Standing {
-    /// The author's line: of the instruction, or else of the call of its procedure.
+    /// The author's line: of the instruction, or else the last one on the way there.
     pub(crate) fn line<'a>(&self, symbols: &Symbols<'a>) -> Option<SourceLine<'a>> {
         let bank = self.bank.unwrap_or(0);
-        match (symbols.line(bank, self.address), self.path.start) {
-            (Some(line), _) => Some(line),
-            (None, Start::Call { from, .. }) => symbols.line(bank, from),
-            (None, Start::PowerUp | Start::Interrupt { .. }) => None,
+        if let Some(line) = symbols.line(bank, self.address) {
+            return Some(line);
+        }
+        for segment in self.path.segments.iter().rev() {
+            if let Some(line) = symbols.line(bank, segment.last) {
+                return Some(line);
+            }
+        }
+        match self.path.start {
+            Start::Call { from, .. } => symbols.line(bank, from),
+            Start::PowerUp | Start::Interrupt { .. } => None,
         }
     }
 

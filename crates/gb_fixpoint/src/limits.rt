@@ -1,0 +1,111 @@
+//! The limits of the maker of certificates, all in one place. None of them is asked for by a rule: what a limit cuts off is
+//! told as an obstacle, or costs nodes. The first ones are of a run, then of its joins and widening, of what is told apart, of
+//! refinement, and of shrinking.
+
+/// The most nodes of a run, where nothing else is said.
+pub const NODES: usize = 400_000;
+
+/// The most nodes of the first attempts.
+pub const FEW_NODES: usize = 20_000;
+
+/// The most procedures: a certificate has no more.
+pub const PROCEDURES: usize = 255;
+
+/// The most steps of a run.
+pub const RUN_STEPS: u64 = 60_000_000;
+
+/// How many steps of nodes all rounds together may take: no more is begun behind them.
+pub const ALL_STEPS: u64 = 12_000_000;
+
+/// The same for each node that is allowed.
+pub const STEPS_A_NODE: u64 = 100;
+
+/// The most obstacles that are told.
+pub const OBSTACLES: usize = 10;
+
+/// How often a node grows by joins alone, by the rules of versions 1 and 2.
+pub const SIMPLE_GROWTHS: u32 = 60;
+
+/// The same at the head of a loop and where a procedure begins.
+pub const SIMPLE_HEAD_GROWTHS: u32 = 8;
+
+/// How often a node grows by joins alone, by the rules of version 3, by which more is known, and lost if it is widened too soon.
+pub const GROWTHS: u32 = 150;
+
+/// The same at the head of a loop and where a procedure begins.
+pub const HEAD_GROWTHS: u32 = 12;
+
+/// How often an exit grows before it is widened.
+pub const EXIT_GROWTHS: u32 = 40;
+
+/// How often a node or an exit grows before nothing more is known of pairs.
+pub const PAIR_GROWTHS: u32 = 400;
+
+/// The greatest factor of a link.
+pub const FACTOR: u16 = 127;
+
+/// The most values of H or D that a page is taken by.
+pub const PAGES: u8 = 8;
+
+/// The most words that tell nodes apart.
+pub const WORDS: usize = 48;
+
+/// The most bytes above the return word that a procedure takes over.
+pub const ARGUMENTS: u8 = 96;
+
+/// The most nodes of an address that are compared with one another, so that those are left out that another one covers.
+pub const COMPARED: usize = 400;
+
+/// The most edits for one place and reason.
+pub const EDITS: u32 = 12;
+
+/// The same where the pointer is kept in RAM: it would be told apart through all memory.
+pub const EDITS_OF_KEPT: u32 = 6;
+
+/// How many nodes are gone back from what is no code to the jump that led there.
+pub const STEPS_BACK: u32 = 16;
+
+/// How many instructions a slice goes back.
+pub const SLICE: u32 = 40;
+
+/// The most values that a register is split into, while there may be something better.
+pub const FEW_VALUES: u32 = 64;
+
+/// The same where there is nothing better: all values of a byte.
+pub const ALL_VALUES: u32 = 256;
+
+/// The most pairs of values, where one register of two is split and the other follows.
+pub const PAIRS: u32 = 1024;
+
+/// The most values, less one, that a loop's counter is split into.
+pub const COUNTER: u8 = 128;
+
+/// The most loops around an address that are told apart.
+pub const NESTING: usize = 32;
+
+/// The most values of a register by which calls are told apart at once.
+pub const CALL_VALUES: usize = 24;
+
+/// The most different calls by which a procedure is parted.
+pub const CALL_KINDS: usize = 40;
+
+/// How many calls are gone back from a failure.
+pub const CALLERS: u32 = 6;
+
+/// How many procedures are looked at for one failure.
+pub const VISITS: usize = 200;
+
+/// How many spots are looked at on the way back to cells.
+pub const SPOTS: usize = 3000;
+
+/// About how many steps of nodes all attempts at a smaller certificate together may take.
+pub const SHRINK_STEPS: u64 = 1_500_000;
+
+/// What the check of a pair of nodes at one address may take, in steps of nodes.
+pub const STEPS_A_PAIR: u64 = 16;
+
+/// The most attempts at a smaller certificate.
+pub const SHRINK_ATTEMPTS: u64 = 60;
+
+/// How many nodes such an attempt may have beside twice as many as before.
+pub const SPARE_NODES: usize = 1_000;
