@@ -3,7 +3,7 @@
 use crate::cells::{key_cells, pointer_cells};
 use crate::loops::refine_loops;
 use crate::plan::{Edit, Plan, parted_by};
-use crate::slices::{Sought, slice};
+use crate::slices::{By, Sought, slice};
 use crate::spots::{is_known, place_of, value_of};
 use crate::ways::Ways;
 use gb_fixpoint::cause::{Cause, Failure, StackMisuse};
@@ -192,7 +192,7 @@ fn slice_to(
     ways: &Ways,
     spot: Spot,
     trouble: &Trouble,
-    most: u32,
+    (most, by): (u32, By),
 ) -> Result<Option<Plan>, AllocError> {
     if trouble.wanted.is_empty() {
         return Ok(None);
@@ -200,7 +200,7 @@ fn slice_to(
     let sought = Sought {
         wanted: trouble.wanted,
         most,
-        by_table: trouble.is_jump,
+        by,
     };
     slice(alloc, run, ways, spot, &sought)
 }
@@ -217,13 +217,14 @@ fn plan_near(
         return Ok(Some(plan));
     }
     let ways = Ways::of(alloc, run, spot.procedure)?;
-    if let Some(plan) = slice_to(alloc, run, &ways, spot, trouble, FEW_VALUES)? {
+    let by = if trouble.is_jump { By::Table } else { By::Any };
+    if let Some(plan) = slice_to(alloc, run, &ways, spot, trouble, (FEW_VALUES, by))? {
         return Ok(Some(plan));
     }
-    if trouble.is_jump {
-        if let Some(plan) = key_cells(alloc, run, spot, &trouble.wanted)? {
-            return Ok(Some(plan));
-        }
+    if trouble.is_jump
+        && let Some(plan) = plan_jump(alloc, run, &ways, spot, trouble)?
+    {
+        return Ok(Some(plan));
     }
     if let Some(plan) = refine_loops(alloc, run, &ways, spot, !trouble.is_kept_in_ram)? {
         return Ok(Some(plan));
@@ -231,7 +232,21 @@ fn plan_near(
     if trouble.is_jump {
         return Ok(None);
     }
-    slice_to(alloc, run, &ways, spot, trouble, ALL_VALUES)
+    slice_to(alloc, run, &ways, spot, trouble, (ALL_VALUES, By::Any))
+}
+
+/// A jump that no table tells: the cells that its target comes from, or else an index that is added to an address.
+fn plan_jump(
+    alloc: Global,
+    run: &Run<'_>,
+    ways: &Ways,
+    spot: Spot,
+    trouble: &Trouble,
+) -> Result<Option<Plan>, AllocError> {
+    match key_cells(alloc, run, spot, &trouble.wanted)? {
+        Some(plan) => Ok(Some(plan)),
+        None => slice_to(alloc, run, ways, spot, trouble, (FEW_VALUES, By::Index)),
+    }
 }
 
 /// What there is to refine in the procedure of a spot.
@@ -332,7 +347,7 @@ fn plan_code(alloc: Global, run: &Run<'_>, byte: u16) -> Result<Option<Plan>, Al
     let sought = Sought {
         wanted: RegisterSet::of(&[Register::A]),
         most: ALL_VALUES,
-        by_table: false,
+        by: By::Any,
     };
     let mut is_stored = false;
     for store in run.stores.iter() {

@@ -20,8 +20,18 @@ pub(crate) struct Sought {
     pub(crate) wanted: RegisterSet,
     /// The most values that a register is split into.
     pub(crate) most: u32,
-    /// Whether the values have to come from a table in ROM.
-    pub(crate) by_table: bool,
+    pub(crate) by: By,
+}
+
+/// Which values are told apart.
+#[derive(Clone, Copy, PartialEq, Eq)]
+pub(crate) enum By {
+    /// All.
+    Any,
+    /// Those by which a table in ROM is read, or that are compared: a jump by others leads into what is no code.
+    Table,
+    /// These, and those that are added to an address.
+    Index,
 }
 
 /// A register that may be split at an address, and how many addresses from there on are to be keyed.
@@ -41,8 +51,10 @@ struct Walk {
     wanted: RegisterSet,
     /// The bytes of the stack that are to be known as well.
     waiting: Waiting,
-    /// A load from a table in ROM lies behind, or an index that is added to its address.
+    /// A load from a table in ROM lies behind.
     is_behind_table: bool,
+    /// A sum with HL lies behind.
+    is_behind_sum: bool,
     /// A number is compared with a wanted register behind, so that each value's way is known there.
     is_compared: bool,
     /// The addresses so far, the last instruction first.
@@ -121,7 +133,12 @@ impl Walk {
         if open.is_empty() {
             return false;
         }
-        let may_split = !has_entry(run, spot) && (!sought.by_table || self.is_behind_table);
+        let is_wanted = match sought.by {
+            By::Any => true,
+            By::Table => self.is_behind_table,
+            By::Index => self.is_behind_table || self.is_behind_sum,
+        };
+        let may_split = is_wanted && !has_entry(run, spot);
         match count(&open) {
             1 if may_split => self.note_one(run, &open, self.most(sought)),
             2 if may_split => self.note_two(run, &open),
@@ -186,7 +203,7 @@ impl Walk {
             self.is_behind_table = self.is_behind_table || points_to_rom(run, spot, high);
         }
         if matches!(op, Op::AddHl(_)) && open.contains(Register::L) {
-            self.is_behind_table = true;
+            self.is_behind_sum = true;
         }
         self.note_comparison(run, spot, op, &open);
         self.wanted = wanted;
@@ -242,6 +259,7 @@ pub(crate) fn slice(
         wanted: sought.wanted,
         waiting: Waiting::new(alloc),
         is_behind_table: false,
+        is_behind_sum: false,
         is_compared: false,
         chain,
         one: None,

@@ -26,6 +26,7 @@ fn fmt_call<W: fmt::Write>(
     target: u16,
     f: &mut fmt::Formatter<W>,
 ) -> fmt::Result {
+    let line = symbols.line(0, from);
     let from = Named {
         symbols: &*symbols,
         bank: None,
@@ -36,7 +37,10 @@ fn fmt_call<W: fmt::Write>(
         bank: None,
         address: target,
     };
-    write!(f, "from {from}, which calls {target}")
+    match line {
+        Some(line) => write!(f, "from {from} in {line}, which calls {target}"),
+        None => write!(f, "from {from}, which calls {target}"),
+    }
 }
 
 /// Where a path begins.

@@ -82,11 +82,12 @@ pub fn tell_upgrades<W: Write>(out: &mut W, upgrades: &Upgrades) -> io::Result<(
     )
 }
 
-/// The most nodes and procedures that a certificate may have which is made.
+/// The most nodes and procedures that a certificate may have which is made, and the most rounds that its maker may take.
 #[derive(Clone, Copy)]
 pub struct Ceiling {
     pub nodes: usize,
     pub procedures: usize,
+    pub rounds: usize,
 }
 
 /// The number that follows a word of a line.
@@ -101,14 +102,14 @@ fn number_behind(line: &str, word: &str) -> Option<usize> {
     None
 }
 
-/// Whether a verdict's line has no more nodes and procedures than a ceiling.
-fn is_kept(line: &str, ceiling: Ceiling) -> bool {
+/// Whether a verdict's line has no more nodes and procedures than a ceiling, and its certificate's maker took no more rounds.
+fn is_kept(line: &str, rounds: usize, ceiling: Ceiling) -> bool {
     match (
         number_behind(line, "nodes"),
         number_behind(line, "procedures"),
     ) {
         (Some(nodes), Some(procedures)) => {
-            nodes <= ceiling.nodes && procedures <= ceiling.procedures
+            nodes <= ceiling.nodes && procedures <= ceiling.procedures && rounds <= ceiling.rounds
         }
         _ => false,
     }
@@ -121,6 +122,7 @@ pub fn judge_made<W: Write>(
     out: &mut W,
     rom: &[u8],
     cert: &[u8],
+    rounds: usize,
     ceiling: Option<Ceiling>,
     upgrades: &mut Upgrades,
 ) -> io::Result<()> {
@@ -128,10 +130,10 @@ pub fn judge_made<W: Write>(
     let text = str::from_utf8(line.as_slice()).unwrap_or("");
     out.write_all(text.split(' ').next().unwrap_or("").as_bytes())?;
     if let Some(ceiling) = ceiling {
-        let says = if is_kept(text, ceiling) {
-            ", no more nodes and procedures than are told"
+        let says = if is_kept(text, rounds, ceiling) {
+            ", no more nodes, procedures and rounds than are told"
         } else {
-            ", more nodes or procedures than are told"
+            ", more nodes, procedures or rounds than are told"
         };
         out.write_all(says.as_bytes())?;
     }

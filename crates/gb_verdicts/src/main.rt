@@ -6,8 +6,9 @@
 //!
 //! An example is some lines: `about` with a sentence; `sizes` with the bytes 0147 to 0149; `rom` with an offset and bytes
 //! that lie there, beside the start at 0100 and the header; `fill` with the byte that the whole file has, or `length` with the
-//! file's own; `cert` with bytes that follow one another, as often as it takes; `symbol` with a line of its file of symbols;
-//! `keys` with the bytes of a script; `most` with the nodes and the procedures that a certificate which is made may have;
+//! file's own; `cert` with bytes that follow one another, as often as it takes; `symbol` with a line of its file of symbols,
+//! `line` with one of its file of the sources' lines;
+//! `keys` with the bytes of a script; `most` with the nodes and the procedures that a certificate which is made may have, and the rounds that may be taken;
 //! and what is to be done: `verdict`, `certify`, `json`, and `frames` with a number. `upgrades` tells how many certificates so
 //! far were accepted in version 1 or 2, and how many of them in version 3 too.
 //! Numbers are hexadecimal, and other lines mean nothing. `examples/text` writes those of the games.
@@ -25,12 +26,13 @@ use running::run;
 use std::alloc::Global;
 use std::io::{self, BufRead, BufReader, BufWriter, Write};
 
-/// A cartridge and a certificate, the text of its symbols, the keys that are held in each frame, how large a certificate may be
+/// A cartridge and a certificate, the texts of its symbols and of its sources' lines, the keys that are held in each frame, how large a certificate may be
 /// that is made, and what came of all certificates so far in version 3.
 #[derive(Drop)]
 struct Played {
     files: Example,
     symbols: String,
+    lines: String,
     keys: Vec<u8>,
     most: Option<Ceiling>,
     upgrades: Upgrades,
@@ -42,6 +44,7 @@ impl Played {
         Played {
             files: Example::new(alloc),
             symbols: String::new(alloc),
+            lines: String::new(alloc),
             keys: Vec::new(alloc),
             most: None,
             upgrades: Upgrades {
@@ -72,7 +75,7 @@ impl Played {
             alloc,
             out,
             self.files.rom.as_slice(),
-            self.symbols.as_bytes(),
+            (self.symbols.as_bytes(), self.lines.as_bytes()),
             telling,
             self.most,
             &mut self.upgrades,
@@ -87,12 +90,14 @@ fn resized(alloc: Global, bytes: &[u8], length: usize) -> io::Result<Vec<u8>> {
     Ok(resized)
 }
 
-/// The ceiling of two numbers.
+/// The ceiling of three numbers.
 fn ceiling_of(rest: &str) -> Ceiling {
-    let (nodes, procedures) = word_of(rest);
+    let (nodes, rest) = word_of(rest);
+    let (procedures, rounds) = word_of(rest);
     Ceiling {
         nodes: number_of(nodes),
         procedures: number_of(procedures),
+        rounds: number_of(rounds),
     }
 }
 
@@ -107,6 +112,10 @@ fn take(alloc: Global, played: &mut Played, word: &str, rest: &str) -> io::Resul
         "symbol" => {
             played.symbols.push_str(rest)?;
             played.symbols.push('\n')?;
+        }
+        "line" => {
+            played.lines.push_str(rest)?;
+            played.lines.push('\n')?;
         }
         "keys" => played.keys = bytes_of(alloc, rest),
         "most" => played.most = Some(ceiling_of(rest)),

@@ -14,12 +14,16 @@ const LIMITS: Limits = Limits {
     rules: None,
 };
 
-/// A maker that tells nothing on its way.
+/// How many rounds the maker has begun.
 #[derive(Drop)]
-struct Silent;
+struct Rounds {
+    begun: usize,
+}
 
-impl Progress for Silent {
-    fn round(&mut self, _number: u32) {}
+impl Progress for Rounds {
+    fn round(&mut self, _number: u32) {
+        self.begun = self.begun.saturating_add(1);
+    }
 
     fn ran(&mut self, _nodes: usize, _procedures: usize) {}
 
@@ -54,6 +58,9 @@ fn tell<W: Write>(
         return writeln!(out, "nothing is told");
     };
     let told = Told { obstacle, symbols };
+    if let Some(line) = obstacle.line(symbols) {
+        write!(out, "{line}: ")?;
+    }
     match obstacle {
         Obstacle::Standing(standing) => tell_standing(alloc, out, &told, standing),
         _ => writeln!(out, "{told}"),
@@ -86,7 +93,7 @@ pub fn certify<W: Write>(
     alloc: Global,
     out: &mut W,
     cartridge: &[u8],
-    symbols: &[u8],
+    (symbols, lines): (&[u8], &[u8]),
     telling: Telling,
     ceiling: Option<Ceiling>,
     upgrades: &mut Upgrades,
@@ -94,12 +101,25 @@ pub fn certify<W: Write>(
     let Ok(rom) = Rom::parse(cartridge) else {
         return writeln!(out, "no cartridge");
     };
-    let Ok(symbols) = Symbols::parse(alloc, symbols) else {
+    let Ok(mut symbols) = Symbols::parse(alloc, symbols) else {
         return writeln!(out, "no symbols");
     };
-    match (make(alloc, &rom, LIMITS, &mut Silent)?, telling) {
+    if !lines.is_empty() && symbols.add_lines(alloc, lines).is_err() {
+        return writeln!(out, "no lines");
+    }
+    let mut rounds = Rounds { begun: 0 };
+    match (make(alloc, &rom, LIMITS, &mut rounds)?, telling) {
         (Made::Certificate(cert), _) => {
-            judge_made(alloc, out, cartridge, cert.as_slice(), ceiling, upgrades)
+            let begun = rounds.begun;
+            judge_made(
+                alloc,
+                out,
+                cartridge,
+                cert.as_slice(),
+                begun,
+                ceiling,
+                upgrades,
+            )
         }
         (Made::Obstacles(obstacles), Telling::Words) => {
             tell(alloc, out, obstacles.as_slice(), &symbols)
