@@ -36,6 +36,10 @@ rect.code { fill: var(--code); stroke: var(--code); }
 rect.stack { fill: var(--stack); stroke: var(--stack); }
 rect.used { fill: var(--used); stroke: var(--used); }
 rect.written { fill: var(--written); stroke: var(--written); }
+.screen { display: block; width: 320px; max-width: 100%; background: #e0e8d0; outline: 1px solid var(--line); }
+.shade1 { fill: #a0b088; }
+.shade2 { fill: #586850; }
+.shade3 { fill: #182018; }
 .key { white-space: nowrap; margin-right: 1rem; }
 .key svg { width: .8em; height: .8em; vertical-align: -.05em; }
 .bank { display: grid; grid-template-columns: 4.5rem 1fr 7rem; gap: .75rem; align-items: center; margin: .3rem 0; }
@@ -66,7 +70,7 @@ dt { margin-top: .3rem; }
 @media print {
 body { font-size: 11px; }
 nav { display: none; }
-.strip, .strip rect, .key svg, .verdict, pre { print-color-adjust: exact; -webkit-print-color-adjust: exact; }
+.screen, .screen path, .strip, .strip rect, .key svg, .verdict, pre { print-color-adjust: exact; -webkit-print-color-adjust: exact; }
 .node { break-inside: avoid; }
 article { break-inside: auto; }
 .bank, .ram, tr { break-inside: avoid; }
