@@ -337,6 +337,9 @@ fn obstacles_are_told(rt: HostRuntime) -> Result<(), Fail> {
     assert!(rt; text.contains("a&lt;b"));
     assert!(rt; !text.contains("a<b"));
     assert!(rt; text.contains("8000"));
+    assert!(rt; text.contains("<h3>What is needed</h3><p>"));
+    assert!(rt; text.contains("<h3>What usually mends it</h3>"));
+    assert!(rt; !text.contains("What is known there"));
     Ok(())
 }
 
