@@ -15,7 +15,7 @@ a:hover, a:focus { text-decoration: underline; }
 code, pre, .at, .op, .state { font-family: ui-monospace, monospace; font-size: .9em; }
 pre { background: var(--panel); padding: .75rem 1rem; white-space: pre-wrap; overflow-wrap: anywhere; border-left: 4px solid var(--bad); }
 .known { border-left-color: var(--line); white-space: pre-wrap; margin: 0; }
-.beside { display: grid; grid-template-columns: repeat(auto-fit, minmax(18rem, 1fr)); gap: .5rem 2rem; }
+.beside { display: grid; grid-template-columns: repeat(auto-fit, minmax(18rem, 1fr)); gap: .5rem 2rem; margin-bottom: 1.25rem; }
 .beside p { margin: 0; }
 nav { display: flex; flex-wrap: wrap; gap: .25rem 1.25rem; }
 .quiet, .symbol { color: var(--quiet); font-weight: normal; }

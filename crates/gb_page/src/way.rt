@@ -60,7 +60,7 @@ fn fmt_start<W: fmt::Write>(way: &Way<'_, '_, '_>, f: &mut fmt::Formatter<W>) ->
         Start::Interrupt { from, target } => {
             write!(f, "<li>the interrupt of ")?;
             fmt_named(way, target, f)?;
-            write!(f, ", which comes at ")?;
+            write!(f, " at ")?;
             fmt_named(way, from, f)?;
             write!(f, "</li>\n")
         }

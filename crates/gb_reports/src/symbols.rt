@@ -75,7 +75,7 @@ fn ordered<'a>(
     format: Format,
     mut found: Vec<Symbol<'a>>,
 ) -> Result<Symbols<'a>, SymbolFault> {
-    found.sort_by_key(symbol_key)?;
+    found.sort_by_key(|symbol| symbol_key(symbol))?;
     let mut symbols = Vec::new(alloc);
     let mut keys: Vec<u32> = Vec::new(alloc);
     for symbol in &found {

@@ -192,6 +192,17 @@ fn tell_way<W: Write>(
     Ok(is_told)
 }
 
+/// Whether the page has what is known there, the rule that asks for something else, and what usually mends it.
+fn has_parts(alloc: Global, standing: &Standing, page: &str) -> Result<bool, AllocError> {
+    let reason = standing.cause.reason().number();
+    let rule = format!(in alloc; "<h3>What is needed</h3><p>Rule {reason}: ")?;
+    Ok(
+        page.contains(rule.as_str())
+            && page.contains("<h3>What is known there</h3><pre class=\"known\">    A=")
+            && page.contains("<h3>What usually mends it</h3>\n<p>"),
+    )
+}
+
 /// Prints the way to what is in the way first.
 pub fn report_obstacles<W: Write>(
     alloc: Global,
@@ -204,7 +215,8 @@ pub fn report_obstacles<W: Write>(
     let Some(Obstacle::Standing(standing)) = obstacles.first() else {
         return Ok(());
     };
-    if tell_way(alloc, out, standing, page.as_str())? {
+    let has_way = tell_way(alloc, out, standing, page.as_str())?;
+    if has_way && has_parts(alloc, standing, page.as_str())? {
         Ok(())
     } else {
         writeln!(out, "  The page says otherwise")
