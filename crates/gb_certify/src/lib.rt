@@ -4,11 +4,13 @@
 //! that it prints is gb_verify's. Of the texts nothing is promised.
 #![tactic(auto)]
 
+mod compare;
 mod files;
 mod help;
 mod making;
 mod messages;
 mod perform;
+mod playing;
 mod progress;
 mod reading;
 mod report;

@@ -1,5 +1,6 @@
 //! A certificate is made, checked, and written where it is accepted.
 
+use crate::compare::tell_made;
 use crate::files::write_file;
 use crate::messages::PROGRAM;
 use crate::progress::Shown;
@@ -7,6 +8,7 @@ use crate::words::Task;
 use gb_command_line::messages::{tell_output, verify};
 use gb_command_line::status::Status;
 use gb_command_line::{Outcome, Plain, Rom, Trouble, verify_bytes};
+use gb_page::Older;
 use gb_refine::{Limits, Made, Obstacle, Symbols, Told, make, obstacle_json};
 use std::io;
 use std::rt::Files;
@@ -88,12 +90,14 @@ pub fn report<R: Print + Eprint + AllocGlobal>(
     }
 }
 
-/// Makes a certificate, writes it where the checker accepts it, and prints the verdict's line.
+/// Makes a certificate, writes it where the checker accepts it, and prints the verdict's line, and what was changed beside an
+/// older one.
 pub fn make_file<R: Print + Eprint + Files + AllocGlobal>(
     rt: &R,
     task: &Task<'_>,
     bytes: &[u8],
     symbols: &Symbols<'_>,
+    older: Option<&Older<'_, '_, '_, '_>>,
     is_shown: bool,
 ) -> Result<Status, Trouble> {
     let Ok(rom) = Rom::parse(bytes) else {
@@ -104,7 +108,7 @@ pub fn make_file<R: Print + Eprint + Files + AllocGlobal>(
         Made::Obstacles(obstacles) => report(rt, task, &obstacles, symbols),
         Made::Certificate(cert) if is_accepted(rt, bytes, &cert) => {
             write_file(rt, task.cert, &cert)?;
-            Ok(verify(rt, PROGRAM, bytes, &cert))
+            tell_made(rt, task, bytes, &cert, symbols, older)
         }
         Made::Certificate(_) => report(rt, task, &[Obstacle::Refused], symbols),
     }

@@ -21,6 +21,12 @@ pub fn tell_written<R: Eprint>(rt: &R, name: &str, error: &io::Error) {
     };
 }
 
+/// Says which file is no cartridge.
+pub fn tell_no_cartridge<R: Eprint>(rt: &R, name: &str) {
+    let name = shown_name(name);
+    let _ = eprintln!(rt; "certify: {name}: it is no cartridge");
+}
+
 /// Says what is wrong with a file of symbols.
 pub fn tell_symbols<R: Eprint>(rt: &R, name: &str, fault: SymbolFault) -> Status {
     let name = shown_name(name);

@@ -1,5 +1,6 @@
 //! What becomes of the words.
 
+use crate::compare::{read_before, work_beside};
 use crate::files::read_symbols;
 use crate::making::make_file;
 use crate::messages::{PROGRAM, tell_symbols};
@@ -9,14 +10,36 @@ use crate::words::{Task, Work, read_words};
 use gb_command_line::status::Status;
 use gb_command_line::words::{explain, tell_words, words_of};
 use gb_command_line::{Trouble, is_input, read_cartridge};
+use gb_page::Older;
 use gb_refine::{SymbolFault, Symbols};
 use std::io::Input;
 use std::rt::{Env, Files};
 
+/// The names of the older files.
+fn names_before<'a>(task: &Task<'a>) -> [Option<&'a str>; 3] {
+    match task.before {
+        Some(before) => [Some(before.cert), before.rom, before.symbols],
+        None => [None, None, None],
+    }
+}
+
+/// How many of some names are standard input.
+fn inputs_among(names: &[Option<&str>]) -> usize {
+    names.iter().flatten().filter(|name| is_input(name)).count()
+}
+
 /// How many of the files are standard input, which can be read only once.
 fn inputs(task: &Task<'_>) -> usize {
     let names = [Some(task.rom), Some(task.cert), task.symbols, task.lines];
-    names.iter().flatten().filter(|name| is_input(name)).count()
+    inputs_among(&names).saturating_add(inputs_among(&names_before(task)))
+}
+
+/// Whether the older cartridge has this name.
+fn is_old_cartridge(task: &Task<'_>, name: &str) -> bool {
+    match task.before {
+        Some(before) => before.rom == Some(name),
+        None => false,
+    }
 }
 
 /// What is wrong with the name of the file that is to be written, if something is.
@@ -27,6 +50,9 @@ fn wrong_output(task: &Task<'_>) -> Option<&'static str> {
         }
         Work::Make if task.rom == task.cert => {
             Some("CERT is written, so it can't be the cartridge's own file")
+        }
+        Work::Make if is_old_cartridge(task, task.cert) => {
+            Some("CERT is written, so it can't be the older cartridge's file")
         }
         Work::Report(name) if is_input(name) => {
             Some("FILE is written, so it can't be -; a file of that name is ./-")
@@ -40,10 +66,31 @@ fn wrong_output(task: &Task<'_>) -> Option<&'static str> {
 
 /// Whether a file of this name is read.
 fn is_read(task: &Task<'_>, name: &str) -> bool {
-    task.rom == name || task.cert == name || task.symbols == Some(name) || task.lines == Some(name)
+    task.rom == name
+        || task.cert == name
+        || task.symbols == Some(name)
+        || task.lines == Some(name)
+        || names_before(task).contains(&Some(name))
 }
 
-/// Does what a task says, with the bytes of its cartridge and its symbols.
+/// Does what a task says, with the bytes of its cartridge, its symbols, and an older certificate, if there is one.
+pub fn work<R: Print + Eprint + Input + Files + AllocGlobal>(
+    rt: &R,
+    task: &Task<'_>,
+    bytes: &[u8],
+    symbols: &Symbols<'_>,
+    older: Option<&Older<'_, '_, '_, '_>>,
+    is_shown: bool,
+) -> Result<Status, Trouble> {
+    match task.work {
+        Work::Make => make_file(rt, task, bytes, symbols, older, is_shown),
+        Work::Explain => explain_file(rt, task, bytes, symbols, is_shown),
+        Work::List => list_file(rt, task, bytes, symbols),
+        Work::Report(name) => report_file(rt, task, name, bytes, symbols, older, is_shown),
+    }
+}
+
+/// The same, where the older certificate isn't read yet.
 fn work_on<R: Print + Eprint + Input + Files + AllocGlobal>(
     rt: &R,
     task: &Task<'_>,
@@ -51,11 +98,12 @@ fn work_on<R: Print + Eprint + Input + Files + AllocGlobal>(
     symbols: &Symbols<'_>,
     is_shown: bool,
 ) -> Result<Status, Trouble> {
-    match task.work {
-        Work::Make => make_file(rt, task, bytes, symbols, is_shown),
-        Work::Explain => explain_file(rt, task, bytes, symbols, is_shown),
-        Work::List => list_file(rt, task, bytes, symbols),
-        Work::Report(name) => report_file(rt, task, name, bytes, symbols, is_shown),
+    match task.before {
+        Some(before) => {
+            let files = read_before(rt, &before)?;
+            work_beside(rt, task, &before, &files, bytes, symbols, is_shown)
+        }
+        None => work(rt, task, bytes, symbols, None, is_shown),
     }
 }
 

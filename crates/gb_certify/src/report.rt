@@ -1,18 +1,44 @@
 //! A page on a certificate: on one that is there, or on one that is made first.
 
+use crate::compare::{changes_of, tell_verdict};
 use crate::files::{is_missing, write_file, write_whole};
 use crate::making::{is_accepted, made, report};
 use crate::messages::PROGRAM;
+use crate::playing::{is_right, played};
 use crate::words::Task;
 use gb_command_line::messages::{tell_fault, verify};
 use gb_command_line::status::Status;
 use gb_command_line::{Cert, Rom, Trouble, read_certificate};
-use gb_page::{facts_json, obstacles_page, page_of};
+use gb_page::{Changes, Extras, Older, facts_json, obstacles_page, page_of};
 use gb_refine::{Made, Obstacle, Symbols, obstacle_json};
 use std::alloc::{AllocError, Global};
 use std::fmt;
 use std::io::Input;
 use std::rt::Files;
+
+/// A page with the screen, where the certificate is accepted: only then is every frame known to be whole.
+fn page_with_screen(
+    alloc: Global,
+    rom: &Rom<'_>,
+    cert: &Cert<'_>,
+    symbols: &Symbols<'_>,
+    changes: Option<&Changes>,
+) -> Result<String, AllocError> {
+    if !is_right(rom, cert) {
+        let extras = Extras {
+            changes,
+            ..Extras::none()
+        };
+        return page_of(alloc, rom, cert, symbols, extras);
+    }
+    let console = played(alloc, rom)?;
+    let extras = Extras {
+        changes,
+        screen: Some(console.screen()),
+        ..Extras::none()
+    };
+    page_of(alloc, rom, cert, symbols, extras)
+}
 
 /// What is written on a certificate: a page, or its facts as JSON.
 fn text_on(
@@ -21,12 +47,16 @@ fn text_on(
     rom: &Rom<'_>,
     cert: &Cert<'_>,
     symbols: &Symbols<'_>,
+    changes: Option<&Changes>,
 ) -> Result<String, AllocError> {
-    if task.is_json {
-        facts_json(alloc, rom, cert, symbols)
-    } else {
-        page_of(alloc, rom, cert, symbols)
+    if !task.is_json {
+        return page_with_screen(alloc, rom, cert, symbols, changes);
     }
+    let extras = Extras {
+        changes,
+        ..Extras::none()
+    };
+    facts_json(alloc, rom, cert, symbols, extras)
 }
 
 /// Texts on lines of their own.
@@ -68,7 +98,7 @@ fn text_on_obstacles(
     if task.is_json {
         obstacle_lines(alloc, obstacles, symbols)
     } else {
-        obstacles_page(alloc, rom, obstacles, symbols)
+        obstacles_page(alloc, rom, obstacles, symbols, task.before.is_some())
     }
 }
 
@@ -80,6 +110,7 @@ fn write_page<R: Print + Eprint + Files + AllocGlobal>(
     bytes: &[u8],
     cert_bytes: &[u8],
     symbols: &Symbols<'_>,
+    older: Option<&Older<'_, '_, '_, '_>>,
 ) -> Result<Status, Trouble> {
     let (Ok(rom), Ok(cert)) = (Rom::parse(bytes), Cert::parse(rt.alloc(), cert_bytes)) else {
         // The line says which file is none, and what is wrong with it.
@@ -87,9 +118,10 @@ fn write_page<R: Print + Eprint + Files + AllocGlobal>(
         tell_fault(rt, PROGRAM, task.cert, cert_bytes);
         return Ok(status);
     };
-    let page = text_on(rt.alloc(), task, &rom, &cert, symbols)?;
+    let changes = changes_of(rt.alloc(), &rom, &cert, symbols, older)?;
+    let page = text_on(rt.alloc(), task, &rom, &cert, symbols, changes.as_ref())?;
     write_whole(rt, name, page.as_bytes())?;
-    Ok(verify(rt, PROGRAM, bytes, cert_bytes))
+    tell_verdict(rt, task, bytes, cert_bytes, changes.as_ref())
 }
 
 /// Writes a page on what is in the way of a certificate, and says that there is none.
@@ -113,6 +145,7 @@ fn report_made<R: Print + Eprint + Files + AllocGlobal>(
     name: &str,
     bytes: &[u8],
     symbols: &Symbols<'_>,
+    older: Option<&Older<'_, '_, '_, '_>>,
     is_shown: bool,
 ) -> Result<Status, Trouble> {
     let Ok(rom) = Rom::parse(bytes) else {
@@ -123,7 +156,7 @@ fn report_made<R: Print + Eprint + Files + AllocGlobal>(
         Made::Obstacles(obstacles) => write_obstacles(rt, task, name, &rom, &obstacles, symbols),
         Made::Certificate(cert) if is_accepted(rt, bytes, &cert) => {
             write_file(rt, task.cert, &cert)?;
-            write_page(rt, task, name, bytes, &cert, symbols)
+            write_page(rt, task, name, bytes, &cert, symbols, older)
         }
         Made::Certificate(_) => {
             write_obstacles(rt, task, name, &rom, &[Obstacle::Refused], symbols)
@@ -138,11 +171,12 @@ pub fn report_file<R: Print + Eprint + Input + Files + AllocGlobal>(
     name: &str,
     bytes: &[u8],
     symbols: &Symbols<'_>,
+    older: Option<&Older<'_, '_, '_, '_>>,
     is_shown: bool,
 ) -> Result<Status, Trouble> {
     if is_missing(rt, task.cert) {
-        return report_made(rt, task, name, bytes, symbols, is_shown);
+        return report_made(rt, task, name, bytes, symbols, older, is_shown);
     }
     let cert_bytes = read_certificate(rt, PROGRAM, task.cert)?;
-    write_page(rt, task, name, bytes, &cert_bytes, symbols)
+    write_page(rt, task, name, bytes, &cert_bytes, symbols, older)
 }

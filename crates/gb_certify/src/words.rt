@@ -26,6 +26,14 @@ pub enum Work<'a> {
     Report(&'a str),
 }
 
+/// An older certificate, and its cartridge and its symbols, where they are named.
+#[derive(Clone, Copy, PartialEq, Eq)]
+pub struct Before<'a> {
+    pub cert: &'a str,
+    pub rom: Option<&'a str>,
+    pub symbols: Option<&'a str>,
+}
+
 /// What the program is asked to do.
 #[derive(Clone, Copy, PartialEq, Eq)]
 pub struct Task<'a> {
@@ -35,6 +43,8 @@ pub struct Task<'a> {
     pub symbols: Option<&'a str>,
     /// The file of the author's lines.
     pub lines: Option<&'a str>,
+    /// With what the certificate is compared.
+    pub before: Option<Before<'a>>,
     pub nodes: u32,
     pub region: Option<Region>,
     /// The rules by which alone a certificate is sought.
@@ -147,9 +157,33 @@ fn with_options<'a>(alloc: Global) -> Result<Command<'a>, AllocError> {
     with_arg(with_arg(with_arg(command, stack), rules), report)
 }
 
+/// The program with the options for an older certificate.
+fn with_before<'a>(alloc: Global) -> Result<Command<'a>, AllocError> {
+    let command = with_options(alloc);
+    let compare = option_arg(
+        alloc,
+        "compare",
+        "OLD",
+        "Tell what CERT changed beside the older certificate OLD",
+    );
+    let rom = option_arg(
+        alloc,
+        "old-rom",
+        "FILE",
+        "The cartridge of OLD, which tells the stack's deepest way before",
+    );
+    let symbols = option_arg(
+        alloc,
+        "old-sym",
+        "FILE",
+        "The symbols of OLD, by which procedures are found that have moved",
+    );
+    with_arg(with_arg(with_arg(command, compare), rom), symbols)
+}
+
 /// The program's command line.
 fn program_command<'a>(alloc: Global) -> Result<Command<'a>, AllocError> {
-    let command = with_options(alloc);
+    let command = with_before(alloc);
     let explain = flag_arg(
         alloc,
         "explain",
@@ -248,6 +282,27 @@ fn work_of<'a>(alloc: Global, matches: &ArgMatches<'a>) -> Result<Work<'a>, Erro
     }
 }
 
+/// With what the certificate is compared.
+fn before_of<'a>(
+    alloc: Global,
+    matches: &ArgMatches<'a>,
+    work: Work<'a>,
+) -> Result<Option<Before<'a>>, Error> {
+    let rom = matches.get_str("old-rom");
+    let symbols = matches.get_str("old-sym");
+    match (matches.get_str("compare"), work) {
+        (Some(cert), Work::Make | Work::Report(_)) => Ok(Some(Before { cert, rom, symbols })),
+        (Some(_), Work::Explain | Work::List) => Err(wrong(
+            alloc,
+            "--compare can't be used with --explain or --list",
+        )),
+        (None, _) if rom.is_some() || symbols.is_some() => {
+            Err(wrong(alloc, "--old-rom and --old-sym go with --compare"))
+        }
+        (None, _) => Ok(None),
+    }
+}
+
 /// What the words after the program's name ask for.
 pub fn read_words<'a>(alloc: Global, words: &'a [&'a str]) -> Result<Task<'a>, Error> {
     let matches = program_command(alloc)?.try_get_matches_from(words)?;
@@ -258,12 +313,14 @@ pub fn read_words<'a>(alloc: Global, words: &'a [&'a str]) -> Result<Task<'a>, E
         Some(nodes) => nodes,
         None => NODES,
     };
+    let work = work_of(alloc, &matches)?;
     Ok(Task {
-        work: work_of(alloc, &matches)?,
+        work,
         rom,
         cert,
         symbols: matches.get_str("sym"),
         lines: matches.get_str("lines"),
+        before: before_of(alloc, &matches, work)?,
         nodes,
         region: stack_of(alloc, &matches)?,
         rules: rules_of(&matches),

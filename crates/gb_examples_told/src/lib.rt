@@ -1,10 +1,14 @@
 //! Worked examples of what is told to a person: of a refused certificate what is in the way, by hand from the rules, on small
 //! cartridges, each with a certificate that lacks something; how instructions are spelled; the names of symbols; and of a
-//! certificate that can't be read, where in the file its fault is.
+//! certificate that can't be read, where in the file its fault is. The facts and the page of a small game stand here too, and what
+//! a new build of it changed.
 //!
-//! Read refusals.rt first, then extended.rt, which has the same for version 3; spelled.rt spells certificates.
+//! Read refusals.rt first, then extended.rt, which has the same for version 3, then pages.rt and compared.rt; spelled.rt spells
+//! certificates.
 #![tactic(auto)]
 
+#[cfg(test)]
+mod compared;
 #[cfg(test)]
 mod extended;
 #[cfg(test)]

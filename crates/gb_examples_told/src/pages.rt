@@ -2,7 +2,7 @@
 
 use crate::spelled::{EMPTY, Node, Procedure, Spelled, certificate};
 use gb_facts::{Bound, By, CodeRun, Facts, Interrupt, Link};
-use gb_page::{facts_json, obstacles_page, page_of};
+use gb_page::{Extras, Screen, facts_json, obstacles_page, page_of};
 use gb_reports::{Obstacle, Symbols};
 use gb_samples::cartridges::{PLAIN, SMALLEST, put, small};
 use gb_verify::verdict::Verdict;
@@ -15,7 +15,7 @@ use std::test::Fail;
 const PROGRAM: &[u8] = &[0xE0, 0xFF, 0xFB, 0xCD, 0x58, 0x01, 0x18, 0xFB, 0x00, 0xC9];
 
 /// IE is 01, as A was; main's own was 00.
-const IE_IS_1: &[(usize, u8)] = &[(16, 1), (17, 1), (18, 0)];
+pub const IE_IS_1: &[(usize, u8)] = &[(16, 1), (17, 1), (18, 0)];
 
 /// Behind EI, or once more: interrupts are on, or on after the next instruction.
 const PENDING: &[(usize, u8)] = &[(0, 6), (16, 1), (17, 1), (18, 0)];
@@ -27,10 +27,10 @@ const ON: &[(usize, u8)] = &[(0, 4), (16, 1), (17, 1), (18, 0)];
 const OWN_ON: &[(usize, u8)] = &[(0, 4), (16, 1), (17, 1)];
 
 /// Interrupts are off, and IE is 01 as at entry.
-const OWN_OFF: &[(usize, u8)] = &[(16, 1), (17, 1)];
+pub const OWN_OFF: &[(usize, u8)] = &[(16, 1), (17, 1)];
 
 /// A procedure that writes nothing.
-const SILENT: Procedure = Procedure {
+pub const SILENT: Procedure = Procedure {
     entry: 0,
     need: 0,
     ranges: &[0],
@@ -38,7 +38,7 @@ const SILENT: Procedure = Procedure {
 };
 
 /// Main, what it calls, and the handler, with the words of stack that they need.
-const PROCEDURES: &[Procedure] = &[
+pub const PROCEDURES: &[Procedure] = &[
     Procedure {
         entry: 0,
         need: 2,
@@ -82,14 +82,14 @@ const TOO_FEW: &[Procedure] = &[
 ];
 
 /// A node of main that holds nothing.
-const BARE: Node = Node {
+pub const BARE: Node = Node {
     procedure: 0,
     address: 0x0100,
     changes: &[],
     held: EMPTY,
 };
 
-const NODES: &[Node] = &[
+pub const NODES: &[Node] = &[
     Node {
         procedure: 0,
         address: 0x0100,
@@ -220,7 +220,7 @@ const NUMBERS: &[(u32, u16, u32, u16, u32)] = &[
 ];
 
 /// The game.
-fn game() -> [u8; SMALLEST] {
+pub fn game() -> [u8; SMALLEST] {
     let mut rom = small(PLAIN, PROGRAM);
     put(&mut rom, 0x40, &[0xD9]);
     rom
@@ -274,13 +274,18 @@ fn agrees(alloc: Global) -> Option<bool> {
     Some(are_told(&facts))
 }
 
-/// The page of a certificate of the game.
-fn page(alloc: Global, bytes: &Spelled, symbols: &[u8]) -> Option<String> {
+/// The page of a certificate of the game, with what else is told.
+fn page_with(alloc: Global, bytes: &Spelled, symbols: &[u8], extras: Extras<'_>) -> Option<String> {
     let rom = game();
     let rom = Rom::parse(&rom).ok()?;
     let cert = Cert::parse(alloc, bytes.as_slice()).ok()?;
     let symbols = Symbols::parse(alloc, symbols).ok()?;
-    page_of(alloc, &rom, &cert, &symbols).ok()
+    page_of(alloc, &rom, &cert, &symbols, extras).ok()
+}
+
+/// The page of a certificate of the game.
+fn page(alloc: Global, bytes: &Spelled, symbols: &[u8]) -> Option<String> {
+    page_with(alloc, bytes, symbols, Extras::none())
 }
 
 #[test]
@@ -318,7 +323,7 @@ fn obstacles(alloc: Global) -> Option<String> {
         Obstacle::NoStack { sp: 0x8000 },
         Obstacle::Recursion { target: 0x0158 },
     ];
-    obstacles_page(alloc, &rom, &obstacles, &symbols).ok()
+    obstacles_page(alloc, &rom, &obstacles, &symbols, true).ok()
 }
 
 #[test]
@@ -326,11 +331,15 @@ fn obstacles_are_told(rt: HostRuntime) -> Result<(), Fail> {
     let page = obstacles(rt.alloc()).ok_or("a page")?;
     let text = page.as_str();
     assert!(rt; text.contains("NO CERTIFICATE obstacles 2"));
+    assert!(rt; text.contains("so all of it is new"));
     assert!(rt; text.contains("<a href=\"#o2\">"));
     assert!(rt; text.contains("<section id=\"o2\">"));
     assert!(rt; text.contains("a&lt;b"));
     assert!(rt; !text.contains("a<b"));
     assert!(rt; text.contains("8000"));
+    assert!(rt; text.contains("<h3>What is needed</h3><p>"));
+    assert!(rt; text.contains("<h3>What usually mends it</h3>"));
+    assert!(rt; !text.contains("What is known there"));
     Ok(())
 }
 
@@ -344,7 +353,7 @@ fn json(alloc: Global, bytes: &Spelled) -> Option<String> {
     let rom = Rom::parse(&rom).ok()?;
     let cert = Cert::parse(alloc, bytes.as_slice()).ok()?;
     let symbols = Symbols::parse(alloc, b"00:0158 a\"b\n").ok()?;
-    facts_json(alloc, &rom, &cert, &symbols).ok()
+    facts_json(alloc, &rom, &cert, &symbols, Extras::none()).ok()
 }
 
 #[test]
@@ -368,5 +377,96 @@ fn a_refusal_for_programs(rt: HostRuntime) -> Result<(), Fail> {
         json.as_str()
             .contains("\"refused\":{\"node\":4,\"reason\":9}")
     );
+    Ok(())
+}
+
+/// What the page says of the stack: 126 bytes, of which 2 wait below the call and 2 below the handler in what is called.
+const STACK: &[&str] = &[
+    "The stack’s region is <code>FF80-FFFD</code>, 126 bytes. At most <b>4 bytes</b> of it are ever used, and <b>122</b> are left.",
+    "<tr><td><a href=\"#p0\">main</a></td><td class=\"number\">2</td><td>call</td><td><a href=\"#n4\"><code>00:0153</code></a>",
+    "<tr><td><a href=\"#p1\">draw</a></td><td class=\"number\">2</td><td>VBlank</td><td><a href=\"#n6\"><code>00:0158</code></a>",
+    "<tr><td><a href=\"#p2\">VBlank handler</a></td><td class=\"number\">0</td><td>its own bytes</td><td><a href=\"#n8\"><code>00:0040</code></a>",
+    "<td><a href=\"#p0\">main</a></td><td><code>00:0100</code></td><td class=\"number\">6</td><td class=\"number\">0</td><td class=\"number\">4</td><td class=\"number\">4</td>",
+    "<td><a href=\"#p1\">draw</a></td><td><code>00:0158</code></td><td class=\"number\">2</td><td class=\"number\">0</td><td class=\"number\">2</td><td class=\"number\">2</td>",
+];
+
+/// What it says of interrupts, of banks, and of what is called: VBlank may come at 4 nodes, the code has 15 bytes, and NOP and RET
+/// change nothing.
+const REST: &[&str] = &[
+    "<td>VBlank</td><td><code>0040</code></td><td class=\"number\">4</td><td><a href=\"#p2\">VBlank handler</a> ",
+    "<td>timer</td><td><code>0050</code></td><td class=\"number\">0</td><td></td><td class=\"quiet\">never comes</td>",
+    "none, so handlers don’t nest.",
+    "<span class=\"number\">15 bytes</span>",
+    "<span class=\"name\">bank 01</span>",
+    "<span class=\"number\">not reached</span>",
+    "<dt>entered from</dt><dd><span class=\"item\"><a href=\"#p0\">main</a> <span class=\"quiet\">(call, 1)</span></span> </dd>",
+    "<dt>enters</dt><dd><span class=\"item\"><a href=\"#p2\">VBlank handler</a> <span class=\"quiet\">(VBlank, 2)</span></span> </dd>",
+    "<dt>may write</dt><dd>no RAM</dd>",
+    "<dt>keeps</dt><dd>A F B C D E H L IE banks and gate</dd>",
+    "<dt>returns</dt><dd>never</dd>",
+    "Its listing, 6 nodes",
+    "id=\"n4\"><a class=\"at\" href=\"#n4\">00:0153</a><span class=\"symbol\"></span><span class=\"op\"><a href=\"#n6\">CALL $0158</a></span>",
+];
+
+/// The first of some texts that another one doesn't have.
+fn first_missing(text: &str, wanted: &[&'static str]) -> Option<&'static str> {
+    for part in wanted {
+        if !text.contains(*part) {
+            return Some(*part);
+        }
+    }
+    None
+}
+
+#[test]
+fn figures_of_a_page(rt: HostRuntime) -> Result<(), Fail> {
+    let bytes = certificate(PROCEDURES, NODES);
+    let page = page(rt.alloc(), &bytes, b"00:0158 draw\n").ok_or("a page")?;
+    assert!(rt; first_missing(page.as_str(), STACK).is_none());
+    assert!(rt; first_missing(page.as_str(), REST).is_none());
+    Ok(())
+}
+
+#[test]
+fn a_listing_is_cut(rt: HostRuntime) -> Result<(), Fail> {
+    let bytes = certificate(PROCEDURES, NODES);
+    let extras = Extras {
+        listed: 5,
+        ..Extras::none()
+    };
+    let page = page_with(rt.alloc(), &bytes, b"", extras).ok_or("a page")?;
+    let text = page.as_str();
+    assert!(rt; text.contains("Of 9 nodes the first 5 are listed here"));
+    assert!(rt; text.contains("id=\"n4\""));
+    assert!(rt; !text.contains("id=\"n5\""));
+    assert!(rt; !text.contains("href=\"#n5\""));
+    assert!(rt; !text.contains("href=\"#n6\""));
+    Ok(())
+}
+
+/// A screen with four dark pixels in its third line, and one in its last corner.
+fn screen() -> Screen {
+    let mut screen = [[0; 160]; 144];
+    for x in 3..7 {
+        screen[2][x] = 3;
+    }
+    screen[143][159] = 1;
+    screen
+}
+
+#[test]
+fn a_screen_is_drawn(rt: HostRuntime) -> Result<(), Fail> {
+    let bytes = certificate(PROCEDURES, NODES);
+    let screen = screen();
+    let extras = Extras {
+        screen: Some(&screen),
+        ..Extras::none()
+    };
+    let page = page_with(rt.alloc(), &bytes, b"", extras).ok_or("a page")?;
+    let text = page.as_str();
+    assert!(rt; text.contains("<a href=\"#screen\">"));
+    assert!(rt; text.contains("<path class=\"shade1\" d=\"M159 143h1v1h-1z\"/>"));
+    assert!(rt; text.contains("<path class=\"shade2\" d=\"\"/>"));
+    assert!(rt; text.contains("<path class=\"shade3\" d=\"M3 2h4v1h-4z\"/>"));
     Ok(())
 }

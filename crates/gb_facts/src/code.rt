@@ -35,8 +35,8 @@ fn mark(map: &mut [bool], first: usize, length: u8) {
     }
 }
 
-/// How many bytes a node's instruction has; an unknown one counts as one.
-fn length_at(rom: &Rom<'_>, state: &Abs, address: u16) -> u8 {
+/// How many bytes the instruction at an address has; an unknown one counts as one.
+pub fn length_at(rom: &Rom<'_>, state: &Abs, address: u16) -> u8 {
     let Some(bytes) = known_bytes(rom, state, address) else {
         return 1;
     };

@@ -1,7 +1,9 @@
 //! How deep the stack gets.
 
+use crate::facts::Facts;
 use crate::link::{By, Link};
 use crate::procedure::Procedure;
+use std::alloc::{AllocError, Global};
 
 /// Whether the stack is known to get no deeper. A certificate that is refused may have procedures that call one another in a
 /// circle.
@@ -110,4 +112,25 @@ pub fn steps_from(procedures: &[Procedure], links: &[Link], number: u8) -> Optio
         procedure: number,
         link,
     })
+}
+
+/// The procedures on a procedure's deepest way, itself first. Where some call one another in a circle, the way is cut off.
+///
+/// # Errors
+///
+/// Where memory ran out.
+pub fn way_from(alloc: Global, facts: &Facts, number: u8) -> Result<Vec<u8>, AllocError> {
+    let mut way = Vec::new(alloc);
+    let mut next = Some(number);
+    for _ in 0..256 {
+        let Some(number) = next else { break };
+        way.push(number)?;
+        next = next_from(facts, number);
+    }
+    Ok(way)
+}
+
+/// The procedure that comes next on a procedure's deepest way.
+fn next_from(facts: &Facts, number: u8) -> Option<u8> {
+    facts.step(number)?.link?.callee
 }

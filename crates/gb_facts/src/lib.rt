@@ -2,22 +2,27 @@
 //! interrupts may come, and how deep the stack gets by which way.
 //!
 //! Read `facts` first, which has them all and gathers them; then `procedure`, `link` (calls and interrupts), `code`
-//! (bytes of code) and `depth` (how deep the stack gets). `target` says to which node an instruction leads. What is told of an accepted certificate
-//! follows from the certificate alone; nothing is promised of it but that it is computed safely.
+//! (bytes of code) and `depth` (how deep the stack gets). `target` says to which node an instruction leads. `outline` has what
+//! a certificate says without its cartridge, and `comparison` what is otherwise in a new one than in an old one. What is told
+//! of an accepted certificate follows from the certificate alone; nothing is promised of it but that it is computed safely.
 #![tactic(auto)]
 
 mod code;
+mod comparison;
 mod depth;
 mod facts;
 mod interrupt;
 mod link;
+mod outline;
 mod procedure;
 mod target;
 
-pub use code::CodeRun;
-pub use depth::{Bound, Step, steps_from};
+pub use code::{CodeRun, length_at};
+pub use comparison::{Difference, Key, Keyed, Side, differences, is_same_way};
+pub use depth::{Bound, Step, steps_from, way_from};
 pub use facts::Facts;
 pub use interrupt::{INTERRUPTS, Interrupt};
 pub use link::{By, Link};
+pub use outline::{Outline, Sketch};
 pub use procedure::{Exit, Peak, Procedure};
 pub use target::target_of;

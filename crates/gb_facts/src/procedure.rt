@@ -82,7 +82,7 @@ impl Exit {
 }
 
 /// Where a node lies: its bank and its address.
-fn place_of(cert: &Cert<'_>, number: u32) -> (u16, u16) {
+pub(crate) fn place_of(cert: &Cert<'_>, number: u32) -> (u16, u16) {
     if number >= cert.nodes() {
         return (0, 0);
     }

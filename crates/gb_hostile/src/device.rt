@@ -1,5 +1,6 @@
 //! Files and devices that end early, fail, give a byte at a time, or have no end.
 
+use crate::disk::Disk;
 use std::fs::{Metadata, OpenFile};
 use std::io::{self, BufRead, ErrorKind, Read, Seek, SeekFrom, Write};
 
@@ -33,33 +34,47 @@ pub struct Device<'a> {
     pub ending: Ending,
 }
 
-/// A device that is read.
+/// A device that is read, or a file that is written.
 #[derive(Drop)]
-pub struct Reading<'a> {
+pub struct Opened<'a> {
+    /// Where it is written, if it is.
+    disk: Option<&'a Disk>,
     rest: &'a [u8],
     pace: Pace,
     ending: Ending,
     is_interrupted: bool,
 }
 
-impl<'a> Reading<'a> {
+impl<'a> Opened<'a> {
     /// Reads from the device's first byte on.
-    pub fn new(device: Device<'a>) -> Reading<'a> {
-        Reading {
+    pub fn new(device: Device<'a>) -> Opened<'a> {
+        Opened {
+            disk: None,
             rest: device.bytes,
             pace: device.pace,
             ending: device.ending,
             is_interrupted: false,
         }
     }
+
+    /// Writes a file on a disk.
+    pub fn on(disk: &'a Disk) -> Opened<'a> {
+        Opened {
+            disk: Some(disk),
+            rest: &[],
+            pace: Pace::Whole,
+            ending: Ending::End,
+            is_interrupted: false,
+        }
+    }
 }
 
-/// That nothing but reading is done with a device.
+/// That nothing but reading and writing is done with a device.
 fn unsupported<T>() -> io::Result<T> {
     Err(io::Error::from(ErrorKind::Unsupported))
 }
 
-impl Read for Reading<'_> {
+impl Read for Opened<'_> {
     fn read(&mut self, buf: &mut [u8]) -> io::Result<usize> {
         if self.pace == Pace::Interrupted {
             self.is_interrupted = !self.is_interrupted;
@@ -89,7 +104,7 @@ impl Read for Reading<'_> {
     }
 }
 
-impl BufRead for Reading<'_> {
+impl BufRead for Opened<'_> {
     fn fill_buf(&mut self) -> io::Result<&[u8]> {
         unsupported()
     }
@@ -97,23 +112,30 @@ impl BufRead for Reading<'_> {
     fn consume(&mut self, _amount: usize) {}
 }
 
-impl Write for Reading<'_> {
-    fn write(&mut self, _buf: &[u8]) -> io::Result<usize> {
-        Err(io::Error::from(ErrorKind::Unsupported))
+impl Write for Opened<'_> {
+    fn write(&mut self, buf: &[u8]) -> io::Result<usize> {
+        let Some(disk) = self.disk else {
+            return Err(io::Error::from(ErrorKind::Unsupported));
+        };
+        let count = disk.take(buf);
+        if count == 0 && !buf.is_empty() {
+            return Err(io::Error::from(ErrorKind::StorageFull));
+        }
+        Ok(count)
     }
 
     fn flush(&mut self) -> io::Result<()> {
-        unsupported()
+        Ok(())
     }
 }
 
-impl Seek for Reading<'_> {
+impl Seek for Opened<'_> {
     fn seek(&mut self, _to: SeekFrom) -> io::Result<u64> {
         unsupported()
     }
 }
 
-impl OpenFile for Reading<'_> {
+impl OpenFile for Opened<'_> {
     fn metadata(&self) -> io::Result<Metadata> {
         unsupported()
     }

@@ -1,7 +1,8 @@
 //! Plays a program on a stage.
 
 use crate::device::{Device, Ending, Pace};
-use crate::rows::{Content, Given, Place, Program, Row, Written};
+use crate::disk::Disk;
+use crate::rows::{Content, Given, Page, Place, Program, Row, Written};
 use crate::said::Said;
 use crate::stage::{Entry, Names, Stage};
 use std::alloc::Global;
@@ -18,6 +19,8 @@ pub struct Contents<'a> {
     pub longer: &'a [u8],
     /// The certificate in version 2.
     pub upgraded: &'a [u8],
+    /// Symbols with markup in their names.
+    pub markup: &'a [u8],
 }
 
 /// How often a program was played, and how often it did otherwise than it has to.
@@ -52,6 +55,7 @@ impl<'a> Contents<'a> {
             Content::Undefined => self.undefined,
             Content::Certificate => &self.longer[..self.longer.len().saturating_sub(1)],
             Content::Longer => self.longer,
+            Content::Markup => self.markup,
         }
     }
 
@@ -97,6 +101,7 @@ impl<'a> Contents<'a> {
                 pace: Pace::Whole,
                 ending: Ending::End,
             }),
+            disk: None,
         };
         Stage::new(alloc, row.words, names, self.said(row.written), told)
     }
@@ -174,6 +179,67 @@ pub fn play_cuts(
     let (most, step) = lengths;
     for length in (0..=most).step_by(step.max(1)) {
         play_whole(alloc, contents, &cut_off(row, place, length), &mut plays);
+    }
+    plays
+}
+
+/// How a page is written, and whether it has to be there afterwards.
+#[derive(Clone, Copy)]
+struct Writing {
+    room: usize,
+    can_rename: bool,
+    is_whole: bool,
+}
+
+/// Plays an example that writes a page, and counts whether it is there whole, or nothing of it is. The answer is how many bytes
+/// were written.
+fn play_writing(
+    alloc: Global,
+    contents: &Contents<'_>,
+    row: &Row,
+    writing: Writing,
+    plays: &mut Plays,
+) -> usize {
+    let disk = Disk::new(writing.room, writing.can_rename);
+    let stage = contents.stage(alloc, row, row.told).with_disk(&disk);
+    let is_as_told = is_right(row.program, &stage, row.status);
+    let is_as_wanted = if writing.is_whole {
+        disk.has_page()
+    } else {
+        disk.is_empty()
+    };
+    plays.count(is_as_told && is_as_wanted);
+    disk.taken()
+}
+
+/// How many parts a page has that end before a place at which it breaks off.
+const PARTS: usize = 16;
+
+/// Plays an example that writes a page: as it is; where the page can't get its name; and where it breaks off behind each
+/// sixteenth of its bytes, and before its last.
+pub fn play_page(alloc: Global, contents: &Contents<'_>, page: &Page) -> Plays {
+    let mut plays = Plays::new();
+    let whole = Writing {
+        room: usize::MAX,
+        can_rename: true,
+        is_whole: true,
+    };
+    let length = play_writing(alloc, contents, &page.whole, whole, &mut plays);
+    let nameless = Writing {
+        can_rename: false,
+        is_whole: false,
+        ..whole
+    };
+    play_writing(alloc, contents, &page.broken, nameless, &mut plays);
+    let last = length.saturating_sub(1);
+    for part in 0..=PARTS {
+        let room = last.min((length / PARTS).saturating_mul(part));
+        let broken = Writing {
+            room,
+            is_whole: false,
+            ..whole
+        };
+        play_writing(alloc, contents, &page.broken, broken, &mut plays);
     }
     plays
 }

@@ -22,6 +22,8 @@ pub enum Content {
     Certificate,
     /// The same with a byte left over.
     Longer,
+    /// Symbols with markup in their names.
+    Markup,
 }
 
 /// What stands behind a name.
@@ -67,6 +69,12 @@ pub enum Place {
     Input,
 }
 
+/// An example that writes a page, and the same where it can't.
+pub struct Page {
+    pub whole: Row,
+    pub broken: Row,
+}
+
 /// An example that is played with a place cut off behind each of some numbers of bytes: 0, `step` and so on up to `most`.
 pub struct Cuts {
     pub row: Row,
@@ -98,6 +106,11 @@ const NO_ROOM: Ending = Ending::Failing(ErrorKind::OutOfMemory);
 const ACCEPTED: Written = Written::Text("ACCEPTED nodes 3 procedures 1\n");
 
 const REFUSED: Written = Written::Text("REFUSED node 2 reason 5\n");
+
+/// What a certificate changed beside itself: its main needs no stack and calls nothing.
+const UNCHANGED: &str = "\
+ACCEPTED nodes 3 procedures 1\n\
+{\"before\":{\"stack\":0,\"way\":null},\"differences\":[],\"is_changed\":false,\"now\":{\"stack\":0,\"way\":[\"main\"]}}\n";
 
 const DEVICE: Written = Written::Text("FAULT device\n");
 
@@ -224,6 +237,82 @@ const REPORT: Row = Row {
     told: "page.html",
     ..VERIFY
 };
+
+/// A page is written, with symbols that have markup in their names.
+const PAGE: Row = Row {
+    about: "certify --report: a page with markup in the names of symbols",
+    words: &[
+        b"certify",
+        b"--report",
+        b"page.html",
+        b"game.gb",
+        b"game.cert",
+        b"--sym",
+        b"game.keys",
+    ],
+    keys: Given::Read(Content::Markup, ALL, Pace::Whole, Ending::End),
+    written: ACCEPTED,
+    status: 0,
+    told: "",
+    ..REPORT
+};
+
+/// The facts for programs, and what they changed beside the same certificate: nothing.
+const FACTS: Row = Row {
+    about: "certify --report --json --compare: facts beside the same certificate",
+    words: &[
+        b"certify",
+        b"--report",
+        b"page.html",
+        b"--json",
+        b"--compare",
+        b"game.cert",
+        b"game.gb",
+        b"game.cert",
+    ],
+    written: Written::Text(UNCHANGED),
+    ..PAGE
+};
+
+/// The page of a cartridge for which no certificate can be made.
+const OBSTACLES: Row = Row {
+    about: "certify --report: a page on what is in the way",
+    game: UNDEFINED,
+    cert: MISSING,
+    written: Written::Text("NO CERTIFICATE obstacles 1\n"),
+    status: 1,
+    ..PAGE
+};
+
+pub const PAGES: &[Page] = &[
+    Page {
+        whole: PAGE,
+        broken: Row {
+            written: DEVICE,
+            status: 3,
+            told: "page.html",
+            ..PAGE
+        },
+    },
+    Page {
+        whole: FACTS,
+        broken: Row {
+            written: DEVICE,
+            status: 3,
+            told: "page.html",
+            ..FACTS
+        },
+    },
+    Page {
+        whole: OBSTACLES,
+        broken: Row {
+            written: DEVICE,
+            status: 3,
+            told: "page.html",
+            ..OBSTACLES
+        },
+    },
+];
 
 pub const READ: &[Row] = &[
     Row {
@@ -482,6 +571,64 @@ pub const FAULTY: &[Row] = &[
         ..LIST
     },
     REPORT,
+    Row {
+        about: "certify --compare: no older certificate",
+        words: &[
+            b"certify",
+            b"--compare",
+            b"game.keys",
+            b"game.gb",
+            b"game.cert",
+        ],
+        told: "game.keys",
+        ..REPORT
+    },
+    Row {
+        about: "certify --compare: an older certificate with a byte left over",
+        words: &[
+            b"certify",
+            b"--compare",
+            b"game.keys",
+            b"game.gb",
+            b"game.cert",
+        ],
+        keys: Given::Read(Content::Longer, ALL, Pace::Whole, Ending::End),
+        written: Written::Text("CERTIFICATE C8\n"),
+        status: 2,
+        told: "game.keys",
+        ..REPORT
+    },
+    Row {
+        about: "certify --compare: an older cartridge that is none",
+        words: &[
+            b"certify",
+            b"--compare",
+            b"game.cert",
+            b"--old-rom",
+            b"game.keys",
+            b"game.gb",
+            b"game.cert",
+        ],
+        keys: EMPTY,
+        written: Written::Text("CARTRIDGE H1\n"),
+        status: 2,
+        told: "game.keys",
+        ..REPORT
+    },
+    Row {
+        about: "certify --old-sym without --compare",
+        words: &[
+            b"certify",
+            b"--old-sym",
+            b"game.keys",
+            b"game.gb",
+            b"game.cert",
+        ],
+        written: NOTHING,
+        status: 2,
+        told: "go with --compare",
+        ..REPORT
+    },
     Row {
         about: "certify --report: a page in the certificate's own file",
         words: &[

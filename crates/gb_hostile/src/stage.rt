@@ -2,7 +2,8 @@
 
 ghost use Rattle.std.specs.Prelude.{◌≤◌, length};
 
-use crate::device::{Device, Reading};
+use crate::device::{Device, Opened};
+use crate::disk::Disk;
 use crate::said::Said;
 use std::alloc::{Allocator, Global};
 use std::cell::Cell;
@@ -37,6 +38,8 @@ pub struct Names<'a> {
     pub cert: Entry<'a>,
     pub keys: Entry<'a>,
     pub input: Device<'a>,
+    /// Where files are written, if they may be.
+    pub disk: Option<&'a Disk>,
 }
 
 /// The system that the program meets.
@@ -90,6 +93,12 @@ impl<'a> Stage<'a> {
         self
     }
 
+    /// The same, with a disk on which a page can be written.
+    pub fn with_disk(mut self, disk: &'a Disk) -> Stage<'a> {
+        self.names.disk = Some(disk);
+        self
+    }
+
     /// The same, with a standard error that takes nothing.
     pub fn in_silence(mut self) -> Stage<'a> {
         self.can_tell = false;
@@ -102,6 +111,16 @@ impl<'a> Stage<'a> {
         let least = self.room.min(self.said.len());
         let is_told = self.told.is_empty() || self.is_told.get() == self.can_tell;
         self.is_as_said.get() && self.taken.get() == least && is_told
+    }
+
+    /// What becomes of a name that is opened to be read.
+    fn entry(&self, path: &str) -> Entry<'a> {
+        match path {
+            GAME => self.names.game,
+            CERT => self.names.cert,
+            KEYS => self.names.keys,
+            _ => Entry::Refused(ErrorKind::NotFound),
+        }
     }
 
     /// Takes as many of these bytes as there is room for.
@@ -172,18 +191,18 @@ impl Eprint for Stage<'_> {
 }
 
 impl<'a> Input for Stage<'a> {
-    type Reader = Reading<'a>;
+    type Reader = Opened<'a>;
 
     fn read_line<A: Allocator + Clone>(&self, _buf: &mut String<A>) -> io::Result<usize> {
         Err(io::Error::from(ErrorKind::Unsupported))
     }
 
-    fn lines<A: Allocator>(&self, alloc: A) -> Lines<Reading<'a>, A> {
+    fn lines<A: Allocator>(&self, alloc: A) -> Lines<Opened<'a>, A> {
         self.reader().lines(alloc)
     }
 
-    fn reader(&self) -> Reading<'a> {
-        Reading::new(self.names.input)
+    fn reader(&self) -> Opened<'a> {
+        Opened::new(self.names.input)
     }
 }
 
@@ -216,35 +235,37 @@ impl Alloc for Stage<'_> {
     }
 }
 
-/// That the program asks for nothing but files to read.
+/// That the program asks for nothing but files to read, and a page to write.
 fn unsupported<T>() -> io::Result<T> {
     Err(io::Error::from(ErrorKind::Unsupported))
 }
 
 impl<'a> Files for Stage<'a> {
-    type File = Reading<'a>;
+    type File = Opened<'a>;
 
-    type Dir = Reading<'a>;
+    type Dir = Opened<'a>;
 
-    fn open_file(&self, _how: &OpenOptions, path: &str) -> io::Result<Reading<'a>> {
-        let entry = match path {
-            GAME => self.names.game,
-            CERT => self.names.cert,
-            KEYS => self.names.keys,
-            _ => Entry::Refused(ErrorKind::NotFound),
-        };
-        match entry {
+    fn open_file(&self, _how: &OpenOptions, path: &str) -> io::Result<Opened<'a>> {
+        if let Some(disk) = self.names.disk {
+            if disk.opens(path) {
+                return Ok(Opened::on(disk));
+            }
+        }
+        match self.entry(path) {
             Entry::Refused(kind) => Err(io::Error::from(kind)),
-            Entry::Opened(device) => Ok(Reading::new(device)),
+            Entry::Opened(device) => Ok(Opened::new(device)),
         }
     }
 
-    fn open_dir(&self, _path: &str) -> io::Result<Reading<'a>> {
+    fn open_dir(&self, _path: &str) -> io::Result<Opened<'a>> {
         unsupported()
     }
 
-    fn metadata(&self, _path: &str) -> io::Result<Metadata> {
-        unsupported()
+    fn metadata(&self, path: &str) -> io::Result<Metadata> {
+        match self.entry(path) {
+            Entry::Refused(kind) => Err(io::Error::from(kind)),
+            Entry::Opened(_) => unsupported(),
+        }
     }
 
     fn symlink_metadata(&self, _path: &str) -> io::Result<Metadata> {
@@ -255,12 +276,18 @@ impl<'a> Files for Stage<'a> {
         unsupported()
     }
 
-    fn rename(&self, _from: &str, _to: &str) -> io::Result<()> {
-        unsupported()
+    fn rename(&self, from: &str, to: &str) -> io::Result<()> {
+        match self.names.disk {
+            Some(disk) => disk.rename(from, to),
+            None => unsupported(),
+        }
     }
 
-    fn remove_file(&self, _path: &str) -> io::Result<()> {
-        unsupported()
+    fn remove_file(&self, path: &str) -> io::Result<()> {
+        match self.names.disk {
+            Some(disk) => disk.remove(path),
+            None => unsupported(),
+        }
     }
 
     fn create_dir(&self, _path: &str) -> io::Result<()> {

@@ -1,5 +1,7 @@
 //! The same facts as JSON, for programs: one object.
 
+use crate::compared::changes_value;
+use crate::page::Extras;
 use crate::stack::by_text;
 use gb_facts::{Bound, CodeRun, Exit, Facts, Link, Procedure};
 use gb_reports::{Object, Symbols};
@@ -188,8 +190,21 @@ fn all_links(alloc: Global, facts: &Facts) -> Result<Value, AllocError> {
     Ok(Value::Array(values))
 }
 
+/// What a new certificate changed; null where it isn't compared.
+fn changes_or_null(alloc: Global, extras: Extras<'_>) -> Result<Value, AllocError> {
+    match extras.changes {
+        Some(changes) => changes_value(alloc, changes),
+        None => Ok(Value::Null),
+    }
+}
+
 /// The members of the whole.
-fn put_facts(object: &mut Object, facts: &Facts, symbols: &Symbols<'_>) -> Result<(), AllocError> {
+fn put_facts(
+    object: &mut Object,
+    facts: &Facts,
+    symbols: &Symbols<'_>,
+    extras: Extras<'_>,
+) -> Result<(), AllocError> {
     let alloc = object.alloc;
     object.put("refused", refused_json(alloc, facts.verdict)?)?;
     object.put_number("version", u64::from(facts.version))?;
@@ -197,7 +212,8 @@ fn put_facts(object: &mut Object, facts: &Facts, symbols: &Symbols<'_>) -> Resul
     object.put("stack", stack_json(alloc, facts)?)?;
     object.put("code", all_code(alloc, facts)?)?;
     object.put("procedures", all_procedures(alloc, facts, symbols)?)?;
-    object.put("links", all_links(alloc, facts)?)
+    object.put("links", all_links(alloc, facts)?)?;
+    object.put("changes", changes_or_null(alloc, extras)?)
 }
 
 /// The facts of a certificate for a cartridge, right or wrong, as JSON in one line without its end.
@@ -210,9 +226,10 @@ pub fn facts_json(
     rom: &Rom<'_>,
     cert: &Cert<'_>,
     symbols: &Symbols<'_>,
+    extras: Extras<'_>,
 ) -> Result<String, AllocError> {
     let facts = Facts::of(alloc, rom, cert)?;
     let mut object = Object::new(alloc);
-    put_facts(&mut object, &facts, symbols)?;
+    put_facts(&mut object, &facts, symbols, extras)?;
     object.finish().to_string(alloc)
 }

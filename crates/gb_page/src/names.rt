@@ -61,7 +61,7 @@ impl fmt::Display for SymbolAt<'_, '_> {
 }
 
 /// What a procedure is called where no symbol stands at its first address.
-fn usual_name(number: u8, address: u16) -> Option<&'static str> {
+pub(crate) fn usual_name(number: u8, address: u16) -> Option<&'static str> {
     match (number, address) {
         (0, _) => Some("main"),
         (_, 0x40) => Some("VBlank handler"),

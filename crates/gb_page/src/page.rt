@@ -1,10 +1,12 @@
 //! The whole page.
 
+use crate::changes::Changes;
 use crate::escaped::Escaped;
 use crate::interrupts::fmt_interrupts;
 use crate::procedures::fmt_procedures;
 use crate::ram::fmt_ram;
 use crate::rom::fmt_rom;
+use crate::screen::{Screen, fmt_screen};
 use crate::stack::fmt_stack;
 use crate::style::STYLE;
 use crate::verdict::{fmt_verdict, refusal_of};
@@ -15,8 +17,30 @@ use gb_verify::{Cert, Rom};
 use std::alloc::{AllocError, Global};
 use std::{fmt, str};
 
-/// The most nodes that are listed.
-pub(crate) const LISTED: u32 = 20_000;
+/// The most nodes that are listed, where nothing else is said.
+const LISTED: u32 = 20_000;
+
+/// What is told besides a certificate's own facts, where it is at hand.
+#[derive(Clone, Copy)]
+pub struct Extras<'a> {
+    /// What it changed beside an older one.
+    pub changes: Option<&'a Changes>,
+    /// The console's screen after 120 frames.
+    pub screen: Option<&'a Screen>,
+    /// The most nodes that are listed.
+    pub listed: u32,
+}
+
+impl Extras<'_> {
+    /// None of them.
+    pub fn none() -> Extras<'static> {
+        Extras {
+            changes: None,
+            screen: None,
+            listed: LISTED,
+        }
+    }
+}
 
 /// What the page is made from.
 #[derive(Clone, Copy)]
@@ -27,6 +51,9 @@ pub struct Page<'a, 'r, 'c, 's> {
     pub facts: &'a Facts,
     /// What there is to say of a refusal; nothing where the certificate is accepted.
     pub refusal: &'a str,
+    /// What it changed, a line each; nothing where it isn't compared.
+    pub changed: &'a str,
+    pub extras: Extras<'a>,
 }
 
 impl Page<'_, '_, '_, '_> {
@@ -40,7 +67,7 @@ impl Page<'_, '_, '_, '_> {
 
     /// Whether a node stands in the listing: the first of them, and the refused one.
     pub(crate) fn is_listed(&self, node: u32) -> bool {
-        node < self.facts.nodes && (node < LISTED || self.is_refused(node))
+        node < self.facts.nodes && (node < self.extras.listed || self.is_refused(node))
     }
 }
 
@@ -79,12 +106,52 @@ pub(crate) fn fmt_head<W: fmt::Write>(
     )
 }
 
+/// Where the parts are that not every page has.
+fn fmt_extra_contents<W: fmt::Write>(extras: Extras<'_>, f: &mut fmt::Formatter<W>) -> fmt::Result {
+    if extras.changes.is_some() {
+        write!(f, "<a href=\"#changes\">Changes</a> ")?;
+    }
+    if extras.screen.is_some() {
+        write!(f, "<a href=\"#screen\">Screen</a> ")?;
+    }
+    Ok(())
+}
+
 /// Where each part is.
-fn fmt_contents<W: fmt::Write>(f: &mut fmt::Formatter<W>) -> fmt::Result {
+fn fmt_contents<W: fmt::Write>(extras: Extras<'_>, f: &mut fmt::Formatter<W>) -> fmt::Result {
+    write!(f, "<nav>")?;
+    fmt_extra_contents(extras, f)?;
     write!(
         f,
-        "<nav><a href=\"#stack\">Stack</a> <a href=\"#interrupts\">Interrupts</a> <a href=\"#rom\">ROM</a> <a href=\"#ram\">RAM</a> <a href=\"#procedures\">Procedures</a></nav>\n"
+        "<a href=\"#stack\">Stack</a> <a href=\"#interrupts\">Interrupts</a> <a href=\"#rom\">ROM</a> <a href=\"#ram\">RAM</a> <a href=\"#procedures\">Procedures</a></nav>\n"
     )
+}
+
+/// What a new certificate changed, a line each.
+fn fmt_changes<W: fmt::Write>(changed: &str, f: &mut fmt::Formatter<W>) -> fmt::Result {
+    write!(
+        f,
+        "<section id=\"changes\"><h2>Changes</h2>\n<p>What is otherwise than in the older certificate.</p>\n<ul>\n"
+    )?;
+    for line in changed.lines() {
+        let line = Escaped(line);
+        write!(f, "<li>{line}</li>\n")?;
+    }
+    write!(f, "</ul></section>\n")
+}
+
+/// The parts that not every page has.
+fn fmt_extras<W: fmt::Write>(
+    page: &Page<'_, '_, '_, '_>,
+    f: &mut fmt::Formatter<W>,
+) -> fmt::Result {
+    if page.extras.changes.is_some() {
+        fmt_changes(page.changed, f)?;
+    }
+    if let Some(screen) = page.extras.screen {
+        fmt_screen(screen, f)?;
+    }
+    Ok(())
 }
 
 /// What stands behind all parts.
@@ -96,7 +163,8 @@ impl fmt::Display for Page<'_, '_, '_, '_> {
     fn fmt<W: fmt::Write>(&self, f: &mut fmt::Formatter<W>) -> fmt::Result {
         fmt_head("Certificate of", self.rom, f)?;
         fmt_verdict(self, f)?;
-        fmt_contents(f)?;
+        fmt_contents(self.extras, f)?;
+        fmt_extras(self, f)?;
         fmt_stack(self, f)?;
         fmt_interrupts(self, f)?;
         fmt_rom(self, f)?;
@@ -106,21 +174,39 @@ impl fmt::Display for Page<'_, '_, '_, '_> {
     }
 }
 
-/// The page with these facts.
+/// The texts on a certificate that are made before its page.
+#[derive(Drop)]
+struct Texts {
+    refusal: String,
+    changed: String,
+}
+
+/// What a new certificate changed, a line each.
+fn changed_of(alloc: Global, extras: Extras<'_>) -> Result<String, AllocError> {
+    match extras.changes {
+        Some(changes) => format!(in alloc; "{changes}"),
+        None => Ok(String::new(alloc)),
+    }
+}
+
+/// The page with these facts and texts.
 fn shown<'x>(
     alloc: Global,
     rom: &'x Rom<'_>,
     cert: &'x Cert<'_>,
     symbols: &'x Symbols<'_>,
     facts: &'x Facts,
-    refusal: &'x str,
+    texts: &'x Texts,
+    extras: Extras<'x>,
 ) -> Result<String, AllocError> {
     let page = Page {
         rom,
         cert,
         symbols,
         facts,
-        refusal,
+        refusal: texts.refusal.as_str(),
+        changed: texts.changed.as_str(),
+        extras,
     };
     format!(in alloc; "{page}")
 }
@@ -135,8 +221,12 @@ pub fn page_of(
     rom: &Rom<'_>,
     cert: &Cert<'_>,
     symbols: &Symbols<'_>,
+    extras: Extras<'_>,
 ) -> Result<String, AllocError> {
     let facts = Facts::of(alloc, rom, cert)?;
-    let refusal = refusal_of(alloc, rom, cert, facts.verdict)?;
-    shown(alloc, rom, cert, symbols, &facts, refusal.as_str())
+    let texts = Texts {
+        refusal: refusal_of(alloc, rom, cert, facts.verdict)?,
+        changed: changed_of(alloc, extras)?,
+    };
+    shown(alloc, rom, cert, symbols, &facts, &texts, extras)
 }

@@ -1,7 +1,7 @@
 //! All procedures: as a table, and then one by one.
 
 use crate::names::{Address, ProcedureLink};
-use crate::page::{LISTED, Page};
+use crate::page::Page;
 use crate::procedure::fmt_procedure;
 use gb_facts::{Bound, Procedure};
 use std::fmt;
@@ -67,13 +67,13 @@ fn fmt_table<W: fmt::Write>(page: &Page<'_, '_, '_, '_>, f: &mut fmt::Formatter<
 }
 
 /// Whether the listing is cut.
-fn fmt_cut<W: fmt::Write>(nodes: u32, f: &mut fmt::Formatter<W>) -> fmt::Result {
-    if nodes <= LISTED {
+fn fmt_cut<W: fmt::Write>(nodes: u32, listed: u32, f: &mut fmt::Formatter<W>) -> fmt::Result {
+    if nodes <= listed {
         return Ok(());
     }
     write!(
         f,
-        "<p class=\"cut\">Of {nodes} nodes the first {LISTED} are listed here; <code>certify --list</code> has all of them.</p>\n"
+        "<p class=\"cut\">Of {nodes} nodes the first {listed} are listed here; <code>certify --list</code> has all of them.</p>\n"
     )
 }
 
@@ -87,7 +87,7 @@ pub fn fmt_procedures<W: fmt::Write>(
         "<section id=\"procedures\"><h2>Procedures</h2>\n<p>In bytes of stack: what a procedure’s own nodes hold, the most with all that it calls and all that interrupts it, and what the certificate allows. The first one is where the console starts.</p>\n"
     )?;
     fmt_table(page, f)?;
-    fmt_cut(page.facts.nodes, f)?;
+    fmt_cut(page.facts.nodes, page.extras.listed, f)?;
     for number in 0..page.cert.procedures() {
         if let Some(procedure) = page.facts.procedures.get(usize::from(number)) {
             fmt_procedure(page, number, procedure, f)?;

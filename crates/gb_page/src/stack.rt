@@ -150,6 +150,11 @@ pub fn fmt_way<W: fmt::Write>(
     write!(f, "</tbody></table></div>\n")
 }
 
+/// Whose a return address is by the rules of a version.
+fn return_side(version: u8) -> &'static str {
+    if version == 3 { "callee’s" } else { "caller’s" }
+}
+
 /// The stack's part.
 pub fn fmt_stack<W: fmt::Write>(
     page: &Page<'_, '_, '_, '_>,
@@ -164,9 +169,10 @@ pub fn fmt_stack<W: fmt::Write>(
     }
     fmt_sum(page.facts, f)?;
     fmt_region(page.facts, f)?;
+    let side = return_side(page.facts.version);
     write!(
         f,
-        "<p>The deepest way. The bytes are those that wait while the next procedure runs, the return address among them.</p>\n"
+        "<p>The deepest way. The bytes are those that wait while the next procedure runs; a return address is among the {side} bytes.</p>\n"
     )?;
     fmt_way(page, 0, f)?;
     write!(f, "</section>\n")

@@ -14,6 +14,9 @@ a { color: var(--link); text-decoration: none; }
 a:hover, a:focus { text-decoration: underline; }
 code, pre, .at, .op, .state { font-family: ui-monospace, monospace; font-size: .9em; }
 pre { background: var(--panel); padding: .75rem 1rem; white-space: pre-wrap; overflow-wrap: anywhere; border-left: 4px solid var(--bad); }
+.known { border-left-color: var(--line); white-space: pre-wrap; margin: 0; }
+.beside { display: grid; grid-template-columns: repeat(auto-fit, minmax(18rem, 1fr)); gap: .5rem 2rem; margin-bottom: 1.25rem; }
+.beside p { margin: 0; }
 nav { display: flex; flex-wrap: wrap; gap: .25rem 1.25rem; }
 .quiet, .symbol { color: var(--quiet); font-weight: normal; }
 .verdict { font: bold 1.15rem/1.4 ui-monospace, monospace; padding: .6rem 1rem; background: var(--panel); border-left: 6px solid; overflow-wrap: anywhere; }
@@ -36,6 +39,10 @@ rect.code { fill: var(--code); stroke: var(--code); }
 rect.stack { fill: var(--stack); stroke: var(--stack); }
 rect.used { fill: var(--used); stroke: var(--used); }
 rect.written { fill: var(--written); stroke: var(--written); }
+.screen { display: block; width: 320px; max-width: 100%; background: #e0e8d0; outline: 1px solid var(--line); }
+.shade1 { fill: #a0b088; }
+.shade2 { fill: #586850; }
+.shade3 { fill: #182018; }
 .key { white-space: nowrap; margin-right: 1rem; }
 .key svg { width: .8em; height: .8em; vertical-align: -.05em; }
 .bank { display: grid; grid-template-columns: 4.5rem 1fr 7rem; gap: .75rem; align-items: center; margin: .3rem 0; }
@@ -52,6 +59,7 @@ dd { margin: 0; overflow-wrap: anywhere; }
 .node .symbol { overflow: hidden; text-overflow: ellipsis; white-space: nowrap; }
 .state { grid-column: 2 / -1; color: var(--quiet); font-size: .8em; overflow-wrap: anywhere; }
 @media (max-width: 700px) {
+.beside { grid-template-columns: minmax(0, 1fr); }
 .ram { grid-template-columns: repeat(4, 1fr); margin: .6rem 0; }
 .ram .name { grid-column: span 2; order: 1; }
 .ram .ranges { grid-column: span 2; order: 2; text-align: right; }
@@ -66,7 +74,7 @@ dt { margin-top: .3rem; }
 @media print {
 body { font-size: 11px; }
 nav { display: none; }
-.strip, .strip rect, .key svg, .verdict, pre { print-color-adjust: exact; -webkit-print-color-adjust: exact; }
+.screen, .screen path, .strip, .strip rect, .key svg, .verdict, pre { print-color-adjust: exact; -webkit-print-color-adjust: exact; }
 .node { break-inside: avoid; }
 article { break-inside: auto; }
 .bank, .ram, tr { break-inside: avoid; }

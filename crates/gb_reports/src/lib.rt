@@ -36,7 +36,7 @@ pub use obstacle::{Obstacle, Standing};
 pub use path::{Path, Segment, Start};
 pub use state::{ShownCell, ShownFlags, ShownRegisters, fmt_core};
 pub use symbols::{Place, Symbol, Symbols};
-pub use told::Told;
+pub use told::{Part, Told, ToldPart};
 
 // What lies below, for the crates above.
 pub use gb_explain::{Code, Explanation, explain};

@@ -37,7 +37,11 @@ impl fmt::Display for Place<'_> {
 #[derive(Drop)]
 pub struct Symbols<'a> {
     format: Option<Format>,
+    /// How many there are.
+    count: usize,
+    /// One for each address, in the order of their keys, and these keys.
     symbols: Vec<Symbol<'a>>,
+    keys: Vec<u32>,
     lines: Lines<'a>,
 }
 
@@ -56,12 +60,50 @@ fn part_of(address: u16) -> u16 {
     }
 }
 
+/// In which order symbols stand: by bank, which counts for 4000-7FFF alone, and address.
+fn key_of(bank: u16, address: u16) -> u32 {
+    let shown = if part_of(address) == 0x4000 { bank } else { 0 };
+    u32::from(shown) << 16 | u32::from(address)
+}
+
+/// The key of a symbol.
+fn symbol_key(symbol: &Symbol<'_>) -> u32 {
+    key_of(symbol.bank, symbol.address)
+}
+
+/// A file's symbols, as they are put in order: of those at one address the first stays.
+fn ordered<'a>(
+    alloc: Global,
+    format: Format,
+    mut found: Vec<Symbol<'a>>,
+) -> Result<Symbols<'a>, SymbolFault> {
+    found.sort_by_key(|symbol| symbol_key(symbol))?;
+    let mut symbols = Vec::new(alloc);
+    let mut keys: Vec<u32> = Vec::new(alloc);
+    for symbol in &found {
+        let key = symbol_key(symbol);
+        if keys.last() != Some(&key) {
+            keys.push(key)?;
+            symbols.push(*symbol)?;
+        }
+    }
+    Ok(Symbols {
+        format: Some(format),
+        count: found.len(),
+        symbols,
+        keys,
+        lines: Lines::none(alloc),
+    })
+}
+
 impl<'a> Symbols<'a> {
     /// No symbols.
     pub fn none(alloc: Global) -> Symbols<'a> {
         Symbols {
             format: None,
+            count: 0,
             symbols: Vec::new(alloc),
+            keys: Vec::new(alloc),
             lines: Lines::none(alloc),
         }
     }
@@ -101,11 +143,7 @@ impl<'a> Symbols<'a> {
                 }
             }
         }
-        Ok(Symbols {
-            format: Some(format),
-            symbols,
-            lines: Lines::none(alloc),
-        })
+        ordered(alloc, format, symbols)
     }
 
     /// Reads the lines of sources from a `.cdb` file's bytes.
@@ -131,7 +169,7 @@ impl<'a> Symbols<'a> {
 
     /// How many symbols there are.
     pub fn len(&self) -> usize {
-        self.symbols.len()
+        self.count
     }
 
     /// Whether there are none.
@@ -142,27 +180,19 @@ impl<'a> Symbols<'a> {
     /// The last symbol at or before an address in the same part of memory. The bank counts for 4000-7FFF alone; of symbols at
     /// one address the first counts.
     pub fn place(&self, bank: u16, address: u16) -> Option<Place<'a>> {
-        let part = part_of(address);
-        let mut nearest: Option<Place<'a>> = None;
-        for symbol in &self.symbols {
-            let is_shown = part != 0x4000 || symbol.bank == bank;
-            if !is_shown || part_of(symbol.address) != part {
-                continue;
-            }
-            let Some(offset) = address.checked_sub(symbol.address) else {
-                continue;
-            };
-            let is_nearer = match nearest {
-                None => true,
-                Some(place) => offset < place.offset,
-            };
-            if is_nearer {
-                nearest = Some(Place {
-                    name: symbol.name,
-                    offset,
-                });
-            }
+        let key = key_of(bank, address);
+        let place = match self.keys.binary_search(&key) {
+            Ok(place) => place,
+            Err(after) => after.checked_sub(1)?,
+        };
+        let symbol = self.symbols.get(place)?;
+        let is_same_part = part_of(symbol.address) == part_of(address);
+        if !is_same_part || symbol_key(symbol) >> 16 != key >> 16 {
+            return None;
         }
-        nearest
+        Some(Place {
+            name: symbol.name,
+            offset: address.checked_sub(symbol.address)?,
+        })
     }
 }

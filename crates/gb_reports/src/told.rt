@@ -313,3 +313,71 @@ impl fmt::Display for Told<'_> {
         fmt_advice(advice_on(self.obstacle), f)
     }
 }
+
+/// A part of what is told of an obstacle.
+#[derive(Clone, Copy, PartialEq, Eq)]
+pub enum Part {
+    /// What happens.
+    Problem,
+    /// The rule that asks for something else.
+    Rule,
+    /// What usually mends it.
+    Remedy,
+    /// The state there, in lines, each behind a margin; nothing where it fails at no instruction.
+    State,
+}
+
+/// A part of what is told of an obstacle, by itself.
+#[derive(Clone, Copy)]
+pub struct ToldPart<'a> {
+    pub obstacle: &'a Obstacle,
+    pub symbols: &'a Symbols<'a>,
+    pub part: Part,
+}
+
+/// What happens.
+fn fmt_problem<W: fmt::Write>(
+    obstacle: &Obstacle,
+    symbols: &Symbols<'_>,
+    f: &mut fmt::Formatter<W>,
+) -> fmt::Result {
+    let Obstacle::Standing(standing) = obstacle else {
+        return fmt_other(obstacle, symbols, f);
+    };
+    let happening = Happening(standing);
+    write!(f, "{happening}")?;
+    fmt_notes(standing, symbols, f)
+}
+
+/// The rule, with its number where it is one of an instruction's.
+fn fmt_rule<W: fmt::Write>(obstacle: &Obstacle, f: &mut fmt::Formatter<W>) -> fmt::Result {
+    let rule = advice_on(obstacle).rule;
+    if let Obstacle::Standing(standing) = obstacle {
+        let reason = standing.cause.reason().number();
+        write!(f, "Rule {reason}: ")?;
+    }
+    write!(f, "{rule}")
+}
+
+/// The state where an instruction fails.
+fn fmt_state_of<W: fmt::Write>(obstacle: &Obstacle, f: &mut fmt::Formatter<W>) -> fmt::Result {
+    let Obstacle::Standing(standing) = obstacle else {
+        return Ok(());
+    };
+    let state = ShownState(&standing.state);
+    write!(f, "{state}")
+}
+
+impl fmt::Display for ToldPart<'_> {
+    fn fmt<W: fmt::Write>(&self, f: &mut fmt::Formatter<W>) -> fmt::Result {
+        match self.part {
+            Part::Problem => fmt_problem(self.obstacle, self.symbols, f),
+            Part::Rule => fmt_rule(self.obstacle, f),
+            Part::Remedy => {
+                let remedy = advice_on(self.obstacle).remedy;
+                write!(f, "{remedy}")
+            }
+            Part::State => fmt_state_of(self.obstacle, f),
+        }
+    }
+}

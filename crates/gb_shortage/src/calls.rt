@@ -10,9 +10,13 @@ use gb_console::{
     Console, Ending, Keys, Outcome, UpgradeTo, Upgraded, upgrade_bytes, verify_bytes,
 };
 use gb_header::Rom;
+use gb_page::{
+    Changes, Extras, Facts, Obstacle, Older, Symbols, changes_json, facts_json, obstacles_page,
+    page_of,
+};
 use gb_text::kept_bytes::KeptBytes;
 use gb_words::{Task, read_words};
-use std::alloc::Global;
+use std::alloc::{AllocError, Global};
 
 /// The nodes of the certificate.
 pub const NODES: usize = 100;
@@ -65,6 +69,11 @@ pub enum Call {
     VerifyNoCartridge,
     Memory,
     Console,
+    Facts,
+    FactsJson,
+    Page,
+    ObstaclesPage,
+    Changes,
     Words(&'static [&'static str], Option<Task<'static>>),
 }
 
@@ -155,6 +164,63 @@ fn console(alloc: Global, files: &Files<'_>) -> Answer {
     }
 }
 
+/// Whether the facts are those of the certificate: its jump, and behind it the program to its loop.
+fn facts(alloc: Global, files: &Files<'_>) -> Answer {
+    match Facts::of(alloc, files.rom, files.cert) {
+        Ok(facts) if facts.nodes == NODES as u32 && facts.code.len() == 2 => Answer::Right,
+        Ok(_) => Answer::Other,
+        Err(_) => Answer::Refused,
+    }
+}
+
+/// Whether a text was made that holds something and ends so.
+fn text_with(made: Result<String, AllocError>, held: &str, end: &str) -> Answer {
+    match made {
+        Ok(text) if text.as_str().contains(held) && text.as_str().ends_with(end) => Answer::Right,
+        Ok(_) => Answer::Other,
+        Err(_) => Answer::Refused,
+    }
+}
+
+/// Whether the facts were made for programs.
+fn json(alloc: Global, files: &Files<'_>) -> Answer {
+    let symbols = Symbols::none(alloc);
+    let made = facts_json(alloc, files.rom, files.cert, &symbols, Extras::none());
+    text_with(made, "\"nodes\":100,", "}")
+}
+
+/// Whether the page of the certificate was made.
+fn page(alloc: Global, files: &Files<'_>) -> Answer {
+    let symbols = Symbols::none(alloc);
+    let made = page_of(alloc, files.rom, files.cert, &symbols, Extras::none());
+    text_with(made, "ACCEPTED nodes 100 procedures 1", "</html>\n")
+}
+
+/// Whether the page of an obstacle was made.
+fn page_of_obstacles(alloc: Global, files: &Files<'_>) -> Answer {
+    let symbols = Symbols::none(alloc);
+    let obstacles = [Obstacle::NoStack { sp: 0x8000 }];
+    let made = obstacles_page(alloc, files.rom, &obstacles, &symbols, false);
+    text_with(made, "LD SP,8000 leaves no room", "</html>\n")
+}
+
+/// Whether the certificate changed nothing beside itself, and that was told.
+fn changes(alloc: Global, files: &Files<'_>) -> Answer {
+    let symbols = Symbols::none(alloc);
+    let older = Older {
+        cert: files.cert,
+        rom: Some(files.rom),
+        symbols: None,
+    };
+    match Changes::of(alloc, files.rom, files.cert, &symbols, &older) {
+        Ok(changes) if changes.is_none() => {
+            text_with(changes_json(alloc, &changes), "\"is_changed\":false", "}")
+        }
+        Ok(_) => Answer::Other,
+        Err(_) => Answer::Refused,
+    }
+}
+
 /// Whether words are this task, or are refused where it is none.
 fn words(alloc: Global, words: &[&str], expected: Option<Task<'_>>) -> Answer {
     match read_words(alloc, words) {
@@ -178,6 +244,11 @@ impl Call {
             Call::VerifyNoCartridge => verify_no_cartridge(alloc, files),
             Call::Memory => memory(alloc, files),
             Call::Console => console(alloc, files),
+            Call::Facts => facts(alloc, files),
+            Call::FactsJson => json(alloc, files),
+            Call::Page => page(alloc, files),
+            Call::ObstaclesPage => page_of_obstacles(alloc, files),
+            Call::Changes => changes(alloc, files),
             Call::Words(list, expected) => words(alloc, list, expected),
         }
     }

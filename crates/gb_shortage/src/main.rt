@@ -4,7 +4,7 @@
 //! The program first uses a MiB of its stack, which can't grow later, makes each call with all memory, and then takes all
 //! addresses that it may have, in blocks that are never written (hoard.rt), so that each further growth is refused. Then it
 //! gives one block back, takes all of it again but a hole, makes the call (calls.rt), and takes the addresses again. The
-//! holes of a call grow from nothing to more than it needs, by 16 to 64 bytes. A line for each call says what it answered
+//! holes of a call grow from nothing to more than it needs, by 16 to 1,024 bytes. A line for each call says what it answered
 //! with no hole, with the largest, and whether it ever answered anything but want of memory and what is right.
 #![tactic(auto)]
 
@@ -22,7 +22,8 @@ use hoard::{Hoard, use_stack};
 use std::alloc::{AllocError, Global};
 use std::io;
 
-/// A call with its name, how many holes it is made with, and by how much each is larger than the one before.
+/// A call with its name, how many holes it is made with, and by how much each is larger than the one before. Blocks of 128 KiB
+/// an allocator may give back to the system, and no smaller one is then found in their place: so the largest hole is below.
 struct Row {
     name: &'static str,
     call: Call,
@@ -107,6 +108,36 @@ const ROWS: &[Row] = &[
         call: Call::Console,
         holes: 704,
         step: 64,
+    },
+    Row {
+        name: "Facts::of",
+        call: Call::Facts,
+        holes: 112,
+        step: 1_024,
+    },
+    Row {
+        name: "facts_json",
+        call: Call::FactsJson,
+        holes: 112,
+        step: 1_024,
+    },
+    Row {
+        name: "page_of",
+        call: Call::Page,
+        holes: 120,
+        step: 1_024,
+    },
+    Row {
+        name: "obstacles_page",
+        call: Call::ObstaclesPage,
+        holes: 256,
+        step: 128,
+    },
+    Row {
+        name: "Changes::of and changes_json",
+        call: Call::Changes,
+        holes: 112,
+        step: 1_024,
     },
     Row {
         name: "read_words of `verify A B`",

@@ -2,20 +2,24 @@
 //! makes or tells of the cartridges, and how some of them run, so that the gate compares them with worked examples.
 //!
 //! The lines of given certificates come from the rules by hand, and from an independent implementation; those of the games'
-//! broken variants come from the bugs by hand: the place from the assembler's listing, the cause from the rules.
+//! broken variants come from the bugs by hand: the place from the assembler's listing, the cause from the rules, and the way
+//! there from the bytes. The facts of the games come from their certificates' bytes by a program that shares nothing with this
+//! one, and how deep the stack gets from their sources by hand.
 //!
 //! An example is some lines: `about` with a sentence; `sizes` with the bytes 0147 to 0149; `rom` with an offset and bytes
 //! that lie there, beside the start at 0100 and the header; `fill` with the byte that the whole file has, or `length` with the
 //! file's own; `cert` with bytes that follow one another, as often as it takes; `symbol` with a line of its file of symbols,
 //! `line` with one of its file of the sources' lines;
 //! `keys` with the bytes of a script; `most` with the nodes and the procedures that a certificate which is made may have, and the rounds that may be taken;
-//! and what is to be done: `verdict`, `certify`, `json`, and `frames` with a number. `upgrades` tells how many certificates so
+//! and what is to be done: `verdict`, `certify`, `report`, which tells facts or the way to the first obstacle
+//! as well, `json`, and `frames` with a number. `upgrades` tells how many certificates so
 //! far were accepted in version 1 or 2, and how many of them in version 3 too.
 //! Numbers are hexadecimal, and other lines mean nothing. `examples/text` writes those of the games.
 #![tactic(auto)]
 
 mod judging;
 mod making;
+mod reporting;
 mod running;
 
 use gb_samples::cartridges::put;
@@ -138,6 +142,7 @@ fn play<W: Write>(alloc: Global, out: &mut W, played: &mut Played, line: &str) -
         "verdict" => played.judge(alloc, out),
         "upgrades" => tell_upgrades(out, &played.upgrades),
         "certify" => played.certify(alloc, out, Telling::Words),
+        "report" => played.certify(alloc, out, Telling::Report),
         "json" => played.certify(alloc, out, Telling::Json),
         "frames" => run(
             alloc,

@@ -1,6 +1,7 @@
 //! Certificates are made of cartridges, or it is told what is in the way.
 
 use crate::judging::{Ceiling, Upgrades, judge_made};
+use crate::reporting::{report_obstacles, tell_report};
 use gb_refine::{Limits, Made, Obstacle, Progress, Standing, Symbols, Told, make, obstacle_json};
 use gb_text::Rom;
 use std::alloc::Global;
@@ -81,11 +82,13 @@ fn tell_json<W: Write>(
     Ok(())
 }
 
-/// How it is told what is in the way.
-#[derive(Clone, Copy)]
+/// How it is told what was made, or what is in the way.
+#[derive(Clone, Copy, PartialEq, Eq)]
 pub enum Telling {
     Words,
     Json,
+    /// In words, with what the reports on it say.
+    Report,
 }
 
 /// Makes a certificate and prints its verdict, or else what is in the way.
@@ -109,17 +112,18 @@ pub fn certify<W: Write>(
     }
     let mut rounds = Rounds { begun: 0 };
     match (make(alloc, &rom, LIMITS, &mut rounds)?, telling) {
-        (Made::Certificate(cert), _) => {
+        (Made::Certificate(cert), telling) => {
+            let cert = cert.as_slice();
             let begun = rounds.begun;
-            judge_made(
-                alloc,
-                out,
-                cartridge,
-                cert.as_slice(),
-                begun,
-                ceiling,
-                upgrades,
-            )
+            judge_made(alloc, out, cartridge, cert, begun, ceiling, upgrades)?;
+            if telling == Telling::Report {
+                tell_report(alloc, out, &rom, cert, &symbols)?;
+            }
+            Ok(())
+        }
+        (Made::Obstacles(obstacles), Telling::Report) => {
+            tell(alloc, out, obstacles.as_slice(), &symbols)?;
+            report_obstacles(alloc, out, &rom, obstacles.as_slice(), &symbols)
         }
         (Made::Obstacles(obstacles), Telling::Words) => {
             tell(alloc, out, obstacles.as_slice(), &symbols)

@@ -1,0 +1,182 @@
+//! What a new certificate changed beside an older one, by hand.
+
+use crate::pages::{BARE, IE_IS_1, NODES, OWN_OFF, PROCEDURES, SILENT, game};
+use crate::spelled::{Node, Procedure, certificate};
+use gb_page::{Changes, Older, changes_json};
+use gb_reports::Symbols;
+use gb_samples::cartridges::{PLAIN, small};
+use gb_verify::{Cert, Rom};
+use std::alloc::Global;
+use std::test::Fail;
+
+/// LDH (FF),A at 0150, CALL 0160 at 0152, JR 0152 at 0155, and NOP and RET at 0160: interrupts stay off.
+const PROGRAM: &[u8] = &[
+    0xE0, 0xFF, 0xCD, 0x60, 0x01, 0x18, 0xFB, 0x00, 0x00, 0x00, 0x00, 0x00, 0x00, 0x00, 0x00, 0x00,
+    0x00, 0xC9,
+];
+
+/// More stack is allowed than is used, and what is called may write C000 to C00F.
+const NEW_PROCEDURES: &[Procedure] = &[
+    Procedure {
+        entry: 0,
+        need: 3,
+        exit: None,
+        ..SILENT
+    },
+    Procedure {
+        entry: 5,
+        need: 2,
+        ranges: &[1, 0x00, 0xC0, 0x0F, 0xC0],
+        exit: Some(OWN_OFF),
+    },
+];
+
+const NEW_NODES: &[Node] = &[
+    Node {
+        address: 0x0100,
+        ..BARE
+    },
+    Node {
+        address: 0x0101,
+        ..BARE
+    },
+    Node {
+        address: 0x0150,
+        ..BARE
+    },
+    Node {
+        address: 0x0152,
+        changes: IE_IS_1,
+        ..BARE
+    },
+    Node {
+        address: 0x0155,
+        changes: IE_IS_1,
+        ..BARE
+    },
+    Node {
+        procedure: 1,
+        address: 0x0160,
+        changes: OWN_OFF,
+        ..BARE
+    },
+    Node {
+        procedure: 1,
+        address: 0x0161,
+        changes: OWN_OFF,
+        ..BARE
+    },
+];
+
+/// What is otherwise where both builds have their symbols. Before, main was allowed two words, and what is called one; with the
+/// return address that makes 4 bytes, and now 6.
+const BY_SYMBOLS: &str = "\
+the deepest way: main, draw; before: main, draw, VBlank handler\n\
+the stack: 6 bytes in all, before 4\n\
+main: the VBlank interrupt no longer comes in it\n\
+draw: 6 bytes of stack, before 4\n\
+draw: may write C000-C00F, not before\n\
+draw: the VBlank interrupt no longer comes in it\n\
+VBlank handler: gone, 2 bytes of stack\n";
+
+/// The same where the older build has no symbols.
+const BY_ADDRESSES: &str = "\
+the deepest way: main, draw; before: main, 00:0158, VBlank handler\n\
+the stack: 6 bytes in all, before 4\n\
+main: the VBlank interrupt no longer comes in it\n\
+draw: new, 6 bytes of stack\n\
+00:0158: gone, 4 bytes of stack\n\
+VBlank handler: gone, 2 bytes of stack\n";
+
+/// The same where it has no cartridge either.
+const BY_CERTIFICATE: &str = "\
+the deepest way: main, draw\n\
+the stack: 6 bytes in all, before 4\n\
+main: the VBlank interrupt no longer comes in it\n\
+draw: new, 6 bytes of stack\n\
+00:0158: gone, 4 bytes of stack\n\
+VBlank handler: gone, 2 bytes of stack\n";
+
+/// What is otherwise, for programs.
+const JSON: &str =
+    "{\"before\":{\"stack\":4,\"way\":[\"main\",\"draw\",\"VBlank handler\"]},\"differences\":[{\"before\":4,\"now\":6,\"of\":\"need\",\"procedure\":\"main\"},{\"interrupt\":\"VBlank\",\"of\":\"interrupt\",\"procedure\":\"main\",\"side\":\"gone\"},{\"before\":4,\"now\":6,\"of\":\"need\",\"procedure\":\"draw\"},{\"first\":49152,\"last\":49167,\"of\":\"writes\",\"procedure\":\"draw\",\"side\":\"new\"},{\"interrupt\":\"VBlank\",\"of\":\"interrupt\",\"procedure\":\"draw\",\"side\":\"gone\"},{\"need\":2,\"of\":\"procedure\",\"procedure\":\"VBlank handler\",\"side\":\"gone\"}],\"is_changed\":true,\"now\":{\"stack\":6,\"way\":[\"main\",\"draw\"]}}";
+
+/// Which of the older build's files there are.
+#[derive(Clone, Copy, PartialEq, Eq)]
+enum Kept {
+    All,
+    NoSymbols,
+    CertificateAlone,
+}
+
+/// What the new build changed.
+fn changes(alloc: Global, kept: Kept) -> Option<Changes> {
+    let (old_rom, new_rom) = (game(), small(PLAIN, PROGRAM));
+    let (old_rom, new_rom) = (Rom::parse(&old_rom).ok()?, Rom::parse(&new_rom).ok()?);
+    let (old, new) = (
+        certificate(PROCEDURES, NODES),
+        certificate(NEW_PROCEDURES, NEW_NODES),
+    );
+    let old = Cert::parse(alloc, old.as_slice()).ok()?;
+    let new = Cert::parse(alloc, new.as_slice()).ok()?;
+    let old_symbols = Symbols::parse(alloc, b"00:0158 draw\n").ok()?;
+    let new_symbols = Symbols::parse(alloc, b"00:0160 draw\n").ok()?;
+    let older = Older {
+        cert: &old,
+        rom: if kept == Kept::CertificateAlone {
+            None
+        } else {
+            Some(&old_rom)
+        },
+        symbols: if kept == Kept::All {
+            Some(&old_symbols)
+        } else {
+            None
+        },
+    };
+    Changes::of(alloc, &new_rom, &new, &new_symbols, &older).ok()
+}
+
+/// Whether what was changed is told so.
+fn is_told(alloc: Global, kept: Kept, wanted: &str) -> Option<bool> {
+    let changes = changes(alloc, kept)?;
+    let text = format!(in alloc; "{changes}").ok()?;
+    Some(!changes.is_none() && text.as_str() == wanted)
+}
+
+#[test]
+fn a_new_build_is_compared(rt: HostRuntime) {
+    assert!(rt; is_told(rt.alloc(), Kept::All, BY_SYMBOLS) == Some(true));
+    assert!(rt; is_told(rt.alloc(), Kept::NoSymbols, BY_ADDRESSES) == Some(true));
+    assert!(rt; is_told(rt.alloc(), Kept::CertificateAlone, BY_CERTIFICATE) == Some(true));
+}
+
+#[test]
+fn a_new_build_is_compared_for_programs(rt: HostRuntime) -> Result<(), Fail> {
+    let changes = changes(rt.alloc(), Kept::All).ok_or("changes")?;
+    let json = changes_json(rt.alloc(), &changes)?;
+    assert!(rt; json.as_str() == JSON);
+    Ok(())
+}
+
+/// Whether a certificate beside itself has changed nothing.
+fn is_same(alloc: Global) -> Option<bool> {
+    let rom = game();
+    let rom = Rom::parse(&rom).ok()?;
+    let cert = certificate(PROCEDURES, NODES);
+    let cert = Cert::parse(alloc, cert.as_slice()).ok()?;
+    let symbols = Symbols::none(alloc);
+    let older = Older {
+        cert: &cert,
+        rom: Some(&rom),
+        symbols: Some(&symbols),
+    };
+    let changes = Changes::of(alloc, &rom, &cert, &symbols, &older).ok()?;
+    let text = format!(in alloc; "{changes}").ok()?;
+    Some(changes.is_none() && text.as_str() == "nothing that is compared has changed\n")
+}
+
+#[test]
+fn the_same_build_is_compared(rt: HostRuntime) {
+    assert!(rt; is_same(rt.alloc()) == Some(true));
+}

@@ -1,0 +1,232 @@
+//! What a new certificate changed beside an older one, as plain data with names; `changed` has its words, `json` its object.
+
+use crate::names::{Address, usual_name};
+use gb_facts::{Difference, Facts, Key, Keyed, Outline, Sketch, differences, is_same_way};
+use gb_reports::Symbols;
+use gb_verify::{Cert, Rom};
+use std::alloc::{AllocError, Global};
+use std::fmt;
+
+/// RST's addresses and those of the interrupts lie below, and mean the same in each build.
+const FIXED: u16 = 0x0068;
+
+/// An older certificate, with its cartridge and its symbols, where they are at hand.
+#[derive(Clone, Copy)]
+pub struct Older<'a, 'c, 'r, 's> {
+    pub cert: &'a Cert<'c>,
+    pub rom: Option<&'a Rom<'r>>,
+    pub symbols: Option<&'a Symbols<'s>>,
+}
+
+/// One of both certificates.
+#[derive(Drop)]
+pub(crate) struct Build {
+    pub outline: Outline,
+    /// What each of its sketches is called.
+    names: Vec<String>,
+    /// The deepest way, by sketches; empty where the cartridge isn't at hand.
+    pub way: Vec<usize>,
+}
+
+/// What a new certificate changed.
+#[derive(Drop)]
+pub struct Changes {
+    pub(crate) before: Build,
+    pub(crate) now: Build,
+    pub(crate) differences: Vec<Difference>,
+    is_same_way: bool,
+}
+
+/// A sketch's name: its symbol, the usual one, or its address.
+#[derive(Clone, Copy)]
+struct SketchName<'a, 's> {
+    sketch: &'a Sketch,
+    symbol: Option<&'s str>,
+}
+
+impl fmt::Display for SketchName<'_, '_> {
+    fn fmt<W: fmt::Write>(&self, f: &mut fmt::Formatter<W>) -> fmt::Result {
+        let bank = self.sketch.bank;
+        let address = self.sketch.address;
+        let number = if self.sketch.is_main { 0 } else { 1 };
+        match (self.symbol, usual_name(number, address)) {
+            (Some(name), _) => write!(f, "{name}"),
+            (None, Some(name)) => write!(f, "{name}"),
+            (None, None) => {
+                let at = Address { bank, address };
+                write!(f, "{at}")
+            }
+        }
+    }
+}
+
+/// The symbol that stands at a sketch's first address.
+fn symbol_at<'s>(sketch: &Sketch, symbols: Option<&Symbols<'s>>) -> Option<&'s str> {
+    let place = symbols?.place(sketch.bank, sketch.address)?;
+    if place.offset == 0 {
+        Some(place.name)
+    } else {
+        None
+    }
+}
+
+/// What the sketches are called.
+fn names_of(
+    alloc: Global,
+    outline: &Outline,
+    symbols: Option<&Symbols<'_>>,
+) -> Result<Vec<String>, AllocError> {
+    let mut names = Vec::new(alloc);
+    for sketch in &outline.sketches {
+        let symbol = symbol_at(sketch, symbols);
+        let name = SketchName { sketch, symbol };
+        names.push(format!(in alloc; "{name}")?)?;
+    }
+    Ok(names)
+}
+
+/// By what a sketch is found again.
+fn key_of<'s>(sketch: &Sketch, symbols: Option<&Symbols<'s>>) -> Key<'s> {
+    if sketch.is_main {
+        return Key::Main;
+    }
+    let Sketch { bank, address, .. } = *sketch;
+    match symbol_at(sketch, symbols) {
+        Some(name) if address >= FIXED => Key::Named(name),
+        _ => Key::At { bank, address },
+    }
+}
+
+/// By what the sketches are found again.
+fn keys_of<'s>(
+    alloc: Global,
+    outline: &Outline,
+    symbols: Option<&Symbols<'s>>,
+) -> Result<Vec<Key<'s>>, AllocError> {
+    let mut keys = Vec::new(alloc);
+    for sketch in &outline.sketches {
+        keys.push(key_of(sketch, symbols))?;
+    }
+    Ok(keys)
+}
+
+/// The deepest way, where the cartridge is at hand.
+fn way_of(
+    alloc: Global,
+    outline: &Outline,
+    rom: Option<&Rom<'_>>,
+    cert: &Cert<'_>,
+) -> Result<Vec<usize>, AllocError> {
+    match rom {
+        Some(rom) => outline.way(alloc, &Facts::of(alloc, rom, cert)?),
+        None => Ok(Vec::new(alloc)),
+    }
+}
+
+impl Build {
+    fn of(alloc: Global, build: &Older<'_, '_, '_, '_>) -> Result<Build, AllocError> {
+        let outline = Outline::of(alloc, build.cert)?;
+        Ok(Build {
+            names: names_of(alloc, &outline, build.symbols)?,
+            way: way_of(alloc, &outline, build.rom, build.cert)?,
+            outline,
+        })
+    }
+
+    /// The name of a sketch.
+    pub(crate) fn name(&self, place: usize) -> &str {
+        match self.names.get(place) {
+            Some(name) => name.as_str(),
+            None => "",
+        }
+    }
+}
+
+/// What two builds have not in common.
+#[derive(Drop)]
+struct Comparison {
+    differences: Vec<Difference>,
+    is_same_way: bool,
+}
+
+/// What two builds have not in common, where their sketches have these keys.
+fn compare<'x>(
+    alloc: Global,
+    before: &'x Build,
+    old_keys: &'x [Key<'x>],
+    now: &'x Build,
+    new_keys: &'x [Key<'x>],
+) -> Result<Comparison, AllocError> {
+    let old = Keyed {
+        outline: &before.outline,
+        keys: old_keys,
+    };
+    let new = Keyed {
+        outline: &now.outline,
+        keys: new_keys,
+    };
+    Ok(Comparison {
+        differences: differences(alloc, &old, &new)?,
+        is_same_way: before.way.is_empty()
+            || is_same_way(&old, before.way.as_slice(), &new, now.way.as_slice()),
+    })
+}
+
+/// The same, where each sketch gets its key. A symbol is one only where both builds have their symbols.
+fn compare_by<'x>(
+    alloc: Global,
+    before: &'x Build,
+    now: &'x Build,
+    old: Option<&Symbols<'x>>,
+    new: Option<&Symbols<'x>>,
+) -> Result<Comparison, AllocError> {
+    let old_keys = keys_of(alloc, &before.outline, old)?;
+    let new_keys = keys_of(alloc, &now.outline, new)?;
+    compare(alloc, before, old_keys.as_slice(), now, new_keys.as_slice())
+}
+
+impl Changes {
+    /// What a certificate changed beside an older one.
+    ///
+    /// # Errors
+    ///
+    /// Where memory ran out.
+    pub fn of(
+        alloc: Global,
+        rom: &Rom<'_>,
+        cert: &Cert<'_>,
+        symbols: &Symbols<'_>,
+        older: &Older<'_, '_, '_, '_>,
+    ) -> Result<Changes, AllocError> {
+        let before = Build::of(alloc, older)?;
+        let newer = Older {
+            cert,
+            rom: Some(rom),
+            symbols: Some(symbols),
+        };
+        let now = Build::of(alloc, &newer)?;
+        let Comparison {
+            differences,
+            is_same_way,
+        } = match older.symbols {
+            Some(old) => compare_by(alloc, &before, &now, Some(old), Some(symbols))?,
+            None => compare_by(alloc, &before, &now, None, None)?,
+        };
+        Ok(Changes {
+            before,
+            now,
+            differences,
+            is_same_way,
+        })
+    }
+
+    /// Whether nothing that is compared is otherwise.
+    pub fn is_none(&self) -> bool {
+        self.differences.is_empty() && self.is_same_way
+    }
+
+    /// Whether the deepest way is to be told: how deep it is, or through which procedures it goes, is otherwise.
+    pub(crate) fn has_way(&self) -> bool {
+        !self.is_same_way || self.before.outline.need() != self.now.outline.need()
+    }
+}
