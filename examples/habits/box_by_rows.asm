@@ -2,10 +2,13 @@
 
 	.module box_by_rows
 	.include "hardware.inc"
+rSTAT		= 0xFF41	; the picture's mode in bits 0 and 1
+
 	.area _FIXED (ABS)
 	.org 0x0100
 	nop
 	jp start
+
 	.area _CODE
 start:
 	ld	sp, #0xE000
@@ -16,7 +19,7 @@ start:
 draw_box:
 1$:	push	bc
 	push	hl
-2$:	ldh	a, (0xFF41)
+2$:	ldh	a, (rSTAT)
 	bit	1, a
 	jr	nz, 2$
 	ld	a, #7

@@ -2,6 +2,10 @@
 
 	.module four_handlers
 	.include "hardware.inc"
+rSTAT		= 0xFF41	; the picture's mode in bits 0 and 1
+rLYC		= 0xFF45	; the line that STAT's interrupt waits for
+rSB		= 0xFF01	; the serial port's byte
+
 	.area _FIXED (ABS)
 	.org 0x0040
 	jp vblank
@@ -16,12 +20,15 @@
 	.org 0x0100
 	nop
 	jp start
+
 	.area _HRAM
 frame:	.ds 1
 ticks:	.ds 2
 head:	.ds 1
+
 	.area _PAGES_RAM
 ring:	.ds 256
+
 	.area _CODE
 start:
 	di
@@ -35,9 +42,9 @@ start:
 	ld	a, #5
 	ldh	(rTAC), a
 	ld	a, #0x40
-	ldh	(0xFF41), a
+	ldh	(rSTAT), a
 	ld	a, #70
-	ldh	(0xFF45), a
+	ldh	(rLYC), a
 	ld	a, #0x1F
 	ldh	(rIE), a
 	ei
@@ -51,6 +58,7 @@ loop:
 	ldh	(frame), a
 	call	work
 	jr	loop
+
 work:
 	ldh	a, (head)
 	ld	l, a
@@ -58,22 +66,25 @@ work:
 	ld	a, (hl)
 	ldh	(rSCX), a
 	ret
+
 vblank:
 	push	af
 	ld	a, #1
 	ldh	(frame), a
 	pop	af
 	reti
+
 stat:
 	push	af
 	push	hl
-	ld	hl, #0xFF45
+	ld	hl, #rLYC
 	ld	a, (hl)
 	xor	#0x40
 	ld	(hl), a
 	pop	hl
 	pop	af
 	reti
+
 timer:
 	push	hl
 	push	af
@@ -85,6 +96,7 @@ timer:
 1$:	pop	af
 	pop	hl
 	reti
+
 serial:
 	push	af
 	push	hl
@@ -93,7 +105,7 @@ serial:
 	inc	a
 	ldh	(head), a
 	ld	h, #>ring
-	ldh	a, (0xFF01)
+	ldh	a, (rSB)
 	ld	(hl), a
 	pop	hl
 	pop	af

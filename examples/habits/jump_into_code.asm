@@ -2,10 +2,12 @@
 
 	.module jump_into_code
 	.include "hardware.inc"
+
 	.area _FIXED (ABS)
 	.org 0x0100
 	nop
 	jp start
+
 	.area _CODE
 start:
 	ld	sp, #0xE000
@@ -14,7 +16,8 @@ start:
 	and	#7
 	call	fill
 1$:	jr	1$
-; A bytes of 0 to DE
+
+; A bytes of 0 to DE.
 fill:
 	cpl
 	add	a, #9			; 8 - A
@@ -26,6 +29,7 @@ fill:
 	add	hl, bc
 	xor	a
 	jp	(hl)
+
 code:
 	.rept 8
 	ld	(de), a

@@ -2,15 +2,19 @@
 
 	.module list_by_number
 	.include "hardware.inc"
+
 	.area _FIXED (ABS)
 	.org 0x0100
 	nop
 	jp start
+
 	.area _RAM
 first:	.ds 1
+
 	.area _PAGES_RAM
 next:	.ds 16
 value:	.ds 16
+
 	.area _CODE
 start:
 	ld	sp, #0xE000
@@ -27,6 +31,7 @@ start:
 loop:
 	call	walk
 	jr	loop
+
 walk:
 	ld	a, (first)
 1$:	cp	#16

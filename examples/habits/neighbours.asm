@@ -2,14 +2,18 @@
 
 	.module neighbours
 	.include "hardware.inc"
+
 	.area _FIXED (ABS)
 	.org 0x0100
 	nop
 	jp start
+
 	.area _RAM
+
 	.area _PAGES_RAM
 old:	.ds 256
 new:	.ds 256
+
 	.area _CODE
 start:
 	ld	sp, #0xE000
@@ -24,6 +28,7 @@ loop:
 	call	step
 	call	copy
 	jr	loop
+
 step:
 	ld	l, #0
 each:	ld	h, #>old
@@ -49,14 +54,17 @@ each:	ld	h, #>old
 	jr	z, same
 	ld	b, #0
 	jr	put
+
 alive:	ld	b, #1
 	jr	put
+
 same:	ld	b, (hl)
 put:	ld	h, #>new
 	ld	(hl), b
 	inc	l
 	jr	nz, each
 	ret
+
 count_three:
 	ld	b, #3
 1$:	ld	a, (hl)
@@ -67,6 +75,7 @@ count_three:
 	jr	nz, 1$
 	inc	l
 	ret
+
 copy:
 	ld	hl, #new
 	ld	de, #old

@@ -2,13 +2,17 @@
 
 	.module number_to_digits
 	.include "hardware.inc"
+rSTAT		= 0xFF41	; the picture's mode in bits 0 and 1
+
 	.area _FIXED (ABS)
 	.org 0x0100
 	nop
 	jp start
+
 	.area _RAM
 score:	.ds 2
 digits:	.ds 5
+
 	.area _CODE
 start:
 	ld	sp, #0xE000
@@ -25,7 +29,7 @@ loop:
 	ld	hl, #0x9800
 	ld	de, #digits
 	ld	b, #5
-2$:	ldh	a, (0xFF41)
+2$:	ldh	a, (rSTAT)
 	and	#2
 	jr	nz, 2$
 	ld	a, (de)
@@ -35,6 +39,7 @@ loop:
 	dec	b
 	jr	nz, 2$
 	jr	loop
+
 to_digits:
 	ld	a, (score)
 	ld	l, a
@@ -52,7 +57,8 @@ to_digits:
 	ld	a, l
 	ld	(de), a
 	ret
-; how often -BC is in HL, to (DE)
+
+; How often -BC is in HL, to (DE).
 digit:
 	ld	a, #-1
 1$:	inc	a

@@ -3,16 +3,19 @@
 
 	.module object_kinds
 	.include "hardware.inc"
+
 	.area _FIXED (ABS)
 	.org 0x0100
 	nop
 	jp start
+
 	.area _RAM
-entities: .ds 64		; 8 of 8 bytes: type, y, x, ...
+objects: .ds 64		; 8 of 8 bytes: kind, y, x, ...
+
 	.area _CODE
 start:
 	ld	sp, #0xE000
-	ld	hl, #entities
+	ld	hl, #objects
 	ld	bc, #64
 1$:	xor	a
 	ld	(hl+), a
@@ -21,20 +24,21 @@ start:
 	or	c
 	jr	nz, 1$
 	ld	a, #1
-	ld	(entities), a
+	ld	(objects), a
 	inc	a
-	ld	(entities + 8), a
-loop:	call	update_all
+	ld	(objects + 8), a
+loop:	call	move_all
 	jr	loop
-update_all:
-	ld	hl, #entities
+
+move_all:
+	ld	hl, #objects
 	ld	b, #8
 1$:	push	bc
 	push	hl
 	ld	a, (hl)
 	cp	#4
 	jr	nc, 2$
-	call	update
+	call	move
 2$:	pop	hl
 	ld	de, #8
 	add	hl, de
@@ -42,27 +46,30 @@ update_all:
 	dec	b
 	jr	nz, 1$
 	ret
-; updates the entity at HL of type A
-update:
+
+; Moves the object at HL, of kind A.
+move:
 	ld	d, h
 	ld	e, l
 	add	a, a
-	add	a, #<types
+	add	a, #<kinds
 	ld	l, a
 	ld	a, #0
-	adc	a, #>types
+	adc	a, #>kinds
 	ld	h, a
 	ld	a, (hl+)
 	ld	h, (hl)
 	ld	l, a
 	jp	(hl)
-types:	.dw none, walker, flyer, none
+
+kinds:	.dw none, walker, flyer, none
 none:	ret
 walker:	inc	de
 	ld	a, (de)
 	inc	a
 	ld	(de), a
 	ret
+
 flyer:	inc	de
 	inc	de
 	ld	a, (de)

@@ -2,14 +2,17 @@
 
 	.module playing_field
 	.include "hardware.inc"
+
 	.area _FIXED (ABS)
 	.org 0x0100
 	nop
 	jp start
+
 	.area _RAM
 field:	.ds 180
 px:	.ds 1
 py:	.ds 1
+
 	.area _CODE
 start:
 	ld	sp, #0xE000
@@ -26,6 +29,7 @@ start:
 loop:
 	call	fall
 	jr	loop
+
 fall:
 	call	cell_below
 	ld	a, (hl)
@@ -37,6 +41,7 @@ fall:
 	jr	nc, land
 	ld	(py), a
 	ret
+
 land:
 	call	cell_at
 	ld	(hl), #1
@@ -49,13 +54,16 @@ land:
 	xor	a
 1$:	ld	(px), a
 	ret
+
 cell_below:
 	ld	a, (py)
 	inc	a
 	jr	address
+
 cell_at:
 	ld	a, (py)
-; HL = field + A * 10 + px
+
+; HL = field + A * 10 + px.
 address:
 	add	a, a
 	ld	b, a

@@ -3,14 +3,18 @@
 
 	.module random_place
 	.include "hardware.inc"
+rSTAT		= 0xFF41	; the picture's mode in bits 0 and 1
+
 	.area _FIXED (ABS)
 	.org 0x0100
 	nop
 	jp start
+
 	.area _RAM
 seed:	.ds 2
 x:	.ds 1
 y:	.ds 1
+
 	.area _CODE
 start:
 	ld	sp, #0xE000
@@ -40,6 +44,7 @@ loop:
 	ld	(y), a
 	call	plot
 	jr	loop
+
 random:
 	ld	hl, #seed
 	ld	a, (hl+)
@@ -53,6 +58,7 @@ random:
 	ld	(hl), b
 	xor	b
 	ret
+
 plot:
 	ld	a, (y)
 	swap	a
@@ -69,9 +75,10 @@ plot:
 	ld	a, h
 	add	a, #0x98
 	ld	h, a
-1$:	ldh	a, (0xFF41)
+1$:	ldh	a, (rSTAT)
 	bit	1, a
 	jr	nz, 1$
 	ld	(hl), #1
 	ret
+
 steps:	.db 1, 0, -1, 0, 0, 1, 0, -1

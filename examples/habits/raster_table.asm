@@ -2,6 +2,8 @@
 
 	.module raster_table
 	.include "hardware.inc"
+rSTAT		= 0xFF41	; the picture's mode in bits 0 and 1
+
 	.area _FIXED (ABS)
 	.org 0x0040
 	jp vblank
@@ -10,13 +12,16 @@
 	.org 0x0100
 	nop
 	jp start
+
 	.area _RAM
 phase:	.ds 1
+
 	.area _PAGES
 waves:
 	.rept 64
 	.db 0,1,2,1
 	.endm
+
 	.area _CODE
 start:
 	ld	sp, #0xE000
@@ -24,13 +29,14 @@ start:
 	ld	(phase), a
 	ldh	(rIF), a
 	ld	a, #0x08
-	ldh	(0xFF41), a
+	ldh	(rSTAT), a
 	ld	a, #3
 	ldh	(rIE), a
 	ei
 1$:	halt
 	nop
 	jr	1$
+
 vblank:
 	push	af
 	ld	a, (phase)
@@ -38,12 +44,13 @@ vblank:
 	ld	(phase), a
 	pop	af
 	reti
+
 stat:
 	push	af
 	push	hl
 	ld	a, (phase)
 	ld	l, a
-	ldh	a, (0xFF44)
+	ldh	a, (rLY)
 	add	a, l
 	ld	l, a
 	ld	h, #>waves

@@ -2,12 +2,15 @@
 
 	.module sorted_bytes
 	.include "hardware.inc"
+
 	.area _FIXED (ABS)
 	.org 0x0100
 	nop
 	jp start
+
 	.area _RAM
 list:	.ds 8
+
 	.area _CODE
 start:
 	ld	sp, #0xE000

@@ -2,15 +2,18 @@
 
 	.module text_by_row
 	.include "hardware.inc"
+
 	.area _FIXED (ABS)
 	.org 0x0040
 	reti
 	.org 0x0100
 	nop
 	jp start
+
 	.area _RAM
 cursor_x: .ds 1
 cursor_y: .ds 1
+
 	.area _CODE
 start:
 	ld	sp, #0xE000
@@ -40,6 +43,7 @@ print:
 	jr	z, new_line
 	call	put_char
 	jr	print
+
 new_line:
 	xor	a
 	ld	(cursor_x), a
@@ -80,6 +84,7 @@ put_char:
 	and	#31
 	ld	(cursor_x), a
 	ret
+
 hello:	.ascii "HELLO"
 	.db 10, 0
 world:	.ascii "WORLD"

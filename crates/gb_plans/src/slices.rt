@@ -221,8 +221,9 @@ impl Walk {
             return Ok(false);
         };
         // What is known at the spot needs no source.
-        let open = open_at(run, self.spot(), &self.wanted, true);
-        self.waiting.keep_open(alloc, run, self.spot())?;
+        let here = self.spot();
+        let open = open_at(run, here, &self.wanted, true);
+        self.waiting.keep_open(alloc, run, here)?;
         let wanted = if is_inlined_call(op, self.at) {
             open
         } else {
