@@ -205,7 +205,37 @@ fn slice_to(
     slice(alloc, run, ways, spot, &sought)
 }
 
-/// What is nearest to a spot: its calls, a slice, a jump table's cells, its loops.
+/// The high registers of pairs among some.
+fn high_registers(registers: &RegisterSet) -> RegisterSet {
+    let mut high = RegisterSet::empty();
+    for register in [Register::B, Register::D, Register::H] {
+        if registers.contains(register) {
+            high.insert(register);
+        }
+    }
+    high
+}
+
+/// A slice to a pointer's page alone, with which its low byte may be any. A pointer that is kept in RAM would go on from page to
+/// page.
+fn slice_to_page(
+    alloc: Global,
+    run: &Run<'_>,
+    ways: &Ways,
+    spot: Spot,
+    trouble: &Trouble,
+) -> Result<Option<Plan>, AllocError> {
+    if trouble.is_jump || trouble.is_kept_in_ram {
+        return Ok(None);
+    }
+    let page = Trouble {
+        wanted: high_registers(&trouble.wanted),
+        ..*trouble
+    };
+    slice_to(alloc, run, ways, spot, &page, (FEW_VALUES, By::Any))
+}
+
+/// What is nearest to a spot: its calls, slices, what a jump comes from, its loops.
 fn plan_near(
     alloc: Global,
     run: &Run<'_>,
@@ -224,6 +254,9 @@ fn plan_near(
     if trouble.is_jump
         && let Some(plan) = plan_jump(alloc, run, &ways, spot, trouble)?
     {
+        return Ok(Some(plan));
+    }
+    if let Some(plan) = slice_to_page(alloc, run, &ways, spot, trouble)? {
         return Ok(Some(plan));
     }
     if let Some(plan) = refine_loops(alloc, run, &ways, spot, !trouble.is_kept_in_ram)? {

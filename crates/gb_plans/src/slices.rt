@@ -2,7 +2,7 @@
 //! taken value by value.
 
 use crate::plan::{Edit, Plan, split_at};
-use crate::sources::{count, first, pointer_of};
+use crate::sources::{count, first, meet, pointer_of, written};
 use crate::spots::{has_entry, narrower, op_at, open_at, place_of, points_to_rom, width_at};
 use crate::waiting::Waiting;
 use crate::ways::Ways;
@@ -173,9 +173,41 @@ impl Walk {
         }
     }
 
+    /// The address before, where there is just one. A loop that leaves the wanted registers as they are, as one that waits, is
+    /// passed by where it is entered.
+    fn address_before(&mut self, run: &Run<'_>, ways: &Ways) -> Result<Option<u16>, AllocError> {
+        match ways.only_before(self.at) {
+            Some(before) => Ok(Some(before)),
+            None => self.before_wait(run, ways),
+        }
+    }
+
+    /// Before a loop that leaves the wanted registers as they are: its addresses are keyed with the others.
+    fn before_wait(&mut self, run: &Run<'_>, ways: &Ways) -> Result<Option<u16>, AllocError> {
+        let Some((around, before)) = ways.entered_loop(self.at)? else {
+            return Ok(None);
+        };
+        for address in around.iter() {
+            let spot = Spot {
+                procedure: self.procedure,
+                address: *address,
+            };
+            match op_at(run, spot) {
+                Some(op) if !meet(&written(op), &self.wanted) => {}
+                _ => return Ok(None),
+            }
+        }
+        for address in around.iter() {
+            if !self.chain.contains(address) {
+                self.chain.push(*address)?;
+            }
+        }
+        Ok(Some(before))
+    }
+
     /// Goes back by one instruction; whether that was possible.
     fn step_back(&mut self, alloc: Global, run: &Run<'_>, ways: &Ways) -> Result<bool, AllocError> {
-        let Some(before) = ways.only_before(self.at) else {
+        let Some(before) = self.address_before(run, ways)? else {
             return Ok(false);
         };
         if self.chain.contains(&before) {
@@ -189,8 +221,9 @@ impl Walk {
             return Ok(false);
         };
         // What is known at the spot needs no source.
-        let open = open_at(run, self.spot(), &self.wanted, true);
-        self.waiting.keep_open(alloc, run, self.spot())?;
+        let here = self.spot();
+        let open = open_at(run, here, &self.wanted, true);
+        self.waiting.keep_open(alloc, run, here)?;
         let wanted = if is_inlined_call(op, self.at) {
             open
         } else {

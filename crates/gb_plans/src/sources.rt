@@ -65,7 +65,7 @@ fn indirect(at: Indirect) -> RegisterSet {
 }
 
 /// Whether two sets have a register in common.
-fn meet(left: &RegisterSet, right: &RegisterSet) -> bool {
+pub(crate) fn meet(left: &RegisterSet, right: &RegisterSet) -> bool {
     REGISTERS.iter().any(|register| left.contains(*register) && right.contains(*register))
 }
 

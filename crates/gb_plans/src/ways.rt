@@ -176,6 +176,34 @@ impl Ways {
         Ok(loops)
     }
 
+    /// The only address outside of a loop from which an address is reached.
+    fn only_entry(&self, around: &Loop, address: u16) -> Option<u16> {
+        let mut outside = None;
+        for way in &self.ways {
+            if way.to == address && !around.contains(&way.from) {
+                if outside.is_some() {
+                    return None;
+                }
+                outside = Some(way.from);
+            }
+        }
+        outside
+    }
+
+    /// The innermost loop around an address, where that is its only head and is entered from one address alone; and that one.
+    pub fn entered_loop(&self, address: u16) -> Result<Option<(Loop, u16)>, AllocError> {
+        let mut loops = self.loops(address)?;
+        loops.truncate(1);
+        let Some(around) = loops.pop() else {
+            return Ok(None);
+        };
+        let heads = self.heads(&around)?;
+        Ok(match self.only_entry(&around, address) {
+            Some(before) if heads.len() == 1 => Some((around, before)),
+            _ => None,
+        })
+    }
+
     /// Whether nothing leads out of a loop.
     pub fn is_endless(&self, around: &Loop) -> bool {
         self.ways.iter().all(|way| !around.contains(&way.from) || around.contains(&way.to))

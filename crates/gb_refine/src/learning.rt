@@ -119,28 +119,30 @@ impl<'a> Refinement<'a> {
         before.cause == Cause::JumpHl && is_no_code && comes_from(run, failure.node, before.place)
     }
 
-    /// The call that closes a circle of procedures that were followed in their callers, where these push without an end: the one
-    /// that was met first, when the others of the circle were procedures still.
+    /// A call of a circle of procedures that were followed in their callers, where these push without an end: the first that was
+    /// met and leads back, as that of a loop from within does, or else the first.
     fn recursion_behind(&self, failure: &Failure) -> Option<Place> {
         if failure.cause != Cause::PushesTooMany {
             return None;
         }
+        let mut first = None;
         for place in &self.circles {
-            if self.is_followed_call(*place) {
-                return Some(*place);
+            match self.followed_at(*place) {
+                Some(target) if target <= place.address => return Some(*place),
+                Some(_) if first.is_none() => first = Some(*place),
+                _ => {}
             }
         }
-        None
+        first
     }
 
-    /// Whether what is called at a place is followed in its callers.
-    fn is_followed_call(&self, place: Place) -> bool {
-        match self.first.get(&place) {
-            Some(standing) => match standing.cause {
-                Cause::Recursion { target } => self.configuration.inlined.contains(&target),
-                _ => false,
-            },
-            None => false,
+    /// What is called at a place, where it runs already and is followed in its callers.
+    fn followed_at(&self, place: Place) -> Option<u16> {
+        match self.first.get(&place)?.cause {
+            Cause::Recursion { target } if self.configuration.inlined.contains(&target) => {
+                Some(target)
+            }
+            _ => None,
         }
     }
 
