@@ -127,7 +127,7 @@ fn fmt_writes<W: fmt::Write>(
     let ranges = procedure.ranges.as_slice();
     write!(f, "<dt>may write</dt><dd>")?;
     if number == 0 && page.facts.version == 3 {
-        write!(f, "all RAM but the stack’s region")?;
+        write!(f, "all RAM")?;
     } else if ranges.is_empty() {
         write!(f, "no RAM")?;
     } else {

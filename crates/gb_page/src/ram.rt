@@ -120,7 +120,7 @@ fn fmt_keys<W: fmt::Write>(facts: &Facts, f: &mut fmt::Formatter<W>) -> fmt::Res
     if facts.version == 3 {
         write!(
             f,
-            "The first procedure may write all RAM but the stack’s region."
+            "The first procedure may write all RAM. A procedure’s own bytes on the stack aren’t marked."
         )?;
     }
     write!(f, "</p>\n")
