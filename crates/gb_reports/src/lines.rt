@@ -68,7 +68,7 @@ fn source_line<'a>(record: &'a str) -> Option<SourceLine<'a>> {
 }
 
 /// The address of a line's code, as `L:A$game$57:14000` says; the bank stands above the low sixteen bits.
-fn mark<'a>(line: &'a str) -> Option<Mark<'a>> {
+fn mark_of<'a>(line: &'a str) -> Option<Mark<'a>> {
     let (record, digits) = line.strip_prefix("L:")?.rsplit_once(':')?;
     let number = u32::from_str_radix(digits.trim(), 16).ok()?;
     Some(Mark {
@@ -97,7 +97,7 @@ impl<'a> Lines<'a> {
         };
         let mut marks = Vec::new(alloc);
         for line in text.lines() {
-            if let Some(mark) = mark(line) {
+            if let Some(mark) = mark_of(line) {
                 marks.push(mark)?;
             }
         }

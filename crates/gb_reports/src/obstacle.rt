@@ -84,15 +84,16 @@ impl Standing {
         if let Some(line) = symbols.line(bank, self.address) {
             return Some(line);
         }
-        for segment in self.path.segments.iter().rev() {
-            if let Some(line) = symbols.line(bank, segment.last) {
-                return Some(line);
-            }
-        }
-        match self.path.start {
+        let mut last = match self.path.start {
             Start::Call { from, .. } => symbols.line(bank, from),
             Start::PowerUp | Start::Interrupt { .. } => None,
+        };
+        for segment in &self.path.segments {
+            if let Some(line) = symbols.line(bank, segment.last) {
+                last = Some(line);
+            }
         }
+        last
     }
 
     /// What there is to tell of a run's failure.
