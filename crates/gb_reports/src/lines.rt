@@ -110,10 +110,13 @@ impl<'a> Lines<'a> {
 
     /// The line of the assembler at an address.
     fn assembled(&self, bank: u16, address: u16) -> Option<SourceLine<'a>> {
-        let mark = self.marks.iter().find(|mark| mark.line.language == Language::Assembler
-            && mark.bank == bank
-            && mark.address == address)?;
-        Some(mark.line)
+        for mark in &self.marks {
+            let is_there = mark.bank == bank && mark.address == address;
+            if mark.line.language == Language::Assembler && is_there {
+                return Some(mark.line);
+            }
+        }
+        None
     }
 
     /// The last line of C at or before an address.
