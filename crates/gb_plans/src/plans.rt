@@ -225,7 +225,7 @@ fn slice_to_page(
     spot: Spot,
     trouble: &Trouble,
 ) -> Result<Option<Plan>, AllocError> {
-    if trouble.is_jump || trouble.is_kept_in_ram {
+    if trouble.is_kept_in_ram {
         return Ok(None);
     }
     let page = Trouble {
@@ -256,14 +256,14 @@ fn plan_near(
     {
         return Ok(Some(plan));
     }
-    if let Some(plan) = slice_to_page(alloc, run, &ways, spot, trouble)? {
-        return Ok(Some(plan));
-    }
     if let Some(plan) = refine_loops(alloc, run, &ways, spot, !trouble.is_kept_in_ram)? {
         return Ok(Some(plan));
     }
     if trouble.is_jump {
         return Ok(None);
+    }
+    if let Some(plan) = slice_to_page(alloc, run, &ways, spot, trouble)? {
+        return Ok(Some(plan));
     }
     slice_to(alloc, run, &ways, spot, trouble, (ALL_VALUES, By::Any))
 }
