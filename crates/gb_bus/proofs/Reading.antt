@@ -1,10 +1,12 @@
 -- What the bus shows of an access.
-use Rattle.std.proofs.Common.{◌≡◌, ℕ, ◌<◌, ◌==◌, Bool, true, false, not, ◌&&◌, refl, ap, if◌then◌else◌}
+use Rattle.std.proofs.Common.{◌≡◌, ℕ, ◌<◌, ◌≤◌, ◌-◌, ◌%◌, ◌==◌, Bool, true, false, not, ◌&&◌, refl, ap, if◌then◌else◌, nat_lt, slice_index, arith}
+use Rattle.std.specs.Prelude.{slice_set}
 use Rattle.std.proofs.lemmas.Bool.{lt-ltb}
+use Rattle.std.proofs.lemmas.Bool.Decides.{nat_tests}
 use Rattle.gb_ops.specs.declared.machine.Mapped.{Mapped}
 use Rattle.gb_ops.specs.declared.machine.Mapped.TheVariants as mapped
 use Rattle.gb_ops.specs.declared.machine.Place.TheVariants as place
-use Rattle.gb_ops.specs.Memory.{View, Storage, mapped_at, is_high, rom_byte, is_closed, is_free, is_free_place, place_of, place_by, byte_at, byte_by, wrote, wrote_by, kept_or}
+use Rattle.gb_ops.specs.Memory.{View, Storage, mapped_at, is_high, rom_byte, is_closed, is_free, is_free_place, place_of, place_by, byte_at, byte_by, wrote, wrote_by, kept_or, passed}
 use Rattle.gb_ops.specs.Cartridge.{kind_of, shown_bank}
 use Rattle.gb_mbc.specs.Controllers.{is_latch}
 use Rattle.gb_ppu.specs.Picture.{mode_of}
@@ -63,6 +65,44 @@ unfolding is_free place_of
 rom_is_fixed c a low none = rw (open_where c.view.storage a none, mapped_rom a low) refl
 
 pub ruleset rom_reads = (rom_is_read, rom_is_fixed)
+
+-- ---- reads and writes of work RAM
+
+not_below : (a n : ℕ) → n ≤ a → nat_lt a n ≡ false
+not_below a n h = grind (arith, nat_tests)
+
+mapped_work : (a : ℕ) → 0xC000 ≤ a → a < 0xFE00 → mapped_at a ≡ mapped.WorkRam ((a - 0xC000) % 0x2000)
+unfolding mapped_at
+mapped_work a least most = rw (not_below a 0x8000 (omega (arith, least)), not_below a 0xA000 (omega (arith, least)), not_below a 0xC000 least, lt-ltb a 0xFE00 most) refl
+
+pub work_is_read : (c : Contents) (a i : ℕ) → 0xC000 ≤ a → a < 0xFE00 → c.view.storage.count ≡ 0 → i ≡ (a - 0xC000) % 0x2000
+    → slice_index c.view.storage.work i ≡ byte_read c a
+unfolding byte_read
+work_is_read c a i least most none is = rw (is, open_where c.view.storage a none, mapped_work a least most) refl
+
+pub work_is_fixed : (c : Contents) (a : ℕ) → 0xC000 ≤ a → a < 0xFE00 → c.view.storage.count ≡ 0 → false ≡ is_free c.view a
+unfolding is_free place_of
+work_is_fixed c a least most none = rw (open_where c.view.storage a none, mapped_work a least most) refl
+
+pub ruleset work_reads = (work_is_read, work_is_fixed)
+
+pub work_is_written : (c : Contents) (a i v : ℕ) → 0xC000 ≤ a → a < 0xFE00 → c.view.storage.count ≡ 0 → i ≡ (a - 0xC000) % 0x2000
+    → record c { view = record c.view { storage = record c.view.storage { work = slice_set c.view.storage.work i v } } } ≡ written c a v
+unfolding written
+work_is_written c a i v least most none is = rw (is, open_where c.view.storage a none, mapped_work a least most) refl
+
+-- ---- M-cycles without a transfer
+
+left_by : (b : Bool) (count n : ℕ) → b ≡ false → count ≡ 0 → count ≡ (if b then 161 else count - n)
+left_by true count n h none = absurd (let bad : true ≡ false = h in cc)
+left_by false count n h none = omega (arith, none)
+
+view_passes : (v : View) (n : ℕ) → v.starting ≡ false → v.storage.count ≡ 0 → v ≡ passed v n
+unfolding passed
+view_passes v n settled none = λ i. record v { storage = record v.storage { count = left_by v.starting v.storage.count n settled none i }; starting = settled i }
+
+pub none_passes : (c : Contents) (n : ℕ) → c.view.starting ≡ false → c.view.storage.count ≡ 0 → c ≡ record c { view = passed c.view n }
+none_passes c n settled none = ap (λ (v : View). record c { view = v }) (view_passes c.view n settled none)
 
 -- ---- what a write shows
 

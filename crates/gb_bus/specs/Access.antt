@@ -124,8 +124,11 @@ written c a v = if is_closed c.view.storage a then c else open_written (mapped_a
 -- ---- requests and time
 
 -- the interrupts that are enabled and requested
+abbrev pub shared_bits : ℕ → ℕ → ℕ
+shared_bits ie requests = if ie % 32 == 0 then 0 else bit_and ie requests % 32
+
 unfoldable pub shared : Contents → ℕ
-shared c = if c.view.storage.ie % 32 == 0 then 0 else bit_and c.view.storage.ie c.requests % 32
+shared c = shared_bits c.view.storage.ie c.requests
 
 -- the request of interrupt i is taken back
 unfoldable pub acknowledged : Contents → ℕ → Contents

@@ -1,6 +1,6 @@
 //! The console's memory as a bus.
 
-ghost use Rattle.std.specs.Prelude.{◌≡◌, ◌<◌, ◌≤◌, true, false};
+ghost use Rattle.std.specs.Prelude.{◌≡◌, ◌<◌, ◌≤◌, ◌-◌, ◌%◌, true, false};
 ghost use Rattle.gb_ops.specs.Memory as Spec;
 ghost use Rattle.gb_ops.specs.Cartridge.{kind_of};
 ghost use Rattle.gb_mbc.specs.Controllers.{is_latch};
@@ -39,6 +39,16 @@ fn free(byte: u8) -> Taken
         byte,
         is_free: true,
     }
+}
+
+/// Where work RAM has an address; E000 to FDFF are the bytes of C000 to DDFF.
+#[inline(always)]
+fn work_index(address: u16) -> usize
+    requires { 0xC000 ≤ address }
+    ensures value { result ≡ (address - 0xC000) % 0x2000 }
+    ensures small { result < 0x2000 }
+{
+    usize::from((address - 0xC000) % 0x2000)
 }
 
 impl Memory<'_> {
@@ -114,19 +124,24 @@ impl Memory<'_> {
         }
     }
 
-    /// The same; ROM, from where most instructions come, is read in place.
+    /// The same; ROM, from where most instructions come, and work RAM are read in place.
     #[inline(always)]
-    #[tactic(auto, using(crate::proofs::Reading::rom_reads))]
+    #[tactic(auto, using(crate::proofs::Reading::rom_reads, crate::proofs::Reading::work_reads))]
     fn taken(&mut self, address: u16) -> Taken
         ensures same { self.new ≡ self.old }
         ensures byte { result.byte ≡ Access.byte_read self.old address }
         ensures free { result.is_free ≡ Spec.is_free self.old.view address }
     {
-        if address < 0x8000 && self.transfer.left() == 0 {
-            fixed(self.rom_byte(address))
-        } else {
-            self.taken_anywhere(address)
+        if self.transfer.left() != 0 {
+            return self.taken_anywhere(address);
         }
+        if address < 0x8000 {
+            return fixed(self.rom_byte(address));
+        }
+        if 0xC000 <= address && address < 0xFE00 {
+            return fixed(self.work_ram[work_index(address)]);
+        }
+        self.taken_anywhere(address)
     }
 }
 
@@ -203,7 +218,7 @@ impl Memory<'_> {
             Mapped::CartridgeRam => self.write_cartridge(address, value),
             Mapped::WorkRam(i) => self.work_ram[usize::from(i)] = value,
             Mapped::HighRam(i) => self.high_ram[usize::from(i)] = value,
-            Mapped::InterruptEnable => self.interrupt_enable = value,
+            Mapped::InterruptEnable => self.set_interrupt_enable(value),
             Mapped::Transfer => self.start_transfer(value),
             Mapped::Hardware => self.write_hardware(address, value),
         }
@@ -211,9 +226,10 @@ impl Memory<'_> {
 }
 
 impl Memory<'_> {
-    /// A write.
+    /// A write; kept out of the callers of `store`.
+    #[inline(never)]
     #[tactic(auto, unfolding(crate::specs::Access::written))]
-    fn store(&mut self, address: u16, value: u8)
+    fn store_anywhere(&mut self, address: u16, value: u8)
         ensures { self.new ≡ Access.written self.old address value }
     {
         if !self.is_closed(address) {
@@ -221,9 +237,23 @@ impl Memory<'_> {
         }
     }
 
-    /// The transfer as M-cycles pass: one that was started counts from its whole length.
+    /// A write; work RAM is written in place.
+    #[inline(always)]
+    #[tactic(auto, using(crate::proofs::Reading::work_is_written))]
+    fn store(&mut self, address: u16, value: u8)
+        ensures { self.new ≡ Access.written self.old address value }
+    {
+        if 0xC000 <= address && address < 0xFE00 && self.transfer.left() == 0 {
+            self.work_ram[work_index(address)] = value;
+        } else {
+            self.store_anywhere(address, value);
+        }
+    }
+
+    /// A transfer as M-cycles pass: one that was started counts from its whole length.
+    #[inline(never)]
     #[tactic(auto, unfolding(gb_ops::specs::Memory::passed, gb_dma::specs::Transfer::left_after))]
-    fn pass_transfer(&mut self, cycles: u8)
+    fn advance_transfer(&mut self, cycles: u8)
         ensures { self.new ≡ record self.old { view = Spec.passed self.old.view cycles } }
     {
         if self.is_starting {
@@ -231,6 +261,17 @@ impl Memory<'_> {
             self.is_starting = false;
         } else {
             self.transfer.advance(cycles);
+        }
+    }
+
+    /// The same, where mostly there is none.
+    #[inline(always)]
+    #[tactic(auto, using(crate::proofs::Reading::none_passes))]
+    fn pass_transfer(&mut self, cycles: u8)
+        ensures { self.new ≡ record self.old { view = Spec.passed self.old.view cycles } }
+    {
+        if self.is_starting || self.transfer.left() != 0 {
+            self.advance_transfer(cycles);
         }
     }
 
@@ -310,6 +351,7 @@ impl Bus for Memory<'_> {
         self.taken(address)
     }
 
+    #[inline(always)]
     #[tactic(auto, using(crate::proofs::Reading::write_shows))]
     fn write(&mut self, address: u16, value: u8) {
         self.store(address, value);
@@ -328,18 +370,16 @@ impl Bus for Memory<'_> {
         }
     }
 
-    #[tactic(auto, unfolding(crate::specs::Access::shared))]
+    #[inline(always)]
+    #[tactic(auto, using(crate::proofs::Requests::shared_enabled), unfolding(crate::specs::Access::shared))]
     fn pending(&mut self) -> u8 {
-        if self.interrupt_enable % 32 == 0 {
-            0
-        } else {
-            (self.interrupt_enable & self.requests.bits()) % 32
-        }
+        self.pending
     }
 
     #[tactic(auto, using(crate::proofs::Requests::and_small), unfolding(crate::specs::Access::acknowledged))]
     fn acknowledge(&mut self, i: u8) {
-        self.requests = Irqs::from_bits_retain(self.requests.bits() & (255 - (1 << i)));
+        let left = Irqs::from_bits_retain(self.requests.bits() & (255 - (1 << i)));
+        self.set_requests(left);
     }
 
     #[tactic(auto, unfolding(crate::specs::Access::advanced))]

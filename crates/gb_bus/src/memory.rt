@@ -38,6 +38,9 @@ pub struct Memory<'a> {
     pub(crate) screen: Box<[[u8; WIDTH]; HEIGHT]>,
     /// The interrupts that are requested: the low five bits of IF.
     pub(crate) requests: Irqs,
+    /// The interrupts that are enabled and requested: they change with one of the two alone, and are asked for before each
+    /// instruction.
+    pub(crate) pending: u8,
     pub(crate) transfer: Transfer,
     /// A transfer starts as the event ends.
     pub(crate) is_starting: bool,
@@ -53,6 +56,7 @@ impl<'a> Model for Memory<'a> {
     ghost use Rattle.gb_mbc.specs.Controllers as Shown;
     ghost use Rattle.gb_ops.specs.Cartridge.{ram_banks};
     ghost use Rattle.gb_ppu.specs.Below.gb_timer.Interrupts.{irq_bits};
+    ghost use Rattle.gb_bus.specs.Access.{shared_bits};
     ghost use Rattle.gb_bus.specs.Contents.{Contents};
 
     ghost Value = { Contents };
@@ -81,7 +85,7 @@ impl<'a> Model for Memory<'a> {
       page = m.page;
     } };
 
-    ghost invariant = { λ m. IsCartridge m.rom.now × (features m.controller ≡ features_of m.rom.now) × (vec_len m.cartridge_ram ≡ 0x2000 * ram_banks m.rom.now) × (irq_bits m.requests < 32) × (m.low_bank ≡ Shown.low_bank (features m.controller) (registers m.controller)) × (m.high_bank ≡ Shown.high_bank (features m.controller) (registers m.controller)) };
+    ghost invariant = { λ m. IsCartridge m.rom.now × (features m.controller ≡ features_of m.rom.now) × (vec_len m.cartridge_ram ≡ 0x2000 * ram_banks m.rom.now) × (irq_bits m.requests < 32) × (m.low_bank ≡ Shown.low_bank (features m.controller) (registers m.controller)) × (m.high_bank ≡ Shown.high_bank (features m.controller) (registers m.controller)) × (m.pending ≡ shared_bits m.interrupt_enable (irq_bits m.requests)) };
 }
 
 /// A boxed array of bytes 00.
@@ -148,6 +152,7 @@ impl<'a> Memory<'a> {
             devices: Devices::new(),
             screen,
             requests: Irqs::VBLANK,
+            pending: 0,
             transfer: Transfer::new(),
             is_starting: false,
             page: 0,

@@ -5,20 +5,51 @@ ghost use Rattle.gb_mbc.specs.Clock as Clock;
 ghost use Rattle.gb_ppu.specs.Below.gb_timer.Interrupts.{irq_bits};
 ghost use Rattle.gb_ppu.specs.Below.gb_timer.Joypad.{key_bits};
 ghost use Rattle.gb_bus.specs.Registers as Registers;
+ghost use Rattle.gb_bus.specs.Access.{shared_bits};
 
 use crate::hardware::IoRegister;
 use crate::memory::Memory;
 use bitflags::Flags;
 use gb_ppu::{Irqs, Keys};
 
+/// The interrupts that are enabled and requested.
+pub(crate) fn pending_of(interrupt_enable: u8, requests: Irqs) -> u8
+    ensures { result ≡ shared_bits interrupt_enable (irq_bits requests) }
+{
+    if interrupt_enable % 32 == 0 {
+        0
+    } else {
+        (interrupt_enable & requests.bits()) % 32
+    }
+}
+
 impl Memory<'_> {
+    /// The interrupts that are requested become these.
+    #[inline]
+    pub(crate) fn set_requests(&mut self, requests: Irqs)
+        requires { irq_bits requests < 32 }
+        ensures { self.new ≡ record self.old { requests = irq_bits requests } }
+    {
+        self.pending = pending_of(self.interrupt_enable, requests);
+        self.requests = requests;
+    }
+
+    /// IE becomes this byte.
+    pub(crate) fn set_interrupt_enable(&mut self, value: u8)
+        ensures { self.new ≡ record self.old { view = record self.old.view { storage = record self.old.view.storage { ie = value } } } }
+    {
+        self.pending = pending_of(value, self.requests);
+        self.interrupt_enable = value;
+    }
+
     /// More interrupts are requested.
     #[tactic(auto, using(crate::proofs::Requests::or_small))]
     pub(crate) fn request(&mut self, irqs: Irqs)
         requires { irq_bits irqs < 32 }
         ensures { self.new ≡ record self.old { requests = bit_or self.old.requests (irq_bits irqs) } }
     {
-        self.requests = self.requests.union(irqs);
+        let both = self.requests.union(irqs);
+        self.set_requests(both);
     }
 
     /// The keys that are held from now on; where a line of the joypad falls, its interrupt is requested.
@@ -83,7 +114,7 @@ impl Memory<'_> {
                 timer.set_tac(value);
                 self.devices.set_timer(timer);
             }
-            IoRegister::Requests => self.requests = Irqs::from_bits_retain(value % 32),
+            IoRegister::Requests => self.set_requests(Irqs::from_bits_retain(value % 32)),
         }
     }
 }

@@ -31,7 +31,7 @@ use Rattle.gb_cpu.specs.Step.{state}
 use Rattle.gb_console.specs.declared.frame.Ending.{Ending}
 use Rattle.gb_console.specs.declared.frame.Ending.TheVariants as ending
 use Rattle.gb_console.specs.Console.{ConsoleState, IsConsoleStep, IsChosen, IsReachable, interrupt, taken, told, shown, rom_of, machine_of}
-use Rattle.gb_console.specs.Frame.{IsFrame, IsFrameStep, Goes, IsSomeStep, HasGoneOn, HasGone, seconds_at, ending_by, ending_after}
+use Rattle.gb_console.specs.Frame.{IsFrame, IsFrameStep, Goes, IsSomeStep, IsPassing, HasGoneOn, HasGone, seconds_at, ending_by, ending_after}
 use Rattle.gb_console.proofs.Interrupts.{shared_irq}
 use Rattle.gb_console.proofs.Stepping.{IsEvent, IsKept, step_of, step_keeps}
 use Rattle.gb_console.proofs.Reaching.{next_reachable}
@@ -180,7 +180,7 @@ waits_keep (suc n) c d settled w =
     let before = waits_keep n c w.0 settled w.1 in
     rw (w.3) (record { settled = refl; pad = before.pad })
 
-not_locked : (locked stopped : Bool) → (locked || stopped) ≡ false → None ≡ ending_by locked stopped false
+pub not_locked : (locked stopped : Bool) → (locked || stopped) ≡ false → None ≡ ending_by locked stopped false
 not_locked true stopped h = absurd (let bad : true ≡ false = h in cc)
 not_locked false true h = absurd (let bad : true ≡ false = h in cc)
 not_locked false false h = refl
@@ -332,3 +332,9 @@ frame_step old keys n ends new s is =
       step = s.step;
       ending = is ∙ ap (λ (k : ℕ). ending_by new.cpu.processor.locked new.cpu.processor.stopped (nat_le 17556 (old.cycles + k))) s.cycles;
     }
+
+-- the same of an instruction that is ready
+pub passing_step : (old : ConsoleState) (keys : Keys) (passed : Bool) (ends : Option Ending) (new : ConsoleState) → IsPassing old keys passed new
+    → ends ≡ ending_by new.cpu.processor.locked new.cpu.processor.stopped passed → IsFrameStep old keys 0 ends new
+passing_step old keys passed ends new p is =
+    frame_step old keys p.cycles ends new p.step (is ∙ ap (λ (b : Bool). ending_by new.cpu.processor.locked new.cpu.processor.stopped b) p.reaches)

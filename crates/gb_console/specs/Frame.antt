@@ -4,6 +4,9 @@ use Rattle.std.specs.Prelude.{◌≡◌, ℕ, zero, suc, ◌+◌, nat_le, Bool, 
 use Rattle.gb_ops.specs.declared.machine.Event.{Event}
 use Rattle.gb_ops.specs.Accesses.{event_cycles}
 use Rattle.gb_cpu.specs.Below.gb_timer.declared.irqs.Keys.{Keys}
+use Rattle.gb_cpu.specs.Below.gb_timer.Joypad.{key_bits}
+use Rattle.gb_cpu.specs.Below.gb_bus.Access.{shared}
+use Rattle.gb_cpu.specs.Run as Run
 use Rattle.gb_console.specs.declared.frame.Ending.{Ending}
 use Rattle.gb_console.specs.declared.frame.Ending.TheVariants as ending
 use Rattle.gb_cpu.specs.Below.gb_ppu.Picture.{frame_cycles}
@@ -51,6 +54,18 @@ pub record IsSomeStep (old : ConsoleState) (keys : Keys) (n : ℕ) (new : Consol
   pub event : Event
   pub step : IsConsoleStep old keys 0 event new
   pub cycles : n ≡ event_cycles (shown old) event
+
+-- an instruction comes next with nothing else: no interrupt is shared, and these keys are held
+pub record IsReady (s : ConsoleState) (keys : Keys) : Type 0 where
+  pub processor : Run.IsReady s.cpu
+  pub unshared : shared s.contents ≡ 0
+  pub held : s.contents.pad.keys ≡ key_bits keys
+
+-- such a step, and whether it reaches or passes the next multiple
+pub record IsPassing (old : ConsoleState) (keys : Keys) (passed : Bool) (new : ConsoleState) : Type 0 where
+  pub cycles : ℕ
+  pub step : IsSomeStep old keys cycles new
+  pub reaches : passed ≡ nat_le frame_cycles (old.cycles + cycles)
 
 -- some steps without seconds, none of which ends the frame
 pub record HasGoneOn (old : ConsoleState) (keys : Keys) (new : ConsoleState) : Type 0 where

@@ -1,12 +1,12 @@
 //! The console.
 
-ghost use Rattle.std.specs.Prelude.{◌≡◌, ◌<◌, ◌≤◌, ◌+◌, ◌%◌, true, false, IfOk, IfSome, IsNone};
+ghost use Rattle.std.specs.Prelude.{◌≡◌, ◌<◌, ◌≤◌, ◌+◌, ◌%◌, nat_le, true, false, IfOk};
 ghost use Rattle.gb_ops.specs.Accesses.{event_cycles};
 ghost use Rattle.gb_ops.specs.Play.{IsStart};
 ghost use Rattle.gb_ops.specs.declared.machine.Event.TheVariants as event;
 ghost use Rattle.gb_cpu.specs.Choice.{is_idle};
 ghost use Rattle.gb_console.specs.Console.{IsConsoleStep, IsReachable, at_power_up, machine_of, rom_of, shown};
-ghost use Rattle.gb_console.specs.Frame.{HasGoneOn, IsSomeStep};
+ghost use Rattle.gb_console.specs.Frame.{HasGoneOn, IsReady, IsPassing};
 ghost use Rattle.gb_cpu.specs.Below.gb_ppu.Picture.{frame_cycles};
 ghost use Rattle.gb_verify.specs.Below.gb_abs_memory.Sound.{IsRom};
 
@@ -41,16 +41,20 @@ impl<'a> Model for Console<'a> {
     ghost invariant = { λ c. (c.cycles < frame_cycles) × (c.memory.view.starting ≡ false) × IsReachable c.memory.view.rom (record { processor = c.cpu.processor; storage = c.memory.view.storage }) × IsRom c.memory.view.rom };
 }
 
-/// The M-cycles since power-up, modulo a frame's, with some more.
-fn counted(cycles: u16, more: u8) -> u16
-    requires { cycles < frame_cycles }
-    ensures { result ≡ (cycles + more) % frame_cycles }
+/// Counts M-cycles, modulo a frame's. Answers whether they reached or passed the frame's end.
+#[inline(always)]
+fn count(cycles: &mut u16, more: u8) -> bool
+    requires { cycles.old < frame_cycles }
+    ensures counted { cycles.new ≡ (cycles.old + more) % frame_cycles }
+    ensures passed { result ≡ nat_le frame_cycles (cycles.old + more) }
 {
-    let sum = cycles + u16::from(more);
+    let sum = *cycles + u16::from(more);
     if sum < FRAME_CYCLES {
-        sum
+        *cycles = sum;
+        false
     } else {
-        sum - FRAME_CYCLES
+        *cycles = sum - FRAME_CYCLES;
+        true
     }
 }
 
@@ -88,24 +92,27 @@ impl<'a> Console<'a> {
     {
         take(self.cpu, &mut self.memory, keys, seconds);
         let stepped = act(&mut self.cpu, &mut self.memory);
-        self.cycles = counted(self.cycles, stepped.cycles);
+        count(&mut self.cycles, stepped.cycles);
         stepped
     }
 
-    /// An instruction, where one comes next, no interrupt is shared and these keys are held. Answers its M-cycles,
-    /// or None where nothing was done.
+    /// Whether an instruction comes next with nothing else, no interrupt is shared and these keys are held.
     #[inline(always)]
-    pub(crate) fn run(&mut self, keys: Keys) -> Option<u8>
-        requires { is_idle self.old.cpu ≡ false }
-        ensures step { IfSome result (λ n. IsSomeStep self.old keys n self.new) }
-        ensures none { IsNone result → self.new ≡ self.old }
+    pub(crate) fn is_ready(&mut self, keys: Keys) -> bool
+        ensures same { self.new ≡ self.old }
+        ensures ready { result ≡ true → IsReady self.old keys }
     {
-        if self.cpu.is_waiting || !self.memory.holds(keys) || self.memory.pending() != 0 {
-            return None;
-        }
+        self.cpu.is_ready() && self.memory.pending() == 0 && self.memory.holds(keys)
+    }
+
+    /// An instruction that comes next. Answers whether it reached or passed the frame's end.
+    #[inline(always)]
+    pub(crate) fn run(&mut self, keys: Keys) -> bool
+        requires { IsReady self.old keys }
+        ensures { IsPassing self.old keys result self.new }
+    {
         let cycles = self.cpu.run(&mut self.memory);
-        self.cycles = counted(self.cycles, cycles);
-        Some(cycles)
+        count(&mut self.cycles, cycles)
     }
 
     /// Lets a waiting processor wait while nothing else changes, but not up to a frame's end.

@@ -31,14 +31,12 @@ impl Console<'_> {
     {
         let before = self.cycles();
         let stepped = self.advance(keys, seconds);
-        self.ending(before, stepped.cycles)
+        self.ending(before + u16::from(stepped.cycles) >= FRAME_CYCLES)
     }
 
-    /// How a step of so many M-cycles ended the frame, if it did.
-    #[inline(always)]
-    fn ending(&self, before: u16, cycles: u8) -> Option<Ending>
-        requires { before < frame_cycles }
-        ensures { result ≡ ending_by self.now.cpu.processor.locked self.now.cpu.processor.stopped (nat_le frame_cycles (before + cycles)) }
+    /// How a step ended the frame, if it did, by whether it reached or passed its end.
+    fn ending(&self, is_passed: bool) -> Option<Ending>
+        ensures { result ≡ ending_by self.now.cpu.processor.locked self.now.cpu.processor.stopped is_passed }
     {
         let processor = self.processor();
         if processor.locked {
@@ -47,26 +45,37 @@ impl Console<'_> {
         if processor.stopped {
             return Some(Ending::Stopped);
         }
-        if before + u16::from(cycles) >= FRAME_CYCLES {
+        if is_passed {
             return Some(Ending::Whole);
         }
         None
     }
 
-    /// Instructions, while one comes next, no interrupt is shared and the frame isn't ended; then a processor that waits
-    /// waits for a change. Answers how the frame ended, if it did.
+    /// The same, where it may be known that the console is neither locked nor stopped.
+    #[inline(always)]
+    #[tactic(auto, using(crate::proofs::Going::not_locked))]
+    fn ending_unless(&self, goes: bool, is_passed: bool) -> Option<Ending>
+        requires { goes ≡ true → is_idle self.now.cpu ≡ false }
+        ensures { result ≡ ending_by self.now.cpu.processor.locked self.now.cpu.processor.stopped is_passed }
+    {
+        if goes && !is_passed {
+            return None;
+        }
+        self.ending(is_passed)
+    }
+
+    /// Instructions, while one comes next with nothing else and the frame isn't ended; then a processor that waits waits for
+    /// a change. Answers how the frame ended, if it did.
     #[tactic(auto, unfolding(crate::specs::Frame::ending_after))]
     fn go_on(&mut self, keys: Keys) -> Option<Ending>
         requires { is_idle self.old.cpu ≡ false }
         ensures { HasGone self.old keys result self.new }
     {
-        loop {
-            let before = self.cycles();
-            let cycles = match self.run(keys) {
-                Some(cycles) => cycles,
-                None => break,
-            };
-            match self.ending(before, cycles) {
+        let mut goes = self.is_ready(keys);
+        while goes {
+            let is_passed = self.run(keys);
+            goes = self.is_ready(keys);
+            match self.ending_unless(goes, is_passed) {
                 Some(ending) => return Some(ending),
                 None => {}
             }

@@ -3,3 +3,4 @@ pub mod Kept
 pub mod Pending
 pub mod Running
 pub mod Below
+pub mod Ready

@@ -1,5 +1,5 @@
 -- An instruction of which nothing is told but its M-cycles: its event is some event.
-use Rattle.std.specs.Prelude.{◌≡◌, ℕ, ◌<◌, ◌&&◌, ◌++◌, nat_le, Bool, true, List, [], ◌∷◌, Option}
+use Rattle.std.specs.Prelude.{◌≡◌, ℕ, ◌<◌, ◌&&◌, ◌++◌, nat_le, Bool, true, false, List, [], ◌∷◌, Option}
 use Rattle.gb_ops.specs.declared.machine.Event.{Event}
 use Rattle.gb_ops.specs.declared.op.Row.{Row}
 use Rattle.gb_ops.specs.declared.registers.Processor.{Processor}
@@ -11,8 +11,15 @@ use Rattle.gb_ops.specs.Play.{IsStep}
 use Rattle.gb_ops.specs.Table.{decoded}
 use Rattle.gb_cpu.specs.declared.step.Cpu.{Cpu}
 use Rattle.gb_accesses.specs.Access.{Gave, row_free_reads, HasFreeBytes}
-use Rattle.gb_cpu.specs.Choice.{IsChoice, waits_after}
+use Rattle.gb_accesses.specs.Plain.{IsPlain}
+use Rattle.gb_cpu.specs.Choice.{IsChoice, is_idle, waits_after}
 use Rattle.gb_cpu.specs.Step.{state}
+
+-- an instruction comes next; no HALT mark is left, and interrupts don't wait
+pub record IsReady (cpu : Cpu) : Type 0 where
+  pub plain : IsPlain cpu.processor
+  pub running : is_idle cpu ≡ false
+  pub awake : cpu.is_waiting ≡ false
 
 -- a row's instruction behind its fetch, of n M-cycles, leads from a processor and a bus to others
 pub record IsRowRun {S : Type 0} (shows : S → View) (does : S → Access → S → Type 0) (row : Option Row) (p : Processor) (old : S) (n : ℕ) (q : Processor) (new : S) : Type 0 where

@@ -6,7 +6,6 @@ ghost use Rattle.gb_cpu.specs.Run.{IsOpcodeRun};
 
 use crate::plain::run_plain_row;
 use crate::step::Cpu;
-use gb_accesses::plain::is_plain;
 use gb_accesses::{Bus, fetch_rest, take};
 use gb_ops::decode::decode;
 
@@ -123,45 +122,17 @@ fn run_by_opcode<B: Bus>(cpu: &mut Cpu, bus: &mut B, opcode: u8) -> u8
 }
 
 impl Cpu {
-    ghost use Rattle.gb_cpu.specs.Choice.{is_idle};
-    ghost use Rattle.gb_cpu.specs.Run.{IsSomeStep};
+    ghost use Rattle.gb_cpu.specs.Run.{IsReady, IsSomeStep};
 
-    /// The same as `run`, by no opcode that is known as it is compiled.
-    #[inline(never)]
-    fn run_any<B: Bus>(&mut self, bus: &mut B) -> u8
-        requires running { is_idle self.old ≡ false }
-        requires awake { self.old.is_waiting ≡ false }
-        requires unshared { B.shared bus.old ≡ 0 }
-        ensures { IsSomeStep B.shows B.does (B.shared bus.old) self.old bus.old result self.new bus.new }
-    {
-        self.step(bus).cycles
-    }
-
-    /// The same as `run`, where no HALT mark is left and interrupts don't wait.
+    /// The same as `step` where an instruction comes next, no HALT mark is left, interrupts don't wait and none is shared; it
+    /// answers the M-cycles alone.
     #[inline(always)]
-    fn run_plainly<B: Bus>(&mut self, bus: &mut B) -> u8
-        requires plain { IsPlain self.old.processor }
-        requires running { is_idle self.old ≡ false }
-        requires awake { self.old.is_waiting ≡ false }
+    pub fn run<B: Bus>(&mut self, bus: &mut B) -> u8
+        requires ready { IsReady self.old }
         requires unshared { B.shared bus.old ≡ 0 }
         ensures { IsSomeStep B.shows B.does (B.shared bus.old) self.old bus.old result self.new bus.new }
     {
         let first = take(bus, self.processor.pc);
         run_by_opcode(self, bus, first.byte)
-    }
-
-    /// The same as `step` where an instruction comes next and no interrupt is shared; it answers the M-cycles alone.
-    #[inline(always)]
-    pub fn run<B: Bus>(&mut self, bus: &mut B) -> u8
-        requires running { is_idle self.old ≡ false }
-        requires awake { self.old.is_waiting ≡ false }
-        requires unshared { B.shared bus.old ≡ 0 }
-        ensures { IsSomeStep B.shows B.does (B.shared bus.old) self.old bus.old result self.new bus.new }
-    {
-        if is_plain(&self.processor) {
-            self.run_plainly(bus)
-        } else {
-            self.run_any(bus)
-        }
     }
 }

@@ -10,6 +10,7 @@ ghost use Rattle.gb_ops.specs.Play.{IsStep};
 ghost use Rattle.gb_accesses.specs.Access.{row_free_reads, HasFreeBytes};
 ghost use Rattle.gb_cpu.specs.Step.{state, IsSpecial, IsDispatchable};
 
+use gb_accesses::plain::is_plain;
 use gb_accesses::{
     Bus, advance, cycles_of, fetch, load, mark_of, perform, read_of, settled, store, with_pc,
     with_sp,
@@ -167,6 +168,17 @@ fn special_case(opcode: u8, ime: Ime, shared: u8) -> Option<Special>
 
 impl Cpu {
     ghost use Rattle.gb_cpu.specs.Choice.{IsChoice, is_idle, waits_after};
+    ghost use Rattle.gb_cpu.specs.Run.{IsReady};
+
+    /// Whether an instruction comes next, and nothing else is due with it: no HALT mark is left, and interrupts don't wait.
+    #[inline(always)]
+    #[tactic(auto, using(crate::proofs::Ready::is_ready))]
+    pub fn is_ready(&self) -> bool
+        ensures { result ≡ true → IsReady self.now }
+    {
+        let rests = self.is_waiting | self.processor.locked | self.processor.stopped;
+        !rests && is_plain(&self.processor)
+    }
 
     /// The next event but interrupts: its effect on the processor and the bus.
     #[inline(always)]

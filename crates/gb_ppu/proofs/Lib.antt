@@ -3,6 +3,7 @@ pub mod MapRows
 pub mod PaletteBits
 pub mod Passing
 pub mod Silent
+pub mod Sourceless
 pub mod LaneLaws
 pub mod NearerLanes
 pub mod FrontLines

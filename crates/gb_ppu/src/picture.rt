@@ -189,13 +189,16 @@ impl Picture {
         }
     }
 
-    /// The OR of STAT's sources.
-    #[tactic(auto, unfolding(crate::specs::Picture::signal))]
+    /// The OR of STAT's sources; mostly none is chosen.
+    #[tactic(auto, using(crate::proofs::Sourceless::sourceless), unfolding(crate::specs::Picture::signal))]
     fn signal(self) -> bool
         requires { IsWellFormed self }
         ensures { result ≡ signal self }
     {
         if !is_on(self.lcdc) {
+            return false;
+        }
+        if self.stat == 0 {
             return false;
         }
         has_bit(6, self.stat) && self.line() == self.lyc || self.chooses(self.mode())

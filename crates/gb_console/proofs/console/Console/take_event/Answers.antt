@@ -8,7 +8,7 @@ pub invariant_of-self : goal.invariant_of-self
 unfolding outside
 invariant_of-self c =
     let kept = keeps c.self.inside.cpu.processor c.self.inside.memory c.take.new.memory (is_idle c.self.inside.cpu) c.args.keys c.args.seconds _ _ c.take.ensures c.act-stepped.ensures.machine (record { settled = c.self.invariant.1; reachable = c.self.invariant.2; cartridge = c.self.invariant.3 }) in
-    (omega (arith, c.counted-self-inside.ensures), kept.settled, kept.reachable, kept.cartridge)
+    (omega (arith, c.count.ensures.counted), kept.settled, kept.reachable, kept.cartridge)
 
 pub returns-clause-step : goal.returns-clause-step
 returns-clause-step c =
@@ -20,5 +20,5 @@ returns-clause-step c =
       choice = c.act-stepped.ensures.choice;
       free = c.act-stepped.ensures.free;
       waiting = c.act-stepped.ensures.waiting;
-      cycles = rw (c.counted-self-inside.ensures, c.act-stepped.ensures.cycles) refl;
+      cycles = rw (c.count.ensures.counted, c.act-stepped.ensures.cycles) refl;
     }))
