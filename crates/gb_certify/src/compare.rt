@@ -92,18 +92,21 @@ pub fn work_beside<R: Print + Eprint + Input + Files + AllocGlobal>(
         tell_fault(rt, PROGRAM, before.cert, &files.cert);
         return Ok(status);
     };
-    match (Symbols::parse(rt.alloc(), &files.symbols), before.symbols) {
-        (Ok(old), name) => {
-            let older = Older {
-                cert: &cert,
-                rom: None,
-                symbols: name.map(|_| &old),
-            };
-            work_beside_cartridge(rt, task, bytes, symbols, files, older, is_shown)
-        }
-        (Err(fault), Some(name)) => Ok(tell_symbols(rt, name, fault)),
-        (Err(_), None) => Err(Trouble::Memory),
-    }
+    let old = match (Symbols::parse(rt.alloc(), &files.symbols), before.symbols) {
+        (Ok(old), _) => old,
+        (Err(fault), Some(name)) => return Ok(tell_symbols(rt, name, fault)),
+        (Err(_), None) => return Err(Trouble::Memory),
+    };
+    let older = Older {
+        cert: &cert,
+        rom: None,
+        symbols: if before.symbols.is_some() {
+            Some(&old)
+        } else {
+            None
+        },
+    };
+    work_beside_cartridge(rt, task, bytes, symbols, files, older, is_shown)
 }
 
 /// What a certificate changed, if it can be read and there is an older one.

@@ -160,20 +160,25 @@ fn a_new_build_is_compared_for_programs(rt: HostRuntime) -> Result<(), Fail> {
 }
 
 /// Whether a certificate beside itself has changed nothing.
+fn is_none(alloc: Global, rom: &Rom<'_>, cert: &Cert<'_>, symbols: &Symbols<'_>) -> Option<bool> {
+    let older = Older {
+        cert,
+        rom: Some(rom),
+        symbols: Some(symbols),
+    };
+    let changes = Changes::of(alloc, rom, cert, symbols, &older).ok()?;
+    let text = format!(in alloc; "{changes}").ok()?;
+    Some(changes.is_none() && text.as_str() == "nothing that is compared has changed\n")
+}
+
+/// Whether the game's certificate beside itself has changed nothing.
 fn is_same(alloc: Global) -> Option<bool> {
     let rom = game();
     let rom = Rom::parse(&rom).ok()?;
     let cert = certificate(PROCEDURES, NODES);
     let cert = Cert::parse(alloc, cert.as_slice()).ok()?;
     let symbols = Symbols::none(alloc);
-    let older = Older {
-        cert: &cert,
-        rom: Some(&rom),
-        symbols: Some(&symbols),
-    };
-    let changes = Changes::of(alloc, &rom, &cert, &symbols, &older).ok()?;
-    let text = format!(in alloc; "{changes}").ok()?;
-    Some(changes.is_none() && text.as_str() == "nothing that is compared has changed\n")
+    is_none(alloc, &rom, &cert, &symbols)
 }
 
 #[test]
