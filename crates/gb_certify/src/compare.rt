@@ -44,14 +44,52 @@ pub fn read_before<R: Eprint + Input + Files + AllocGlobal>(
     })
 }
 
-/// Does what a task says, beside an older certificate with its symbols, and with its cartridge, if that is named.
-fn work_beside_cartridge<R: Print + Eprint + Input + Files + AllocGlobal>(
+/// Does what a task says, beside an older certificate with its symbols, if they are named.
+fn work_beside_certificate<'x, R: Print + Eprint + Input + Files + AllocGlobal>(
+    rt: &R,
+    task: &Task<'_>,
+    bytes: &[u8],
+    symbols: &Symbols<'_>,
+    cert: &'x Cert<'_>,
+    old: Option<&'x Symbols<'_>>,
+    is_shown: bool,
+) -> Result<Status, Trouble> {
+    let older = Older {
+        cert,
+        rom: None,
+        symbols: old,
+    };
+    work(rt, task, bytes, symbols, Some(&older), is_shown)
+}
+
+/// The same, with the older cartridge.
+fn work_beside_cartridge<'x, R: Print + Eprint + Input + Files + AllocGlobal>(
+    rt: &R,
+    task: &Task<'_>,
+    bytes: &[u8],
+    symbols: &Symbols<'_>,
+    rom: &'x Rom<'_>,
+    cert: &'x Cert<'_>,
+    old: Option<&'x Symbols<'_>>,
+    is_shown: bool,
+) -> Result<Status, Trouble> {
+    let older = Older {
+        cert,
+        rom: Some(rom),
+        symbols: old,
+    };
+    work(rt, task, bytes, symbols, Some(&older), is_shown)
+}
+
+/// The same, with the older cartridge, if that is named.
+fn work_beside_files<'x, R: Print + Eprint + Input + Files + AllocGlobal>(
     rt: &R,
     task: &Task<'_>,
     bytes: &[u8],
     symbols: &Symbols<'_>,
     files: &OldFiles,
-    older: Older<'_, '_, '_, '_>,
+    cert: &'x Cert<'_>,
+    old: Option<&'x Symbols<'_>>,
     is_shown: bool,
 ) -> Result<Status, Trouble> {
     let Some(
@@ -61,19 +99,14 @@ fn work_beside_cartridge<R: Print + Eprint + Input + Files + AllocGlobal>(
         },
     ) = task.before
     else {
-        return work(rt, task, bytes, symbols, Some(&older), is_shown);
+        return work_beside_certificate(rt, task, bytes, symbols, cert, old, is_shown);
     };
     let Ok(rom) = Rom::parse(&files.rom) else {
         // The line says what is wrong with the cartridge.
         tell_no_cartridge(rt, name);
         return Ok(verify(rt, PROGRAM, &files.rom, b""));
     };
-    let older = Older {
-        cert: older.cert,
-        rom: Some(&rom),
-        symbols: older.symbols,
-    };
-    work(rt, task, bytes, symbols, Some(&older), is_shown)
+    work_beside_cartridge(rt, task, bytes, symbols, &rom, cert, old, is_shown)
 }
 
 /// Does what a task says, beside an older certificate.
@@ -92,21 +125,14 @@ pub fn work_beside<R: Print + Eprint + Input + Files + AllocGlobal>(
         tell_fault(rt, PROGRAM, before.cert, &files.cert);
         return Ok(status);
     };
-    let old = match (Symbols::parse(rt.alloc(), &files.symbols), before.symbols) {
-        (Ok(old), _) => old,
-        (Err(fault), Some(name)) => return Ok(tell_symbols(rt, name, fault)),
-        (Err(_), None) => return Err(Trouble::Memory),
-    };
-    let older = Older {
-        cert: &cert,
-        rom: None,
-        symbols: if before.symbols.is_some() {
-            Some(&old)
-        } else {
-            None
-        },
-    };
-    work_beside_cartridge(rt, task, bytes, symbols, files, older, is_shown)
+    match (Symbols::parse(rt.alloc(), &files.symbols), before.symbols) {
+        (Ok(old), Some(_)) => {
+            work_beside_files(rt, task, bytes, symbols, files, &cert, Some(&old), is_shown)
+        }
+        (Ok(_), None) => work_beside_files(rt, task, bytes, symbols, files, &cert, None, is_shown),
+        (Err(fault), Some(name)) => Ok(tell_symbols(rt, name, fault)),
+        (Err(_), None) => Err(Trouble::Memory),
+    }
 }
 
 /// What a certificate changed, if it can be read and there is an older one.
