@@ -48,6 +48,14 @@ fn tell_standing<W: Write>(
     writeln!(out, "  Rule {reason}")
 }
 
+/// Prints the author's line of an obstacle, where it is known.
+fn tell_line<W: Write>(out: &mut W, obstacle: &Obstacle, symbols: &Symbols<'_>) -> io::Result<()> {
+    match obstacle.line(symbols) {
+        Some(line) => write!(out, "{line}: "),
+        None => Ok(()),
+    }
+}
+
 /// Prints what is in the way.
 fn tell<W: Write>(
     alloc: Global,
@@ -58,10 +66,8 @@ fn tell<W: Write>(
     let Some(obstacle) = obstacles.first() else {
         return writeln!(out, "nothing is told");
     };
+    tell_line(out, obstacle, symbols)?;
     let told = Told { obstacle, symbols };
-    if let Some(line) = obstacle.line(symbols) {
-        write!(out, "{line}: ")?;
-    }
     match obstacle {
         Obstacle::Standing(standing) => tell_standing(alloc, out, &told, standing),
         _ => writeln!(out, "{told}"),
