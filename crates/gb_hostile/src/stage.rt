@@ -95,7 +95,10 @@ impl<'a> Stage<'a> {
 
     /// The same, with a disk on which a page can be written.
     pub fn with_disk(mut self, disk: &'a Disk) -> Stage<'a> {
-        self.names.disk = Some(disk);
+        self.names = Names {
+            disk: Some(disk),
+            ..self.names
+        };
         self
     }
 
