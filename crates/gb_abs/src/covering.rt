@@ -75,9 +75,10 @@ pub fn covers_may(s: May, t: May) -> bool
     implied(s.set, t.set) && implied(s.clear, t.clear)
 }
 
+/// Whether each value that the flags may have in s is one that they may have in t.
 #[inline(always)]
 #[tactic(auto, unfolding(crate::specs::Covering::covers_flags))]
-fn covers_flags(s: &Flg, t: &Flg) -> bool
+pub fn covers_flags(s: &Flg, t: &Flg) -> bool
     ensures { result ≡ covers_flags s.now t.now }
 {
     covers_may(s.zero, t.zero)
@@ -96,9 +97,10 @@ pub fn covers_ime(s: &ImeSet, t: &ImeSet) -> bool
     implied(s.off, t.off) && implied(s.pending, t.pending) && implied(s.on, t.on)
 }
 
+/// Whether each value that the controller's registers may have in s is one that they may have in t.
 #[inline(always)]
 #[tactic(auto, unfolding(crate::specs::Covering::covers_controller))]
-fn covers_controller(s: &Ctl, t: &Ctl) -> bool
+pub fn covers_controller(s: &Ctl, t: &Ctl) -> bool
     ensures { result ≡ covers_controller s.now t.now }
 {
     t.bank_lo <= s.bank_lo

@@ -70,23 +70,27 @@ pub fn settle(core: &Core) -> Core
     Core { ime, ..*core }
 }
 
+/// The same core, an instruction having ended: its M-cycles pass.
+#[tactic(auto, unfolding(crate::specs::Operations::core_end))]
+pub fn pass(starts: bool, cycles: u8, core: &mut Core)
+    ensures exact { core.new ≡ core_end starts cycles core.old }
+{
+    core.bound = if starts {
+        OAM_TRANSFER
+    } else {
+        core.bound.saturating_sub(cycles)
+    };
+}
+
 /// An instruction has ended, and its M-cycles pass: the bound of the OAM transfer's count falls by
 /// them, to 0 at least. Where the instruction started an OAM transfer, the bound is 161.
-#[tactic(auto, using(crate::proofs::OperationLaws::end_sound, crate::proofs::OperationLaws::end_inhabited), unfolding(crate::specs::Operations::core_end))]
+#[tactic(auto, using(crate::proofs::OperationLaws::end_sound, crate::proofs::OperationLaws::end_inhabited))]
 pub fn end(starts: bool, cycles: u8, core: &Core) -> Core
     ensures exact { result ≡ core_end starts cycles core.now }
     ensures sound { IsSoundEnd starts cycles core.now result }
     ensures inhabited { IsCore core.now → IsCore result }
 {
-    if starts {
-        Core {
-            bound: OAM_TRANSFER,
-            ..*core
-        }
-    } else {
-        Core {
-            bound: core.bound.saturating_sub(cycles),
-            ..*core
-        }
-    }
+    let mut after = *core;
+    pass(starts, cycles, &mut after);
+    after
 }

@@ -1,9 +1,10 @@
 //! A node of a certificate, in the bytes of its file.
 
-ghost use Rattle.std.specs.Prelude.{◌≡◌, ◌≤◌, false, []};
+ghost use Rattle.std.specs.Prelude.{◌≡◌, ◌≤◌, false, [], length};
 ghost use Rattle.std.specs.List.{flat_map};
 ghost use Rattle.gb_domain.specs.Types.{state_of};
 ghost use Rattle.gb_domain.specs.RelationRules.{compared, test_alone};
+ghost use Rattle.gb_states.specs.Checked as checked;
 ghost use Rattle.gb_states.specs.Spelling as spelled;
 
 use crate::state::{CORE, StateRef};
@@ -92,6 +93,15 @@ impl<'a> NodeRef<'a> {
         ensures { result ≡ self.now.state.core }
     {
         core_in(self.state)
+    }
+
+    /// The bytes of its state, and what stands behind it.
+    #[inline(always)]
+    pub fn state_bytes(&self) -> &'a [u8]
+        ensures core { checked.core_in result.now ≡ self.now.state.core }
+        ensures long { 40 ≤ length result.now }
+    {
+        self.state
     }
 
     /// What its state's flags say of A where nothing else is known of several parts together: the value that the state's

@@ -10,6 +10,7 @@ ghost use Rattle.gb_product.specs.Covering.{covers, covers_relations};
 ghost use Rattle.gb_product.specs.Reduced.{reduced};
 ghost use Rattle.gb_rules.specs.Covered as Covered;
 
+use crate::in_bytes::covers_core_in;
 use gb_abs::covering::{covers_core, covers_lists};
 use gb_abs::operations::with_value;
 use gb_calls::{Cert, Found, NodeRef};
@@ -92,7 +93,7 @@ fn covers_rest(states: &States<'_>, node: &NodeRef<'_>) -> bool
 fn covers_states(states: &States<'_>, node: &NodeRef<'_>) -> bool
     ensures { result ≡ covers (Covered.with_parts states.now.core.now states.now.relations.now states.now.lists.now) node.now.state }
 {
-    covers_core(states.core, &node.core()) && covers_rest(states, node)
+    covers_core_in(states.core, node.state_bytes()) && covers_rest(states, node)
 }
 
 /// Whether one of the nodes that were found stands for these states.
@@ -355,10 +356,24 @@ pub fn covered_near(
 pub fn covered_at(rules: Rules, cert: &Cert<'_>, procedure: u8, address: u16, state: &Abs) -> bool
     ensures { result ≡ Covered.covered_at rules cert.now.nodes procedure address state.now }
 {
+    is_state_covered(rules, cert, 0, procedure, address, state)
+}
+
+/// The same, where nodes are looked for from the one with the number `near` on.
+pub(crate) fn is_state_covered(
+    rules: Rules,
+    cert: &Cert<'_>,
+    near: u32,
+    procedure: u8,
+    address: u16,
+    state: &Abs,
+) -> bool
+    ensures { result ≡ Covered.covered_at rules cert.now.nodes procedure address state.now }
+{
     let states = States {
         core: state.core(),
         relations: state.relations(),
         lists: state,
     };
-    covered_near(rules, cert, 0, procedure, address, &states)
+    covered_near(rules, cert, near, procedure, address, &states)
 }

@@ -4,11 +4,12 @@ ghost use Rattle.std.specs.Prelude.{◌≡◌, ◌<◌, ◌&&◌, true, false, l
 ghost use Rattle.gb_abs.specs.declared.reason.Reason.TheVariants.{Interrupt};
 ghost use Rattle.gb_calls.specs.Interrupts.{may_come, handler_of};
 ghost use Rattle.gb_successors.specs.Refused as Refused;
+ghost use Rattle.gb_rules.specs.Procedures.{stack_of};
 ghost use Rattle.gb_rules.specs.Rules as Ruled;
 ghost use Rattle.gb_rules.specs.Safety.{IsWhollySafeAt};
 
 use crate::depth::is_deep;
-use crate::procedures::{Call, is_call_uncovered, is_outside_of, is_over, need_of, setting_of};
+use crate::procedures::{Call, is_call_uncovered, is_outside_of, is_over, stack_of};
 use gb_abs::reason::Reason;
 use gb_calls::interrupts::{handler, left_by_dispatch, may_come};
 use gb_calls::{Cert, NodeRef};
@@ -16,6 +17,7 @@ use gb_code::{Rom, holds_bytes};
 use gb_domain::types::{Abs, Core, Rules, Setting};
 use gb_ops::machine::Region;
 use gb_successors::refused::is_stack_limited;
+use gb_successors::stacks::Stack;
 
 /// Whether the bytes that a dispatch leaves are too many, or those that wait and the handler's need are.
 fn is_dispatch_deep(
@@ -61,13 +63,21 @@ fn is_deep_at(
 }
 
 /// Whether an interrupt may come whose dispatch makes the stack too deep.
-#[tactic(auto, unfolding(crate::specs::Rules::handles_too_deep))]
-pub(crate) fn handles_too_deep(cert: &Cert<'_>, node: &NodeRef<'_>, state: &Abs) -> bool
-    requires { state.now ≡ node.now.state }
+#[tactic(auto, unfolding(crate::specs::Rules::handles_too_deep, crate::specs::Procedures::stack_of))]
+pub(crate) fn handles_too_deep(
+    cert: &Cert<'_>,
+    stack: Stack,
+    node: &NodeRef<'_>,
+    state: &Abs,
+) -> bool
+    requires stack { stack ≡ stack_of cert.now node.now.procedure }
+    requires state { state.now ≡ node.now.state }
     ensures { result ≡ Ruled.handles_too_deep cert.now node.now }
 {
-    let procedure = node.procedure();
-    let (setting, need) = (setting_of(cert, procedure), need_of(cert, procedure));
+    if !state.core().ime.on {
+        return false;
+    }
+    let (setting, need) = (stack.setting, stack.need);
     let address = node.address();
     is_deep_at(cert, setting, need, address, state, 0)
         || is_deep_at(cert, setting, need, address, state, 1)
@@ -90,6 +100,9 @@ pub(crate) fn is_dispatch_limited(region: Region, node: &NodeRef<'_>, core: &Cor
     requires { core.now ≡ node.now.state.core }
     ensures { result ≡ Ruled.is_dispatch_limited region node.now }
 {
+    if !core.ime.on {
+        return false;
+    }
     is_limited_at(region, core, 0)
         || is_limited_at(region, core, 1)
         || is_limited_at(region, core, 2)
@@ -104,6 +117,7 @@ const FIRST_VECTOR: u16 = 0x40;
 /// interrupt is handled in the procedure itself, whether that isn't covered at its vector.
 fn is_unhandled(
     cert: &Cert<'_>,
+    near: u32,
     setting: Setting,
     node: &NodeRef<'_>,
     state: &Abs,
@@ -124,6 +138,7 @@ fn is_unhandled(
         || is_call_uncovered(
             setting.rules,
             cert,
+            near,
             procedure,
             call,
             &left_by_dispatch(setting.rules, node.address(), state),
@@ -134,6 +149,7 @@ fn is_unhandled(
 /// Whether interrupt `i`, 0 to 4, may come at a node and isn't provided for.
 fn is_unhandled_at(
     cert: &Cert<'_>,
+    near: u32,
     setting: Setting,
     node: &NodeRef<'_>,
     state: &Abs,
@@ -146,6 +162,7 @@ fn is_unhandled_at(
     may_come(i, state.core())
         && is_unhandled(
             cert,
+            near,
             setting,
             node,
             state,
@@ -156,18 +173,29 @@ fn is_unhandled_at(
 
 /// Whether an interrupt may come at a node that isn't provided for (own rules): the stack isn't set, no procedure may
 /// be entered at its vector, or what its procedure goes on with behind the handler isn't covered where it was left. The
-/// node's state is given, so that it is read from the certificate once.
-#[tactic(auto, unfolding(crate::specs::Rules::lacks_handler))]
-pub fn lacks_handler(cert: &Cert<'_>, node: &NodeRef<'_>, state: &Abs) -> bool
-    requires { state.now ≡ node.now.state }
+/// node's state is given, so that it is read from the certificate once, and what is known of its procedure's stack. Nodes that
+/// cover are looked for from the node with the number `near` on.
+#[tactic(auto, unfolding(crate::specs::Rules::lacks_handler, crate::specs::Procedures::stack_of))]
+pub fn lacks_handler(
+    cert: &Cert<'_>,
+    near: u32,
+    stack: Stack,
+    node: &NodeRef<'_>,
+    state: &Abs,
+) -> bool
+    requires stack { stack ≡ stack_of cert.now node.now.procedure }
+    requires state { state.now ≡ node.now.state }
     ensures { result ≡ Ruled.lacks_handler cert.now node.now }
 {
-    let setting = setting_of(cert, node.procedure());
-    is_unhandled_at(cert, setting, node, state, 0)
-        || is_unhandled_at(cert, setting, node, state, 1)
-        || is_unhandled_at(cert, setting, node, state, 2)
-        || is_unhandled_at(cert, setting, node, state, 3)
-        || is_unhandled_at(cert, setting, node, state, 4)
+    if !state.core().ime.on {
+        return false;
+    }
+    let setting = stack.setting;
+    is_unhandled_at(cert, near, setting, node, state, 0)
+        || is_unhandled_at(cert, near, setting, node, state, 1)
+        || is_unhandled_at(cert, near, setting, node, state, 2)
+        || is_unhandled_at(cert, near, setting, node, state, 3)
+        || is_unhandled_at(cert, near, setting, node, state, 4)
 }
 
 /// Checks that each interrupt that may come at the node with a number is provided for.
@@ -196,7 +224,8 @@ fn provided_at(cert: &Cert<'_>, i: u32) -> Result<(), Reason>
 {
     let node = cert.node(i);
     let state = node.state();
-    if lacks_handler(cert, &node, &state) {
+    let stack = stack_of(cert, node.procedure());
+    if lacks_handler(cert, i, stack, &node, &state) {
         Err(Reason::Interrupt)
     } else {
         Ok(())

@@ -12,6 +12,7 @@
 
 pub mod covered;
 mod depth;
+mod in_bytes;
 pub mod interrupts;
 pub mod procedures;
 pub mod rules;

@@ -9,7 +9,7 @@ ghost use Rattle.gb_rules.specs.Covered as Covered;
 ghost use Rattle.gb_rules.specs.Procedures as Procedures;
 ghost use Rattle.gb_rules.specs.Rules as Ruled;
 
-use crate::covered::{States, covered_at, covered_near};
+use crate::covered::{States, covered_near, is_state_covered};
 use arrayvec::ArrayVec;
 use gb_calls::Cert;
 use gb_calls::callees::callee;
@@ -200,6 +200,7 @@ fn is_overfull(state: &Abs) -> bool
 pub(crate) fn is_back_uncovered(
     rules: Rules,
     cert: &Cert<'_>,
+    near: u32,
     procedure: u8,
     back: u16,
     state: &Abs,
@@ -216,7 +217,7 @@ pub(crate) fn is_back_uncovered(
         Resumed::Nothing => false,
         Resumed::TooDeep => true,
         Resumed::States(resumed) => {
-            is_overfull(&resumed) || !covered_at(rules, cert, procedure, back, &resumed)
+            is_overfull(&resumed) || !is_state_covered(rules, cert, near, procedure, back, &resumed)
         }
     }
 }
@@ -225,6 +226,7 @@ pub(crate) fn is_back_uncovered(
 fn is_inlined_uncovered(
     rules: Rules,
     cert: &Cert<'_>,
+    near: u32,
     procedure: u8,
     address: u16,
     state: &Abs,
@@ -233,7 +235,7 @@ fn is_inlined_uncovered(
 {
     match rules {
         Rules::Simple => false,
-        Rules::Extended => !covered_at(rules, cert, procedure, address, state),
+        Rules::Extended => !is_state_covered(rules, cert, near, procedure, address, state),
     }
 }
 
@@ -241,6 +243,7 @@ fn is_inlined_uncovered(
 pub(crate) fn is_call_uncovered(
     rules: Rules,
     cert: &Cert<'_>,
+    near: u32,
     procedure: u8,
     call: Call,
     state: &Abs,
@@ -249,8 +252,8 @@ pub(crate) fn is_call_uncovered(
     ensures { result ≡ Ruled.is_call_uncovered rules cert.now procedure call.address call.back state.now callee }
 {
     match callee {
-        None => is_inlined_uncovered(rules, cert, procedure, call.address, state),
-        Some(callee) => is_back_uncovered(rules, cert, procedure, call.back, state, callee),
+        None => is_inlined_uncovered(rules, cert, near, procedure, call.address, state),
+        Some(callee) => is_back_uncovered(rules, cert, near, procedure, call.back, state, callee),
     }
 }
 
@@ -267,13 +270,14 @@ pub(crate) struct Call {
 fn is_covered_moved(
     rules: Rules,
     cert: &Cert<'_>,
+    near: u32,
     procedure: u8,
     address: u16,
     successor: &Successor<'_>,
 ) -> bool
     ensures { result ≡ Covered.covered_at rules cert.now.nodes procedure address successor.now.state }
 {
-    covered_at(rules, cert, procedure, address, &successor.state())
+    is_state_covered(rules, cert, near, procedure, address, &successor.state())
 }
 
 /// Whether a node of the procedure at the address stands for the states behind an instruction.
@@ -300,7 +304,7 @@ fn is_covered(
                 lists,
             },
         ),
-        None => is_covered_moved(rules, cert, procedure, address, successor),
+        None => is_covered_moved(rules, cert, near, procedure, address, successor),
     }
 }
 
@@ -358,6 +362,7 @@ pub(crate) struct Calls {
 #[inline(never)]
 fn called_from(
     cert: &Cert<'_>,
+    near: u32,
     stack: Stack,
     procedure: u8,
     address: u16,
@@ -376,16 +381,22 @@ fn called_from(
     Called {
         callee,
         is_deep: is_over(rules, cert, stack.need, state.items().len(), callee),
-        is_uncovered: is_call_uncovered(rules, cert, procedure, call, &state, callee),
+        is_uncovered: is_call_uncovered(rules, cert, near, procedure, call, &state, callee),
     }
 }
 
-fn called_in(cert: &Cert<'_>, stack: Stack, procedure: u8, way: &Option<Successor<'_>>) -> Called
+fn called_in(
+    cert: &Cert<'_>,
+    near: u32,
+    stack: Stack,
+    procedure: u8,
+    way: &Option<Successor<'_>>,
+) -> Called
     ensures { result ≡ Ruled.called_in cert.now stack procedure way.now }
 {
     let Some(successor) = way else { return NO_CALL };
     match successor.target {
-        Target::Call(address) => called_from(cert, stack, procedure, address, successor),
+        Target::Call(address) => called_from(cert, near, stack, procedure, address, successor),
         Target::At(_) | Target::Main(_) | Target::Return | Target::Unknown | Target::Lost =>
             NO_CALL,
     }
@@ -393,13 +404,19 @@ fn called_in(cert: &Cert<'_>, stack: Stack, procedure: u8, way: &Option<Successo
 
 /// What the calls of the successors ask.
 #[tactic(auto, unfolding(crate::specs::Rules::calls_of))]
-pub(crate) fn calls_of(cert: &Cert<'_>, stack: Stack, procedure: u8, ways: &Successors<'_>) -> Calls
+pub(crate) fn calls_of(
+    cert: &Cert<'_>,
+    near: u32,
+    stack: Stack,
+    procedure: u8,
+    ways: &Successors<'_>,
+) -> Calls
     ensures { result ≡ Ruled.calls_of cert.now stack procedure ways.now }
 {
     Calls {
-        taken: called_in(cert, stack, procedure, &ways.taken),
-        not_taken: called_in(cert, stack, procedure, &ways.not_taken),
-        stays: called_in(cert, stack, procedure, &ways.stays),
+        taken: called_in(cert, near, stack, procedure, &ways.taken),
+        not_taken: called_in(cert, near, stack, procedure, &ways.not_taken),
+        stays: called_in(cert, near, stack, procedure, &ways.stays),
     }
 }
 

@@ -2,8 +2,10 @@
 
 ghost use Rattle.std.specs.Prelude.{◌≡◌, ◌<◌, ◌&&◌, length, find, is_some, Option, Some, None, MatchResult, OnOk};
 ghost use Rattle.gb_domain.specs.Limits.{rules_of};
-ghost use Rattle.gb_successors.specs.Successors.{product_before, any_successor};
-ghost use Rattle.gb_rules.specs.Procedures.{stack_of};
+ghost use Rattle.gb_ops.specs.Cartridge.{kind_of};
+ghost use Rattle.gb_successors.specs.Refused.{is_unstorable};
+ghost use Rattle.gb_successors.specs.Successors.{product_before, any_successor, has};
+ghost use Rattle.gb_rules.specs.Procedures.{stack_of, ranges_of};
 ghost use Rattle.gb_rules.specs.Rules as Ruled;
 ghost use Rattle.gb_rules.specs.Rules.{ways_of, node_setting, calls_of, row_reasons, way_reasons, target_reasons, reason_at};
 ghost use Rattle.gb_rules.specs.Safety.{IsSafeAt};
@@ -24,7 +26,10 @@ use gb_code::{Rom, holds_bytes, known_bank};
 use gb_domain::types::{Abs, Core, Rules, Setting};
 use gb_ops::decode::decode;
 use gb_ops::op::{Op, Row};
+use gb_successors::AbsWrite;
+use gb_successors::refused::is_unstorable;
 use gb_successors::stacks::Stack;
+use gb_successors::successor::Successor;
 use gb_successors::successors::{Successors, product_before, successors_of};
 
 fn is_stop(op: Op) -> bool
@@ -72,8 +77,34 @@ fn is_code_limited(core: &Core, address: u16, length: u8) -> bool
     core.bound != 0 && !lies_in_high_ram(address, length)
 }
 
+/// Whether a successor may store where the procedure may not. What that may write is read only where something is stored.
+fn has_unstorable(
+    rom: &Rom<'_>,
+    cert: &Cert<'_>,
+    procedure: u8,
+    setting: Setting,
+    way: &Option<Successor<'_>>,
+) -> bool
+    ensures { result ≡ has (λ t. is_unstorable setting (kind_of rom.now) cert.now.region (ranges_of cert.now procedure) t.write) way.now }
+{
+    let Some(successor) = way else { return false };
+    match successor.write {
+        AbsWrite::Nothing | AbsWrite::Push { .. } => false,
+        AbsWrite::Byte(_, _) | AbsWrite::Word(_, _, _) => {
+            let ranges = ranges_of(cert, procedure);
+            is_unstorable(
+                setting,
+                rom.kind(),
+                cert.region(),
+                ranges.as_slice(),
+                successor.write,
+            )
+        }
+    }
+}
+
 /// Whether one of the successors of the node's instruction may store where no store is allowed.
-#[tactic(auto, unfolding(crate::specs::Rules::stores_outside, crate::specs::Rules::any_of))]
+#[tactic(auto, unfolding(crate::specs::Rules::stores_outside, crate::specs::Rules::any_of, gb_successors::specs::Successors::any_successor))]
 fn stores_outside(
     rom: &Rom<'_>,
     cert: &Cert<'_>,
@@ -86,8 +117,10 @@ fn stores_outside(
     requires ways { ways.now ≡ ways_of rom.now cert.now node.now row }
     ensures { result ≡ Ruled.stores_outside rom.now cert.now node.now row }
 {
-    let ranges = ranges_of(cert, node.procedure());
-    ways.store_outside(setting, rom.kind(), cert.region(), ranges.as_slice())
+    let procedure = node.procedure();
+    has_unstorable(rom, cert, procedure, setting, &ways.taken)
+        || has_unstorable(rom, cert, procedure, setting, &ways.not_taken)
+        || has_unstorable(rom, cert, procedure, setting, &ways.stays)
 }
 
 /// Whether one of them may meet cartridge RAM while it is closed.
@@ -175,11 +208,12 @@ fn call_too_deep(
 }
 
 /// Whether an interrupt may come whose dispatch makes the stack too deep, and something is meant before the instruction.
-fn dispatches_too_deep(cert: &Cert<'_>, node: &NodeRef<'_>, state: &Abs) -> bool
-    requires { state.now ≡ node.now.state }
+fn dispatches_too_deep(cert: &Cert<'_>, stack: Stack, node: &NodeRef<'_>, state: &Abs) -> bool
+    requires stack { stack ≡ stack_of cert.now node.now.procedure }
+    requires state { state.now ≡ node.now.state }
     ensures { result ≡ (Ruled.handles_too_deep cert.now node.now && Ruled.is_possible cert.now node.now) }
 {
-    handles_too_deep(cert, node, state) && is_possible(cert, state)
+    handles_too_deep(cert, stack, node, state) && is_possible(cert, state)
 }
 
 /// Whether the stack would grow over the procedure's need.
@@ -208,7 +242,7 @@ fn grows_too_deep(
         row.op,
         &ways.taken,
     ) || call_too_deep(cert, stack, node.procedure(), ways, calls)
-        || dispatches_too_deep(cert, node, state)
+        || dispatches_too_deep(cert, stack, node, state)
 }
 
 /// Whether the states behind one of them are not covered.
@@ -329,7 +363,7 @@ fn reason_of_ways(
     ensures { result ≡ find (Ruled.applies_to_row rom.now cert.now node.now row) way_reasons }
 {
     let setting = stack.setting;
-    let calls = calls_of(cert, stack, node.procedure(), ways);
+    let calls = calls_of(cert, near, stack, node.procedure(), ways);
     if grows_too_deep(rom, cert, node, state, row, stack, ways, calls) {
         Some(Reason::Depth)
     } else if stores_outside(rom, cert, node, row, setting, ways) {
@@ -349,11 +383,13 @@ fn reason_of_row(
     rom: &Rom<'_>,
     cert: &Cert<'_>,
     near: u32,
+    stack: Stack,
     node: &NodeRef<'_>,
     state: &Abs,
     row: Row,
 ) -> Option<Reason>
-    requires { state.now ≡ node.now.state }
+    requires stack { stack ≡ stack_of cert.now node.now.procedure }
+    requires state { state.now ≡ node.now.state }
     ensures { result ≡ find (Ruled.applies_to_row rom.now cert.now node.now row) row_reasons }
 {
     if is_stop(row.op) {
@@ -362,7 +398,6 @@ fn reason_of_row(
     if may_read_twice(rom, node, state, row.op) {
         return Some(Reason::Halt);
     }
-    let stack = stack_of(cert, node.procedure());
     if breaks_stack(stack, node, state, row.op) {
         return Some(Reason::Stack);
     }
@@ -371,17 +406,19 @@ fn reason_of_row(
 }
 
 /// The lowest reason against a node, by the rules of its instruction. Its state is given, so that it is
-/// read from the certificate once. Nodes that cover are looked for from
+/// read from the certificate once, and what is known of its procedure's stack. Nodes that cover are looked for from
 /// the node with the number `near` on, best its own: they are found quickly a little above it.
 #[tactic(auto, unfolding(crate::specs::Rules::reason_of, crate::specs::Rules::applies, crate::specs::Rules::node_bytes))]
 pub fn reason_near(
     rom: &Rom<'_>,
     cert: &Cert<'_>,
     near: u32,
+    stack: Stack,
     node: &NodeRef<'_>,
     state: &Abs,
 ) -> Option<Reason>
-    requires { state.now ≡ node.now.state }
+    requires stack { stack ≡ stack_of cert.now node.now.procedure }
+    requires state { state.now ≡ node.now.state }
     ensures { result ≡ Ruled.reason_of rom.now cert.now node.now }
 {
     let address = node.address();
@@ -397,7 +434,7 @@ pub fn reason_near(
     };
     match decode(&bytes) {
         None => Some(Reason::UndefinedOpcode),
-        Some(row) => reason_of_row(rom, cert, near, node, state, row),
+        Some(row) => reason_of_row(rom, cert, near, stack, node, state, row),
     }
 }
 
@@ -406,7 +443,7 @@ pub fn reason_of(rom: &Rom<'_>, cert: &Cert<'_>, node: &NodeRef<'_>, state: &Abs
     requires { state.now ≡ node.now.state }
     ensures { result ≡ Ruled.reason_of rom.now cert.now node.now }
 {
-    reason_near(rom, cert, 0, node, state)
+    reason_near(rom, cert, 0, stack_of(cert, node.procedure()), node, state)
 }
 
 /// Checks the node with a number by the rules of its instruction.
@@ -435,7 +472,8 @@ fn lowest_reason(rom: &Rom<'_>, cert: &Cert<'_>, i: u32) -> Result<(), Reason>
 {
     let node = cert.node(i);
     let state = node.state();
-    match reason_near(rom, cert, i, &node, &state) {
+    let stack = stack_of(cert, node.procedure());
+    match reason_near(rom, cert, i, stack, &node, &state) {
         None => Ok(()),
         Some(reason) => Err(reason),
     }

@@ -4,7 +4,7 @@ ghost use Rattle.std.specs.Prelude.{◌≡◌, ◌+◌, ◌≤◌, ◌&&◌, ◌
 ghost use Rattle.gb_fields.specs.Format.{Gives};
 ghost use Rattle.gb_domain.specs.Rules.{has_value};
 ghost use Rattle.gb_states.specs.Checked.{val_in, flg_in, ctl_in, vals_in, core_in, test_in, are_none};
-ghost use Rattle.gb_states.specs.Reading.{to_may, origin_of, origin_at, val_at, may_at, ime_at, test_at, flg_at, ctl_at, vals_at, core_at};
+ghost use Rattle.gb_states.specs.Reading.{to_may, to_ime, origin_of, origin_at, val_at, may_at, ime_at, test_at, flg_at, ctl_at, vals_at, core_at};
 
 use crate::role::Role;
 use gb_domain::types::{Core, Ctl, Flg, ImeSet, May, Origin, Rules, Val};
@@ -15,7 +15,7 @@ use gb_ops::op::Register;
 use gb_ops::registers::Registers;
 
 #[inline(always)]
-pub(crate) fn origin_of(number: u8) -> Option<Origin>
+pub fn origin_of(number: u8) -> Option<Origin>
     ensures { result ≡ origin_of number }
 {
     match number {
@@ -249,7 +249,7 @@ fn val_in(bytes: &[u8], place: usize) -> Val
 }
 
 #[inline(always)]
-fn may_in(bits: u8) -> May
+pub fn may_in(bits: u8) -> May
     ensures { result ≡ to_may bits }
 {
     May {
@@ -259,7 +259,18 @@ fn may_in(bits: u8) -> May
 }
 
 #[inline(always)]
-fn flg_in(bits: u8, own: u8) -> Flg
+pub fn ime_in(bits: u8) -> ImeSet
+    ensures { result ≡ to_ime bits }
+{
+    ImeSet {
+        off: bits % 2 == 1,
+        pending: bits / 2 % 2 == 1,
+        on: bits / 4 == 1,
+    }
+}
+
+#[inline(always)]
+pub fn flg_in(bits: u8, own: u8) -> Flg
     ensures { result ≡ flg_in bits own }
 {
     Flg {
@@ -284,7 +295,7 @@ fn flg_in(bits: u8, own: u8) -> Flg
 }
 
 #[inline(always)]
-fn ctl_in(bytes: &[u8]) -> Ctl
+pub fn ctl_in(bytes: &[u8]) -> Ctl
     requires { 40 ≤ length bytes.now }
     ensures { result ≡ ctl_in bytes.now }
 {
@@ -321,13 +332,8 @@ pub fn core_in(bytes: &[u8]) -> Core
     requires { 40 ≤ length bytes.now }
     ensures { result ≡ core_in bytes.now }
 {
-    let ime = bytes[0];
     Core {
-        ime: ImeSet {
-            off: ime % 2 == 1,
-            pending: ime / 2 % 2 == 1,
-            on: ime / 4 == 1,
-        },
+        ime: ime_in(bytes[0]),
         bound: bytes[1],
         stack_set: bytes[2] == 1,
         ctl: ctl_in(bytes),

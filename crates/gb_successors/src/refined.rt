@@ -12,7 +12,7 @@ use gb_abs_effects::reads::AbsRead;
 use gb_abs_effects::targets::Target;
 use gb_abs_effects::writes::{AbsEffect, AbsWrite};
 use gb_domain::pairs::Bounds;
-use gb_domain::types::{Core, Flg, Halves, Origin, Rules, Setting};
+use gb_domain::types::{Core, Halves, Origin, Rules, Setting};
 use gb_ops::op::{Op, Pair};
 
 /// Where an address is taken from a pair, its bounds are the pair's.
@@ -46,30 +46,15 @@ fn cut_write(bounds: Option<Bounds>, write: AbsWrite) -> AbsWrite
     }
 }
 
-fn with_carry(carry: Option<bool>, core: Core) -> Core
-    ensures { result ≡ Refined.with_carry carry core }
-{
-    match carry {
-        None => core,
-        Some(carry) => Core {
-            flags: Flg {
-                carry: known(carry),
-                ..core.flags
-            },
-            ..core
-        },
-    }
-}
-
-/// An effect whose address and whose carry are known so.
+/// The address and the carry of an effect are known so.
 #[tactic(auto, unfolding(crate::specs::Refined::refined))]
-pub(crate) fn refined(bounds: Option<Bounds>, carry: Option<bool>, effect: AbsEffect) -> AbsEffect
-    ensures { result ≡ Refined.refined bounds carry effect }
+pub(crate) fn refine(bounds: Option<Bounds>, carry: Option<bool>, effect: &mut AbsEffect)
+    ensures { effect.new ≡ Refined.refined bounds carry effect.old }
 {
-    AbsEffect {
-        core: with_carry(carry, effect.core),
-        write: cut_write(bounds, effect.write),
+    if let Some(carry) = carry {
+        effect.core.flags.carry = known(carry);
     }
+    effect.write = cut_write(bounds, effect.write);
 }
 
 /// Whether a word is the one that was pushed as the procedure was entered.

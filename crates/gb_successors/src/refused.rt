@@ -20,7 +20,7 @@ use gb_ops::machine::{Kind, Region};
 
 /// Whether a write may lie where no store is allowed. Both bytes of a word are asked for.
 #[tactic(auto, unfolding(crate::specs::Refused::is_unstorable))]
-fn is_unstorable(
+pub fn is_unstorable(
     setting: Setting,
     kind: Kind,
     region: Region,

@@ -236,28 +236,21 @@ pub(crate) fn move_stack(setting: Setting, stack_move: StackMove, state: &mut Ab
     }
 }
 
-/// The core with the stack set.
-fn core_set(core: Core) -> Core
-    ensures { result ≡ Stacks.core_set core }
-{
-    Core {
-        stack_set: true,
-        ..core
-    }
-}
-
-/// What that makes of the core.
+/// The core behind the stack's move.
 #[tactic(auto, unfolding(crate::specs::Stacks::moved_core))]
-pub(crate) fn moved_core(stack_move: StackMove, core: Core) -> Core
-    ensures { result ≡ Stacks.moved_core stack_move core }
+pub(crate) fn move_core(stack_move: StackMove, core: &mut Core)
+    ensures { core.new ≡ Stacks.moved_core stack_move core.old }
 {
     match stack_move {
-        StackMove::Set(_) => core_set(core),
-        StackMove::Restart(_) => core_set(core_without_origins(&core)),
+        StackMove::Set(_) => core.stack_set = true,
+        StackMove::Restart(_) => {
+            *core = core_without_origins(core);
+            core.stack_set = true;
+        }
         StackMove::Stay
         | StackMove::Push(_)
         | StackMove::Take(_)
         | StackMove::Append(_)
-        | StackMove::Lost => core,
+        | StackMove::Lost => {}
     }
 }

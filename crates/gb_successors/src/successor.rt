@@ -9,12 +9,12 @@ ghost use Rattle.gb_successors.specs.Behind as Behind;
 ghost use Rattle.gb_successors.specs.Successors as Succession;
 ghost use Rattle.gb_successors.specs.Words.{word_or_any};
 
-use crate::refined::{Going, cut_read, refined, refined_target};
-use crate::stacks::{Stack, StackMove, moved_core, stack_move};
+use crate::refined::{Going, cut_read, refine, refined_target};
+use crate::stacks::{Stack, StackMove, move_core, stack_move};
 pub use crate::way::{Moved, Successor};
 use gb_abs::any;
 use gb_abs::located::{sp_bounds, sp_halves};
-use gb_abs::operations::end;
+use gb_abs::operations::{end, pass};
 use gb_abs::span::Span;
 use gb_abs_effects::pairs::any_word;
 use gb_abs_effects::reads::{AbsRead, read_of};
@@ -25,6 +25,7 @@ use gb_abs_memory::Rom;
 use gb_abs_memory::load::loaded_by;
 use gb_abs_memory::store::{Area, area_of, starts_oam_transfer, stored_core};
 use gb_domain::pairs::Bounds;
+use gb_domain::relations::Relations;
 use gb_domain::types::{Abs, Cell, Core, Halves, ImeSet, Rules, Setting};
 use gb_ops::machine::Kind;
 use gb_ops::op::{Op, Row};
@@ -126,26 +127,27 @@ fn move_of(
 
 /// The core behind a write.
 #[tactic(auto, unfolding(crate::specs::Behind::written_core))]
-fn written_core(kind: Kind, write: AbsWrite, core: Core) -> Core
-    ensures { result ≡ Behind.written_core kind write core }
+fn write_core(kind: Kind, write: AbsWrite, core: &mut Core)
+    ensures { core.new ≡ Behind.written_core kind write core.old }
 {
     match write {
-        AbsWrite::Byte(span, val) => stored_core(kind, span, &val, &core),
+        AbsWrite::Byte(span, val) => *core = stored_core(kind, span, &val, core),
         AbsWrite::Word(address, low, high) => {
-            let first = stored_core(kind, Span::one(address), &low, &core);
-            stored_core(kind, Span::one(address.wrapping_add(1)), &high, &first)
+            *core = stored_core(kind, Span::one(address), &low, core);
+            *core = stored_core(kind, Span::one(address.wrapping_add(1)), &high, core);
         }
-        AbsWrite::Nothing | AbsWrite::Push { .. } => core,
+        AbsWrite::Nothing | AbsWrite::Push { .. } => {}
     }
 }
 
 /// The core behind an instruction, of its effect.
 #[tactic(auto, unfolding(crate::specs::Behind::core_behind))]
-fn core_behind(kind: Kind, stack_move: StackMove, cycles: u8, write: AbsWrite, core: Core) -> Core
-    ensures { result ≡ Behind.core_behind kind stack_move cycles write core }
+fn end_core(kind: Kind, stack_move: StackMove, cycles: u8, write: AbsWrite, core: &mut Core)
+    ensures { core.new ≡ Behind.core_behind kind stack_move cycles write core.old }
 {
-    let written = written_core(kind, write, moved_core(stack_move, core));
-    end(starts(write), cycles, &written)
+    move_core(stack_move, core);
+    write_core(kind, write, core);
+    pass(starts(write), cycles, core);
 }
 
 /// The bounds of an address that an instruction takes from a pair.
@@ -185,28 +187,27 @@ pub(crate) fn taken_successor<'a>(
     row: Row,
     next: u16,
     state: &'a Abs,
-    side: &Branch,
+    core: &Core,
+    relations: &Relations,
+    cell: Option<Cell>,
 ) -> Successor<'a>
-    ensures { result ≡ Succession.taken_successor stack rom.now row next state.now side.now }
+    ensures { result ≡ Succession.taken_successor stack rom.now row next state.now (record { core = core.now; relations = relations.now; cell = cell }) }
 {
     let (op, setting) = (row.op, stack.setting);
-    let (core, relations) = (&side.core, &side.relations);
     let pointer = pointer_bounds(setting.rules, op, &core.registers, &relations.pairs);
     let sp = sp_bounds(setting, state);
     let read = cut_read(pointer, read_of(op, core));
     let word = read_word(setting, rom, state, core, read);
-    let effect = refined(
-        pointer,
-        known_carry(setting.rules, op, sp, &core.registers, &relations.pairs),
-        transfer(
-            op,
-            next,
-            sp_halves(setting, state),
-            core,
-            word.low,
-            word.high,
-        ),
+    let mut effect = transfer(
+        op,
+        next,
+        sp_halves(setting, state),
+        core,
+        word.low,
+        word.high,
     );
+    let carry = known_carry(setting.rules, op, sp, &core.registers, &relations.pairs);
+    refine(pointer, carry, &mut effect);
     let stack_move = stack_move(stack, op, effect.write, pointer);
     let going = Going {
         op,
@@ -217,12 +218,19 @@ pub(crate) fn taken_successor<'a>(
         stack_move,
     };
     let kind = rom.kind();
+    end_core(
+        kind,
+        stack_move,
+        row.cycles,
+        effect.write,
+        &mut effect.core,
+    );
     Successor {
         read,
         write: effect.write,
         target: refined_target(setting, going, target_of(op, next, core)),
         next,
-        core: core_behind(kind, stack_move, row.cycles, effect.write, effect.core),
+        core: effect.core,
         relations: relations_after(
             setting.rules,
             stack.region,
@@ -232,7 +240,7 @@ pub(crate) fn taken_successor<'a>(
             word.low,
             relations,
         ),
-        moved: move_of(stack, kind, side.cell, stack_move, effect.write),
+        moved: move_of(stack, kind, cell, stack_move, effect.write),
         before: state,
     }
 }
@@ -269,6 +277,7 @@ pub(crate) fn untaken_successor<'a>(
 }
 
 /// The successor where the processor stays on HALT, and interrupts become on.
+#[inline(never)]
 #[tactic(auto, unfolding(crate::specs::Successors::staying_successor, crate::specs::Behind::ended))]
 pub(crate) fn staying_successor(address: u16, state: &Abs) -> Successor<'_>
     ensures { result ≡ Succession.staying_successor address state.now }

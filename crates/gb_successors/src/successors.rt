@@ -10,6 +10,7 @@ use crate::successor::{
 };
 use gb_abs::may_enable;
 use gb_abs::operations::settle;
+use gb_abs_effects::sides::condition_of;
 use gb_abs_memory::Rom;
 use gb_domain::types::{Abs, Core, Rules};
 use gb_ops::machine::Kind;
@@ -91,13 +92,19 @@ fn taken_from<'a>(
 ) -> Option<Successor<'a>>
     ensures { result ≡ Succession.taken_from stack rom.now row next state.now product.now }
 {
+    let rules = stack.setting.rules;
+    if condition_of(row.op).is_none() {
+        let (core, relations) = (&product.core, &product.relations);
+        let taken = taken_successor(stack, rom, row, next, state, core, relations, None);
+        return reduced_successor(rules, taken);
+    }
     let side = taken_side(row.op, state.cells(), &product.core, &product.relations)?;
-    reduced_successor(
-        stack.setting.rules,
-        taken_successor(stack, rom, row, next, state, &side),
-    )
+    let (core, relations) = (&side.core, &side.relations);
+    let taken = taken_successor(stack, rom, row, next, state, core, relations, side.cell);
+    reduced_successor(rules, taken)
 }
 
+#[inline(never)]
 fn not_taken_from<'a>(
     stack: Stack,
     kind: Kind,
@@ -120,16 +127,19 @@ fn ways<'a>(stack: Stack, rom: &Rom<'_>, row: Row, address: u16, state: &'a Abs)
     ensures { result ≡ Succession.successors_of stack rom.now row address state.now }
 {
     let next = address.wrapping_add(u16::from(row.length));
-    match product_before(stack.setting.rules, state) {
-        None => Successors {
-            taken: None,
-            not_taken: None,
-            stays: None,
-        },
-        Some(product) => Successors {
-            taken: taken_from(stack, rom, row, next, state, &product),
-            not_taken: not_taken_from(stack, rom.kind(), row, next, state, &product),
-            stays: stays(row, address, state),
-        },
+    let mut ways = Successors {
+        taken: None,
+        not_taken: None,
+        stays: None,
+    };
+    if let Some(product) = product_before(stack.setting.rules, state) {
+        ways.taken = taken_from(stack, rom, row, next, state, &product);
+        if condition_of(row.op).is_some() {
+            ways.not_taken = not_taken_from(stack, rom.kind(), row, next, state, &product);
+        }
+        if may_stay(row.op, state.core()) {
+            ways.stays = Some(staying_successor(address, state));
+        }
     }
+    ways
 }

@@ -1,6 +1,7 @@
 //! The check of a certificate.
 
-ghost use Rattle.std.specs.Prelude.{◌≡◌, ◌<◌, length, Option};
+ghost use Rattle.std.specs.Prelude.{◌≡◌, ◌<◌, length, slice_get, Option, Some};
+ghost use Rattle.gb_rules.specs.Procedures.{stack_of};
 ghost use Rattle.gb_ops.specs.declared.machine.Region.{Region};
 ghost use Rattle.gb_verify.specs.PowerUp.{own, core_at_power_up, state_at_power_up};
 ghost use Rattle.gb_verify.specs.Verdict.{IsVerdict, verdict_of, IgnoresVersion, is_bad_entry, main_entry, reason_against_at, entry_of, is_bad_node};
@@ -12,8 +13,9 @@ use gb_ops::machine::Region;
 use gb_ops::op::Register;
 use gb_ops::registers::Registers;
 use gb_rules::interrupts::lacks_handler;
+use gb_rules::procedures::stack_of;
 use gb_rules::rules::reason_near;
-use gb_rules::{Cert, Reason, covers, holds_bytes, known};
+use gb_rules::{Cert, NodeRef, Reason, Stack, covers, holds_bytes, known};
 use gb_text::Rom;
 
 /// A register's value at power-up, which is its own origin.
@@ -103,20 +105,27 @@ fn is_bad_entry(rom: &Rom<'_>, cert: &Cert<'_>, entry: u32) -> bool
 /// The lowest reason against the node with a number. The node's state is read in the place of another one, so that no
 /// room for it has to be cleared.
 #[tactic(auto, unfolding(crate::specs::Verdict::reason_against))]
-fn reason_against(rom: &Rom<'_>, cert: &Cert<'_>, i: u32, state: &mut Abs) -> Option<Reason>
-    requires { i < length cert.now.nodes }
+fn reason_against(
+    rom: &Rom<'_>,
+    cert: &Cert<'_>,
+    i: u32,
+    stack: Stack,
+    node: &NodeRef<'_>,
+    state: &mut Abs,
+) -> Option<Reason>
+    requires node { slice_get cert.now.nodes i ≡ Some node.now }
+    requires stack { stack ≡ stack_of cert.now node.now.procedure }
     ensures { result ≡ reason_against_at rom.now cert.now i }
 {
-    let node = cert.node(i);
     node.read(state);
-    match reason_near(rom, cert, i, &node, state) {
+    match reason_near(rom, cert, i, stack, node, state) {
         Some(reason) => Some(reason),
-        None if lacks_handler(cert, &node, state) => Some(Reason::Interrupt),
+        None if lacks_handler(cert, i, stack, node, state) => Some(Reason::Interrupt),
         None => None,
     }
 }
 
-/// The verdict, as a function.
+/// The verdict, as a function. What is known of a procedure's stack is looked up where its first node comes.
 #[tactic(auto, using(crate::proofs::VerdictLaws::verdict_at), unfolding(crate::specs::Verdict::verdict_of))]
 fn verdict(rom: &Rom<'_>, cert: &Cert<'_>) -> Verdict
     ensures { result ≡ verdict_of rom.now cert.now }
@@ -129,8 +138,15 @@ fn verdict(rom: &Rom<'_>, cert: &Cert<'_>) -> Verdict
         };
     }
     let mut state = Abs::new(core_at_power_up(rom, cert.region()));
+    let mut procedure = 0;
+    let mut stack = stack_of(cert, procedure);
     for i in 0..cert.nodes() {
-        if let Some(reason) = reason_against(rom, cert, i, &mut state) {
+        let node = cert.node(i);
+        if node.procedure() != procedure {
+            procedure = node.procedure();
+            stack = stack_of(cert, procedure);
+        }
+        if let Some(reason) = reason_against(rom, cert, i, stack, &node, &mut state) {
             return Verdict::Refused { node: i, reason };
         }
     }
