@@ -78,6 +78,7 @@ fn is_code_limited(core: &Core, address: u16, length: u8) -> bool
 }
 
 /// Whether a successor may store where the procedure may not. What that may write is read only where something is stored.
+#[tactic(auto, unfolding(gb_successors::specs::Refused::is_unstorable))]
 fn has_unstorable(
     rom: &Rom<'_>,
     cert: &Cert<'_>,

@@ -218,13 +218,7 @@ pub(crate) fn taken_successor<'a>(
         stack_move,
     };
     let kind = rom.kind();
-    end_core(
-        kind,
-        stack_move,
-        row.cycles,
-        effect.write,
-        &mut effect.core,
-    );
+    end_core(kind, stack_move, row.cycles, effect.write, &mut effect.core);
     Successor {
         read,
         write: effect.write,

@@ -15,7 +15,7 @@ use gb_abs_memory::Rom;
 use gb_domain::types::{Abs, Core, Rules};
 use gb_ops::machine::Kind;
 use gb_ops::op::{Op, Row};
-use gb_product::parts::Product;
+use gb_product::parts::{Branch, Product};
 use gb_product::reduced::reduced;
 use gb_product::sides::{not_taken_side, taken_side};
 
@@ -82,6 +82,39 @@ pub fn product_before(rules: Rules, state: &Abs) -> Option<Product>
     }
 }
 
+fn side_successor<'a>(
+    stack: Stack,
+    rom: &Rom<'_>,
+    row: Row,
+    next: u16,
+    state: &'a Abs,
+    side: &Branch,
+) -> Successor<'a>
+    ensures { result ≡ Succession.taken_successor stack rom.now row next state.now side.now }
+{
+    let (core, relations) = (&side.core, &side.relations);
+    taken_successor(stack, rom, row, next, state, core, relations, side.cell)
+}
+
+fn taken_side_from<'a>(
+    stack: Stack,
+    rom: &Rom<'_>,
+    row: Row,
+    next: u16,
+    state: &'a Abs,
+    product: &Product,
+) -> Option<Successor<'a>>
+    ensures { result ≡ Succession.taken_from stack rom.now row next state.now product.now }
+{
+    let side = taken_side(row.op, state.cells(), &product.core, &product.relations)?;
+    reduced_successor(
+        stack.setting.rules,
+        side_successor(stack, rom, row, next, state, &side),
+    )
+}
+
+/// Where there is no condition nothing is cut, so that nothing is copied.
+#[tactic(auto, unfolding(gb_product::specs::Sides::taken_side, gb_abs_effects::specs::Sides::sides_of))]
 fn taken_from<'a>(
     stack: Stack,
     rom: &Rom<'_>,
@@ -92,20 +125,18 @@ fn taken_from<'a>(
 ) -> Option<Successor<'a>>
     ensures { result ≡ Succession.taken_from stack rom.now row next state.now product.now }
 {
-    let rules = stack.setting.rules;
-    if condition_of(row.op).is_none() {
-        let (core, relations) = (&product.core, &product.relations);
-        let taken = taken_successor(stack, rom, row, next, state, core, relations, None);
-        return reduced_successor(rules, taken);
+    let (core, relations) = (&product.core, &product.relations);
+    match condition_of(row.op) {
+        None => reduced_successor(
+            stack.setting.rules,
+            taken_successor(stack, rom, row, next, state, core, relations, None),
+        ),
+        Some(_) => taken_side_from(stack, rom, row, next, state, product),
     }
-    let side = taken_side(row.op, state.cells(), &product.core, &product.relations)?;
-    let (core, relations) = (&side.core, &side.relations);
-    let taken = taken_successor(stack, rom, row, next, state, core, relations, side.cell);
-    reduced_successor(rules, taken)
 }
 
 #[inline(never)]
-fn not_taken_from<'a>(
+fn untaken_from<'a>(
     stack: Stack,
     kind: Kind,
     row: Row,
@@ -122,6 +153,24 @@ fn not_taken_from<'a>(
     )
 }
 
+/// Where there is no condition, it isn't asked for.
+#[tactic(auto, unfolding(gb_product::specs::Sides::not_taken_side, gb_abs_effects::specs::Sides::sides_of))]
+fn not_taken_from<'a>(
+    stack: Stack,
+    kind: Kind,
+    row: Row,
+    next: u16,
+    state: &'a Abs,
+    product: &Product,
+) -> Option<Successor<'a>>
+    ensures { result ≡ Succession.not_taken_from stack row next state.now product.now }
+{
+    match condition_of(row.op) {
+        None => None,
+        Some(_) => untaken_from(stack, kind, row, next, state, product),
+    }
+}
+
 #[tactic(auto, unfolding(crate::specs::Successors::successors_of))]
 fn ways<'a>(stack: Stack, rom: &Rom<'_>, row: Row, address: u16, state: &'a Abs) -> Successors<'a>
     ensures { result ≡ Succession.successors_of stack rom.now row address state.now }
@@ -134,12 +183,8 @@ fn ways<'a>(stack: Stack, rom: &Rom<'_>, row: Row, address: u16, state: &'a Abs)
     };
     if let Some(product) = product_before(stack.setting.rules, state) {
         ways.taken = taken_from(stack, rom, row, next, state, &product);
-        if condition_of(row.op).is_some() {
-            ways.not_taken = not_taken_from(stack, rom.kind(), row, next, state, &product);
-        }
-        if may_stay(row.op, state.core()) {
-            ways.stays = Some(staying_successor(address, state));
-        }
+        ways.not_taken = not_taken_from(stack, rom.kind(), row, next, state, &product);
+        ways.stays = stays(row, address, state);
     }
     ways
 }

@@ -1,4 +1,4 @@
-use Rattle.std.proofs.Common.{◌≡◌, ◌×◌, drop}
+use Rattle.std.proofs.Common.{◌≡◌, drop}
 use Rattle.gb_rules.specs.Procedures.{stack_of}
 use Rattle.gb_verify.specs.Verdict.{verdict_from}
 use Rattle.gb_verify.proofs.check.verdict.Given as goal
