@@ -7,7 +7,9 @@ use crate::progress::Shown;
 use crate::words::Task;
 use gb_command_line::messages::{tell_output, verify};
 use gb_command_line::status::Status;
-use gb_command_line::{Outcome, Plain, Rom, Trouble, verify_bytes};
+use gb_command_line::{
+    Outcome, Plain, Rom, Trouble, UpgradeTo, Upgraded, upgrade_bytes, verify_bytes,
+};
 use gb_page::Older;
 use gb_refine::{Limits, Made, Obstacle, Symbols, Told, make, obstacle_json};
 use std::io;
@@ -22,6 +24,32 @@ pub fn is_accepted<R: AllocGlobal>(rt: &R, rom: &[u8], cert: &[u8]) -> bool {
     match verify_bytes(rt.alloc(), rom, cert, &mut out) {
         Ok(outcome) => outcome == Outcome::Accepted,
         Err(_) => false,
+    }
+}
+
+/// Writes the certificate in version 3; whether it could be.
+fn is_upgraded<R: AllocGlobal>(rt: &R, cert: &[u8], newest: &mut Vec<u8>) -> bool {
+    let mut out = Plain::new(newest);
+    upgrade_bytes(rt.alloc(), cert, UpgradeTo::Three, &mut out) == Ok(Upgraded::Written)
+}
+
+/// A certificate in version 3, where one of an earlier version was made, nobody has asked for its rules, and the checker
+/// accepts it so too.
+pub fn in_newest_version<R: AllocGlobal>(
+    rt: &R,
+    task: &Task<'_>,
+    rom: &[u8],
+    cert: Vec<u8>,
+) -> Vec<u8> {
+    if task.rules.is_some() {
+        return cert;
+    }
+    let mut newest = Vec::new(rt.alloc());
+    let is_written = is_upgraded(rt, &cert, &mut newest);
+    if is_written && newest.as_slice() != cert.as_slice() && is_accepted(rt, rom, &newest) {
+        newest
+    } else {
+        cert
     }
 }
 
@@ -107,6 +135,7 @@ pub fn make_file<R: Print + Eprint + Files + AllocGlobal>(
     match made(rt, task, &rom, is_shown)? {
         Made::Obstacles(obstacles) => report(rt, task, &obstacles, symbols),
         Made::Certificate(cert) if is_accepted(rt, bytes, &cert) => {
+            let cert = in_newest_version(rt, task, bytes, cert);
             write_file(rt, task.cert, &cert)?;
             tell_made(rt, task, bytes, &cert, symbols, older)
         }

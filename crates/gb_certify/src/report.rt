@@ -2,7 +2,7 @@
 
 use crate::compare::{changes_of, tell_verdict};
 use crate::files::{is_missing, write_file, write_whole};
-use crate::making::{is_accepted, made, report};
+use crate::making::{in_newest_version, is_accepted, made, report};
 use crate::messages::PROGRAM;
 use crate::playing::{is_right, played};
 use crate::words::Task;
@@ -155,6 +155,7 @@ fn report_made<R: Print + Eprint + Files + AllocGlobal>(
     match made(rt, task, &rom, is_shown)? {
         Made::Obstacles(obstacles) => write_obstacles(rt, task, name, &rom, &obstacles, symbols),
         Made::Certificate(cert) if is_accepted(rt, bytes, &cert) => {
+            let cert = in_newest_version(rt, task, bytes, cert);
             write_file(rt, task.cert, &cert)?;
             write_page(rt, task, name, bytes, &cert, symbols, older)
         }

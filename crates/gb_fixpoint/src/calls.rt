@@ -39,7 +39,7 @@ impl<'a> Run<'a> {
         let key = self.procedure_key(entered.core(), target, is_handler, cells, context);
         let callee = self.procedure_with(key)?;
         self.link(number, procedure, callee, target)?;
-        self.arrive(Some(number), NodeKey::of_entry(callee, target), entered)?;
+        self.arrive(Some(number), NodeKey::of_entry(callee, target), &entered)?;
         self.inherit_ranges(procedure, callee)?;
         if let Some(resumed) = self.resumed(callee, caller) {
             self.flow(number, back, resumed)?;

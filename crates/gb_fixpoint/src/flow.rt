@@ -44,12 +44,12 @@ impl<'a> Run<'a> {
             address: to,
         };
         let Some(register) = self.split_register(place, state.core()) else {
-            return self.arrive_peeled(from, procedure, place, state);
+            return self.arrive_peeled(from, procedure, place, &state);
         };
         let val = state.core().registers.get(register);
         for value in val.lo..=val.hi {
             if let Some(single) = self.with_bounds(register, value, value, &state) {
-                self.arrive_at(from, procedure, place, single)?;
+                self.arrive_at(from, procedure, place, &single)?;
             }
         }
         Ok(())
@@ -61,15 +61,15 @@ impl<'a> Run<'a> {
         from: usize,
         procedure: usize,
         place: Place,
-        state: Abs,
+        state: &Abs,
     ) -> Result<(), Stop> {
         let Some(register) = self.peeled_register(place, state.core()) else {
             return self.arrive_at(from, procedure, place, state);
         };
         let last = state.core().registers.get(register).hi;
         for (lo, hi) in [(0, 0), (1, last)] {
-            if let Some(part) = self.with_bounds(register, lo, hi, &state) {
-                self.arrive_at(from, procedure, place, part)?;
+            if let Some(part) = self.with_bounds(register, lo, hi, state) {
+                self.arrive_at(from, procedure, place, &part)?;
             }
         }
         Ok(())
@@ -172,11 +172,11 @@ impl<'a> Run<'a> {
         from: usize,
         procedure: usize,
         place: Place,
-        state: Abs,
+        state: &Abs,
     ) -> Result<(), Stop> {
         let cells = self.number_cells(state.cells())?;
-        let words = self.number_words(&state, self.is_keyed(place, state.core()))?;
-        self.record_depth(procedure, &state);
+        let words = self.number_words(state, self.is_keyed(place, state.core()))?;
+        self.record_depth(procedure, state);
         let core = state.core();
         let key = NodeKey::of_state(
             procedure,
@@ -234,7 +234,7 @@ impl<'a> Run<'a> {
         &mut self,
         via: Option<usize>,
         key: NodeKey,
-        state: Abs,
+        state: &Abs,
     ) -> Result<(), Stop> {
         if let Some(number) = self.node_index.get(&key) {
             let number = *number;
@@ -249,7 +249,7 @@ impl<'a> Run<'a> {
         self.at.entry(spot)?.or_default().push(number)?;
         self.nodes.push(Node {
             key,
-            state,
+            state: state.copied(),
             growths: 0,
             via,
             is_queued: false,
@@ -263,7 +263,7 @@ impl<'a> Run<'a> {
     }
 
     /// A node's state becomes one above it and another one.
-    fn grow(&mut self, number: usize, state: Abs) -> Result<(), Stop> {
+    fn grow(&mut self, number: usize, state: &Abs) -> Result<(), Stop> {
         let Some(grown) = self.grown_state(number, state) else {
             return Ok(());
         };
@@ -275,9 +275,9 @@ impl<'a> Run<'a> {
     }
 
     /// A node's state with one more; None where it covers that already.
-    fn grown_state(&self, number: usize, state: Abs) -> Option<Abs> {
+    fn grown_state(&self, number: usize, state: &Abs) -> Option<Abs> {
         let node = self.nodes.get(number)?;
-        if covers(&state, &node.state) {
+        if covers(state, &node.state) {
             return None;
         }
         let rules = self.rules();
@@ -288,7 +288,7 @@ impl<'a> Run<'a> {
         } else {
             Growth::Linked
         };
-        Some(self.widening.grown(rules, growth, &node.state, &state))
+        Some(self.widening.grown(rules, growth, &node.state, state))
     }
 
     /// Whether a node stands at the head of a loop.

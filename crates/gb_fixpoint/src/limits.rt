@@ -15,10 +15,10 @@ pub const PROCEDURES: usize = 255;
 pub const RUN_STEPS: u64 = 60_000_000;
 
 /// How many steps of nodes all rounds together may take: no more is begun behind them.
-pub const ALL_STEPS: u64 = 12_000_000;
+pub const ALL_STEPS: u64 = 4_000_000;
 
 /// The same for each node that is allowed.
-pub const STEPS_A_NODE: u64 = 100;
+pub const STEPS_A_NODE: u64 = 200;
 
 /// The most obstacles that are told.
 pub const OBSTACLES: usize = 10;

@@ -101,15 +101,25 @@ fn is_half(register: Register, pair: WordPair) -> bool {
     register == high || register == low
 }
 
-/// A link of a pair with another pair.
+/// Whether a pair has a link that reads another one: both would be known by one another, and by nothing else.
+fn reads(pair: WordPair, read: WordPair, pairs: &Pairs) -> bool {
+    match facts_of(pair, pairs).link {
+        Some(link) => matches!(link.other, Other::Pair(other) if are_same_pairs(other, read)),
+        None => false,
+    }
+}
+
+/// A link of a pair with another pair that isn't linked with it.
 fn link_to_pair(
     pair: WordPair,
+    linked: &Pairs,
     before: Known<'_>,
     behind: Known<'_>,
     is_down: bool,
 ) -> Option<Link> {
     for other in WORD_PAIRS {
         if !are_same_pairs(other, pair)
+            && !reads(other, pair, linked)
             && is_counted_down(Other::Pair(other), before, behind) == is_down
             && let Some(link) = link_by(pair, Other::Pair(other), before, behind)
         {
@@ -140,11 +150,11 @@ fn link_to_register(
 
 /// A link of a pair that holds in both states: with what is counted down first, and with another pair before its bytes,
 /// since a byte goes round where its pair goes on.
-fn inferred(pair: WordPair, before: Known<'_>, behind: Known<'_>) -> Option<Link> {
-    link_to_pair(pair, before, behind, true)
+fn inferred(pair: WordPair, linked: &Pairs, before: Known<'_>, behind: Known<'_>) -> Option<Link> {
+    link_to_pair(pair, linked, before, behind, true)
         .or(link_to_register(pair, before, behind, true))
         .or(link_to_register(pair, before, behind, false))
-        .or(link_to_pair(pair, before, behind, false))
+        .or(link_to_pair(pair, linked, before, behind, false))
 }
 
 /// What is known of pairs in both states, with links that hold in both where none is known yet.
@@ -153,7 +163,7 @@ pub(crate) fn with_links(pairs: &Pairs, before: Known<'_>, behind: Known<'_>) ->
     for pair in WORD_PAIRS {
         let facts = facts_of(pair, pairs);
         if facts.link.is_none() {
-            let link = inferred(pair, before, behind);
+            let link = inferred(pair, &linked, before, behind);
             set_facts(pair, PairFacts { link, ..facts }, &mut linked);
         }
     }

@@ -110,7 +110,7 @@ impl<'a> Run<'a> {
         let base = main_base(self.rules(), region);
         let main = Procedure::new(self.alloc, ProcedureKey::of_main(&core, base));
         self.procedures.push(main)?;
-        self.arrive(None, NodeKey::of_entry(0, START), Abs::new(core))
+        self.arrive(None, NodeKey::of_entry(0, START), &Abs::new(core))
     }
 
     /// Steps a node.

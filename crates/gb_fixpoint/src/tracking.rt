@@ -15,12 +15,28 @@ fn tracked_cells(cells: &[Cell], tracked: &[u16]) -> ArrayVec<Cell, 64> {
     kept
 }
 
+/// Whether all cells say something, and their addresses are among these. Both are in order of address.
+fn are_tracked(cells: &[Cell], tracked: &[u16]) -> bool {
+    let mut rest = tracked;
+    for cell in cells {
+        while let [address, others @ ..] = rest {
+            if *address >= cell.address {
+                break;
+            }
+            rest = others;
+        }
+        match rest {
+            [address, ..] if *address == cell.address && cell.val != any() => {}
+            _ => return false,
+        }
+    }
+    true
+}
+
 /// The state keeps the cells that say something and whose addresses are among these, which are in order, and the bounds of
 /// pairs that say something.
 pub fn keep_tracked(state: &mut Abs, tracked: &[u16]) {
-    let are_kept = state.cells().iter().all(|cell| cell.val != any()
-        && tracked.binary_search(&cell.address).is_ok());
-    if !are_kept {
+    if !are_tracked(state.cells(), tracked) {
         let cells = tracked_cells(state.cells(), tracked);
         state.set_cells(cells);
     }

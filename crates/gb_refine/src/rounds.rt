@@ -143,7 +143,7 @@ pub(crate) struct Refinement<'a> {
     pub(crate) pairs: u64,
     /// The steps of all runs.
     spent: u64,
-    /// Whether the limit of nodes or of steps was met.
+    /// Whether the limit of nodes was met.
     pub(crate) is_limited: bool,
 }
 
@@ -489,7 +489,6 @@ impl<'a> Refinement<'a> {
                 return Ok(made);
             }
             if self.spent > self.most_steps() {
-                self.is_limited = true;
                 return self.out_of_rounds(round.saturating_add(1));
             }
         }
