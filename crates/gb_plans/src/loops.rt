@@ -251,7 +251,27 @@ fn items_counted(run: &Run<'_>, procedure: usize, around: &Loop) -> u64 {
     items
 }
 
-/// The rounds of a loop are told apart by counters that it keeps on the stack, of which no comparison tells anything.
+/// The registers but A that a loop counts up or down.
+fn registers_counted(run: &Run<'_>, procedure: usize, around: &Loop) -> RegisterSet {
+    let mut counted = RegisterSet::empty();
+    for address in around.iter() {
+        let spot = Spot {
+            procedure,
+            address: *address,
+        };
+        if let Some(
+            Op::Increment(Operand::Register(register)) | Op::Decrement(Operand::Register(register)),
+        ) = op_at(run, spot)
+            && register != Register::A
+        {
+            counted.insert(register);
+        }
+    }
+    counted
+}
+
+/// The rounds of a loop are told apart by counters that it keeps on the stack, of which no comparison tells anything, and by those
+/// in registers beside them.
 fn count_items(
     alloc: Global,
     run: &Run<'_>,
@@ -260,6 +280,7 @@ fn count_items(
 ) -> Result<Option<Plan>, AllocError> {
     let target = run.target(procedure);
     let items = items_counted(run, procedure, around);
+    let registers = registers_counted(run, procedure, around);
     let mut plan = Plan::new(alloc);
     let mut is_new = false;
     for address in around.iter() {
@@ -270,6 +291,11 @@ fn count_items(
         if run.configuration.items_at(place) & items != items {
             plan.add(Edit::CountItems(place, items))?;
             is_new = true;
+            for register in REGISTERS {
+                if registers.contains(register) {
+                    plan.add(Edit::Count(place, register))?;
+                }
+            }
         }
     }
     if is_new {
@@ -468,6 +494,12 @@ fn refine_counters(
     if run.rules() == Rules::Simple {
         return Ok(None);
     }
+    // A loop whose counter is known in each round so far has no way out yet.
+    for around in loops {
+        if let Some(plan) = count_items(alloc, run, procedure, around)? {
+            return Ok(Some(plan));
+        }
+    }
     for around in loops {
         if let Some(plan) = peel_loop(alloc, run, ways, procedure, around)? {
             return Ok(Some(plan));
@@ -477,12 +509,6 @@ fn refine_counters(
         if !ways.is_endless(around)
             && let Some(plan) = count_rounds(alloc, run, procedure, around, innermost)?
         {
-            return Ok(Some(plan));
-        }
-    }
-    // A loop whose counter is known in each round so far has no way out yet.
-    for around in loops {
-        if let Some(plan) = count_items(alloc, run, procedure, around)? {
             return Ok(Some(plan));
         }
     }
