@@ -306,14 +306,14 @@ impl<'a> Refinement<'a> {
         Ok(())
     }
 
-    /// The last edit is taken back. Another one is tried in its place, as long as few were taken back; else the failure that it was
-    /// to mend stands. Without an edit nothing is changed.
-    fn take_back(&mut self) -> Result<Option<Place>, AllocError> {
+    /// The last edit is taken back. Another one is tried in its place, as long as fewer than so many were taken back; else the
+    /// failure that it was to mend stands. Without an edit nothing is changed.
+    fn take_back(&mut self, most: u32) -> Result<Option<Place>, AllocError> {
         match self.before.take() {
             Some(before) => {
                 let place = before.place;
                 self.go_back(before)?;
-                if self.taken_back < self.most_taken_back() {
+                if self.taken_back < most {
                     self.taken_back = self.taken_back.saturating_add(1);
                 } else {
                     self.stand(place)?;
@@ -348,7 +348,8 @@ impl<'a> Refinement<'a> {
     /// A run was too large: the last edit was too much, or there was none.
     fn shrink_back(&mut self, crowd: Crowd) -> Result<Option<Made>, AllocError> {
         self.is_limited = true;
-        match self.take_back()? {
+        let most = self.most_taken_back();
+        match self.take_back(most)? {
             Some(place) if self.given_up.len() < OBSTACLES => {
                 self.too_large.insert(place)?;
                 Ok(None)
@@ -454,7 +455,7 @@ impl<'a> Refinement<'a> {
             Change::Mend(mending) => self.refine(mending),
             Change::GiveUp(place) => self.stand(place),
             Change::TakeBack => {
-                self.take_back()?;
+                self.take_back(TAKEN_BACK_OF_MANY)?;
                 Ok(())
             }
         }
