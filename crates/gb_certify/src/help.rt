@@ -8,7 +8,7 @@ one of that name stays as it was); standard output says so in a line, and standa
 instruction, the rule, the state there, the way there, and what usually mends it.
 
   certify game.gb game.cert --sym game.sym   tells addresses by symbols (RGBDS .sym, SDCC .noi and .map)
-  certify game.gb game.cert --lines game.cdb   tells the line of the source too, as game.c:120 (SDCC .cdb)
+  certify game.gb game.cert --lines game.cdb   tells the line of the source too, as game.c:120 (SDCC .cdb and .rst)
   certify --explain game.gb game.cert        reads CERT: its verdict, why it is refused, and what the maker finds
   certify --list game.gb game.cert           reads CERT: its nodes with instructions, registers and cells
   certify --report page.html game.gb game.cert   a page for a browser: banks, stack, interrupts, RAM, the listing; CERT is

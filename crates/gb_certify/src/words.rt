@@ -125,7 +125,7 @@ fn with_options<'a>(alloc: Global) -> Result<Command<'a>, AllocError> {
         alloc,
         "lines",
         "FILE",
-        "Tell the lines of sources by this file, SDCC's .cdb",
+        "Tell the lines of sources by this file, SDCC's .cdb or .rst",
     );
     let nodes = option_arg(
         alloc,

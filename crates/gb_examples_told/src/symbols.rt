@@ -1,4 +1,4 @@
-//! Lines of each format of symbols, as their tools write them, and the places that they give.
+//! Lines of each format of symbols and of sources' lines, as their tools write them, and what they give.
 
 use gb_reports::{Format, Place, SymbolFault, SymbolFaultKind, Symbols};
 use std::process::Abort;
@@ -12,6 +12,14 @@ const NOI: &[u8] =
 
 const MAP: &[u8] =
     b"ASxxxx Linker V03.00\n\n      Value  Global                              Global Defined In Module\n      -----  --------------------------------   ------------------------\n     00000200  _main                              game\n     00014010  _far                               game\n";
+
+/// Two lines of C and their instructions, one of a start-up's, and one in a bank.
+const CDB: &[u8] =
+    b"M:game\nL:C$game.c$7$1_0$3:150\nL:A$game$20:150\nL:A$game$21:152\nL:C$game.c$9$1_0$3:155\nL:A$game$22:155\nL:A$start$5:200\nL:A$far$8:14000\n";
+
+/// A module that includes a file.
+const RST: &[u8] =
+    b"                                      1 ; a game\n                                      2 \t.module game\n                                      3 \t.include \"more.inc\"\t; more\n                           00E000     1 TOP\t= 0xE000\n      000150 31 00 E0                 2 \tld\tsp, #TOP\n                                      4 \n      000153                          5 loop:\n      000153 18 FE                    6 \tjr\tloop\n      014000 C9                       7 \tret\n";
 
 /// A name and an offset.
 fn offset(name: &'static str, offset: u16) -> Place<'static> {
@@ -75,5 +83,86 @@ fn what_is_no_file_of_symbols_is_told(rt: HostRuntime) -> Result<(), Fail> {
                 line: 2
             }
     );
+    Ok(())
+}
+
+/// Whether a file's lines say so of addresses, each with its bank; nothing where no instruction of theirs begins.
+fn tells(
+    rt: &(impl AllocGlobal + Abort),
+    bytes: &[u8],
+    wanted: &[(u16, u16, &'static str)],
+) -> bool {
+    let mut symbols = Symbols::none(rt.alloc());
+    if symbols.add_lines(rt.alloc(), bytes).is_err() {
+        return false;
+    }
+    for (bank, address, text) in wanted {
+        let told = match symbols.line(*bank, *address) {
+            Some(line) => format!(in rt.alloc(); "{line}"),
+            None => Ok(String::new(rt.alloc())),
+        };
+        match told {
+            Ok(told) if told.as_str() == *text => {}
+            _ => return false,
+        }
+    }
+    true
+}
+
+#[test]
+fn lines_of_sources(rt: HostRuntime) {
+    assert!(rt;
+        tells(
+            &rt,
+            CDB,
+            &[
+                (0, 0x0150, "game.c:7"),
+                (1, 0x0152, "game.c:7"),
+                (0, 0x0155, "game.c:9"),
+                (0, 0x0153, ""),
+                (0, 0x0200, "start.asm:5"),
+                (1, 0x4000, "far.asm:8"),
+                (2, 0x4000, ""),
+            ]
+        )
+    );
+    assert!(rt;
+        tells(
+            &rt,
+            RST,
+            &[
+                (0, 0x0150, "more.inc:2"),
+                (0, 0x0153, "game.asm:6"),
+                (1, 0x4000, "game.asm:7"),
+                (0, 0x0151, ""),
+            ]
+        )
+    );
+}
+
+/// Files that tell of no line.
+const NO_LINES: &[(&[u8], SymbolFaultKind)] = &[
+    (b"\xFF\xFE", SymbolFaultKind::NotText),
+    (b"", SymbolFaultKind::NoLines),
+    (
+        b"L:A$game$x:150\nL:C$game.c:150\n",
+        SymbolFaultKind::NoLines,
+    ),
+    (
+        b"      000150 31 00 E0                49 \tno module\n",
+        SymbolFaultKind::NoLines,
+    ),
+];
+
+#[test]
+fn what_tells_of_no_line(rt: HostRuntime) -> Result<(), Fail> {
+    for (bytes, kind) in NO_LINES {
+        let mut symbols = Symbols::none(rt.alloc());
+        let fault = symbols
+            .add_lines(rt.alloc(), bytes)
+            .err()
+            .ok_or("no lines")?;
+        assert!(rt; fault.kind == *kind);
+    }
     Ok(())
 }

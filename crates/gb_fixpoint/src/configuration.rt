@@ -38,6 +38,9 @@ pub struct Configuration {
     pub split: HashMap<Place, RegisterSet>,
     /// The registers whose known values are part of the key: counters of outer loops, whose rounds are told apart.
     pub counted: HashMap<Place, RegisterSet>,
+    /// The bytes of the stack whose known values are part of the key, a bit for each of the first 64 by its place: counters that are
+    /// kept on the stack.
+    pub counted_items: HashMap<Place, u64>,
     /// The registers of which is part of the key whether they are 0, or FF: counters that begin at 0, or that are counted down
     /// before they are looked at, where the first or the last round is told apart.
     pub peeled: HashMap<Place, RegisterSet>,
@@ -55,6 +58,8 @@ pub struct Configuration {
     pub arguments: HashMap<u16, u8>,
     /// Places with a failure that stands. Nothing goes on from there; the run goes on elsewhere.
     pub given_up: HashSet<Place>,
+    /// The numbers of plans that were taken back, and are not to be tried again.
+    pub taken_back: BTreeSet<u64>,
     /// The values at which widening stops, besides 0 and 255.
     pub points: BTreeSet<u8>,
     /// The most nodes.
@@ -83,6 +88,7 @@ impl Configuration {
             paged: HashSet::new(alloc),
             split: HashMap::new(alloc),
             counted: HashMap::new(alloc),
+            counted_items: HashMap::new(alloc),
             peeled: HashMap::new(alloc),
             parted: HashMap::new(alloc),
             flat: HashSet::new(alloc),
@@ -91,6 +97,7 @@ impl Configuration {
             based: HashSet::new(alloc),
             arguments: HashMap::new(alloc),
             given_up: HashSet::new(alloc),
+            taken_back: BTreeSet::new(alloc),
             points: BTreeSet::from_array(alloc, POINTS)?,
             limit: NODES,
         })
@@ -109,6 +116,14 @@ impl Configuration {
     pub fn arguments_at(&self, target: u16) -> u8 {
         match self.arguments.get(&target) {
             Some(bytes) => *bytes,
+            None => 0,
+        }
+    }
+
+    /// The bytes of the stack whose known values are part of the key at a place.
+    pub fn items_at(&self, place: Place) -> u64 {
+        match self.counted_items.get(&place) {
+            Some(items) => *items,
             None => 0,
         }
     }

@@ -175,7 +175,9 @@ impl<'a> Run<'a> {
         state: &Abs,
     ) -> Result<(), Stop> {
         let cells = self.number_cells(state.cells())?;
-        let words = self.number_words(state, self.is_keyed(place, state.core()))?;
+        let is_keyed = self.is_keyed(place, state.core());
+        let counted = self.configuration.items_at(place);
+        let words = self.number_words(state, is_keyed, counted)?;
         self.record_depth(procedure, state);
         let core = state.core();
         let key = NodeKey::of_state(

@@ -66,24 +66,31 @@ impl<'a> Run<'a> {
         }
     }
 
-    /// The words that tell a state apart; where all is told apart, all known bytes of the stack.
-    fn words_of(&self, state: &Abs, is_keyed: bool) -> Words {
+    /// The words that tell a state apart; where all is told apart, all known bytes of the stack, else those that are counted.
+    fn words_of(&self, state: &Abs, is_keyed: bool, counted: u64) -> Words {
         let mut words = ArrayVec::new();
         if is_keyed {
-            add_known(state.items(), &mut words);
+            add_known(state.items(), u64::MAX, true, &mut words);
         } else {
             self.add_items(state.items(), &mut words);
+            add_known(state.items(), counted, false, &mut words);
         }
         self.add_pairs(&state.core().registers, &mut words);
         words
     }
 
     /// The number of the words that tell a state apart: 0 where there are none.
-    pub(crate) fn number_words(&mut self, state: &Abs, is_keyed: bool) -> Result<usize, Stop> {
-        if self.rules() == Rules::Simple || (self.returns.is_empty() && !is_keyed) {
+    pub(crate) fn number_words(
+        &mut self,
+        state: &Abs,
+        is_keyed: bool,
+        counted: u64,
+    ) -> Result<usize, Stop> {
+        let has_none = self.returns.is_empty() && !is_keyed && counted == 0;
+        if self.rules() == Rules::Simple || has_none {
             return Ok(0);
         }
-        let words = self.words_of(state, is_keyed);
+        let words = self.words_of(state, is_keyed, counted);
         if words.is_empty() {
             return Ok(0);
         }
@@ -97,11 +104,14 @@ impl<'a> Run<'a> {
     }
 }
 
-/// Adds the bytes of items that are known.
-fn add_known(items: &[Val], words: &mut Words) {
+/// Adds those bytes of items that are known and whose bits are set; of those behind the 64th it is said whether they are wanted.
+fn add_known(items: &[Val], wanted: u64, with_others: bool, words: &mut Words) {
     let mut place: u16 = 0;
+    let mut left = wanted;
     for item in items {
-        if let Some(byte) = known(*item) {
+        let is_wanted = left & 1 == 1 || (with_others && place >= 64);
+        left >>= 1;
+        if is_wanted && let Some(byte) = known(*item) {
             let word = u16::from(byte);
             let _ = words.try_push(PlacedWord { place, word });
         }

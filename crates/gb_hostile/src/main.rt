@@ -2,14 +2,15 @@
 //! missing, refused, cut off, slow, interrupted, failing or without an end, an output that takes so many bytes and no more,
 //! and a standard error that takes nothing.
 //!
-//! rows.rt has the examples, with the line and the status that README.md says. Each is played as it is, with a standard error
-//! that fails, and with an output that fails behind each number of bytes (play.rt): then the beginning of the line is out, the
-//! status is 3, and standard error says so. A line for each example says how often it was played and how often it did
+//! rows.rt and cuts.rt have the examples, with the line and the status that README.md says. Each is played as it is, with a
+//! standard error that fails, and with an output that fails behind each number of bytes (play.rt): then the beginning of the
+//! line is out, the status is 3, and standard error says so. A line for each example says how often it was played and how often it did
 //! otherwise: twice, and once for each byte of its line (of a screen's lines, for every 389th). A page is written on a disk
 //! (disk.rt) that can't give it its name, or is full behind so many bytes: then
 //! nothing of it is left.
 #![tactic(auto)]
 
+mod cuts;
 mod device;
 mod disk;
 mod play;
@@ -17,11 +18,12 @@ mod rows;
 mod said;
 mod stage;
 
+use cuts::CUTS;
 use gb_samples::cartridges::{PLAIN, put, small};
 use gb_samples::certificates::{least, least_in_version_2};
 use gb_samples::programs::{LOOP, UNDEFINED};
 use play::{Contents, Plays, play, play_cuts, play_page};
-use rows::{CUTS, FAULTY, PAGES, READ};
+use rows::{FAULTY, PAGES, READ};
 use std::io::{self, Write};
 
 /// Says how an example went.

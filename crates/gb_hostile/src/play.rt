@@ -56,6 +56,7 @@ impl<'a> Contents<'a> {
             Content::Certificate => &self.longer[..self.longer.len().saturating_sub(1)],
             Content::Longer => self.longer,
             Content::Markup => self.markup,
+            Content::Garbage => &[0xFF, 0xFE, 0x00, 0x80],
         }
     }
 

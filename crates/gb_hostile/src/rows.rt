@@ -24,6 +24,8 @@ pub enum Content {
     Longer,
     /// Symbols with markup in their names.
     Markup,
+    /// Bytes that are no text.
+    Garbage,
 }
 
 /// What stands behind a name.
@@ -84,7 +86,7 @@ pub struct Cuts {
 }
 
 /// More bytes than any of the files has.
-const ALL: usize = usize::MAX;
+pub(crate) const ALL: usize = usize::MAX;
 
 const CARTRIDGE: Given = Given::Read(Content::Cartridge, ALL, Pace::Whole, Ending::End);
 
@@ -99,9 +101,9 @@ const EMPTY: Given = Given::Read(Content::Empty, 0, Pace::Whole, Ending::End);
 /// Zeros without an end.
 const ZEROS: Given = Given::Read(Content::Empty, 0, Pace::Whole, Ending::Zeros);
 
-const FAILING: Ending = Ending::Failing(ErrorKind::Other);
+pub(crate) const FAILING: Ending = Ending::Failing(ErrorKind::Other);
 
-const NO_ROOM: Ending = Ending::Failing(ErrorKind::OutOfMemory);
+pub(crate) const NO_ROOM: Ending = Ending::Failing(ErrorKind::OutOfMemory);
 
 const ACCEPTED: Written = Written::Text("ACCEPTED nodes 3 procedures 1\n");
 
@@ -112,9 +114,9 @@ const UNCHANGED: &str = "\
 ACCEPTED nodes 3 procedures 1\n\
 {\"before\":{\"stack\":0,\"way\":null},\"differences\":[],\"is_changed\":false,\"now\":{\"stack\":0,\"way\":[\"main\"]}}\n";
 
-const DEVICE: Written = Written::Text("FAULT device\n");
+pub(crate) const DEVICE: Written = Written::Text("FAULT device\n");
 
-const MEMORY: Written = Written::Text("FAULT memory\n");
+pub(crate) const MEMORY: Written = Written::Text("FAULT memory\n");
 
 const NOTHING: Written = Written::Text("");
 
@@ -145,7 +147,7 @@ procedure 0: 0 bytes of stack, does not return, writes no RAM\n    \
 );
 
 /// Both files are read, and the verdict is written.
-const VERIFY: Row = Row {
+pub(crate) const VERIFY: Row = Row {
     about: "verify",
     program: Program::Gulmyrek,
     words: &[b"gulmyrek", b"verify", b"game.gb", b"game.cert"],
@@ -166,7 +168,7 @@ const HEADER: Row = Row {
     ..VERIFY
 };
 
-const SHOW: Row = Row {
+pub(crate) const SHOW: Row = Row {
     about: "show",
     words: &[b"gulmyrek", b"show", b"game.cert"],
     game: MISSING,
@@ -183,7 +185,7 @@ const UPGRADE: Row = Row {
 };
 
 /// Two frames with a script that never ends: no more of it is read.
-const RUN: Row = Row {
+pub(crate) const RUN: Row = Row {
     about: "run with a script without an end",
     words: &[b"gulmyrek", b"run", b"game.gb", b"game.keys", b"2"],
     cert: MISSING,
@@ -192,7 +194,7 @@ const RUN: Row = Row {
     ..VERIFY
 };
 
-const VERIFY_INPUT: Row = Row {
+pub(crate) const VERIFY_INPUT: Row = Row {
     about: "a cartridge on standard input, a byte with each read",
     words: &[b"gulmyrek", b"verify", b"-", b"game.cert"],
     game: MISSING,
@@ -211,6 +213,29 @@ const CERTIFY: Row = Row {
     status: 1,
     told: "00:0150",
     ..VERIFY
+};
+
+const LINES: Row = Row {
+    about: "certify --lines: no file",
+    words: &[
+        b"certify",
+        b"game.gb",
+        b"game.cert",
+        b"--lines",
+        b"game.keys",
+    ],
+    written: DEVICE,
+    status: 3,
+    told: "game.keys",
+    ..CERTIFY
+};
+
+/// A file that tells of no line.
+const NO_LINES: Row = Row {
+    written: NOTHING,
+    status: 2,
+    told: "no lines of sources",
+    ..LINES
 };
 
 const LIST: Row = Row {
@@ -562,6 +587,30 @@ pub const FAULTY: &[Row] = &[
         told: "game.keys",
         ..CERTIFY
     },
+    LINES,
+    Row {
+        about: "certify --lines: a file that is no text",
+        keys: Given::Read(Content::Garbage, ALL, Pace::Whole, Ending::End),
+        written: NOTHING,
+        status: 2,
+        told: "it is not text",
+        ..LINES
+    },
+    Row {
+        about: "certify --lines: an empty file",
+        keys: EMPTY,
+        ..NO_LINES
+    },
+    Row {
+        about: "certify --lines: symbols",
+        keys: Given::Read(Content::Markup, ALL, Pace::Whole, Ending::End),
+        ..NO_LINES
+    },
+    Row {
+        about: "certify --lines: a file without an end",
+        keys: ZEROS,
+        ..NO_LINES
+    },
     Row {
         about: "certify --list: a certificate with a byte left over",
         cert: Given::Read(Content::Longer, ALL, Pace::Whole, Ending::End),
@@ -681,98 +730,5 @@ pub const FAULTY: &[Row] = &[
         status: 2,
         told: "--stack wants",
         ..CERTIFY
-    },
-];
-
-pub const CUTS: &[Cuts] = &[
-    Cuts {
-        row: Row {
-            about: "a cartridge that goes on in zeros without an end",
-            game: Given::Read(Content::Cartridge, ALL, Pace::Whole, Ending::Zeros),
-            written: Written::Text("CARTRIDGE H4\n"),
-            status: 2,
-            ..VERIFY
-        },
-        place: Place::Game,
-        most: 32_768,
-        step: 16_384,
-    },
-    Cuts {
-        row: Row {
-            game: Given::Read(Content::Cartridge, ALL, Pace::Whole, FAILING),
-            about: "a cartridge that fails",
-            written: DEVICE,
-            status: 3,
-            told: "game.gb",
-            ..VERIFY
-        },
-        place: Place::Game,
-        most: 32_768,
-        step: 1_024,
-    },
-    Cuts {
-        row: Row {
-            game: Given::Read(Content::Cartridge, ALL, Pace::Whole, NO_ROOM),
-            about: "a cartridge without room",
-            written: MEMORY,
-            status: 3,
-            told: "game.gb",
-            ..RUN
-        },
-        place: Place::Game,
-        most: 32_768,
-        step: 1_024,
-    },
-    Cuts {
-        row: Row {
-            cert: Given::Read(Content::Certificate, ALL, Pace::Whole, FAILING),
-            about: "a certificate that fails",
-            written: DEVICE,
-            status: 3,
-            told: "game.cert",
-            ..VERIFY
-        },
-        place: Place::Cert,
-        most: 159,
-        step: 1,
-    },
-    Cuts {
-        row: Row {
-            cert: Given::Read(Content::Certificate, ALL, Pace::Whole, NO_ROOM),
-            about: "a certificate without room",
-            written: MEMORY,
-            status: 3,
-            told: "game.cert",
-            ..SHOW
-        },
-        place: Place::Cert,
-        most: 159,
-        step: 1,
-    },
-    Cuts {
-        row: Row {
-            keys: Given::Read(Content::Cartridge, ALL, Pace::Whole, FAILING),
-            about: "a script that fails before its frames' end",
-            written: DEVICE,
-            status: 3,
-            told: "game.keys",
-            ..RUN
-        },
-        place: Place::Keys,
-        most: 1,
-        step: 1,
-    },
-    Cuts {
-        row: Row {
-            input: Given::Read(Content::Cartridge, ALL, Pace::Whole, FAILING),
-            about: "standard input that fails",
-            written: DEVICE,
-            status: 3,
-            told: "standard input",
-            ..VERIFY_INPUT
-        },
-        place: Place::Input,
-        most: 32_768,
-        step: 1_024,
     },
 ];

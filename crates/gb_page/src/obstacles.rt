@@ -12,6 +12,8 @@ use std::fmt;
 /// What is told of an obstacle, in parts.
 #[derive(Drop)]
 struct Texts {
+    /// The author's line; nothing where it isn't known.
+    line: String,
     problem: String,
     rule: String,
     remedy: String,
@@ -98,6 +100,15 @@ fn fmt_place<W: fmt::Write>(
     )
 }
 
+/// The author's line, where it is known.
+fn fmt_line<W: fmt::Write>(texts: &Texts, f: &mut fmt::Formatter<W>) -> fmt::Result {
+    if texts.line.is_empty() {
+        return Ok(());
+    }
+    let line = Escaped(texts.line.as_str());
+    write!(f, "<p><code>{line}</code></p>\n")
+}
+
 /// What is known there, beside the rule.
 fn fmt_beside<W: fmt::Write>(texts: &Texts, f: &mut fmt::Formatter<W>) -> fmt::Result {
     let rule = Escaped(texts.rule.as_str());
@@ -126,6 +137,7 @@ fn fmt_each<W: fmt::Write>(page: &Obstacles<'_, '_, '_>, f: &mut fmt::Formatter<
     for (place, texts) in page.told.iter().enumerate() {
         let number = place.saturating_add(1);
         write!(f, "<section id=\"o{number}\"><h2>Obstacle {number}</h2>\n")?;
+        fmt_line(texts, f)?;
         if let Some(Obstacle::Standing(standing)) = page.obstacles.get(place) {
             fmt_place(page.symbols, standing, f)?;
         }
@@ -185,6 +197,18 @@ fn text_of(
     format!(in alloc; "{text}")
 }
 
+/// The author's line of an obstacle.
+fn line_of(
+    alloc: Global,
+    obstacle: &Obstacle,
+    symbols: &Symbols<'_>,
+) -> Result<String, AllocError> {
+    match obstacle.line(symbols) {
+        Some(line) => format!(in alloc; "{line}"),
+        None => Ok(String::new(alloc)),
+    }
+}
+
 /// What is told of an obstacle.
 fn texts_of(
     alloc: Global,
@@ -192,6 +216,7 @@ fn texts_of(
     symbols: &Symbols<'_>,
 ) -> Result<Texts, AllocError> {
     Ok(Texts {
+        line: line_of(alloc, obstacle, symbols)?,
         problem: text_of(alloc, obstacle, symbols, Part::Problem)?,
         rule: text_of(alloc, obstacle, symbols, Part::Rule)?,
         remedy: text_of(alloc, obstacle, symbols, Part::Remedy)?,

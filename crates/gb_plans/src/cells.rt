@@ -1,13 +1,13 @@
 //! Memory cells: which are tracked, and which registers were loaded from them.
 
-use crate::plan::{Edit, Plan};
-use crate::sources::{copied, pointer_of, sources, stacked, without};
+use crate::plan::{Edit, Plan, number_of, unless_taken_back};
+use crate::sources::{copied, high_registers, pointer_of, sources, stacked, without};
 use crate::spots::{has_entry, op_at, open_at, pointed_at};
 use crate::ways::Ways;
 use gb_fixpoint::limits::SPOTS;
-use gb_fixpoint::register_set::{REGISTERS, RegisterSet};
+use gb_fixpoint::register_set::RegisterSet;
 use gb_fixpoint::types::{Run, Spot};
-use gb_ops::op::{Op, Operand, Register, StackPair};
+use gb_ops::op::{AluOp, Op, Operand, Register, StackPair};
 use std::alloc::{AllocError, Global};
 use std::collections::{BTreeMap, BTreeSet};
 
@@ -19,18 +19,6 @@ const ROM: u16 = 0x7FFF;
 struct Question {
     spot: Spot,
     wanted: RegisterSet,
-}
-
-/// A set of registers as a number, by which sets are ordered.
-fn number_of(set: &RegisterSet) -> u32 {
-    let mut number: u32 = 0;
-    for register in REGISTERS {
-        number = number.wrapping_mul(2);
-        if set.contains(register) {
-            number = number.wrapping_add(1);
-        }
-    }
-    number
 }
 
 /// A search back from registers to the cells that they were loaded from: over joins, calls, and PUSH with POP.
@@ -122,6 +110,24 @@ impl Search {
         }
     }
 
+    /// A is computed from itself and the byte at HL: that cell is found, if it is tracked, and A is followed.
+    fn meet_operand(
+        &mut self,
+        run: &Run<'_>,
+        spot: Spot,
+        wanted: &RegisterSet,
+    ) -> Result<(), AllocError> {
+        match pointed_at(run, spot, (Register::H, Register::L)) {
+            Some(cell) => {
+                if run.configuration.tracked.contains(&cell) {
+                    self.cells.insert(cell)?;
+                }
+                self.ask(spot, *wanted)
+            }
+            None => Ok(()),
+        }
+    }
+
     /// Whether a POP at a spot may take what a node pushes, by their numbers of bytes.
     fn may_take(run: &Run<'_>, pop: Spot, bytes: usize) -> bool {
         for number in run.nodes_at(pop) {
@@ -202,6 +208,9 @@ impl Search {
             Op::LoadHigh(low) => self.meet_cell(run, spot, 0xFF00 | u16::from(low), wanted),
             Op::LoadAbsolute(cell) => self.meet_cell(run, spot, cell, wanted),
             Op::Pop(to) => self.meet_pop(run, spot, to, wanted),
+            Op::Alu(operation, Operand::AtHl) if operation != AluOp::Cp && !self.is_of_copies => {
+                self.meet_operand(run, spot, wanted)
+            }
             _ => Ok(()),
         }
     }
@@ -271,7 +280,11 @@ pub(crate) fn key_cells(
             has_some = true;
         }
     }
-    if has_some { Ok(Some(plan)) } else { Ok(None) }
+    if has_some {
+        Ok(unless_taken_back(run, plan))
+    } else {
+        Ok(None)
+    }
 }
 
 /// The tracked cells that the high byte of a pointer is a copy of: the pointer itself is kept in RAM.
@@ -281,11 +294,5 @@ pub fn pointer_cells(
     spot: Spot,
     registers: &RegisterSet,
 ) -> Result<BTreeSet<u16>, AllocError> {
-    let mut high = RegisterSet::empty();
-    for register in [Register::B, Register::D, Register::H] {
-        if registers.contains(register) {
-            high.insert(register);
-        }
-    }
-    cells_behind(alloc, run, spot, &high, true)
+    cells_behind(alloc, run, spot, &high_registers(registers), true)
 }

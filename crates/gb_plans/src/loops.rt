@@ -1,8 +1,9 @@
 //! Loops: paged, then keyed, and their counters split.
 
-use crate::plan::{Edit, Plan, registers_at, split_at};
-use crate::sources::{sources, without, written};
+use crate::plan::{Edit, Plan, registers_at, split_at, unless_taken_back};
+use crate::sources::{pointer_of, sources, without, written};
 use crate::spots::{op_at, open_at, place_of, value_of};
+use crate::waiting::place_at_hl;
 use crate::ways::{Loop, Ways};
 use gb_fixpoint::Rules;
 use gb_fixpoint::configuration::Place;
@@ -40,12 +41,14 @@ fn refine_loop(
     let target = run.target(procedure);
     let is_whole = run.rules() == Rules::Extended && !tests_page(run, procedure, around);
     if is_keyed(run, target, around) {
-        Ok(None)
-    } else if is_whole || is_paged(run, target, around) {
-        Ok(Some(Plan::key_all(alloc, target, around)?))
-    } else {
-        Ok(Some(Plan::page_all(alloc, target, around)?))
+        return Ok(None);
     }
+    let plan = if is_whole || is_paged(run, target, around) {
+        Plan::key_all(alloc, target, around)?
+    } else {
+        Plan::page_all(alloc, target, around)?
+    };
+    Ok(unless_taken_back(run, plan))
 }
 
 /// Whether a register has several values, but not too many, in a node at a spot that isn't its procedure's first.
@@ -199,7 +202,8 @@ fn peel_loop(
             && !is_told(&run.configuration.peeled, target, around, register)
             && may_be_zero(run, procedure, heads.as_slice(), register)
         {
-            return Ok(Some(at_all(alloc, target, around, register, true)?));
+            let plan = at_all(alloc, target, around, register, true)?;
+            return Ok(unless_taken_back(run, plan));
         }
     }
     Ok(None)
@@ -221,10 +225,113 @@ fn count_rounds(
             && !inner.contains(register)
             && !is_told(&run.configuration.counted, target, around, register)
         {
-            return Ok(Some(at_all(alloc, target, around, register, false)?));
+            let plan = at_all(alloc, target, around, register, false)?;
+            return Ok(unless_taken_back(run, plan));
         }
     }
     Ok(None)
+}
+
+/// The bytes of the stack that a loop counts where they are, a bit for each by its place.
+fn items_counted(run: &Run<'_>, procedure: usize, around: &Loop) -> u64 {
+    let mut items: u64 = 0;
+    for address in around.iter() {
+        let spot = Spot {
+            procedure,
+            address: *address,
+        };
+        if let Some(Op::Increment(Operand::AtHl) | Op::Decrement(Operand::AtHl)) = op_at(run, spot)
+            && let Some(place) = place_at_hl(run, spot)
+            && let Ok(place) = u32::try_from(place)
+            && place < u64::BITS
+        {
+            items |= 1u64 << place;
+        }
+    }
+    items
+}
+
+/// The registers but A that a loop counts up or down.
+fn registers_counted(run: &Run<'_>, procedure: usize, around: &Loop) -> RegisterSet {
+    let mut counted = RegisterSet::empty();
+    for address in around.iter() {
+        let spot = Spot {
+            procedure,
+            address: *address,
+        };
+        if let Some(
+            Op::Increment(Operand::Register(register)) | Op::Decrement(Operand::Register(register)),
+        ) = op_at(run, spot)
+            && register != Register::A
+        {
+            counted.insert(register);
+        }
+    }
+    counted
+}
+
+/// The rounds of a loop are told apart by counters that it keeps on the stack, of which no comparison tells anything, and by those
+/// in registers beside them.
+fn count_items(
+    alloc: Global,
+    run: &Run<'_>,
+    procedure: usize,
+    around: &Loop,
+) -> Result<Option<Plan>, AllocError> {
+    let target = run.target(procedure);
+    let items = items_counted(run, procedure, around);
+    let registers = registers_counted(run, procedure, around);
+    let mut plan = Plan::new(alloc);
+    let mut is_new = false;
+    for address in around.iter() {
+        let place = Place {
+            target,
+            address: *address,
+        };
+        if run.configuration.items_at(place) & items != items {
+            plan.add(Edit::CountItems(place, items))?;
+            is_new = true;
+            for register in REGISTERS {
+                if registers.contains(register) {
+                    plan.add(Edit::Count(place, register))?;
+                }
+            }
+        }
+    }
+    if is_new {
+        Ok(unless_taken_back(run, plan))
+    } else {
+        Ok(None)
+    }
+}
+
+/// The pairs by which the innermost loop around a spot reads, where that loop has an end.
+pub(crate) fn pointers_read(
+    run: &Run<'_>,
+    ways: &Ways,
+    spot: Spot,
+) -> Result<RegisterSet, AllocError> {
+    let mut pointers = RegisterSet::empty();
+    let loops = ways.loops(spot.address)?;
+    let Some(around) = loops.first() else {
+        return Ok(pointers);
+    };
+    if ways.is_endless(around) {
+        return Ok(pointers);
+    }
+    for address in around.iter() {
+        let spot = Spot {
+            procedure: spot.procedure,
+            address: *address,
+        };
+        if let Some(op) = op_at(run, spot)
+            && let Some((high, low)) = pointer_of(op, &RegisterSet::all())
+        {
+            pointers.insert(high);
+            pointers.insert(low);
+        }
+    }
+    Ok(pointers)
 }
 
 /// The registers that no instruction of a loop changes.
@@ -343,7 +450,11 @@ fn edits_of_outer(
             }
         }
     }
-    if is_new { Ok(Some(plan)) } else { Ok(None) }
+    if is_new {
+        Ok(unless_taken_back(run, plan))
+    } else {
+        Ok(None)
+    }
 }
 
 /// A loop around one whose counter isn't known where it begins is told apart value by value, so that it becomes known: the
@@ -382,6 +493,12 @@ fn refine_counters(
     };
     if run.rules() == Rules::Simple {
         return Ok(None);
+    }
+    // A loop whose counter is known in each round so far has no way out yet.
+    for around in loops {
+        if let Some(plan) = count_items(alloc, run, procedure, around)? {
+            return Ok(Some(plan));
+        }
     }
     for around in loops {
         if let Some(plan) = peel_loop(alloc, run, ways, procedure, around)? {

@@ -1,7 +1,8 @@
 //! What refinement changes.
 
 use gb_fixpoint::configuration::{Configuration, Place};
-use gb_fixpoint::register_set::RegisterSet;
+use gb_fixpoint::register_set::{REGISTERS, RegisterSet};
+use gb_fixpoint::types::Run;
 use gb_ops::op::Register;
 use std::alloc::{AllocError, Global};
 use std::collections::{BTreeSet, HashMap};
@@ -23,6 +24,8 @@ pub enum Edit {
     Count(Place, Register),
     /// Whether a register is 0 becomes part of the key at a place.
     Peel(Place, Register),
+    /// The known values of some bytes of the stack become part of the key at a place.
+    CountItems(Place, u64),
     /// Calls of a target are followed in their callers.
     Inline(u16),
 }
@@ -54,6 +57,20 @@ impl Plan {
     pub(crate) fn add(&mut self, edit: Edit) -> Result<(), AllocError> {
         self.edits.push(edit)?;
         Ok(())
+    }
+
+    /// A number by which plans are known again.
+    pub fn number(&self) -> u64 {
+        let mut number: u64 = 0;
+        for edit in &self.edits {
+            for part in parts_of(*edit) {
+                number = number
+                    .wrapping_add(part)
+                    .wrapping_add(1)
+                    .wrapping_mul(0x0100_0000_01B3);
+            }
+        }
+        number
     }
 
     /// All addresses are paged, in the procedures that begin at a target.
@@ -99,6 +116,7 @@ impl Plan {
                 | Edit::Part(..)
                 | Edit::Cell(_)
                 | Edit::Count(..)
+                | Edit::CountItems(..)
                 | Edit::Peel(..)
                 | Edit::Inline(_) => {}
             }
@@ -113,6 +131,52 @@ impl Plan {
         }
         Ok(())
     }
+}
+
+/// The plan, unless it was taken back before.
+pub(crate) fn unless_taken_back(run: &Run<'_>, plan: Plan) -> Option<Plan> {
+    if run.configuration.taken_back.contains(&plan.number()) {
+        None
+    } else {
+        Some(plan)
+    }
+}
+
+/// A set of registers as a number.
+pub(crate) fn number_of(set: &RegisterSet) -> u32 {
+    let mut number: u32 = 0;
+    for register in REGISTERS {
+        number = number.wrapping_mul(2);
+        if set.contains(register) {
+            number = number.wrapping_add(1);
+        }
+    }
+    number
+}
+
+/// A change as numbers.
+fn parts_of(edit: Edit) -> [u64; 3] {
+    let (kind, place, more) = match edit {
+        Edit::Key(place) => (0, place, 0),
+        Edit::Page(place) => (1, place, 0),
+        Edit::Split(place, register) => (2, place, number_of(&RegisterSet::of(&[register]))),
+        Edit::Count(place, register) => (3, place, number_of(&RegisterSet::of(&[register]))),
+        Edit::Peel(place, register) => (4, place, number_of(&RegisterSet::of(&[register]))),
+        Edit::CountItems(place, items) => return [parts_of_place(5, place), items, 0],
+        Edit::Part(target, registers) => return [
+            6,
+            u64::from(target),
+            u64::from(number_of(&registers)),
+        ],
+        Edit::Cell(cell) => return [7, u64::from(cell), 0],
+        Edit::Inline(target) => return [8, u64::from(target), 0],
+    };
+    [parts_of_place(kind, place), u64::from(more), 0]
+}
+
+/// A kind and a place as a number.
+fn parts_of_place(kind: u64, place: Place) -> u64 {
+    kind << 32 | u64::from(place.target) << 16 | u64::from(place.address)
 }
 
 /// Makes a change.
@@ -145,6 +209,10 @@ fn apply_edit(edit: Edit, configuration: &mut Configuration) -> Result<(), Alloc
             let mut registers = registers_at(&configuration.peeled, place);
             registers.insert(register);
             configuration.peeled.insert(place, registers)?;
+        }
+        Edit::CountItems(place, items) => {
+            let items = configuration.items_at(place) | items;
+            configuration.counted_items.insert(place, items)?;
         }
         Edit::Inline(target) => configuration.inline(target)?,
     }

@@ -1,9 +1,10 @@
 //! What to refine after a failure.
 
 use crate::cells::{key_cells, pointer_cells};
-use crate::loops::refine_loops;
-use crate::plan::{Edit, Plan, parted_by};
-use crate::slices::{By, Sought, slice};
+use crate::loops::{pointers_read, refine_loops};
+use crate::plan::{Edit, Plan, parted_by, unless_taken_back};
+use crate::slices::{By, Sought, slice, slice_to_call};
+use crate::sources::high_registers;
 use crate::spots::{is_known, place_of, value_of};
 use crate::ways::Ways;
 use gb_fixpoint::cause::{Cause, Failure, StackMisuse};
@@ -57,7 +58,8 @@ fn part(
     if number == 0 || procedure.key.is_handler || !is_new {
         return Ok(None);
     }
-    Ok(Some(Plan::of(alloc, Edit::Part(target, *registers))?))
+    let plan = Plan::of(alloc, Edit::Part(target, *registers))?;
+    Ok(unless_taken_back(run, plan))
 }
 
 /// Whether each call of a procedure knows a register, and the calls have a few values in it.
@@ -175,14 +177,16 @@ fn refine_all(alloc: Global, run: &Run<'_>, number: usize) -> Result<Option<Plan
             all.insert(node.key.address)?;
         }
     }
-    let target = run.target(number);
-    if !is_paged {
-        Ok(Some(Plan::page_all(alloc, target, &all)?))
-    } else if !is_keyed {
-        Ok(Some(Plan::key_all(alloc, target, &all)?))
-    } else {
-        Ok(None)
+    if is_keyed {
+        return Ok(None);
     }
+    let target = run.target(number);
+    let plan = if is_paged {
+        Plan::key_all(alloc, target, &all)?
+    } else {
+        Plan::page_all(alloc, target, &all)?
+    };
+    Ok(unless_taken_back(run, plan))
 }
 
 /// A slice back from a spot, if there are registers to follow.
@@ -205,17 +209,6 @@ fn slice_to(
     slice(alloc, run, ways, spot, &sought)
 }
 
-/// The high registers of pairs among some.
-fn high_registers(registers: &RegisterSet) -> RegisterSet {
-    let mut high = RegisterSet::empty();
-    for register in [Register::B, Register::D, Register::H] {
-        if registers.contains(register) {
-            high.insert(register);
-        }
-    }
-    high
-}
-
 /// A slice to a pointer's page alone, with which its low byte may be any. A pointer that is kept in RAM would go on from page to
 /// page.
 fn slice_to_page(
@@ -235,37 +228,81 @@ fn slice_to_page(
     slice_to(alloc, run, ways, spot, &page, (FEW_VALUES, By::Any))
 }
 
-/// What is nearest to a spot: its calls, slices, what a jump comes from, its loops.
+/// What is tried nearest to a spot, in this order.
+#[derive(Clone, Copy)]
+enum Near {
+    /// The procedure is parted by what its calls know.
+    Calls,
+    /// A slice with few values.
+    Slice,
+    /// What a jump comes from.
+    Jump,
+    Loops,
+    /// A slice to a pointer's page.
+    Page,
+    /// A slice with up to 256 values.
+    WideSlice,
+    /// What is called before, or where ways meet.
+    Call,
+}
+
+const NEAR: [Near; 7] = [
+    Near::Calls,
+    Near::Slice,
+    Near::Jump,
+    Near::Loops,
+    Near::Page,
+    Near::WideSlice,
+    Near::Call,
+];
+
+/// One trial near a spot.
+fn try_near(
+    alloc: Global,
+    run: &Run<'_>,
+    ways: &Ways,
+    spot: Spot,
+    trouble: &Trouble,
+    near: Near,
+) -> Result<Option<Plan>, AllocError> {
+    let by = if trouble.is_jump { By::Table } else { By::Any };
+    match near {
+        Near::Calls => {
+            let joined = joined_by_calls(alloc, run, spot.procedure)?;
+            part(alloc, run, spot.procedure, &joined)
+        }
+        Near::Slice => slice_to(alloc, run, ways, spot, trouble, (FEW_VALUES, by)),
+        Near::Jump if trouble.is_jump => plan_jump(alloc, run, ways, spot, trouble),
+        Near::Loops => refine_loops(alloc, run, ways, spot, !trouble.is_kept_in_ram),
+        Near::Jump => Ok(None),
+        Near::Call | Near::Page | Near::WideSlice if trouble.is_jump => Ok(None),
+        Near::Call => {
+            let sought = Sought {
+                wanted: trouble.wanted,
+                most: FEW_VALUES,
+                by,
+            };
+            slice_to_call(alloc, run, ways, spot, &sought)
+        }
+        Near::Page => slice_to_page(alloc, run, ways, spot, trouble),
+        Near::WideSlice => slice_to(alloc, run, ways, spot, trouble, (ALL_VALUES, By::Any)),
+    }
+}
+
+/// What is nearest to a spot: its calls, slices, what a jump comes from, its loops, what is called before.
 fn plan_near(
     alloc: Global,
     run: &Run<'_>,
     spot: Spot,
     trouble: &Trouble,
 ) -> Result<Option<Plan>, AllocError> {
-    let joined = joined_by_calls(alloc, run, spot.procedure)?;
-    if let Some(plan) = part(alloc, run, spot.procedure, &joined)? {
-        return Ok(Some(plan));
-    }
     let ways = Ways::of(alloc, run, spot.procedure)?;
-    let by = if trouble.is_jump { By::Table } else { By::Any };
-    if let Some(plan) = slice_to(alloc, run, &ways, spot, trouble, (FEW_VALUES, by))? {
-        return Ok(Some(plan));
+    for near in NEAR {
+        if let Some(plan) = try_near(alloc, run, &ways, spot, trouble, near)? {
+            return Ok(Some(plan));
+        }
     }
-    if trouble.is_jump
-        && let Some(plan) = plan_jump(alloc, run, &ways, spot, trouble)?
-    {
-        return Ok(Some(plan));
-    }
-    if let Some(plan) = refine_loops(alloc, run, &ways, spot, !trouble.is_kept_in_ram)? {
-        return Ok(Some(plan));
-    }
-    if trouble.is_jump {
-        return Ok(None);
-    }
-    if let Some(plan) = slice_to_page(alloc, run, &ways, spot, trouble)? {
-        return Ok(Some(plan));
-    }
-    slice_to(alloc, run, &ways, spot, trouble, (ALL_VALUES, By::Any))
+    Ok(None)
 }
 
 /// A jump that no table tells: the cells that its target comes from, or else an index that is added to an address.
@@ -391,11 +428,12 @@ fn plan_code(alloc: Global, run: &Run<'_>, byte: u16) -> Result<Option<Plan>, Al
         let ways = Ways::of(alloc, run, store.spot.procedure)?;
         if let Some(mut plan) = slice(alloc, run, &ways, store.spot, &sought)? {
             plan.add(Edit::Cell(byte))?;
-            return Ok(Some(plan));
+            return Ok(unless_taken_back(run, plan));
         }
     }
     if is_stored && !run.configuration.key_cells.contains(&byte) {
-        return Ok(Some(Plan::of(alloc, Edit::Cell(byte))?));
+        let plan = Plan::of(alloc, Edit::Cell(byte))?;
+        return Ok(unless_taken_back(run, plan));
     }
     Ok(None)
 }
@@ -507,7 +545,8 @@ fn part_exits(alloc: Global, run: &Run<'_>) -> Result<Option<Plan>, AllocError> 
     }
     match target {
         Some(target) if !run.configuration.inlined.contains(&target) => {
-            Ok(Some(Plan::of(alloc, Edit::Inline(target))?))
+            let plan = Plan::of(alloc, Edit::Inline(target))?;
+            Ok(unless_taken_back(run, plan))
         }
         _ => Ok(None),
     }
@@ -544,6 +583,9 @@ fn plan_pointer(
         is_jump: failure.cause == Cause::JumpHl,
         is_kept_in_ram,
     };
+    if let Some(plan) = plan_kept(alloc, run, spot, &wanted, is_kept_in_ram)? {
+        return Ok(Some(plan));
+    }
     if let Some(plan) = plan_at(alloc, run, spot, &trouble)? {
         return Ok(Some(plan));
     }
@@ -553,6 +595,34 @@ fn plan_pointer(
     match plan_written(alloc, run, spot, &wanted)? {
         Some(plan) => Ok(Some(plan)),
         None => part_exits(alloc, run),
+    }
+}
+
+/// A pointer is kept in RAM, or one by which the loop around the spot reads, as a text's up to its 0: the cells where it is kept
+/// become key cells, and what leaves with several values of them is followed where it is called. By the rules of version 3.
+fn plan_kept(
+    alloc: Global,
+    run: &Run<'_>,
+    spot: Spot,
+    wanted: &RegisterSet,
+    is_kept_in_ram: bool,
+) -> Result<Option<Plan>, AllocError> {
+    if run.rules() == Rules::Simple {
+        return Ok(None);
+    }
+    let ways = Ways::of(alloc, run, spot.procedure)?;
+    let read = pointers_read(run, &ways, spot)?;
+    let is_read_kept = !pointer_cells(alloc, run, spot, &read)?.is_empty();
+    if is_read_kept && let Some(plan) = key_cells(alloc, run, spot, &read)? {
+        return Ok(Some(plan));
+    }
+    if is_kept_in_ram && let Some(plan) = key_cells(alloc, run, spot, wanted)? {
+        return Ok(Some(plan));
+    }
+    if is_kept_in_ram || is_read_kept {
+        part_exits(alloc, run)
+    } else {
+        Ok(None)
     }
 }
 
@@ -616,7 +686,8 @@ pub fn inline_plan(
     {
         return Ok(None);
     }
-    Ok(Some(Plan::of(alloc, Edit::Inline(target))?))
+    let plan = Plan::of(alloc, Edit::Inline(target))?;
+    Ok(unless_taken_back(run, plan))
 }
 
 /// What to refine after a failure, if anything may help; whether its pointer is kept in RAM is given.

@@ -1,11 +1,12 @@
 //! Slices: straight-line code backwards, through the stack too, to where the wanted registers come from one register that can be
 //! taken value by value.
 
-use crate::plan::{Edit, Plan, split_at};
+use crate::plan::{Edit, Plan, split_at, unless_taken_back};
 use crate::sources::{count, first, meet, pointer_of, written};
 use crate::spots::{has_entry, narrower, op_at, open_at, place_of, points_to_rom, width_at};
-use crate::waiting::Waiting;
+use crate::waiting::{Waiting, may_change_stack};
 use crate::ways::Ways;
+use gb_fixpoint::Rules;
 use gb_fixpoint::configuration::Place;
 use gb_fixpoint::limits::{ALL_VALUES, PAIRS, SLICE};
 use gb_fixpoint::register_set::RegisterSet;
@@ -59,6 +60,8 @@ struct Walk {
     is_compared: bool,
     /// The addresses so far, the last instruction first.
     chain: Vec<u16>,
+    /// What is called right before, where the wanted registers come from there.
+    callee: Option<u16>,
     /// The best register to split alone, and the best of two.
     one: Option<Cut>,
     two: Option<Cut>,
@@ -193,7 +196,7 @@ impl Walk {
                 address: *address,
             };
             match op_at(run, spot) {
-                Some(op) if !meet(&written(op), &self.wanted) => {}
+                Some(op) if self.is_left_by(op) => {}
                 _ => return Ok(None),
             }
         }
@@ -203,6 +206,11 @@ impl Walk {
             }
         }
         Ok(Some(before))
+    }
+
+    /// Whether an instruction leaves the wanted registers as they are, and the bytes of the stack that are sought.
+    fn is_left_by(&self, op: Op) -> bool {
+        !meet(&written(op), &self.wanted) && (self.waiting.is_empty() || !may_change_stack(op))
     }
 
     /// Goes back by one instruction; whether that was possible.
@@ -229,7 +237,10 @@ impl Walk {
         } else {
             match self.waiting.before(run, spot, &open)? {
                 Some(wanted) => wanted,
-                None => return Ok(false),
+                None => {
+                    self.callee = called_by(op);
+                    return Ok(false);
+                }
             }
         };
         if let Some((high, _)) = pointer_of(op, &open) {
@@ -246,7 +257,8 @@ impl Walk {
     }
 
     /// The register is split, and the addresses from there on are keyed.
-    fn plan(&self, alloc: Global, target: u16) -> Result<Option<Plan>, AllocError> {
+    fn plan(&self, alloc: Global, run: &Run<'_>) -> Result<Option<Plan>, AllocError> {
+        let target = run.target(self.procedure);
         let cut = match (self.one, self.two) {
             (Some(cut), _) | (None, Some(cut)) => cut,
             (None, None) => return Ok(None),
@@ -263,7 +275,44 @@ impl Walk {
             address: cut.address,
         };
         plan.add(Edit::Split(place, cut.register))?;
-        Ok(Some(plan))
+        Ok(unless_taken_back(run, plan))
+    }
+
+    /// The addresses are keyed, as far as they aren't yet, and what is called before them is followed here.
+    fn plan_of_ways(&self, alloc: Global, run: &Run<'_>) -> Result<Option<Plan>, AllocError> {
+        let target = run.target(self.procedure);
+        let mut plan = Plan::new(alloc);
+        let mut is_new = false;
+        for address in &self.chain {
+            let place = Place {
+                target,
+                address: *address,
+            };
+            if !run.configuration.keyed.contains(&place) {
+                plan.add(Edit::Key(place))?;
+                is_new = true;
+            }
+        }
+        if let Some(callee) = self.callee
+            && !run.configuration.inlined.contains(&callee)
+        {
+            plan.add(Edit::Inline(callee))?;
+            is_new = true;
+        }
+        if is_new {
+            Ok(unless_taken_back(run, plan))
+        } else {
+            Ok(None)
+        }
+    }
+}
+
+/// What an instruction calls, but for what RST 38 calls in ROM that is filled with FF.
+fn called_by(op: Op) -> Option<u16> {
+    match op {
+        Op::Call(target) | Op::CallIf(_, target) => Some(target),
+        Op::Restart(target) if target != 0x38 => Some(u16::from(target)),
+        _ => None,
     }
 }
 
@@ -276,14 +325,14 @@ fn is_inlined_call(op: Op, at: u16) -> bool {
     }
 }
 
-/// A register to be split before a spot, so that the wanted registers are known there.
-pub(crate) fn slice(
+/// The way back from a spot, as far as it can be followed.
+fn walk_back(
     alloc: Global,
     run: &Run<'_>,
     ways: &Ways,
     spot: Spot,
     sought: &Sought,
-) -> Result<Option<Plan>, AllocError> {
+) -> Result<Walk, AllocError> {
     let mut chain = Vec::new(alloc);
     chain.push(spot.address)?;
     let mut walk = Walk {
@@ -295,6 +344,7 @@ pub(crate) fn slice(
         is_behind_sum: false,
         is_compared: false,
         chain,
+        callee: None,
         one: None,
         two: None,
     };
@@ -303,5 +353,33 @@ pub(crate) fn slice(
             break;
         }
     }
-    walk.plan(alloc, run.target(spot.procedure))
+    Ok(walk)
+}
+
+/// A register to be split before a spot, so that the wanted registers are known there.
+pub(crate) fn slice(
+    alloc: Global,
+    run: &Run<'_>,
+    ways: &Ways,
+    spot: Spot,
+    sought: &Sought,
+) -> Result<Option<Plan>, AllocError> {
+    let walk = walk_back(alloc, run, ways, spot, sought)?;
+    walk.plan(alloc, run)
+}
+
+/// What is called where the wanted registers come from a call is followed there, and what is known behind it, or where ways meet,
+/// is told apart from there on: a function that gives a pointer or 0. By the rules of version 3.
+pub(crate) fn slice_to_call(
+    alloc: Global,
+    run: &Run<'_>,
+    ways: &Ways,
+    spot: Spot,
+    sought: &Sought,
+) -> Result<Option<Plan>, AllocError> {
+    if run.rules() == Rules::Simple || sought.wanted.is_empty() {
+        return Ok(None);
+    }
+    let walk = walk_back(alloc, run, ways, spot, sought)?;
+    walk.plan_of_ways(alloc, run)
 }

@@ -30,6 +30,17 @@ pub fn first(set: &RegisterSet) -> Option<Register> {
         .find(|register| set.contains(*register))
 }
 
+/// The high registers of pairs among some.
+pub(crate) fn high_registers(registers: &RegisterSet) -> RegisterSet {
+    let mut high = RegisterSet::empty();
+    for register in [Register::B, Register::D, Register::H] {
+        if registers.contains(register) {
+            high.insert(register);
+        }
+    }
+    high
+}
+
 /// The registers of a pair; SP has none.
 pub fn halves(pair: Pair) -> RegisterSet {
     match pair {

@@ -5,7 +5,7 @@ use crate::sources::{sources, stacked, without};
 use crate::spots::{op_at, pointed_at};
 use gb_fixpoint::register_set::RegisterSet;
 use gb_fixpoint::types::{Run, Spot};
-use gb_ops::op::{Indirect, Op, Operand, Register, StackPair};
+use gb_ops::op::{Indirect, Op, Operand, Pair, Register, StackPair};
 use std::alloc::{AllocError, Global};
 use std::collections::BTreeSet;
 
@@ -23,7 +23,7 @@ fn held_at(run: &Run<'_>, spot: Spot) -> Option<usize> {
 }
 
 /// The place on the stack of the byte at HL, where both are known.
-fn place_at_hl(run: &Run<'_>, spot: Spot) -> Option<usize> {
+pub(crate) fn place_at_hl(run: &Run<'_>, spot: Spot) -> Option<usize> {
     let address = pointed_at(run, spot, (Register::H, Register::L))?;
     let base = usize::from(run.base_of(spot.procedure));
     let above = usize::from(address).saturating_add(1);
@@ -61,6 +61,36 @@ fn stored_at_hl(op: Op) -> Option<Option<Register>> {
         Op::LoadImmediate(Operand::AtHl, _) => Some(None),
         Op::StoreA(Indirect::HlIncrement | Indirect::HlDecrement) => Some(Some(Register::A)),
         _ => None,
+    }
+}
+
+/// Whether an instruction may change bytes of the stack, or how many there are.
+pub(crate) fn may_change_stack(op: Op) -> bool {
+    match op {
+        Op::Push(_)
+        | Op::Pop(_)
+        | Op::Call(_)
+        | Op::CallIf(..)
+        | Op::Restart(_)
+        | Op::Return
+        | Op::ReturnIf(_)
+        | Op::ReturnFromInterrupt
+        | Op::AddSp(_)
+        | Op::LoadSpHl
+        | Op::LoadPair(Pair::Sp, _)
+        | Op::IncrementPair(Pair::Sp)
+        | Op::DecrementPair(Pair::Sp)
+        | Op::StoreA(_)
+        | Op::StoreSp(_)
+        | Op::StoreAbsolute(_)
+        | Op::Load(Operand::AtHl, _)
+        | Op::LoadImmediate(Operand::AtHl, _)
+        | Op::Increment(Operand::AtHl)
+        | Op::Decrement(Operand::AtHl)
+        | Op::Shift(_, Operand::AtHl)
+        | Op::Reset(_, Operand::AtHl)
+        | Op::Set(_, Operand::AtHl) => true,
+        _ => false,
     }
 }
 

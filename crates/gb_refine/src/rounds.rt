@@ -2,7 +2,9 @@
 
 use crate::failures::tell;
 use crate::tracking::Cells;
-use gb_draft::limits::{ALL_STEPS, OBSTACLES, STEPS_A_NODE};
+use gb_draft::limits::{
+    ALL_STEPS, FEW_NODES, OBSTACLES, STEPS_A_NODE, TAKEN_BACK, TAKEN_BACK_OF_MANY,
+};
 use gb_draft::{Cause, Configuration, Place, Rom, Rules, Run, Wish};
 use gb_ops::machine::Region;
 use gb_plans::Plan;
@@ -56,6 +58,8 @@ pub(crate) struct Before {
     pub(crate) configuration: Configuration,
     pub(crate) place: Place,
     pub(crate) cause: Cause,
+    /// The number of the plan.
+    plan: u64,
 }
 
 /// A place and a reason, by whose number edits are counted.
@@ -131,6 +135,8 @@ pub(crate) struct Refinement<'a> {
     pub(crate) tried: BTreeMap<Tried, u32>,
     /// Where failures stand, in the order in which they were met.
     pub(crate) given_up: Vec<Place>,
+    /// How many plans were taken back.
+    taken_back: u32,
     /// Where a finer configuration made the run too large.
     pub(crate) too_large: BTreeSet<Place>,
     /// How many procedures began at each address in the last run.
@@ -195,6 +201,7 @@ impl<'a> Refinement<'a> {
             circles: Vec::new(alloc),
             tried: BTreeMap::new(alloc),
             given_up: Vec::new(alloc),
+            taken_back: 0,
             too_large: BTreeSet::new(alloc),
             targets: BTreeMap::new(alloc),
             nodes: 0,
@@ -249,8 +256,11 @@ impl<'a> Refinement<'a> {
     /// Something is refined; what was before is kept.
     fn refine(&mut self, mending: Mending) -> Result<(), AllocError> {
         self.count_edit(mending.place, mending.reason)?;
-        self.keep_before(mending.place, mending.obstacle.cause)?;
+        let number = mending.plan.number();
+        self.keep_before(mending.place, mending.obstacle.cause, number)?;
         self.make_edit(&mending.plan)?;
+        // Beside this one another plan may help that didn't before.
+        self.configuration.taken_back = BTreeSet::new(self.alloc);
         let Mending {
             place,
             obstacle,
@@ -266,12 +276,13 @@ impl<'a> Refinement<'a> {
         Ok(())
     }
 
-    fn keep_before(&mut self, place: Place, cause: Cause) -> Result<(), AllocError> {
+    fn keep_before(&mut self, place: Place, cause: Cause, plan: u64) -> Result<(), AllocError> {
         let configuration = self.configuration.clone()?;
         self.before = Some(Before {
             configuration,
             place,
             cause,
+            plan,
         });
         Ok(())
     }
@@ -295,25 +306,41 @@ impl<'a> Refinement<'a> {
         Ok(())
     }
 
-    /// The last edit is taken back, and the failure that it was to mend stands. Without an edit nothing is changed.
-    fn take_back(&mut self) -> Result<Option<Place>, AllocError> {
+    /// The last edit is taken back. Another one is tried in its place, as long as fewer than so many were taken back; else the
+    /// failure that it was to mend stands. Without an edit nothing is changed.
+    fn take_back(&mut self, most: u32) -> Result<Option<Place>, AllocError> {
         match self.before.take() {
             Some(before) => {
                 let place = before.place;
                 self.go_back(before)?;
-                self.stand(place)?;
+                if self.taken_back < most {
+                    self.taken_back = self.taken_back.saturating_add(1);
+                } else {
+                    self.stand(place)?;
+                }
                 Ok(Some(place))
             }
             None => Ok(None),
         }
     }
 
+    /// How many plans are taken back with another one tried in their place.
+    fn most_taken_back(&self) -> u32 {
+        if self.limits.nodes <= FEW_NODES {
+            TAKEN_BACK
+        } else {
+            TAKEN_BACK_OF_MANY
+        }
+    }
+
     fn go_back(&mut self, before: Before) -> Result<(), AllocError> {
         let Before {
             mut configuration,
+            plan,
             ..
         } = before;
         self.keep_learnt(&mut configuration)?;
+        configuration.taken_back.insert(plan)?;
         self.configuration = configuration;
         Ok(())
     }
@@ -321,7 +348,8 @@ impl<'a> Refinement<'a> {
     /// A run was too large: the last edit was too much, or there was none.
     fn shrink_back(&mut self, crowd: Crowd) -> Result<Option<Made>, AllocError> {
         self.is_limited = true;
-        match self.take_back()? {
+        let most = self.most_taken_back();
+        match self.take_back(most)? {
             Some(place) if self.given_up.len() < OBSTACLES => {
                 self.too_large.insert(place)?;
                 Ok(None)
@@ -427,7 +455,7 @@ impl<'a> Refinement<'a> {
             Change::Mend(mending) => self.refine(mending),
             Change::GiveUp(place) => self.stand(place),
             Change::TakeBack => {
-                self.take_back()?;
+                self.take_back(TAKEN_BACK_OF_MANY)?;
                 Ok(())
             }
         }

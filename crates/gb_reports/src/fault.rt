@@ -63,7 +63,7 @@ impl fmt::Display for SymbolFault {
             ),
             SymbolFaultKind::NoLines => write!(
                 f,
-                "it has no lines of sources: none is L:C$FILE$N..:ADDR or L:A$MODULE$N:ADDR (SDCC .cdb)"
+                "it has no lines of sources: none is L:C$FILE$N..:ADDR or L:A$MODULE$N:ADDR (SDCC .cdb), or a module's with its address and bytes (SDCC .rst)"
             ),
             SymbolFaultKind::Memory => write!(f, "memory ran out"),
         }

@@ -1,7 +1,8 @@
-//! The author's lines: which line of a source an address comes from, by a `.cdb` file of SDCC's linker.
+//! The author's lines: which line of a source an address comes from, by a `.cdb` file of SDCC's linker, or by an `.rst` listing of
+//! its assembler's.
 
 use crate::fault::{SymbolFault, SymbolFaultKind};
-use std::alloc::Global;
+use std::alloc::{AllocError, Global};
 use std::{fmt, str};
 
 /// What a line was written in.
@@ -11,6 +12,8 @@ enum Language {
     C,
     /// The name is a module's: its file is called so, with `.asm` behind it.
     Assembler,
+    /// The name is that of a file that a module's file includes.
+    Included,
 }
 
 /// A line of a source.
@@ -26,7 +29,7 @@ impl fmt::Display for SourceLine<'_> {
         let name = self.name;
         let number = self.number;
         match self.language {
-            Language::C => write!(f, "{name}:{number}"),
+            Language::C | Language::Included => write!(f, "{name}:{number}"),
             Language::Assembler => write!(f, "{name}.asm:{number}"),
         }
     }
@@ -78,6 +81,133 @@ fn mark_of<'a>(line: &'a str) -> Option<Mark<'a>> {
     })
 }
 
+/// Where a listing's source begins in each line, behind the address, the bytes and the number.
+const LISTED_SOURCE: usize = 40;
+
+/// A line of a listing: its number, the source, and the bank and the address of its code, if there is some.
+#[derive(Clone, Copy)]
+struct Listed<'a> {
+    number: u32,
+    source: &'a str,
+    code: Option<(u16, u16)>,
+}
+
+/// The bank and the address where the code of a listing's line begins, as `000150 31 00 E0` says. Of a value alone there is none.
+fn listed_code(head: &str) -> Option<(u16, u16)> {
+    let (address, bytes) = head.trim().split_once(' ')?;
+    let number = u32::from_str_radix(address, 16).ok()?;
+    let (first, _) = bytes.split_once(' ')?;
+    if address.len() != 6 || first.len() != 2 {
+        return None;
+    }
+    u32::from_str_radix(first, 16).ok()?;
+    let bank = u16::try_from(number >> 16).ok()?;
+    Some((bank, u16::try_from(number & 0xFFFF).ok()?))
+}
+
+/// A line of a listing, if it is one with a number.
+fn listed<'a>(line: &'a str) -> Option<Listed<'a>> {
+    let (head, source) = line.split_at_checked(LISTED_SOURCE)?;
+    let (_, digits) = head.trim().rsplit_once(' ').unwrap_or(("", head.trim()));
+    Some(Listed {
+        number: digits.parse::<u32>().ok()?,
+        source,
+        code: listed_code(head),
+    })
+}
+
+/// What a directive of a source's line names: that of `.module snake` is `snake`.
+fn named_by<'a>(source: &'a str, directive: &str) -> Option<&'a str> {
+    let rest = source.trim().strip_prefix(directive)?;
+    let (name, _) = rest.split_once(';').unwrap_or((rest, ""));
+    Some(name.trim().trim_start_matches('"').trim_end_matches('"'))
+}
+
+/// The files that a listing goes through: those that are included begin with their own line 1, and the line behind them has the
+/// next number of the file before.
+#[derive(Drop)]
+struct Files<'a> {
+    /// The file at hand, with its last line.
+    at: SourceLine<'a>,
+    /// Those that go on behind it.
+    before: Vec<SourceLine<'a>>,
+    /// What the last line includes.
+    included: Option<&'a str>,
+}
+
+impl<'a> Files<'a> {
+    /// A listing begins.
+    fn new(alloc: Global) -> Files<'a> {
+        Files {
+            at: SourceLine {
+                language: Language::Assembler,
+                name: "",
+                number: 0,
+            },
+            before: Vec::new(alloc),
+            included: None,
+        }
+    }
+
+    /// A line of a listing belongs to a file.
+    fn take(&mut self, line: Listed<'a>) -> Result<(), AllocError> {
+        let is_next = line.number == self.at.number.saturating_add(1);
+        if let Some(name) = self.included.take()
+            && line.number == 1
+        {
+            self.before.push(self.at)?;
+            self.at = SourceLine {
+                language: Language::Included,
+                name,
+                number: 0,
+            };
+        } else if !is_next {
+            self.go_back(line.number);
+        }
+        self.at.number = line.number;
+        if let Some(name) = named_by(line.source, ".module ")
+            && self.at.name.is_empty()
+        {
+            self.at.name = name;
+        }
+        self.included = named_by(line.source, ".include ");
+        Ok(())
+    }
+
+    /// The file before goes on, where a line has its next number.
+    fn go_back(&mut self, number: u32) {
+        if let Some(before) = self.before.last()
+            && number == before.number.saturating_add(1)
+            && let Some(before) = self.before.pop()
+        {
+            self.at = before;
+        }
+    }
+}
+
+/// The lines of a listing.
+fn add_listed<'a>(
+    alloc: Global,
+    text: &'a str,
+    marks: &mut Vec<Mark<'a>>,
+) -> Result<(), SymbolFault> {
+    let mut files = Files::new(alloc);
+    for line in text.lines() {
+        let Some(line) = listed(line) else { continue };
+        files.take(line)?;
+        if let Some((bank, address)) = line.code
+            && !files.at.name.is_empty()
+        {
+            marks.push(Mark {
+                bank,
+                address,
+                line: files.at,
+            })?;
+        }
+    }
+    Ok(())
+}
+
 impl<'a> Lines<'a> {
     /// No lines.
     pub(crate) fn none(alloc: Global) -> Lines<'a> {
@@ -102,17 +232,20 @@ impl<'a> Lines<'a> {
             }
         }
         if marks.is_empty() {
+            add_listed(alloc, text, &mut marks)?;
+        }
+        if marks.is_empty() {
             Err(SymbolFault::of(SymbolFaultKind::NoLines))
         } else {
             Ok(Lines { marks })
         }
     }
 
-    /// The line of the assembler at an address.
+    /// The line of the assembler, or of a listing, at an address.
     fn assembled(&self, bank: u16, address: u16) -> Option<SourceLine<'a>> {
         for mark in &self.marks {
             let is_there = mark.bank == bank && mark.address == address;
-            if mark.line.language == Language::Assembler && is_there {
+            if mark.line.language != Language::C && is_there {
                 return Some(mark.line);
             }
         }

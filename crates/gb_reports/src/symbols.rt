@@ -146,7 +146,7 @@ impl<'a> Symbols<'a> {
         ordered(alloc, format, symbols)
     }
 
-    /// Reads the lines of sources from a `.cdb` file's bytes.
+    /// Reads the lines of sources from a `.cdb` file's bytes, or from a listing's.
     ///
     /// # Errors
     ///
