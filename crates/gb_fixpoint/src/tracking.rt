@@ -15,16 +15,19 @@ fn tracked_cells(cells: &[Cell], tracked: &[u16]) -> ArrayVec<Cell, 64> {
     kept
 }
 
+/// The addresses from this one on; they are in order.
+fn from_address(address: u16, tracked: &[u16]) -> &[u16] {
+    match tracked {
+        [first, rest @ ..] if *first < address => from_address(address, rest),
+        _ => tracked,
+    }
+}
+
 /// Whether all cells say something, and their addresses are among these. Both are in order of address.
 fn are_tracked(cells: &[Cell], tracked: &[u16]) -> bool {
     let mut rest = tracked;
     for cell in cells {
-        while let [address, others @ ..] = rest {
-            if *address >= cell.address {
-                break;
-            }
-            rest = others;
-        }
+        rest = from_address(cell.address, rest);
         match rest {
             [address, ..] if *address == cell.address && cell.val != any() => {}
             _ => return false,
