@@ -106,7 +106,7 @@ fn listed_code(head: &str) -> Option<(u16, u16)> {
 }
 
 /// A line of a listing, if it is one with a number.
-fn listed<'a>(line: &'a str) -> Option<Listed<'a>> {
+fn listed_line<'a>(line: &'a str) -> Option<Listed<'a>> {
     let (head, source) = line.split_at_checked(LISTED_SOURCE)?;
     let (_, digits) = head.trim().rsplit_once(' ').unwrap_or(("", head.trim()));
     Some(Listed {
@@ -193,7 +193,7 @@ fn add_listed<'a>(
 ) -> Result<(), SymbolFault> {
     let mut files = Files::new(alloc);
     for line in text.lines() {
-        let Some(line) = listed(line) else { continue };
+        let Some(line) = listed_line(line) else { continue };
         files.take(line)?;
         if let Some((bank, address)) = line.code
             && !files.at.name.is_empty()
