@@ -193,7 +193,9 @@ fn add_listed<'a>(
 ) -> Result<(), SymbolFault> {
     let mut files = Files::new(alloc);
     for line in text.lines() {
-        let Some(line) = listed_line(line) else { continue };
+        let Some(line) = listed_line(line) else {
+            continue
+        };
         files.take(line)?;
         if let Some((bank, address)) = line.code
             && !files.at.name.is_empty()
