@@ -62,10 +62,10 @@ pub const EDITS: u32 = 12;
 /// The same where the pointer is kept in RAM: it would be told apart through all memory.
 pub const EDITS_OF_KEPT: u32 = 6;
 
-/// How many plans of an attempt are taken back with another one tried in their place, where few nodes are allowed, and where
-/// more are.
+/// How many plans of an attempt are taken back with another one tried in their place, where few nodes are allowed.
 pub const TAKEN_BACK: u32 = 4;
 
+/// The same where more are, and where a jump was led into what is no code.
 pub const TAKEN_BACK_OF_MANY: u32 = 1;
 
 /// How many nodes are gone back from what is no code to the jump that led there.
