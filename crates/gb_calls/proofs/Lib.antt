@@ -1,3 +1,4 @@
+pub mod ItemLaws
 pub mod EnteringLaws
 pub mod CalleeLaws
 pub mod RangeLaws

@@ -116,6 +116,15 @@ given_back-pointer k items exit base sp few room e =
 
 -- ---- how many there are
 
+pub given_back_few :
+    (k : ℕ) (held exit : List Val) → (length held - k) + length exit ≤ 255 → length (given_back_items k held exit) ≤ 255
+unfolding given_back_items
+given_back_few k held exit few =
+    let count = waiting-length k held in
+    let all = length-append (waiting k held) (map without_origin exit) in
+    let exits = length-map exit without_origin in
+    omega arith
+
 pub given_back_fits :
     (k : ℕ) (held exit : List Val) → 255 < (length held - k) + length exit → 255 < length (given_back_items k held exit)
 unfolding given_back_items

@@ -1,3 +1,4 @@
+pub mod Parts
 pub mod TakenOver
 pub mod Calls
 pub mod Resuming

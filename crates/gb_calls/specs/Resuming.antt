@@ -27,6 +27,8 @@ use Rattle.gb_abs.specs.Span.{one}
 use Rattle.gb_abs_memory.specs.Access.{is_range}
 use Rattle.gb_calls.specs.declared.resuming.Resumed.{Resumed}
 use Rattle.gb_calls.specs.declared.resuming.Resumed.TheVariants.{Nothing, States, TooDeep}
+use Rattle.gb_calls.specs.declared.resuming.Return.{Return}
+use Rattle.gb_calls.specs.declared.resuming.Return.TheVariants as return
 use Rattle.gb_calls.specs.TakenOver.{given_back_items}
 
 -- ---- the core
@@ -169,3 +171,9 @@ abbrev pub IsResumed : Resumed → Option AbsState → Type 0
 IsResumed Nothing s = s ≡ None
 IsResumed (States t) s = s ≡ Some t
 IsResumed TooDeep s = IsTooDeep s
+
+-- the same, where its states stand elsewhere
+abbrev pub resumed_to : Return → AbsState → Resumed
+resumed_to return.Nothing s = Nothing
+resumed_to return.States s = States s
+resumed_to return.TooDeep s = TooDeep

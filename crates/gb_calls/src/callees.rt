@@ -1,12 +1,13 @@
 //! Which procedure is called.
 
 ghost use Rattle.std.specs.Prelude.{◌≡◌, ◌≤◌};
+ghost use Rattle.gb_product.specs.Covering.{covers};
 ghost use Rattle.gb_calls.specs.Calls as Calls;
 
-use crate::entering::enter;
-use gb_cert::{Cert, ProcedureRef};
+use crate::covering::{States, covers_states};
+use crate::entering::enter_in;
+use gb_cert::{Cert, ProcedureRef, StateRef};
 use gb_domain::types::{Abs, Rules, Setting};
-use gb_product::covering::covers;
 
 /// Whether a base that is said is so many bytes below the caller's, which then is said too.
 fn is_base_below(caller: Option<u16>, base: u16, below: usize) -> bool
@@ -33,14 +34,29 @@ fn fits(setting: Setting, base: u16, count: usize, held: usize) -> bool
     }
 }
 
+/// Whether a state at a procedure's entry stands for what one begins with that takes so many items over of these states. That
+/// is put in the place of other states.
+fn covers_entered(
+    rules: Rules,
+    count: u8,
+    state: &Abs,
+    entry: &StateRef<'_>,
+    room: &mut Abs,
+) -> bool
+    ensures { result ≡ covers (Calls.entered_by rules count state.now) entry.now }
+{
+    enter_in(rules, count, state, room);
+    covers_states(&States::of(room), entry)
+}
+
 /// Whether a procedure with this base and this state at its entry may begin where it is called in these states.
 #[tactic(auto, unfolding(crate::specs::Calls::may_begin))]
-fn may_begin(setting: Setting, state: &Abs, base: u16, entry: &Abs) -> bool
+fn may_begin(setting: Setting, state: &Abs, base: u16, entry: &StateRef<'_>, room: &mut Abs) -> bool
     ensures { result ≡ Calls.may_begin setting state.now base entry.now }
 {
-    let count = entry.items().len();
-    fits(setting, base, count, state.items().len())
-        && covers(&enter(setting.rules, count as u8, state), entry)
+    let count = entry.item_count();
+    fits(setting, base, usize::from(count), state.items().len())
+        && covers_entered(setting.rules, count, state, entry, room)
 }
 
 /// Whether a procedure begins at the address, in a state that stands for these. The state is decoded only where
@@ -52,6 +68,7 @@ fn is_entry(
     address: u16,
     state: &Abs,
     procedure: &ProcedureRef<'_>,
+    room: &mut Abs,
 ) -> bool
     ensures { result ≡ Calls.is_entry cert.now setting address state.now procedure.now }
 {
@@ -60,21 +77,36 @@ fn is_entry(
         return false;
     }
     let node = cert.node(entry);
-    node.address() == address && may_begin(setting, state, procedure.base(), &node.state())
+    node.address() == address && may_begin(setting, state, procedure.base(), &node.lent(), room)
 }
 
 /// The callee of a call to an address in these states, which stand in the setting: the first procedure but main whose
 /// entry node has the address, and that may begin there (own). By the rules of version 3 the return word is among the
-/// items of these states, which have those that the entry node has, and a base that the procedure says is right.
+/// items of these states, which have those that the entry node has, and a base that the procedure says is right. Other states
+/// are given, in whose place states are written.
 #[tactic(auto, unfolding(crate::specs::Calls::callee_of))]
-pub fn callee(cert: &Cert<'_>, setting: Setting, address: u16, state: &Abs) -> Option<u8>
+pub fn callee_in(
+    cert: &Cert<'_>,
+    setting: Setting,
+    address: u16,
+    state: &Abs,
+    room: &mut Abs,
+) -> Option<u8>
     ensures exact { result ≡ Calls.callee_of cert.now setting address state.now }
 {
     for i in 1..cert.procedures() {
         let procedure = cert.procedure(i);
-        if is_entry(cert, setting, address, state, &procedure) {
+        if is_entry(cert, setting, address, state, &procedure, room) {
             return Some(i);
         }
     }
     None
+}
+
+/// The same, with room of its own.
+pub fn callee(cert: &Cert<'_>, setting: Setting, address: u16, state: &Abs) -> Option<u8>
+    ensures exact { result ≡ Calls.callee_of cert.now setting address state.now }
+{
+    let mut room = Abs::new(*state.core());
+    callee_in(cert, setting, address, state, &mut room)
 }

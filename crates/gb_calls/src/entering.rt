@@ -1,14 +1,13 @@
 //! What a procedure begins with.
 
-ghost use Rattle.std.specs.Prelude.{◌≡◌, ◌≤◌, ◌+◌, ◌++◌, length};
-ghost use Rattle.arrayvec.specs.ArrayVec.{array_vec_len};
+ghost use Rattle.std.specs.Prelude.{◌≡◌, ◌≤◌, ◌+◌, ◌++◌, length, map};
+ghost use Rattle.gb_abs.specs.Origins as Origins;
 ghost use Rattle.gb_calls.specs.Calls as Calls;
 ghost use Rattle.gb_calls.specs.Sound.{IsSoundEntering};
 ghost use Rattle.gb_calls.specs.TakenOver as TakenOver;
 
-use arrayvec::ArrayVec;
-use gb_abs::origins::{cells_without_origins, own, without_origin};
-use gb_domain::types::{Abs, Core, Ctl, Flg, Origin, Rules, Val};
+use gb_abs::origins::{cell_without_origin, own, without_origin};
+use gb_domain::types::{Abs, Cell, Core, Ctl, Flg, Origin, Rules, Val};
 use gb_ops::op::Register;
 use gb_ops::registers::Registers;
 
@@ -46,69 +45,85 @@ fn entered_core(core: &Core) -> Core
     }
 }
 
-/// Appends items, no copies but for the last two, which are the return word's bytes. There must be room.
-fn append_returning(taken: &mut ArrayVec<Val, 255>, items: &[Val])
-    requires { array_vec_len taken.old + length items.now ≤ 255 }
-    ensures { taken.new.items ≡ taken.old.items ++ TakenOver.returning items.now }
+/// The state gets these items more, no copies but for the last two, which are the return word's bytes. There must be room.
+fn append_returning(state: &mut Abs, items: &[Val])
+    requires { length state.old.items + length items.now ≤ 255 }
+    ensures { state.new ≡ record state.old { items = state.old.items ++ TakenOver.returning items.now } }
 {
     match items {
         [] => {}
-        [low] => taken.push(own(Origin::ReturnLow, *low)),
+        [low] => state.push_item(own(Origin::ReturnLow, *low)),
         [high, low] => {
-            taken.push(own(Origin::ReturnHigh, *high));
-            taken.push(own(Origin::ReturnLow, *low));
+            state.push_item(own(Origin::ReturnHigh, *high));
+            state.push_item(own(Origin::ReturnLow, *low));
         }
         [item, rest @ ..] => {
-            taken.push(without_origin(*item));
-            append_returning(taken, rest);
+            state.push_item(without_origin(*item));
+            append_returning(state, rest);
         }
     }
 }
 
-/// A caller's newest items, as a callee takes them over that has so many. There must be room.
+/// The state gets a caller's newest items more, as a callee takes them over that has so many. There must be room.
 #[tactic(auto, unfolding(crate::specs::TakenOver::taken_over))]
-fn taken_over(count: u8, items: &[Val]) -> ArrayVec<Val, 255>
-    requires { length items.now ≤ 255 }
-    ensures { result.items ≡ TakenOver.taken_over count items.now }
+fn append_taken_over(count: u8, items: &[Val], state: &mut Abs)
+    requires { length state.old.items + length items.now ≤ 255 }
+    ensures { state.new ≡ record state.old { items = state.old.items ++ TakenOver.taken_over count items.now } }
 {
     let waiting = items.len().saturating_sub(usize::from(count));
-    let mut taken = ArrayVec::new();
-    append_returning(&mut taken, &items[waiting..]);
-    taken
+    append_returning(state, &items[waiting..]);
 }
 
-/// The items with which a procedure begins whose entry node has so many. There must be room.
-fn items_entered(rules: Rules, count: u8, items: &[Val]) -> ArrayVec<Val, 255>
-    requires { length items.now ≤ 255 }
-    ensures { result.items ≡ Calls.items_entered rules count items.now }
+/// The state gets the items more with which a procedure begins whose entry node has so many. There must be room.
+fn append_entered(rules: Rules, count: u8, items: &[Val], state: &mut Abs)
+    requires { length state.old.items + length items.now ≤ 255 }
+    ensures { state.new ≡ record state.old { items = state.old.items ++ Calls.items_entered rules count items.now } }
 {
     match rules {
-        Rules::Simple => ArrayVec::new(),
-        Rules::Extended => taken_over(count, items),
+        Rules::Simple => {}
+        Rules::Extended => append_taken_over(count, items, state),
     }
 }
 
-/// The state with which a procedure begins.
-#[tactic(auto, unfolding(crate::specs::Calls::entered_by))]
-fn entered(rules: Rules, count: u8, state: &Abs) -> Abs
-    ensures { result ≡ Calls.entered_by rules count state.now }
+/// The state gets these cells more, no copies. There must be room.
+fn append_cells(cells: &[Cell], state: &mut Abs)
+    requires { length state.old.cells + length cells.now ≤ 64 }
+    ensures { state.new ≡ record state.old { cells = state.old.cells ++ map Origins.cell_without_origin cells.now } }
 {
-    Abs::of_parts(
-        entered_core(state.core()),
-        items_entered(rules, count, state.items()),
-        cells_without_origins(state.cells()),
-        *state.relations(),
-    )
+    for cell in cells {
+        state.push_cell(cell_without_origin(*cell));
+    }
+}
+
+/// The state with which a procedure begins, in the place of another one.
+#[tactic(auto, unfolding(crate::specs::Calls::entered_by))]
+fn put_entered(rules: Rules, count: u8, state: &Abs, entered: &mut Abs)
+    ensures { entered.new ≡ Calls.entered_by rules count state.now }
+{
+    entered.set_plain(entered_core(state.core()));
+    entered.set_relations(*state.relations());
+    append_entered(rules, count, state.items(), entered);
+    append_cells(state.cells(), entered);
+}
+
+/// The same as `enter`, in the place of other states.
+#[tactic(auto, using(crate::proofs::EnteringLaws::enter_sound))]
+pub fn enter_in(rules: Rules, count: u8, state: &Abs, entered: &mut Abs)
+    ensures exact { entered.new ≡ Calls.entered_by rules count state.now }
+    ensures sound { IsSoundEntering rules count state.now entered.new }
+{
+    put_entered(rules, count, state, entered);
 }
 
 /// What a procedure begins with that is called in these states, and whose entry node has so many items (abstract
 /// interpretation: calls; own). What it holds is its own. By the rules of versions 1 and 2 no byte is pushed, the return
 /// word stands at its base; by those of version 3 it takes over its caller's newest items, the return word the last two
 /// of them.
-#[tactic(auto, using(crate::proofs::EnteringLaws::enter_sound))]
 pub fn enter(rules: Rules, count: u8, state: &Abs) -> Abs
     ensures exact { result ≡ Calls.entered_by rules count state.now }
     ensures sound { IsSoundEntering rules count state.now result }
 {
-    entered(rules, count, state)
+    let mut entered = Abs::new(*state.core());
+    enter_in(rules, count, state, &mut entered);
+    entered
 }

@@ -15,7 +15,9 @@
 
 pub mod callees;
 mod cells;
+pub mod covering;
 pub mod entering;
+mod in_bytes;
 pub mod interrupts;
 pub mod ranges;
 pub mod resuming;

@@ -1,7 +1,6 @@
 //! What a caller goes on with.
 
-ghost use Rattle.std.specs.Prelude.{◌≡◌, ◌+◌, ◌≤◌, ◌<◌, ◌++◌, length, map, None, IfSome};
-ghost use Rattle.arrayvec.specs.ArrayVec.{array_vec_len};
+ghost use Rattle.std.specs.Prelude.{◌≡◌, ◌+◌, ◌≤◌, ◌<◌, ◌++◌, true, false, length, map};
 ghost use Rattle.gb_domain.specs.declared.rules.Rules.TheVariants.{Extended};
 ghost use Rattle.gb_abs.specs.Origins as Origins;
 ghost use Rattle.gb_calls.specs.Resuming as Resuming;
@@ -9,7 +8,6 @@ ghost use Rattle.gb_calls.specs.Sound.{IsSoundResuming, ReducesSoundly};
 ghost use Rattle.gb_calls.specs.TakenOver as TakenOver;
 
 use crate::cells::{cells_back, is_address_in};
-use arrayvec::ArrayVec;
 use gb_abs::origins::{is_own, without_origin};
 use gb_domain::places::OneByte;
 use gb_domain::relations::Relations;
@@ -30,6 +28,17 @@ pub enum Resumed {
     /// No machine state is meant: the callee doesn't come back.
     Nothing,
     States(Abs),
+    /// More items than a state holds.
+    TooDeep,
+}
+
+/// What a caller goes on with, where its states stand elsewhere.
+#[derive(Clone, Copy)]
+pub enum Return {
+    /// No machine state is meant: the callee doesn't come back.
+    Nothing,
+    /// Those states.
+    States,
     /// More items than a state holds.
     TooDeep,
 }
@@ -82,6 +91,26 @@ fn core_back(caller: &Core, exit: &Core) -> Core
     }
 }
 
+/// The state gets these items more. There must be room.
+fn append_items(items: &[Val], state: &mut Abs)
+    requires { length state.old.items + length items.now ≤ 255 }
+    ensures { state.new ≡ record state.old { items = state.old.items ++ items.now } }
+{
+    for item in items {
+        state.push_item(*item);
+    }
+}
+
+/// The state gets these items more, no copies. There must be room.
+fn append_without_origins(items: &[Val], state: &mut Abs)
+    requires { length state.old.items + length items.now ≤ 255 }
+    ensures { state.new ≡ record state.old { items = state.old.items ++ map Origins.without_origin items.now } }
+{
+    for item in items {
+        state.push_item(without_origin(*item));
+    }
+}
+
 // ---- by the rules of versions 1 and 2
 
 /// What is said of the caller's A, where A and the flags are the caller's.
@@ -96,24 +125,18 @@ fn byte_back(caller: &Abs, exit: &Abs) -> OneByte
     }
 }
 
-/// The state with which a caller goes on: it holds what it held.
+/// The state with which a caller goes on, in the place of another one: it holds what it held.
 #[tactic(auto, unfolding(crate::specs::Resuming::resumed_alone))]
-fn resumed_alone(ranges: &[Range], state: &Abs, exit: &Abs) -> Abs
-    ensures { result ≡ Resuming.resumed_alone ranges.now state.now exit.now }
+fn put_alone(ranges: &[Range], state: &Abs, exit: &Abs, resumed: &mut Abs)
+    ensures { resumed.new ≡ Resuming.resumed_alone ranges.now state.now exit.now }
 {
-    let mut items = ArrayVec::new();
-    if items.try_extend_from_slice(state.items()).is_err() {
-        unreachable!();
-    }
-    Abs::of_parts(
-        core_back(state.core(), exit.core()),
-        items,
-        cells_back(Rules::Simple, ranges, state.cells(), exit.cells()),
-        Relations {
-            byte: byte_back(state, exit),
-            ..Relations::default()
-        },
-    )
+    resumed.set_plain(core_back(state.core(), exit.core()));
+    resumed.set_relations(Relations {
+        byte: byte_back(state, exit),
+        ..Relations::default()
+    });
+    append_items(state.items(), resumed);
+    resumed.set_cells(cells_back(Rules::Simple, ranges, state.cells(), exit.cells()));
 }
 
 // ---- by the rules of version 3
@@ -153,41 +176,34 @@ fn kept_by(ranges: &[Range], byte: &OneByte, exit: &Core) -> Kept
     }
 }
 
-/// Appends items, no copies. There must be room.
-fn append_without_origins(items: &mut ArrayVec<Val, 255>, from: &[Val])
-    requires { array_vec_len items.old + length from.now ≤ 255 }
-    ensures { items.new.items ≡ items.old.items ++ map Origins.without_origin from.now }
-{
-    for item in from {
-        items.push(without_origin(*item));
-    }
-}
-
-/// A caller's waiting items, the callee having taken over so many, and those of its exit behind them. None where they are
-/// more than a state holds.
-#[tactic(auto, using(crate::proofs::TakenOverLaws::given_back_fits), unfolding(crate::specs::TakenOver::given_back_items))]
-fn given_back_items(count: u8, held: &[Val], exit: &[Val]) -> Option<ArrayVec<Val, 255>>
-    requires { length held.now ≤ 255 }
-    ensures few { IfSome result (λ items. items.items ≡ TakenOver.given_back_items count held.now exit.now) }
-    ensures many { result ≡ None → 255 < length (TakenOver.given_back_items count held.now exit.now) }
+/// The state gets a caller's waiting items more, the callee having taken over so many, and those of its exit behind them.
+/// There must be room for them.
+#[tactic(auto, unfolding(crate::specs::TakenOver::given_back_items))]
+fn append_given_back(count: u8, held: &[Val], exit: &[Val], state: &mut Abs)
+    requires { length state.old.items + length (TakenOver.given_back_items count held.now exit.now) ≤ 255 }
+    ensures { state.new ≡ record state.old { items = state.old.items ++ TakenOver.given_back_items count held.now exit.now } }
 {
     let waiting = held.len().saturating_sub(usize::from(count));
-    if exit.len() > ITEMS - waiting {
-        return None;
-    }
-    let mut items = ArrayVec::new();
-    if items.try_extend_from_slice(&held[..waiting]).is_err() {
-        unreachable!();
-    }
-    append_without_origins(&mut items, exit);
-    Some(items)
+    append_items(&held[..waiting], state);
+    append_without_origins(exit, state);
 }
 
-/// What a caller goes on with: its waiting items and the exit's behind them, and what is known together on either side,
-/// cut to what registers and pairs leave each other.
+/// Whether a caller's waiting items, the callee having taken over so many, and those of its exit are more than a state holds.
+#[tactic(auto, using(crate::proofs::TakenOverLaws::given_back_fits, crate::proofs::TakenOverLaws::given_back_few))]
+fn are_too_many(count: u8, held: &[Val], exit: &[Val]) -> bool
+    requires { length held.now ≤ 255 }
+    ensures many { result ≡ true → 255 < length (TakenOver.given_back_items count held.now exit.now) }
+    ensures few { result ≡ false → length (TakenOver.given_back_items count held.now exit.now) ≤ 255 }
+{
+    let waiting = held.len().saturating_sub(usize::from(count));
+    exit.len() > ITEMS - waiting
+}
+
+/// What a caller goes on with, in the place of other states: its waiting items and the exit's behind them, and what is known
+/// together on either side, cut to what registers and pairs leave each other.
 #[tactic(auto, unfolding(crate::specs::Resuming::rejoined, crate::specs::Resuming::reduced_state))]
-fn rejoined(count: u8, ranges: &[Range], state: &Abs, exit: &Abs) -> Resumed
-    ensures exact { Resuming.IsResumed result (Resuming.reduced_state (Resuming.rejoined count ranges.now state.now exit.now)) }
+fn put_rejoined(count: u8, ranges: &[Range], state: &Abs, exit: &Abs, resumed: &mut Abs) -> Return
+    ensures exact { Resuming.IsResumed (Resuming.resumed_to result resumed.new) (Resuming.reduced_state (Resuming.rejoined count ranges.now state.now exit.now)) }
     ensures reducing { ReducesSoundly (Resuming.rejoined count ranges.now state.now exit.now) }
 {
     let kept = kept_by(ranges, &state.relations().byte, exit.core());
@@ -197,45 +213,67 @@ fn rejoined(count: u8, ranges: &[Range], state: &Abs, exit: &Abs) -> Resumed
         registers: core.registers,
         pairs: relations.pairs,
     }) else {
-        return Resumed::Nothing;
+        return Return::Nothing;
     };
-    match given_back_items(count, state.items(), exit.items()) {
-        None => Resumed::TooDeep,
-        Some(items) => Resumed::States(Abs::of_parts(
-            Core {
-                registers: values.registers,
-                ..core
-            },
-            items,
-            cells_back(Rules::Extended, ranges, state.cells(), exit.cells()),
-            Relations {
-                pairs: values.pairs,
-                ..relations
-            },
-        )),
+    if are_too_many(count, state.items(), exit.items()) {
+        return Return::TooDeep;
     }
+    resumed.set_plain(Core {
+        registers: values.registers,
+        ..core
+    });
+    resumed.set_relations(Relations {
+        pairs: values.pairs,
+        ..relations
+    });
+    append_given_back(count, state.items(), exit.items(), resumed);
+    resumed.set_cells(cells_back(Rules::Extended, ranges, state.cells(), exit.cells()));
+    Return::States
 }
 
 /// The same, as it follows what the machine does.
 #[tactic(auto, using(crate::proofs::ResumingLaws::rejoined_sound))]
-fn rejoin(count: u8, ranges: &[Range], state: &Abs, exit: &Abs) -> Resumed
-    ensures exact { Resuming.IsResumed result (Resuming.reduced_state (Resuming.rejoined count ranges.now state.now exit.now)) }
-    ensures sound { IsSoundResuming Extended count ranges.now state.now exit.now result }
+fn rejoin(count: u8, ranges: &[Range], state: &Abs, exit: &Abs, resumed: &mut Abs) -> Return
+    ensures exact { Resuming.IsResumed (Resuming.resumed_to result resumed.new) (Resuming.reduced_state (Resuming.rejoined count ranges.now state.now exit.now)) }
+    ensures sound { IsSoundResuming Extended count ranges.now state.now exit.now (Resuming.resumed_to result resumed.new) }
 {
-    rejoined(count, ranges, state, exit)
+    put_rejoined(count, ranges, state, exit, resumed)
 }
 
 // ---- by either
 
+/// The same as `resume`, in the place of other states: what they are says `Return`.
+#[tactic(auto, using(crate::proofs::ResumingLaws::resumed_alone_sound), unfolding(crate::specs::Resuming::resumed))]
+pub fn resume_in(
+    rules: Rules,
+    count: u8,
+    ranges: &[Range],
+    state: &Abs,
+    exit: &Abs,
+    resumed: &mut Abs,
+) -> Return
+    ensures exact { Resuming.IsResumed (Resuming.resumed_to result resumed.new) (Resuming.resumed rules count ranges.now state.now exit.now) }
+    ensures sound { IsSoundResuming rules count ranges.now state.now exit.now (Resuming.resumed_to result resumed.new) }
+{
+    match rules {
+        Rules::Simple => {
+            put_alone(ranges, state, exit, resumed);
+            Return::States
+        }
+        Rules::Extended => rejoin(count, ranges, state, exit, resumed),
+    }
+}
+
 /// What a caller goes on with that was in these states, where its callee has these ranges, began with so many items and left
 /// by this exit (abstract interpretation: calls; own).
-#[tactic(auto, using(crate::proofs::ResumingLaws::resumed_alone_sound), unfolding(crate::specs::Resuming::resumed))]
 pub fn resume(rules: Rules, count: u8, ranges: &[Range], state: &Abs, exit: &Abs) -> Resumed
     ensures exact { Resuming.IsResumed result (Resuming.resumed rules count ranges.now state.now exit.now) }
     ensures sound { IsSoundResuming rules count ranges.now state.now exit.now result }
 {
-    match rules {
-        Rules::Simple => Resumed::States(resumed_alone(ranges, state, exit)),
-        Rules::Extended => rejoin(count, ranges, state, exit),
+    let mut resumed = Abs::new(*state.core());
+    match resume_in(rules, count, ranges, state, exit, &mut resumed) {
+        Return::Nothing => Resumed::Nothing,
+        Return::States => Resumed::States(resumed),
+        Return::TooDeep => Resumed::TooDeep,
     }
 }

@@ -1,17 +1,15 @@
 //! A node of a certificate, in the bytes of its file.
 
-ghost use Rattle.std.specs.Prelude.{◌≡◌, ◌≤◌, false, [], length};
+ghost use Rattle.std.specs.Prelude.{◌≡◌, false, []};
 ghost use Rattle.std.specs.List.{flat_map};
 ghost use Rattle.gb_domain.specs.Types.{state_of};
 ghost use Rattle.gb_domain.specs.RelationRules.{compared, test_alone};
-ghost use Rattle.gb_states.specs.Checked as checked;
 ghost use Rattle.gb_states.specs.Spelling as spelled;
 
-use crate::state::{CORE, StateRef};
+use crate::state::StateRef;
 use gb_domain::types::{Abs, Core, Rules};
-use gb_fields::numbers::from_place;
 use gb_ops::machine::Region;
-use gb_states::fields::{are_none, core_in, test_in};
+use gb_states::fields::{core_in, test_in};
 use gb_states::relations::test_alone;
 use gb_states::role::Role;
 use std::marker::Model;
@@ -95,15 +93,6 @@ impl<'a> NodeRef<'a> {
         core_in(self.state)
     }
 
-    /// The bytes of its state, and what stands behind it.
-    #[inline(always)]
-    pub fn state_bytes(&self) -> &'a [u8]
-        ensures core { checked.core_in result.now ≡ self.now.state.core }
-        ensures long { 40 ≤ length result.now }
-    {
-        self.state
-    }
-
     /// What its state's flags say of A where nothing else is known of several parts together: the value that the state's
     /// test compares with.
     #[inline(always)]
@@ -119,7 +108,7 @@ impl<'a> NodeRef<'a> {
         ensures lists { result ≡ false → (self.now.state.items ≡ []) × (self.now.state.cells ≡ []) }
         ensures relations { result ≡ false → self.now.state.relations ≡ test_alone (compared self.now.state.relations.byte.test) }
     {
-        !are_none(self.rules, from_place(self.state, CORE))
+        self.lent().has_lists()
     }
 
     /// Its state, in the place of another one. It takes no memory.

@@ -1,8 +1,9 @@
 //! A state of a certificate, in the bytes of its file.
 
-ghost use Rattle.std.specs.Prelude.{◌≡◌, ◌≤◌, length};
+ghost use Rattle.std.specs.Prelude.{◌≡◌, ◌≤◌, false, [], length};
 ghost use Rattle.std.specs.List.{flat_map};
-ghost use Rattle.gb_domain.specs.RelationRules.{compared};
+ghost use Rattle.gb_domain.specs.RelationRules.{compared, test_alone};
+ghost use Rattle.gb_states.specs.Checked as checked;
 ghost use Rattle.gb_states.specs.Spelling as spelled;
 ghost use Rattle.gb_cert.specs.Borrowed.{item_width};
 
@@ -10,7 +11,7 @@ use gb_domain::relations::Relations;
 use gb_domain::types::{Abs, Core, Rules};
 use gb_fields::numbers::{counted, from_place};
 use gb_ops::machine::Region;
-use gb_states::fields::{core_in, test_in};
+use gb_states::fields::{are_none, core_in, test_in};
 use gb_states::listed::{append_cells, append_items};
 use gb_states::relations::relations_by;
 use gb_states::role::Role;
@@ -95,6 +96,24 @@ impl<'a> StateRef<'a> {
         &self.bytes[..CORE]
     }
 
+    /// Its bytes, and what stands behind it.
+    #[inline(always)]
+    pub fn bytes(&self) -> &'a [u8]
+        ensures core { checked.core_in result.now ≡ self.now.core }
+        ensures long { 40 ≤ length result.now }
+    {
+        self.bytes
+    }
+
+    /// Whether it may hold items or cells, or what is known of several parts together but a test of A.
+    #[inline(always)]
+    pub fn has_lists(&self) -> bool
+        ensures lists { result ≡ false → (self.now.items ≡ []) × (self.now.cells ≡ []) }
+        ensures relations { result ≡ false → self.now.relations ≡ test_alone (compared self.now.relations.byte.test) }
+    {
+        !are_none(self.rules, from_place(self.bytes, CORE))
+    }
+
     /// Its core.
     #[inline(always)]
     pub fn known_core(&self) -> Core
@@ -119,7 +138,7 @@ impl<'a> StateRef<'a> {
     }
 
     /// What is known of several of its parts together, and the bytes of its memory cells.
-    fn told(&self) -> (Relations, &'a [u8])
+    pub fn told(&self) -> (Relations, &'a [u8])
         ensures relations { result.0 ≡ self.now.relations }
         ensures cells { result.1.now ≡ flat_map spelled.cell self.now.cells }
         ensures few { length self.now.cells ≤ 64 }

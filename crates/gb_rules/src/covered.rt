@@ -10,9 +10,9 @@ ghost use Rattle.gb_product.specs.Covering.{covers, covers_relations};
 ghost use Rattle.gb_product.specs.Reduced.{reduced};
 ghost use Rattle.gb_rules.specs.Covered as Covered;
 
-use crate::in_bytes::covers_core_in;
 use gb_abs::covering::{covers_core, covers_lists};
 use gb_abs::operations::with_value;
+use gb_calls::covering::{self, States, covers_held};
 use gb_calls::{Cert, Found, NodeRef};
 use gb_domain::relations::Relations;
 use gb_domain::types::{Abs, Core, Rules, Val};
@@ -20,80 +20,19 @@ use gb_ops::op::Register;
 use gb_product::covering::covers_relations;
 use gb_product::parts::Product;
 use gb_product::reduced::reduced;
-use gb_states::relations::test_alone;
-
-/// Whether the items and the cells of a node's state stand for those of others, where it may hold some: kept out of line,
-/// so that a state is decoded only then.
-#[inline(never)]
-fn covers_decoded(s: &Abs, node: &NodeRef<'_>) -> bool
-    ensures { result ≡ (covers_items s.now.items node.now.state.items && covers_cells s.now.cells node.now.state.cells) }
-{
-    covers_lists(s, &node.state())
-}
-
-/// Whether the items and the cells of a node's state stand for what these do.
-fn covers_held(s: &Abs, node: &NodeRef<'_>) -> bool
-    ensures { result ≡ (covers_items s.now.items node.now.state.items && covers_cells s.now.cells node.now.state.cells) }
-{
-    if node.has_lists() {
-        covers_decoded(s, node)
-    } else {
-        s.items().is_empty()
-    }
-}
-
-/// States with this core, of which this is known together, and the items and cells of others.
-#[derive(Clone, Copy)]
-pub struct States<'a> {
-    pub core: &'a Core,
-    pub relations: &'a Relations,
-    pub lists: &'a Abs,
-}
 
 /// What is known together of a node's states.
 fn relations_of(node: &NodeRef<'_>) -> Relations
     ensures { result ≡ node.now.state.relations }
 {
-    if node.has_lists() {
-        *node.state().relations()
-    } else {
-        test_alone(node.test())
-    }
+    covering::relations_of(&node.lent())
 }
 
-/// Whether all of a node's states but the core stands for that of others, where it is read from the certificate: once.
-#[inline(never)]
-fn covers_read(states: &States<'_>, node: &NodeRef<'_>) -> bool
-    ensures { result ≡ ((covers_items states.now.lists.now.items node.now.state.items && covers_cells states.now.lists.now.cells node.now.state.cells) && covers_relations states.now.core.now.registers states.now.relations.now node.now.state.relations) }
-{
-    let state = node.state();
-    covers_lists(states.lists, &state)
-        && covers_relations(&states.core.registers, states.relations, state.relations())
-}
-
-/// Whether all of a node's states but the core stands for that of others.
-fn covers_rest(states: &States<'_>, node: &NodeRef<'_>) -> bool
-    ensures { result ≡ ((covers_items states.now.lists.now.items node.now.state.items && covers_cells states.now.lists.now.cells node.now.state.cells) && covers_relations states.now.core.now.registers states.now.relations.now node.now.state.relations) }
-{
-    if node.has_lists() {
-        covers_read(states, node)
-    } else {
-        covers_held(states.lists, node)
-            && covers_relations(
-                &states.core.registers,
-                states.relations,
-                &relations_of(node),
-            )
-    }
-}
-
-/// Whether the state of a node stands for each machine state that these stand for. Only its core is read where that doesn't,
-/// and where nothing but a core is in it.
-#[tactic(auto, unfolding(gb_product::specs::Covering::covers, gb_abs::specs::Covering::covers_parts))]
+/// Whether the state of a node stands for each machine state that these stand for.
 fn covers_states(states: &States<'_>, node: &NodeRef<'_>) -> bool
     ensures { result ≡ covers (Covered.with_parts states.now.core.now states.now.relations.now states.now.lists.now) node.now.state }
 {
-    covers_core_in(states.core, node.state_bytes()) && covers_rest(states, node)
+    covering::covers_states(states, &node.lent())
 }
 
 /// Whether one of the nodes that were found stands for these states.
@@ -130,7 +69,7 @@ fn covers_value(
     ensures { result ≡ covers_parts (Covered.with_value register (Covered.with_parts states.now.core.now states.now.relations.now states.now.lists.now) value) node.now.state }
 {
     covers_core(&with_value(register, value, states.core), claimed)
-        && covers_held(states.lists, node)
+        && covers_held(states.lists, &node.lent())
 }
 
 /// The values of a register with which each part of a node's states stands for that of these states: those of its
@@ -370,10 +309,5 @@ pub(crate) fn is_state_covered(
 ) -> bool
     ensures { result ≡ Covered.covered_at rules cert.now.nodes procedure address state.now }
 {
-    let states = States {
-        core: state.core(),
-        relations: state.relations(),
-        lists: state,
-    };
-    covered_near(rules, cert, near, procedure, address, &states)
+    covered_near(rules, cert, near, procedure, address, &States::of(state))
 }

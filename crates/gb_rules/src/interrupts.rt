@@ -10,6 +10,7 @@ ghost use Rattle.gb_rules.specs.Safety.{IsWhollySafeAt};
 
 use crate::depth::is_deep;
 use crate::procedures::{Call, is_call_uncovered, is_outside_of, is_over, stack_of};
+use crate::room::Room;
 use gb_abs::reason::Reason;
 use gb_calls::interrupts::{handler, left_by_dispatch, may_come};
 use gb_calls::{Cert, NodeRef};
@@ -123,6 +124,7 @@ fn is_unhandled(
     state: &Abs,
     i: u8,
     handler: Option<u8>,
+    room: &mut Room,
 ) -> bool
     requires small { i < 5 }
     requires state { state.now ≡ node.now.state }
@@ -143,6 +145,8 @@ fn is_unhandled(
             call,
             &left_by_dispatch(setting.rules, node.address(), state),
             handler,
+            &mut room.exit,
+            &mut room.other,
         )
 }
 
@@ -154,6 +158,7 @@ fn is_unhandled_at(
     node: &NodeRef<'_>,
     state: &Abs,
     i: u8,
+    room: &mut Room,
 ) -> bool
     requires small { i < 5 }
     requires state { state.now ≡ node.now.state }
@@ -168,6 +173,7 @@ fn is_unhandled_at(
             state,
             i,
             handler(cert, setting, i, node.address(), state),
+            room,
         )
 }
 
@@ -182,6 +188,7 @@ pub fn lacks_handler(
     stack: Stack,
     node: &NodeRef<'_>,
     state: &Abs,
+    room: &mut Room,
 ) -> bool
     requires stack { stack ≡ stack_of cert.now node.now.procedure }
     requires state { state.now ≡ node.now.state }
@@ -191,11 +198,11 @@ pub fn lacks_handler(
         return false;
     }
     let setting = stack.setting;
-    is_unhandled_at(cert, near, setting, node, state, 0)
-        || is_unhandled_at(cert, near, setting, node, state, 1)
-        || is_unhandled_at(cert, near, setting, node, state, 2)
-        || is_unhandled_at(cert, near, setting, node, state, 3)
-        || is_unhandled_at(cert, near, setting, node, state, 4)
+    is_unhandled_at(cert, near, setting, node, state, 0, room)
+        || is_unhandled_at(cert, near, setting, node, state, 1, room)
+        || is_unhandled_at(cert, near, setting, node, state, 2, room)
+        || is_unhandled_at(cert, near, setting, node, state, 3, room)
+        || is_unhandled_at(cert, near, setting, node, state, 4, room)
 }
 
 /// Checks that each interrupt that may come at the node with a number is provided for.
@@ -225,7 +232,8 @@ fn provided_at(cert: &Cert<'_>, i: u32) -> Result<(), Reason>
     let node = cert.node(i);
     let state = node.state();
     let stack = stack_of(cert, node.procedure());
-    if lacks_handler(cert, i, stack, &node, &state) {
+    let mut room = Room::new(*state.core());
+    if lacks_handler(cert, i, stack, &node, &state, &mut room) {
         Err(Reason::Interrupt)
     } else {
         Ok(())

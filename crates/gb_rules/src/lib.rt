@@ -12,9 +12,9 @@
 
 pub mod covered;
 mod depth;
-mod in_bytes;
 pub mod interrupts;
 pub mod procedures;
+pub mod room;
 pub mod rules;
 mod stacks;
 

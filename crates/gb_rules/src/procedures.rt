@@ -1,7 +1,7 @@
 //! The procedures of a certificate, and what successors ask of them: where they call, where they go on,
 //! and whether they may return.
 
-ghost use Rattle.std.specs.Prelude.{◌≡◌, ◌<◌, length, slice_get, Option};
+ghost use Rattle.std.specs.Prelude.{◌≡◌, ◌<◌, length, slice_get, Option, Some};
 ghost use Rattle.gb_domain.specs.Limits as Limits;
 ghost use Rattle.gb_calls.specs.Calls.{callee_of};
 ghost use Rattle.gb_successors.specs.Successors.{has};
@@ -9,18 +9,19 @@ ghost use Rattle.gb_rules.specs.Covered as Covered;
 ghost use Rattle.gb_rules.specs.Procedures as Procedures;
 ghost use Rattle.gb_rules.specs.Rules as Ruled;
 
-use crate::covered::{States, covered_near, is_state_covered};
+use crate::covered::{covered_near, is_state_covered};
+use crate::room::Room;
 use arrayvec::ArrayVec;
-use gb_calls::Cert;
-use gb_calls::callees::callee;
+use gb_calls::callees::{callee, callee_in};
+use gb_calls::covering::{States, covers_states};
 use gb_calls::ranges::are_ranges_inside;
-use gb_calls::resuming::{Resumed, resume};
+use gb_calls::resuming::{Return, resume_in};
+use gb_calls::{Cert, StateRef};
 use gb_domain::types::{Abs, Range, Rules, Setting};
-use gb_product::covering::covers;
 use gb_successors::Target;
 use gb_successors::stacks::Stack;
 use gb_successors::successor::Successor;
-use gb_successors::successors::Successors;
+use gb_successors::successors::Ways;
 
 /// What a procedure may write; nothing where there is none with the number.
 #[tactic(auto, unfolding(crate::specs::Procedures::ranges_of))]
@@ -113,16 +114,23 @@ pub fn taken_by(cert: &Cert<'_>, procedure: u8) -> u8
     }
 }
 
-/// What a procedure returns with, if it returns.
+/// What a procedure returns with, if it returns, in the certificate's bytes.
 #[tactic(auto, unfolding(crate::specs::Procedures::exit_of))]
-pub fn exit_of(cert: &Cert<'_>, procedure: u8) -> Option<Abs>
+fn lent_exit_of<'a>(cert: &Cert<'a>, procedure: u8) -> Option<StateRef<'a>>
     ensures { result ≡ Procedures.exit_of cert.now procedure }
 {
     if procedure < cert.procedures() {
-        cert.procedure(procedure).exit()
+        cert.procedure(procedure).lent_exit()
     } else {
         None
     }
+}
+
+/// What a procedure returns with, if it returns.
+pub fn exit_of(cert: &Cert<'_>, procedure: u8) -> Option<Abs>
+    ensures { result ≡ Procedures.exit_of cert.now procedure }
+{
+    Some(lent_exit_of(cert, procedure)?.state())
 }
 
 // ---- callees
@@ -196,7 +204,33 @@ fn is_overfull(state: &Abs) -> bool
     Rules::Extended.item_room() < state.items().len()
 }
 
-/// Whether no node stands for what the caller goes on with when the callee returns.
+/// Whether no node stands for what the caller goes on with when the callee returns by this exit. The exit's states and those
+/// that the caller goes on with are written in the place of others.
+fn is_return_uncovered(
+    rules: Rules,
+    cert: &Cert<'_>,
+    near: u32,
+    procedure: u8,
+    back: u16,
+    state: &Abs,
+    callee: u8,
+    exit: &Abs,
+    resumed: &mut Abs,
+) -> bool
+    ensures { result ≡ Ruled.is_resumed_uncovered rules cert.now procedure back state.now callee (Some exit.now) }
+{
+    let ranges = ranges_of(cert, callee);
+    let taken = taken_by(cert, callee);
+    match resume_in(rules, taken, ranges.as_slice(), state, exit, resumed) {
+        Return::Nothing => false,
+        Return::TooDeep => true,
+        Return::States => {
+            is_overfull(resumed) || !is_state_covered(rules, cert, near, procedure, back, resumed)
+        }
+    }
+}
+
+/// The same, by its exit, if it has one.
 pub(crate) fn is_back_uncovered(
     rules: Rules,
     cert: &Cert<'_>,
@@ -205,21 +239,18 @@ pub(crate) fn is_back_uncovered(
     back: u16,
     state: &Abs,
     callee: u8,
+    exit: &mut Abs,
+    other: &mut Abs,
 ) -> bool
     ensures { result ≡ Ruled.is_back_uncovered rules cert.now procedure back state.now callee }
 {
-    let Some(exit) = exit_of(cert, callee) else {
+    let Some(lent) = lent_exit_of(cert, callee) else {
         return false;
     };
-    let ranges = ranges_of(cert, callee);
-    let taken = taken_by(cert, callee);
-    match resume(rules, taken, ranges.as_slice(), state, &exit) {
-        Resumed::Nothing => false,
-        Resumed::TooDeep => true,
-        Resumed::States(resumed) => {
-            is_overfull(&resumed) || !is_state_covered(rules, cert, near, procedure, back, &resumed)
-        }
-    }
+    lent.read(exit);
+    is_return_uncovered(
+        rules, cert, near, procedure, back, state, callee, exit, other,
+    )
 }
 
 /// Whether what is called, and has no callee, isn't covered in the same procedure either.
@@ -248,12 +279,16 @@ pub(crate) fn is_call_uncovered(
     call: Call,
     state: &Abs,
     callee: Option<u8>,
+    exit: &mut Abs,
+    other: &mut Abs,
 ) -> bool
     ensures { result ≡ Ruled.is_call_uncovered rules cert.now procedure call.address call.back state.now callee }
 {
     match callee {
         None => is_inlined_uncovered(rules, cert, near, procedure, call.address, state),
-        Some(callee) => is_back_uncovered(rules, cert, near, procedure, call.back, state, callee),
+        Some(callee) => is_back_uncovered(
+            rules, cert, near, procedure, call.back, state, callee, exit, other,
+        ),
     }
 }
 
@@ -274,10 +309,12 @@ fn is_covered_moved(
     procedure: u8,
     address: u16,
     successor: &Successor<'_>,
+    room: &mut Room,
 ) -> bool
     ensures { result ≡ Covered.covered_at rules cert.now.nodes procedure address successor.now.state }
 {
-    is_state_covered(rules, cert, near, procedure, address, &successor.state())
+    successor.put_state(&mut room.behind);
+    is_state_covered(rules, cert, near, procedure, address, &room.behind)
 }
 
 /// Whether a node of the procedure at the address stands for the states behind an instruction.
@@ -288,6 +325,7 @@ fn is_covered(
     procedure: u8,
     address: u16,
     successor: &Successor<'_>,
+    room: &mut Room,
 ) -> bool
     ensures { result ≡ Covered.covered_at rules cert.now.nodes procedure address successor.now.state }
 {
@@ -304,7 +342,7 @@ fn is_covered(
                 lists,
             },
         ),
-        None => is_covered_moved(rules, cert, near, procedure, address, successor),
+        None => is_covered_moved(rules, cert, near, procedure, address, successor, room),
     }
 }
 
@@ -367,13 +405,15 @@ fn called_from(
     procedure: u8,
     address: u16,
     successor: &Successor<'_>,
+    room: &mut Room,
 ) -> Called
     ensures { result ≡ Ruled.called_by cert.now stack procedure address successor.now.next successor.now.state }
 {
     let setting = stack.setting;
     let rules = setting.rules;
-    let state = successor.state();
-    let callee = callee(cert, setting, address, &state);
+    successor.put_state(&mut room.behind);
+    let state = &room.behind;
+    let callee = callee_in(cert, setting, address, state, &mut room.other);
     let call = Call {
         address,
         back: successor.next,
@@ -381,7 +421,17 @@ fn called_from(
     Called {
         callee,
         is_deep: is_over(rules, cert, stack.need, state.items().len(), callee),
-        is_uncovered: is_call_uncovered(rules, cert, near, procedure, call, &state, callee),
+        is_uncovered: is_call_uncovered(
+            rules,
+            cert,
+            near,
+            procedure,
+            call,
+            state,
+            callee,
+            &mut room.exit,
+            &mut room.other,
+        ),
     }
 }
 
@@ -391,12 +441,15 @@ fn called_in(
     stack: Stack,
     procedure: u8,
     way: &Option<Successor<'_>>,
+    room: &mut Room,
 ) -> Called
     ensures { result ≡ Ruled.called_in cert.now stack procedure way.now }
 {
     let Some(successor) = way else { return NO_CALL };
     match successor.target {
-        Target::Call(address) => called_from(cert, near, stack, procedure, address, successor),
+        Target::Call(address) => called_from(
+            cert, near, stack, procedure, address, successor, room,
+        ),
         Target::At(_) | Target::Main(_) | Target::Return | Target::Unknown | Target::Lost =>
             NO_CALL,
     }
@@ -409,14 +462,15 @@ pub(crate) fn calls_of(
     near: u32,
     stack: Stack,
     procedure: u8,
-    ways: &Successors<'_>,
+    ways: &Ways<'_, '_>,
+    room: &mut Room,
 ) -> Calls
     ensures { result ≡ Ruled.calls_of cert.now stack procedure ways.now }
 {
     Calls {
-        taken: called_in(cert, near, stack, procedure, &ways.taken),
-        not_taken: called_in(cert, near, stack, procedure, &ways.not_taken),
-        stays: called_in(cert, near, stack, procedure, &ways.stays),
+        taken: called_in(cert, near, stack, procedure, ways.taken, room),
+        not_taken: called_in(cert, near, stack, procedure, ways.not_taken, room),
+        stays: called_in(cert, near, stack, procedure, ways.stays, room),
     }
 }
 
@@ -449,6 +503,7 @@ pub(crate) fn has_uncovered(
     procedure: u8,
     way: &Option<Successor<'_>>,
     called: Called,
+    room: &mut Room,
 ) -> bool
     requires { called ≡ Ruled.called_in cert.now stack procedure way.now }
     ensures { result ≡ has (Ruled.is_uncovered stack.setting cert.now procedure) way.now }
@@ -456,9 +511,9 @@ pub(crate) fn has_uncovered(
     let Some(successor) = way else { return false };
     let rules = stack.setting.rules;
     match successor.target {
-        Target::At(address) => !is_covered(rules, cert, near, procedure, address, successor),
+        Target::At(address) => !is_covered(rules, cert, near, procedure, address, successor, room),
         Target::Call(_) => called.is_uncovered,
-        Target::Main(address) => !is_covered(rules, cert, near, 0, address, successor),
+        Target::Main(address) => !is_covered(rules, cert, near, 0, address, successor, room),
         Target::Return | Target::Unknown | Target::Lost => false,
     }
 }
@@ -496,12 +551,12 @@ fn leaves_items(rules: Rules, state: &Abs) -> bool
 
 /// Whether a procedure returns with something on the stack, in a state that its exit doesn't stand for, or
 /// doesn't return at all.
-fn is_exit_missed(rules: Rules, state: &Abs, exit: Option<Abs>) -> bool
-    ensures { result ≡ Ruled.is_exit_missed rules state.now exit }
+fn is_exit_missed(rules: Rules, state: &Abs, exit: Option<StateRef<'_>>) -> bool
+    ensures { result ≡ Ruled.is_exit_missed rules state.now exit.entry }
 {
     match exit {
         None => true,
-        Some(exit) => leaves_items(rules, state) || !covers(state, &exit),
+        Some(exit) => leaves_items(rules, state) || !covers_states(&States::of(state), &exit),
     }
 }
 
@@ -512,19 +567,29 @@ fn is_exit_missed_from(
     cert: &Cert<'_>,
     procedure: u8,
     successor: &Successor<'_>,
+    room: &mut Room,
 ) -> bool
     ensures { result ≡ Ruled.is_exit_missed rules successor.now.state (Procedures.exit_of cert.now procedure) }
 {
-    is_exit_missed(rules, &successor.state(), exit_of(cert, procedure))
+    successor.put_state(&mut room.behind);
+    is_exit_missed(rules, &room.behind, lent_exit_of(cert, procedure))
 }
 
 /// Whether a successor returns as its procedure may not. Main may not at all.
 #[tactic(auto, unfolding(crate::specs::Rules::is_unreturnable))]
-fn is_unreturnable(rules: Rules, cert: &Cert<'_>, procedure: u8, successor: &Successor<'_>) -> bool
+fn is_unreturnable(
+    rules: Rules,
+    cert: &Cert<'_>,
+    procedure: u8,
+    successor: &Successor<'_>,
+    room: &mut Room,
+) -> bool
     ensures { result ≡ Ruled.is_unreturnable rules cert.now procedure successor.now }
 {
     match successor.target {
-        Target::Return => procedure == 0 || is_exit_missed_from(rules, cert, procedure, successor),
+        Target::Return => {
+            procedure == 0 || is_exit_missed_from(rules, cert, procedure, successor, room)
+        }
         Target::Lost => true,
         Target::At(_) | Target::Call(_) | Target::Main(_) | Target::Unknown => false,
     }
@@ -535,11 +600,12 @@ pub(crate) fn has_unreturnable(
     cert: &Cert<'_>,
     procedure: u8,
     way: &Option<Successor<'_>>,
+    room: &mut Room,
 ) -> bool
     ensures { result ≡ has (Ruled.is_unreturnable rules cert.now procedure) way.now }
 {
     match way {
         None => false,
-        Some(successor) => is_unreturnable(rules, cert, procedure, successor),
+        Some(successor) => is_unreturnable(rules, cert, procedure, successor, room),
     }
 }

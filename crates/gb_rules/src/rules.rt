@@ -16,6 +16,7 @@ use crate::procedures::{
     Calls, calls_of, has_deep, has_uncallable, has_uncovered, has_unreturnable, ranges_of,
     rules_of, stack_of,
 };
+use crate::room::Room;
 use crate::stacks::breaks_stack;
 use gb_abs::reason::Reason;
 use gb_calls::{Cert, NodeRef};
@@ -30,7 +31,7 @@ use gb_successors::AbsWrite;
 use gb_successors::refused::is_unstorable;
 use gb_successors::stacks::Stack;
 use gb_successors::successor::Successor;
-use gb_successors::successors::{Successors, product_before, successors_of};
+use gb_successors::successors::{Ways, product_before, put_not_taken, put_staying, put_taken};
 
 fn is_stop(op: Op) -> bool
     ensures { result ≡ Ruled.is_stop op }
@@ -112,16 +113,16 @@ fn stores_outside(
     node: &NodeRef<'_>,
     row: Row,
     setting: Setting,
-    ways: &Successors<'_>,
+    ways: &Ways<'_, '_>,
 ) -> bool
     requires setting { setting ≡ node_setting cert.now node.now }
     requires ways { ways.now ≡ ways_of rom.now cert.now node.now row }
     ensures { result ≡ Ruled.stores_outside rom.now cert.now node.now row }
 {
     let procedure = node.procedure();
-    has_unstorable(rom, cert, procedure, setting, &ways.taken)
-        || has_unstorable(rom, cert, procedure, setting, &ways.not_taken)
-        || has_unstorable(rom, cert, procedure, setting, &ways.stays)
+    has_unstorable(rom, cert, procedure, setting, ways.taken)
+        || has_unstorable(rom, cert, procedure, setting, ways.not_taken)
+        || has_unstorable(rom, cert, procedure, setting, ways.stays)
 }
 
 /// Whether one of them may meet cartridge RAM while it is closed.
@@ -132,7 +133,7 @@ fn meets_ram(
     node: &NodeRef<'_>,
     state: &Abs,
     row: Row,
-    ways: &Successors<'_>,
+    ways: &Ways<'_, '_>,
 ) -> bool
     requires state { state.now ≡ node.now.state }
     requires ways { ways.now ≡ ways_of rom.now cert.now node.now row }
@@ -161,7 +162,7 @@ fn meets_transfer(
     node: &NodeRef<'_>,
     state: &Abs,
     row: Row,
-    ways: &Successors<'_>,
+    ways: &Ways<'_, '_>,
 ) -> bool
     requires state { state.now ≡ node.now.state }
     requires ways { ways.now ≡ ways_of rom.now cert.now node.now row }
@@ -183,7 +184,7 @@ fn leads_anywhere(
     cert: &Cert<'_>,
     node: &NodeRef<'_>,
     row: Row,
-    ways: &Successors<'_>,
+    ways: &Ways<'_, '_>,
 ) -> bool
     requires { ways.now ≡ ways_of rom.now cert.now node.now row }
     ensures { result ≡ Ruled.leads_anywhere rom.now cert.now node.now row }
@@ -197,15 +198,15 @@ fn call_too_deep(
     cert: &Cert<'_>,
     stack: Stack,
     procedure: u8,
-    ways: &Successors<'_>,
+    ways: &Ways<'_, '_>,
     calls: Calls,
 ) -> bool
     requires { calls ≡ calls_of cert.now stack procedure ways.now }
     ensures { result ≡ any_successor (Ruled.calls_too_deep cert.now stack.setting stack.need) ways.now }
 {
-    has_deep(cert, stack, procedure, &ways.taken, calls.taken)
-        || has_deep(cert, stack, procedure, &ways.not_taken, calls.not_taken)
-        || has_deep(cert, stack, procedure, &ways.stays, calls.stays)
+    has_deep(cert, stack, procedure, ways.taken, calls.taken)
+        || has_deep(cert, stack, procedure, ways.not_taken, calls.not_taken)
+        || has_deep(cert, stack, procedure, ways.stays, calls.stays)
 }
 
 /// Whether an interrupt may come whose dispatch makes the stack too deep, and something is meant before the instruction.
@@ -226,7 +227,7 @@ fn grows_too_deep(
     state: &Abs,
     row: Row,
     stack: Stack,
-    ways: &Successors<'_>,
+    ways: &Ways<'_, '_>,
     calls: Calls,
 ) -> bool
     requires state { state.now ≡ node.now.state }
@@ -241,7 +242,7 @@ fn grows_too_deep(
         node,
         state,
         row.op,
-        &ways.taken,
+        ways.taken,
     ) || call_too_deep(cert, stack, node.procedure(), ways, calls)
         || dispatches_too_deep(cert, stack, node, state)
 }
@@ -255,8 +256,9 @@ fn leads_uncovered(
     node: &NodeRef<'_>,
     row: Row,
     stack: Stack,
-    ways: &Successors<'_>,
+    ways: &Ways<'_, '_>,
     calls: Calls,
+    room: &mut Room,
 ) -> bool
     requires stack { stack ≡ stack_of cert.now node.now.procedure }
     requires ways { ways.now ≡ ways_of rom.now cert.now node.now row }
@@ -264,16 +266,17 @@ fn leads_uncovered(
     ensures { result ≡ Ruled.leads_uncovered rom.now cert.now node.now row }
 {
     let procedure = node.procedure();
-    has_uncovered(cert, near, stack, procedure, &ways.taken, calls.taken)
+    has_uncovered(cert, near, stack, procedure, ways.taken, calls.taken, room)
         || has_uncovered(
             cert,
             near,
             stack,
             procedure,
-            &ways.not_taken,
+            ways.not_taken,
             calls.not_taken,
+            room,
         )
-        || has_uncovered(cert, near, stack, procedure, &ways.stays, calls.stays)
+        || has_uncovered(cert, near, stack, procedure, ways.stays, calls.stays, room)
 }
 
 /// Whether one of them calls what it may not.
@@ -284,7 +287,7 @@ fn calls_wrongly(
     node: &NodeRef<'_>,
     row: Row,
     stack: Stack,
-    ways: &Successors<'_>,
+    ways: &Ways<'_, '_>,
     calls: Calls,
 ) -> bool
     requires stack { stack ≡ stack_of cert.now node.now.procedure }
@@ -293,9 +296,9 @@ fn calls_wrongly(
     ensures { result ≡ Ruled.calls_wrongly rom.now cert.now node.now row }
 {
     let procedure = node.procedure();
-    has_uncallable(cert, stack, procedure, &ways.taken, calls.taken)
-        || has_uncallable(cert, stack, procedure, &ways.not_taken, calls.not_taken)
-        || has_uncallable(cert, stack, procedure, &ways.stays, calls.stays)
+    has_uncallable(cert, stack, procedure, ways.taken, calls.taken)
+        || has_uncallable(cert, stack, procedure, ways.not_taken, calls.not_taken)
+        || has_uncallable(cert, stack, procedure, ways.stays, calls.stays)
 }
 
 /// Whether one of them returns as it may not.
@@ -305,15 +308,16 @@ fn returns_wrongly(
     cert: &Cert<'_>,
     node: &NodeRef<'_>,
     row: Row,
-    ways: &Successors<'_>,
+    ways: &Ways<'_, '_>,
+    room: &mut Room,
 ) -> bool
     requires { ways.now ≡ ways_of rom.now cert.now node.now row }
     ensures { result ≡ Ruled.returns_wrongly rom.now cert.now node.now row }
 {
     let (rules, procedure) = (rules_of(cert), node.procedure());
-    has_unreturnable(rules, cert, procedure, &ways.taken)
-        || has_unreturnable(rules, cert, procedure, &ways.not_taken)
-        || has_unreturnable(rules, cert, procedure, &ways.stays)
+    has_unreturnable(rules, cert, procedure, ways.taken, room)
+        || has_unreturnable(rules, cert, procedure, ways.not_taken, room)
+        || has_unreturnable(rules, cert, procedure, ways.stays, room)
 }
 
 /// The lowest reason against where the successors of a node's instruction go on.
@@ -325,8 +329,9 @@ fn reason_of_targets(
     node: &NodeRef<'_>,
     row: Row,
     stack: Stack,
-    ways: &Successors<'_>,
+    ways: &Ways<'_, '_>,
     calls: Calls,
+    room: &mut Room,
 ) -> Option<Reason>
     requires stack { stack ≡ stack_of cert.now node.now.procedure }
     requires ways { ways.now ≡ ways_of rom.now cert.now node.now row }
@@ -335,11 +340,11 @@ fn reason_of_targets(
 {
     if leads_anywhere(rom, cert, node, row, ways) {
         Some(Reason::JumpHl)
-    } else if leads_uncovered(rom, cert, near, node, row, stack, ways, calls) {
+    } else if leads_uncovered(rom, cert, near, node, row, stack, ways, calls, room) {
         Some(Reason::Uncovered)
     } else if calls_wrongly(rom, cert, node, row, stack, ways, calls) {
         Some(Reason::Callee)
-    } else if returns_wrongly(rom, cert, node, row, ways) {
+    } else if returns_wrongly(rom, cert, node, row, ways, room) {
         Some(Reason::Return)
     } else {
         None
@@ -356,7 +361,8 @@ fn reason_of_ways(
     state: &Abs,
     row: Row,
     stack: Stack,
-    ways: &Successors<'_>,
+    ways: &Ways<'_, '_>,
+    room: &mut Room,
 ) -> Option<Reason>
     requires state { state.now ≡ node.now.state }
     requires stack { stack ≡ stack_of cert.now node.now.procedure }
@@ -364,7 +370,7 @@ fn reason_of_ways(
     ensures { result ≡ find (Ruled.applies_to_row rom.now cert.now node.now row) way_reasons }
 {
     let setting = stack.setting;
-    let calls = calls_of(cert, near, stack, node.procedure(), ways);
+    let calls = calls_of(cert, near, stack, node.procedure(), ways, room);
     if grows_too_deep(rom, cert, node, state, row, stack, ways, calls) {
         Some(Reason::Depth)
     } else if stores_outside(rom, cert, node, row, setting, ways) {
@@ -374,12 +380,12 @@ fn reason_of_ways(
     } else if meets_transfer(rom, cert, node, state, row, ways) {
         Some(Reason::OamTransfer)
     } else {
-        reason_of_targets(rom, cert, near, node, row, stack, ways, calls)
+        reason_of_targets(rom, cert, near, node, row, stack, ways, calls, room)
     }
 }
 
 /// The lowest reason against a node whose instruction is known.
-#[tactic(auto, unfolding(crate::specs::Rules::applies_to_row, crate::specs::Rules::ways_of, crate::specs::Procedures::stack_of, crate::specs::Procedures::setting_of))]
+#[tactic(auto, unfolding(crate::specs::Rules::applies_to_row, crate::specs::Rules::ways_of, crate::specs::Procedures::stack_of, crate::specs::Procedures::setting_of, gb_successors::specs::Successors::successors_of))]
 fn reason_of_row(
     rom: &Rom<'_>,
     cert: &Cert<'_>,
@@ -388,6 +394,7 @@ fn reason_of_row(
     node: &NodeRef<'_>,
     state: &Abs,
     row: Row,
+    room: &mut Room,
 ) -> Option<Reason>
     requires stack { stack ≡ stack_of cert.now node.now.procedure }
     requires state { state.now ≡ node.now.state }
@@ -402,8 +409,26 @@ fn reason_of_row(
     if breaks_stack(stack, node, state, row.op) {
         return Some(Reason::Stack);
     }
-    let ways = successors_of(stack, rom, row, node.address(), state);
-    reason_of_ways(rom, cert, near, node, state, row, stack, &ways)
+    let (address, rules) = (node.address(), stack.setting.rules);
+    let before = product_before(rules, state);
+    let (mut taken, mut not_taken, mut stays) = (None, None, None);
+    put_taken(stack, rom, row, address, state, &before, &mut taken);
+    put_not_taken(
+        stack,
+        rom.kind(),
+        row,
+        address,
+        state,
+        &before,
+        &mut not_taken,
+    );
+    put_staying(rules, row, address, state, &before, &mut stays);
+    let ways = Ways {
+        taken: &taken,
+        not_taken: &not_taken,
+        stays: &stays,
+    };
+    reason_of_ways(rom, cert, near, node, state, row, stack, &ways, room)
 }
 
 /// The lowest reason against a node, by the rules of its instruction. Its state is given, so that it is
@@ -417,6 +442,7 @@ pub fn reason_near(
     stack: Stack,
     node: &NodeRef<'_>,
     state: &Abs,
+    room: &mut Room,
 ) -> Option<Reason>
     requires stack { stack ≡ stack_of cert.now node.now.procedure }
     requires state { state.now ≡ node.now.state }
@@ -435,7 +461,7 @@ pub fn reason_near(
     };
     match decode(&bytes) {
         None => Some(Reason::UndefinedOpcode),
-        Some(row) => reason_of_row(rom, cert, near, stack, node, state, row),
+        Some(row) => reason_of_row(rom, cert, near, stack, node, state, row, room),
     }
 }
 
@@ -444,7 +470,16 @@ pub fn reason_of(rom: &Rom<'_>, cert: &Cert<'_>, node: &NodeRef<'_>, state: &Abs
     requires { state.now ≡ node.now.state }
     ensures { result ≡ Ruled.reason_of rom.now cert.now node.now }
 {
-    reason_near(rom, cert, 0, stack_of(cert, node.procedure()), node, state)
+    let stack = stack_of(cert, node.procedure());
+    reason_near(
+        rom,
+        cert,
+        0,
+        stack,
+        node,
+        state,
+        &mut Room::new(*state.core()),
+    )
 }
 
 /// Checks the node with a number by the rules of its instruction.
@@ -474,7 +509,8 @@ fn lowest_reason(rom: &Rom<'_>, cert: &Cert<'_>, i: u32) -> Result<(), Reason>
     let node = cert.node(i);
     let state = node.state();
     let stack = stack_of(cert, node.procedure());
-    match reason_near(rom, cert, i, stack, &node, &state) {
+    let mut room = Room::new(*state.core());
+    match reason_near(rom, cert, i, stack, &node, &state, &mut room) {
         None => Ok(()),
         Some(reason) => Err(reason),
     }

@@ -137,16 +137,20 @@ abbrev pub not_taken_from : Stack → Row → ℕ → AbsState → Product → O
 not_taken_from k row next s p =
     option_and_then (λ b. reduced_successor k.setting.rules (untaken_successor k row next s b)) (not_taken_side row.op s.cells p.core p.relations)
 
--- the possible successors of the instruction at an address
+-- each of the possible successors of the instruction at an address
+abbrev pub way_taken : Stack → List ℕ → Row → ℕ → AbsState → Option Successor
+way_taken k rom row a s = option_and_then (taken_from k rom row ((a + row.length) % 65536) s) (product_before k.setting.rules s)
+
+abbrev pub way_not_taken : Stack → Row → ℕ → AbsState → Option Successor
+way_not_taken k row a s = option_and_then (not_taken_from k row ((a + row.length) % 65536) s) (product_before k.setting.rules s)
+
+abbrev pub way_staying : Rules → Row → ℕ → AbsState → Option Successor
+way_staying rules row a s = option_and_then (λ (p : Product). stays row a s) (product_before rules s)
+
+-- all of them
 unfoldable pub successors_of : Stack → List ℕ → Row → ℕ → AbsState → Successors
 successors_of k rom row a s =
-    let next = (a + row.length) % 65536 in
-    let before = product_before k.setting.rules s in
-    record {
-      taken = option_and_then (taken_from k rom row next s) before;
-      not_taken = option_and_then (not_taken_from k row next s) before;
-      stays = option_and_then (λ (p : Product). stays row a s) before;
-    }
+    record { taken = way_taken k rom row a s; not_taken = way_not_taken k row a s; stays = way_staying k.setting.rules row a s }
 
 -- ---- tests of all of them
 

@@ -221,6 +221,28 @@ fn begun_anew(state: &Abs) -> Abs
     )
 }
 
+/// The same, in the place of the states: kept out of line, so that others are cleared and copied only then.
+#[inline(never)]
+fn append_if_room(setting: Setting, count: u8, state: &mut Abs)
+    ensures { state.new ≡ Stacks.appended_if_room setting count state.old }
+{
+    *state = appended_if_room(setting, count, state);
+}
+
+#[inline(never)]
+fn resize_if_room(setting: Setting, count: u8, state: &mut Abs)
+    ensures { state.new ≡ Stacks.set_if_room setting count state.old }
+{
+    *state = set_if_room(setting, count, state);
+}
+
+#[inline(never)]
+fn restart_if_room(setting: Setting, count: u8, state: &mut Abs)
+    ensures { state.new ≡ Stacks.set_if_room setting count (Stacks.begun_anew state.old) }
+{
+    *state = set_if_room(setting, count, &begun_anew(state));
+}
+
 /// The stack and the states that it stands in, moved.
 #[tactic(auto, unfolding(crate::specs::Stacks::with_stack_moved))]
 pub(crate) fn move_stack(setting: Setting, stack_move: StackMove, state: &mut Abs)
@@ -230,9 +252,9 @@ pub(crate) fn move_stack(setting: Setting, stack_move: StackMove, state: &mut Ab
         StackMove::Stay | StackMove::Lost => {}
         StackMove::Push(word) => push_if_room(setting, word, state),
         StackMove::Take(count) => take_newest(count, state),
-        StackMove::Append(count) => *state = appended_if_room(setting, count, state),
-        StackMove::Set(count) => *state = set_if_room(setting, count, state),
-        StackMove::Restart(count) => *state = set_if_room(setting, count, &begun_anew(state)),
+        StackMove::Append(count) => append_if_room(setting, count, state),
+        StackMove::Set(count) => resize_if_room(setting, count, state),
+        StackMove::Restart(count) => restart_if_room(setting, count, state),
     }
 }
 

@@ -1,7 +1,8 @@
 //! How the successors of an instruction come about.
 
-ghost use Rattle.std.specs.Prelude.{◌≡◌};
+ghost use Rattle.std.specs.Prelude.{◌≡◌, None};
 ghost use Rattle.gb_abs.specs.Operations.{with_core};
+ghost use Rattle.gb_domain.specs.declared.rules.Rules.TheVariants.{Extended};
 ghost use Rattle.gb_abs.specs.Stack.{youngest};
 ghost use Rattle.gb_abs_effects.specs.declared.writes.AbsWrite.TheVariants.{Nothing};
 ghost use Rattle.gb_successors.specs.declared.stacks.StackMove.TheVariants.{Stay};
@@ -162,21 +163,38 @@ pub fn pointer_in(stack: Stack, op: Op, product: &Product) -> Option<Bounds>
     )
 }
 
-/// The states behind are reduced; where nothing is meant the successor isn't possible.
+/// The states behind are reduced in place; where nothing is meant the successor isn't possible. By the rules of version 3.
+#[inline(never)]
+#[tactic(auto, unfolding(crate::specs::Successors::reduced_successor))]
+fn put_reduced_together<'a>(successor: Successor<'a>, way: &mut Option<Successor<'a>>)
+    requires { way.old ≡ None }
+    ensures { way.new ≡ Succession.reduced_successor Extended successor.entry }
+{
+    let reduced = reduced(Rules::Extended, &successor.core, &successor.relations);
+    if let Some(Product { core, relations }) = reduced {
+        *way = Some(Successor {
+            core,
+            relations,
+            ..successor
+        });
+    }
+}
+
+/// The same by either, in the place of none.
 #[inline(always)]
 #[tactic(auto, unfolding(crate::specs::Successors::reduced_successor, gb_product::specs::Reduced::reduced))]
-pub(crate) fn reduced_successor<'a>(rules: Rules, successor: Successor<'a>) -> Option<Successor<'a>>
-    ensures { result ≡ Succession.reduced_successor rules successor.entry }
+pub(crate) fn put_reduced<'a>(
+    rules: Rules,
+    successor: Successor<'a>,
+    way: &mut Option<Successor<'a>>,
+)
+    requires { way.old ≡ None }
+    ensures { way.new ≡ Succession.reduced_successor rules successor.entry }
 {
-    if rules == Rules::Simple {
-        return Some(successor);
+    match rules {
+        Rules::Simple => *way = Some(successor),
+        Rules::Extended => put_reduced_together(successor, way),
     }
-    let Product { core, relations } = reduced(rules, &successor.core, &successor.relations)?;
-    Some(Successor {
-        core,
-        relations,
-        ..successor
-    })
 }
 
 /// The successor where the instruction is taken, from a side that is settled. The address behind it is given.

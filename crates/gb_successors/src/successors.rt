@@ -1,12 +1,12 @@
 //! All successors of an instruction.
 
-ghost use Rattle.std.specs.Prelude.{◌≡◌};
+ghost use Rattle.std.specs.Prelude.{◌≡◌, ◌+◌, ◌%◌, None};
 ghost use Rattle.gb_successors.specs.Successors as Succession;
 ghost use Rattle.gb_successors.specs.Sound.{AreSoundSuccessors};
 
 use crate::stacks::Stack;
 use crate::successor::{
-    Successor, reduced_successor, staying_successor, taken_successor, untaken_successor,
+    Successor, put_reduced, staying_successor, taken_successor, untaken_successor,
 };
 use gb_abs::may_enable;
 use gb_abs::operations::settle;
@@ -18,6 +18,7 @@ use gb_ops::op::{Op, Row};
 use gb_product::parts::{Branch, Product};
 use gb_product::reduced::reduced;
 use gb_product::sides::{not_taken_side, taken_side};
+use std::marker::Model;
 
 /// The possible successors of an instruction.
 #[derive(Drop)]
@@ -28,6 +29,36 @@ pub struct Successors<'a> {
     pub stays: Option<Successor<'a>>,
 }
 
+/// The possible successors of an instruction, lent, so that none is copied. Contracts see them as `Successors`.
+#[derive(Drop)]
+pub struct Ways<'w, 'a> {
+    pub taken: &'w Option<Successor<'a>>,
+    pub not_taken: &'w Option<Successor<'a>>,
+    pub stays: &'w Option<Successor<'a>>,
+}
+
+impl<'w, 'a> Model for Ways<'w, 'a> {
+    ghost use Rattle.gb_successors.specs.declared.successors.Successors.{Successors};
+
+    ghost Value = { Successors };
+
+    ghost view = { λ w. record { taken = w.taken.now; not_taken = w.not_taken.now; stays = w.stays.now } };
+}
+
+impl<'a> Successors<'a> {
+    /// The same, lent.
+    #[inline(always)]
+    pub fn lent(&self) -> Ways<'_, 'a>
+        ensures { result ≡ self.now }
+    {
+        Ways {
+            taken: &self.taken,
+            not_taken: &self.not_taken,
+            stays: &self.stays,
+        }
+    }
+}
+
 /// Whether the processor may stay on the instruction (halt).
 #[tactic(auto, unfolding(crate::specs::Successors::may_stay))]
 fn may_stay(op: Op, core: &Core) -> bool
@@ -36,17 +67,6 @@ fn may_stay(op: Op, core: &Core) -> bool
     match op {
         Op::Halt => core.ime.pending && may_enable(&core.ie),
         _ => false,
-    }
-}
-
-#[tactic(auto, unfolding(crate::specs::Successors::stays))]
-fn stays(row: Row, address: u16, state: &Abs) -> Option<Successor<'_>>
-    ensures { result ≡ Succession.stays row address state.now }
-{
-    if may_stay(row.op, state.core()) {
-        Some(staying_successor(address, state))
-    } else {
-        None
     }
 }
 
@@ -64,7 +84,7 @@ pub fn successors_of<'a>(
     ensures exact { result ≡ Succession.successors_of stack rom.now row address state.now }
     ensures sound { AreSoundSuccessors stack rom.now row address state.now result }
 {
-    ways(stack, rom, row, address, state)
+    each_way(stack, rom, row, address, state)
 }
 
 /// What is known before the instruction, settled and reduced; none where nothing is meant.
@@ -96,95 +116,206 @@ fn side_successor<'a>(
     taken_successor(stack, rom, row, next, state, core, relations, side.cell)
 }
 
-fn taken_side_from<'a>(
+/// The successor where the instruction is taken, from a side of it.
+#[inline(never)]
+fn put_taken_side<'a>(
     stack: Stack,
     rom: &Rom<'_>,
     row: Row,
     next: u16,
     state: &'a Abs,
     product: &Product,
-) -> Option<Successor<'a>>
-    ensures { result ≡ Succession.taken_from stack rom.now row next state.now product.now }
+    way: &mut Option<Successor<'a>>,
+)
+    requires { way.old ≡ None }
+    ensures { way.new ≡ Succession.taken_from stack rom.now row next state.now product.now }
 {
-    let side = taken_side(row.op, state.cells(), &product.core, &product.relations)?;
-    reduced_successor(
-        stack.setting.rules,
-        side_successor(stack, rom, row, next, state, &side),
-    )
+    if let Some(side) = taken_side(row.op, state.cells(), &product.core, &product.relations) {
+        put_reduced(
+            stack.setting.rules,
+            side_successor(stack, rom, row, next, state, &side),
+            way,
+        );
+    }
 }
 
 /// Where there is no condition nothing is cut, so that nothing is copied.
 #[tactic(auto, unfolding(gb_product::specs::Sides::taken_side, gb_abs_effects::specs::Sides::sides_of))]
-fn taken_from<'a>(
+fn put_taken_from<'a>(
     stack: Stack,
     rom: &Rom<'_>,
     row: Row,
     next: u16,
     state: &'a Abs,
     product: &Product,
-) -> Option<Successor<'a>>
-    ensures { result ≡ Succession.taken_from stack rom.now row next state.now product.now }
+    way: &mut Option<Successor<'a>>,
+)
+    requires { way.old ≡ None }
+    ensures { way.new ≡ Succession.taken_from stack rom.now row next state.now product.now }
 {
     let (core, relations) = (&product.core, &product.relations);
     match condition_of(row.op) {
-        None => reduced_successor(
+        None => put_reduced(
             stack.setting.rules,
             taken_successor(stack, rom, row, next, state, core, relations, None),
+            way,
         ),
-        Some(_) => taken_side_from(stack, rom, row, next, state, product),
+        Some(_) => put_taken_side(stack, rom, row, next, state, product, way),
     }
 }
 
 #[inline(never)]
-fn untaken_from<'a>(
+fn put_untaken<'a>(
     stack: Stack,
     kind: Kind,
     row: Row,
     next: u16,
     state: &'a Abs,
     product: &Product,
-) -> Option<Successor<'a>>
-    ensures { result ≡ Succession.not_taken_from stack row next state.now product.now }
+    way: &mut Option<Successor<'a>>,
+)
+    requires { way.old ≡ None }
+    ensures { way.new ≡ Succession.not_taken_from stack row next state.now product.now }
 {
-    let side = not_taken_side(row.op, state.cells(), &product.core, &product.relations)?;
-    reduced_successor(
-        stack.setting.rules,
-        untaken_successor(stack, kind, row, next, state, &side),
-    )
+    if let Some(side) = not_taken_side(row.op, state.cells(), &product.core, &product.relations) {
+        put_reduced(
+            stack.setting.rules,
+            untaken_successor(stack, kind, row, next, state, &side),
+            way,
+        );
+    }
 }
 
 /// Where there is no condition, it isn't asked for.
 #[tactic(auto, unfolding(gb_product::specs::Sides::not_taken_side, gb_abs_effects::specs::Sides::sides_of))]
-fn not_taken_from<'a>(
+fn put_untaken_from<'a>(
     stack: Stack,
     kind: Kind,
     row: Row,
     next: u16,
     state: &'a Abs,
     product: &Product,
-) -> Option<Successor<'a>>
-    ensures { result ≡ Succession.not_taken_from stack row next state.now product.now }
+    way: &mut Option<Successor<'a>>,
+)
+    requires { way.old ≡ None }
+    ensures { way.new ≡ Succession.not_taken_from stack row next state.now product.now }
 {
-    match condition_of(row.op) {
-        None => None,
-        Some(_) => untaken_from(stack, kind, row, next, state, product),
+    if condition_of(row.op).is_some() {
+        put_untaken(stack, kind, row, next, state, product, way);
+    }
+}
+
+/// The address behind an instruction.
+#[inline(always)]
+fn behind(row: Row, address: u16) -> u16
+    ensures { result ≡ (address + row.length) % 65536 }
+{
+    address.wrapping_add(u16::from(row.length))
+}
+
+/// The successor where the instruction is taken, in the place of none; what is known before it is given.
+#[inline(always)]
+pub fn put_taken<'a>(
+    stack: Stack,
+    rom: &Rom<'_>,
+    row: Row,
+    address: u16,
+    state: &'a Abs,
+    before: &Option<Product>,
+    way: &mut Option<Successor<'a>>,
+)
+    requires before { before.now ≡ Succession.product_before stack.setting.rules state.now }
+    requires none { way.old ≡ None }
+    ensures { way.new ≡ Succession.way_taken stack rom.now row address state.now }
+{
+    if let Some(product) = before {
+        put_taken_from(stack, rom, row, behind(row, address), state, product, way);
+    }
+}
+
+/// The successor where it isn't taken, in the place of none; what is known before it is given.
+#[inline(always)]
+pub fn put_not_taken<'a>(
+    stack: Stack,
+    kind: Kind,
+    row: Row,
+    address: u16,
+    state: &'a Abs,
+    before: &Option<Product>,
+    way: &mut Option<Successor<'a>>,
+)
+    requires before { before.now ≡ Succession.product_before stack.setting.rules state.now }
+    requires none { way.old ≡ None }
+    ensures { way.new ≡ Succession.way_not_taken stack row address state.now }
+{
+    if let Some(product) = before {
+        put_untaken_from(stack, kind, row, behind(row, address), state, product, way);
+    }
+}
+
+/// The same, where something is meant before it.
+#[tactic(auto, unfolding(crate::specs::Successors::stays))]
+fn put_stay<'a>(row: Row, address: u16, state: &'a Abs, way: &mut Option<Successor<'a>>)
+    requires { way.old ≡ None }
+    ensures { way.new ≡ Succession.stays row address state.now }
+{
+    if may_stay(row.op, state.core()) {
+        *way = Some(staying_successor(address, state));
+    }
+}
+
+/// The successor where the processor stays on it, in the place of none; what is known before it is given.
+#[inline(always)]
+pub fn put_staying<'a>(
+    rules: Rules,
+    row: Row,
+    address: u16,
+    state: &'a Abs,
+    before: &Option<Product>,
+    way: &mut Option<Successor<'a>>,
+)
+    requires before { before.now ≡ Succession.product_before rules state.now }
+    requires none { way.old ≡ None }
+    ensures { way.new ≡ Succession.way_staying rules row address state.now }
+{
+    if let Some(_) = before {
+        put_stay(row, address, state, way);
     }
 }
 
 #[tactic(auto, unfolding(crate::specs::Successors::successors_of))]
-fn ways<'a>(stack: Stack, rom: &Rom<'_>, row: Row, address: u16, state: &'a Abs) -> Successors<'a>
+fn each_way<'a>(
+    stack: Stack,
+    rom: &Rom<'_>,
+    row: Row,
+    address: u16,
+    state: &'a Abs,
+) -> Successors<'a>
     ensures { result ≡ Succession.successors_of stack rom.now row address state.now }
 {
-    let next = address.wrapping_add(u16::from(row.length));
+    let before = product_before(stack.setting.rules, state);
     let mut ways = Successors {
         taken: None,
         not_taken: None,
         stays: None,
     };
-    if let Some(product) = product_before(stack.setting.rules, state) {
-        ways.taken = taken_from(stack, rom, row, next, state, &product);
-        ways.not_taken = not_taken_from(stack, rom.kind(), row, next, state, &product);
-        ways.stays = stays(row, address, state);
-    }
+    put_taken(stack, rom, row, address, state, &before, &mut ways.taken);
+    put_not_taken(
+        stack,
+        rom.kind(),
+        row,
+        address,
+        state,
+        &before,
+        &mut ways.not_taken,
+    );
+    put_staying(
+        stack.setting.rules,
+        row,
+        address,
+        state,
+        &before,
+        &mut ways.stays,
+    );
     ways
 }

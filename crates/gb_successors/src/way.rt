@@ -1,7 +1,9 @@
 //! One successor of an instruction, and the states behind it.
 
-ghost use Rattle.std.specs.Prelude.{◌≡◌, IfSome};
+ghost use Rattle.std.specs.Prelude.{◌≡◌, ◌+◌, ◌≤◌, ◌++◌, IfSome, length};
+ghost use Rattle.gb_abs.specs.Cells.{with_cell};
 ghost use Rattle.gb_abs.specs.Operations.{with_core};
+ghost use Rattle.gb_domain.specs.Limits.{cell_room};
 ghost use Rattle.gb_successors.specs.Behind as Behind;
 ghost use Rattle.gb_successors.specs.Behind.{with_relations};
 
@@ -13,7 +15,7 @@ use gb_abs_effects::targets::Target;
 use gb_abs_effects::writes::AbsWrite;
 use gb_abs_memory::store::store_in;
 use gb_domain::relations::Relations;
-use gb_domain::types::{Abs, Cell, Core, Setting};
+use gb_domain::types::{Abs, Cell, Core, Rules, Setting, Val};
 use gb_ops::machine::Kind;
 use std::marker::Model;
 
@@ -77,27 +79,72 @@ impl<'a> Successor<'a> {
         }
     }
 
+    /// The states behind, in the place of others.
+    pub fn put_state(&self, after: &mut Abs)
+        ensures { after.new ≡ self.now.state }
+    {
+        copy_state(self.before, after);
+        if let Some(moved) = self.moved {
+            move_state(moved, self.write, after);
+        }
+        after.set_core(self.core);
+        after.set_relations(self.relations);
+    }
+
     /// The states behind.
     pub fn state(&self) -> Abs
         ensures { result ≡ self.now.state }
     {
-        let mut after = self.before.copied();
-        if let Some(moved) = self.moved {
-            move_state(moved, self.write, &mut after);
-        }
-        after.set_core(self.core);
-        after.set_relations(self.relations);
+        let mut after = Abs::new(self.core);
+        self.put_state(&mut after);
         after
     }
 }
 
-/// What a condition tells of a byte of memory is known of the states.
+fn append_items(items: &[Val], state: &mut Abs)
+    requires { length state.old.items + length items.now ≤ 255 }
+    ensures { state.new ≡ record state.old { items = state.old.items ++ items.now } }
+{
+    for item in items {
+        state.push_item(*item);
+    }
+}
+
+fn append_cells(cells: &[Cell], state: &mut Abs)
+    requires { length state.old.cells + length cells.now ≤ 64 }
+    ensures { state.new ≡ record state.old { cells = state.old.cells ++ cells.now } }
+{
+    for cell in cells {
+        state.push_cell(*cell);
+    }
+}
+
+/// A state becomes another one.
+fn copy_state(from: &Abs, state: &mut Abs)
+    ensures { state.new ≡ from.now }
+{
+    state.set_plain(*from.core());
+    state.set_relations(*from.relations());
+    append_items(from.items(), state);
+    append_cells(from.cells(), state);
+}
+
+/// What a condition tells of a byte of memory is known of the states: kept out of line, so that states are cleared and copied
+/// only then.
+#[inline(never)]
+fn tell_cell(rules: Rules, cell: Cell, state: &mut Abs)
+    ensures { state.new ≡ record state.old { cells = with_cell (cell_room rules) cell state.old.cells } }
+{
+    *state = with_cell(rules, state, cell.address, cell.val);
+}
+
+/// The same, where it tells one.
 #[tactic(auto, unfolding(crate::specs::Behind::with_cell_if))]
 fn set_cell(setting: Setting, cell: Option<Cell>, state: &mut Abs)
     ensures { state.new ≡ Behind.with_cell_if setting cell state.old }
 {
     if let Some(cell) = cell {
-        *state = with_cell(setting.rules, state, cell.address, cell.val);
+        tell_cell(setting.rules, cell, state);
     }
 }
 

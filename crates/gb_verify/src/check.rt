@@ -14,6 +14,7 @@ use gb_ops::op::Register;
 use gb_ops::registers::Registers;
 use gb_rules::interrupts::lacks_handler;
 use gb_rules::procedures::stack_of;
+use gb_rules::room::Room;
 use gb_rules::rules::reason_near;
 use gb_rules::{Cert, NodeRef, Reason, Stack, covers, holds_bytes, known};
 use gb_text::Rom;
@@ -112,15 +113,16 @@ fn reason_against(
     stack: Stack,
     node: &NodeRef<'_>,
     state: &mut Abs,
+    room: &mut Room,
 ) -> Option<Reason>
     requires node { slice_get cert.now.nodes i ≡ Some node.now }
     requires stack { stack ≡ stack_of cert.now node.now.procedure }
     ensures { result ≡ reason_against_at rom.now cert.now i }
 {
     node.read(state);
-    match reason_near(rom, cert, i, stack, node, state) {
+    match reason_near(rom, cert, i, stack, node, state, room) {
         Some(reason) => Some(reason),
-        None if lacks_handler(cert, i, stack, node, state) => Some(Reason::Interrupt),
+        None if lacks_handler(cert, i, stack, node, state, room) => Some(Reason::Interrupt),
         None => None,
     }
 }
@@ -137,7 +139,9 @@ fn verdict(rom: &Rom<'_>, cert: &Cert<'_>) -> Verdict
             reason: Reason::Entry,
         };
     }
-    let mut state = Abs::new(core_at_power_up(rom, cert.region()));
+    let start = core_at_power_up(rom, cert.region());
+    let mut state = Abs::new(start);
+    let mut room = Room::new(start);
     let mut procedure = 0;
     let mut stack = stack_of(cert, procedure);
     for i in 0..cert.nodes() {
@@ -146,7 +150,7 @@ fn verdict(rom: &Rom<'_>, cert: &Cert<'_>) -> Verdict
             procedure = node.procedure();
             stack = stack_of(cert, procedure);
         }
-        if let Some(reason) = reason_against(rom, cert, i, stack, &node, &mut state) {
+        if let Some(reason) = reason_against(rom, cert, i, stack, &node, &mut state, &mut room) {
             return Verdict::Refused { node: i, reason };
         }
     }

@@ -1,7 +1,7 @@
 use Rattle.std.proofs.Common.{◌≡◌, true, false, sym, ◌∙◌}
 use Rattle.gb_calls.specs.Calls.{is_entry, callee_of}
 use Rattle.gb_calls.proofs.CalleeLaws.{callee-taken, callee-passed}
-use Rattle.gb_calls.proofs.callees.callee.Goals as goal
+use Rattle.gb_calls.proofs.callees.callee_in.Goals as goal
 
 pub returns-then-is_entry : goal.returns-then-is_entry
 unfolding callee_of

@@ -1,6 +1,6 @@
 use Rattle.std.proofs.Common.{◌≡◌, drop}
 use Rattle.gb_calls.specs.Calls.{entry_from, entry_behind_main}
-use Rattle.gb_calls.proofs.callees.callee.Given as goal
+use Rattle.gb_calls.proofs.callees.callee_in.Given as goal
 
 abbrev pub invariant-loop-i : goal.invariant-loop-i
 invariant-loop-i l =

@@ -2,10 +2,10 @@ use Rattle.std.proofs.Common.{◌≡◌, refl}
 use Rattle.gb_relations.specs.Returned.{returned}
 use Rattle.gb_calls.specs.Resuming.{kept_by, core_back}
 use Rattle.gb_calls.proofs.ResumingLaws.{too_deep}
-use Rattle.gb_calls.proofs.resuming.rejoined.Goals as goal
+use Rattle.gb_calls.proofs.resuming.put_rejoined.Goals as goal
 
-pub returns-in-None-clause-exact : goal.returns-in-None-clause-exact
-returns-in-None-clause-exact c =
+pub returns-then-are_too_many-clause-exact : goal.returns-then-are_too_many-clause-exact
+returns-then-are_too_many-clause-exact c =
     let s = c.args.state.now in
     let x = c.args.exit.now in
     let kept : c.kept_by-kept.result ≡ kept_by c.args.ranges.now s.relations.byte x.core =
@@ -14,4 +14,4 @@ returns-in-None-clause-exact c =
     let relations : c.returned-relations.result ≡ returned c.kept_by-kept.result s.relations x.relations =
     rw (c.relations-2.ensures, c.relations-3.ensures) at c.returned-relations.ensures.exact in
     too_deep c.args.count c.args.ranges.now s x c.kept_by-kept.result c.core_back-core.result c.returned-relations.result
-    c.in-Some.values kept core relations c.in-Some.ensures.exact (rw (c.items.ensures.items, c.items-2.ensures.items) at (c.in-None.ensures.many refl))
+    c.in-Some.values kept core relations c.in-Some.ensures.exact (rw (c.items.ensures.items, c.items-2.ensures.items) at (c.are_too_many.ensures.many c.if-are_too_many.true))

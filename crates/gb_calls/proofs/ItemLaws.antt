@@ -1,0 +1,81 @@
+-- Items that are appended, and covered, from the front on.
+use Rattle.std.proofs.Common.{◌≡◌, ℕ, ◌-◌, ◌≤◌, ◌<◌, ◌*◌, ◌==◌, Bool, true, false, ◌&&◌, List, [], ◌∷◌, length, take, drop, slice_index, slice_index_or, refl, sym, ap, ◌∙◌, arith, None}
+use Rattle.std.specs.List.{flat_map}
+use Rattle.std.proofs.lemmas.Bool.{eqb-true}
+use Rattle.std.proofs.lemmas.List.{take_all}
+use Rattle.gb_domain.specs.declared.types.Cell.{Cell}
+use Rattle.gb_domain.specs.declared.types.Val.{Val}
+use Rattle.gb_states.specs.Reading.{origin_of}
+use Rattle.gb_states.specs.Checked.{listed_items}
+use Rattle.gb_states.specs.Spelling as spelled
+use Rattle.gb_states.proofs.ListedLaws.{no_items, items_front}
+use Rattle.gb_cert.proofs.CheckedLaws.{items_listed, cells_long}
+use Rattle.gb_abs.specs.Covering.{covers_val, covers_items, covers_cells}
+use Rattle.gb_abs.specs.Origins.{without_origin}
+use Rattle.gb_calls.specs.TakenOver.{returning}
+
+-- of three items and more the first is no copy
+pub returning_front : (xs : List Val) (x : Val) → 3 ≤ length xs → x ≡ without_origin (slice_index_or xs 0 (record { lo = 0; hi = 0; origin = None }))
+    → returning xs ≡ x ∷ returning (take (length xs - 1) (drop 1 xs))
+returning_front [] x h is = absurd (omega arith)
+returning_front (a ∷ []) x h is = absurd (omega arith)
+returning_front (a ∷ b ∷ []) x h is = absurd (omega arith)
+returning_front (a ∷ b ∷ c ∷ rest) x h is =
+    let long : length (a ∷ b ∷ c ∷ rest) - 1 ≡ length (b ∷ c ∷ rest) = omega arith in
+    ap (λ (y : Val). y ∷ returning (b ∷ c ∷ rest)) (sym is)
+    ∙ ap (λ (ys : List Val). x ∷ returning ys) (sym (ap (λ (n : ℕ). take n (b ∷ c ∷ rest)) long ∙ take_all (length (b ∷ c ∷ rest)) (b ∷ c ∷ rest) (omega arith)))
+
+-- ---- covered in bytes
+
+abbrev first_of : List Val → Val
+first_of s = slice_index_or s 0 (record { lo = 0; hi = 0; origin = None })
+
+abbrev first_in : List ℕ → Val
+first_in bytes = record { lo = slice_index bytes 0; hi = slice_index bytes 1; origin = origin_of (slice_index bytes 2) }
+
+abbrev rest_in : List ℕ → List Val
+rest_in bytes = listed_items (take (length bytes - 3) (drop 3 bytes))
+
+pub none_covered : (s : List Val) (bytes : List ℕ) (b : Bool) → length bytes < 3 → b ≡ covers_items s [] → b ≡ covers_items s (listed_items bytes)
+none_covered s bytes b h is = is ∙ ap (covers_items s) (sym (no_items bytes h))
+
+pub fewer_covered : (s : List Val) (bytes : List ℕ) → length s < 1 → 3 ≤ length bytes → false ≡ covers_items s (listed_items bytes)
+fewer_covered [] bytes h k = sym (ap (covers_items []) (items_front bytes (origin_of (slice_index bytes 2)) k refl))
+fewer_covered (v ∷ vs) bytes h k = absurd (omega arith)
+
+both_covered : (s : List Val) (bytes : List ℕ) → 1 ≤ length s → 3 ≤ length bytes
+    → covers_items s (listed_items bytes) ≡ (covers_val (first_of s) (first_in bytes) && covers_items (take (length s - 1) (drop 1 s)) (rest_in bytes))
+both_covered [] bytes h k = absurd (omega arith)
+both_covered (v ∷ vs) bytes h k =
+    let long : length (v ∷ vs) - 1 ≡ length vs = omega arith in
+    ap (covers_items (v ∷ vs)) (items_front bytes (origin_of (slice_index bytes 2)) k refl)
+    ∙ ap (λ (ys : List Val). covers_val v (first_in bytes) && covers_items ys (rest_in bytes)) (sym (ap (λ (n : ℕ). take n vs) long ∙ take_all (length vs) vs (omega arith)))
+
+pub then_covered : (s : List Val) (bytes : List ℕ) (b r : Bool) → 1 ≤ length s → 3 ≤ length bytes → b ≡ covers_val (first_of s) (first_in bytes)
+    → r ≡ covers_items (take (length s - 1) (drop 1 s)) (rest_in bytes) → b ≡ true → r ≡ covers_items s (listed_items bytes)
+then_covered s bytes b r h k is are holds =
+    are ∙ sym (both_covered s bytes h k ∙ ap (λ (x : Bool). x && covers_items (take (length s - 1) (drop 1 s)) (rest_in bytes)) (sym is ∙ holds))
+
+pub else_covered : (s : List Val) (bytes : List ℕ) (b : Bool) → 1 ≤ length s → 3 ≤ length bytes → b ≡ covers_val (first_of s) (first_in bytes)
+    → b ≡ false → b ≡ covers_items s (listed_items bytes)
+else_covered s bytes b h k is fails =
+    fails ∙ sym (both_covered s bytes h k ∙ ap (λ (x : Bool). x && covers_items (take (length s - 1) (drop 1 s)) (rest_in bytes)) (sym is ∙ fails))
+
+pub some_uncovered : (s : List Val) → 1 ≤ length s → false ≡ covers_items s []
+some_uncovered [] h = absurd (omega arith)
+some_uncovered (v ∷ vs) h = refl
+
+and_true : (b : Bool) → b ≡ (b && true)
+and_true true = refl
+and_true false = refl
+
+-- where no cells are claimed, items alone are asked for
+pub listed_alone : (us vs ws : List Val) (cs ds : List Cell) (items cells : List ℕ) (r : Bool) → us ≡ vs → items ≡ flat_map spelled.val ws → cells ≡ flat_map spelled.cell ds
+    → (length cells == 0) ≡ true → r ≡ covers_items us (listed_items items) → r ≡ (covers_items vs ws && covers_cells cs ds)
+unfolding covers_cells
+listed_alone us vs ws cs [] items cells r same is are none e =
+    e ∙ (ap (λ (xs : List Val). covers_items xs (listed_items items)) same ∙ (ap (covers_items vs) (items_listed ws items is) ∙ and_true (covers_items vs ws)))
+listed_alone us vs ws cs (d ∷ ds) items cells r same is are none e =
+    let long = cells_long (d ∷ ds) cells are in
+    let zero : length cells ≡ 0 = eqb-true (length cells) 0 none in
+    absurd (omega arith)

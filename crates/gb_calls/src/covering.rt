@@ -1,0 +1,116 @@
+//! Whether a state of a certificate stands for others, in its bytes.
+
+ghost use Rattle.std.specs.Prelude.{◌≡◌, ◌&&◌};
+ghost use Rattle.std.specs.List.{flat_map};
+ghost use Rattle.gb_states.specs.Spelling as spelled;
+ghost use Rattle.gb_abs.specs.Covering.{covers_items, covers_cells};
+ghost use Rattle.gb_product.specs.Covering.{covers, covers_relations};
+ghost use Rattle.gb_calls.specs.Parts.{with_parts};
+
+use crate::in_bytes::{covers_core_in, covers_items_in};
+use gb_abs::covering::covers_lists;
+use gb_cert::StateRef;
+use gb_domain::relations::Relations;
+use gb_domain::types::{Abs, Core};
+use gb_product::covering::covers_relations;
+use gb_states::relations::test_alone;
+
+/// States with this core, of which this is known together, and the items and cells of others.
+#[derive(Clone, Copy)]
+pub struct States<'a> {
+    pub core: &'a Core,
+    pub relations: &'a Relations,
+    pub lists: &'a Abs,
+}
+
+impl<'a> States<'a> {
+    /// All parts of one state.
+    pub fn of(state: &'a Abs) -> States<'a>
+        ensures core { result.core.now ≡ state.now.core }
+        ensures relations { result.relations.now ≡ state.now.relations }
+        ensures lists { result.lists.now ≡ state.now }
+    {
+        States {
+            core: state.core(),
+            relations: state.relations(),
+            lists: state,
+        }
+    }
+}
+
+/// Whether the items and the cells of a state stand for those of others, where it has cells: kept out of line, so that a
+/// state is decoded only then.
+#[inline(never)]
+fn covers_decoded(s: &Abs, claimed: &StateRef<'_>) -> bool
+    ensures { result ≡ (covers_items s.now.items claimed.now.items && covers_cells s.now.cells claimed.now.cells) }
+{
+    covers_lists(s, &claimed.state())
+}
+
+/// Whether the items and the cells of a state stand for what these do; the bytes of its cells are given.
+fn covers_listed(s: &Abs, claimed: &StateRef<'_>, cells: &[u8]) -> bool
+    requires { cells.now ≡ flat_map spelled.cell claimed.now.cells }
+    ensures { result ≡ (covers_items s.now.items claimed.now.items && covers_cells s.now.cells claimed.now.cells) }
+{
+    if cells.is_empty() {
+        covers_items_in(s.items(), claimed.items())
+    } else {
+        covers_decoded(s, claimed)
+    }
+}
+
+/// Whether the items and the cells of a state stand for what these do.
+pub fn covers_held(s: &Abs, claimed: &StateRef<'_>) -> bool
+    ensures { result ≡ (covers_items s.now.items claimed.now.items && covers_cells s.now.cells claimed.now.cells) }
+{
+    if claimed.has_lists() {
+        covers_listed(s, claimed, claimed.cells())
+    } else {
+        s.items().is_empty()
+    }
+}
+
+/// What is known together of a state.
+pub fn relations_of(claimed: &StateRef<'_>) -> Relations
+    ensures { result ≡ claimed.now.relations }
+{
+    if claimed.has_lists() {
+        claimed.relations()
+    } else {
+        test_alone(claimed.test())
+    }
+}
+
+/// Whether all of a state but the core stands for that of others, where it may hold some.
+fn covers_read(states: &States<'_>, claimed: &StateRef<'_>) -> bool
+    ensures { result ≡ ((covers_items states.now.lists.now.items claimed.now.items && covers_cells states.now.lists.now.cells claimed.now.cells) && covers_relations states.now.core.now.registers states.now.relations.now claimed.now.relations) }
+{
+    let (relations, cells) = claimed.told();
+    covers_listed(states.lists, claimed, cells)
+        && covers_relations(&states.core.registers, states.relations, &relations)
+}
+
+/// Whether all of a state but the core stands for that of others.
+fn covers_rest(states: &States<'_>, claimed: &StateRef<'_>) -> bool
+    ensures { result ≡ ((covers_items states.now.lists.now.items claimed.now.items && covers_cells states.now.lists.now.cells claimed.now.cells) && covers_relations states.now.core.now.registers states.now.relations.now claimed.now.relations) }
+{
+    if claimed.has_lists() {
+        covers_read(states, claimed)
+    } else {
+        covers_held(states.lists, claimed)
+            && covers_relations(
+                &states.core.registers,
+                states.relations,
+                &relations_of(claimed),
+            )
+    }
+}
+
+/// Whether a state stands for each machine state that these stand for. Only its core is read where that doesn't, and where
+/// nothing but a core is in it.
+#[tactic(auto, unfolding(gb_product::specs::Covering::covers, gb_abs::specs::Covering::covers_parts))]
+pub fn covers_states(states: &States<'_>, claimed: &StateRef<'_>) -> bool
+    ensures { result ≡ covers (with_parts states.now.core.now states.now.relations.now states.now.lists.now) claimed.now }
+{
+    covers_core_in(states.core, claimed.bytes()) && covers_rest(states, claimed)
+}
