@@ -4,7 +4,7 @@ use crate::order::order;
 use gb_cert::{NodePlan, ProcedurePlan, Version, WriteFault, write_certificate};
 use gb_fixpoint::limits::COMPARED;
 use gb_fixpoint::types::{Node, Procedure, Run};
-use gb_fixpoint::{Abs, Rules, covers, known_bank};
+use gb_fixpoint::{Abs, Region, Rules, covers, known_bank};
 use std::alloc::{AllocError, Global};
 
 /// Where a node stands in a certificate: by its procedure, then by its address.
@@ -15,20 +15,19 @@ struct Standing {
     node: usize,
 }
 
-/// The bytes of the certificate of a finished run, whose needs were found: in version 3; or by the rules of versions 1 and 2
-/// in version 1, and in version 2 where it has more than 65,535 nodes.
+/// The bytes of the certificate of a finished run, whose needs were found, with this stack region: in version 3; or by the
+/// rules of versions 1 and 2 in version 1, and in version 2 where it has more than 65,535 nodes.
 ///
 /// # Errors
 ///
 /// The limit of certificates that the run doesn't keep, or Memory where memory ran out.
-pub fn certificate_of(alloc: Global, run: &Run<'_>) -> Result<Vec<u8>, WriteFault> {
+pub fn certificate_of(alloc: Global, run: &Run<'_>, region: Region) -> Result<Vec<u8>, WriteFault> {
     let order = order(alloc, run)?;
     let standings = standings(alloc, run, order.as_slice())?;
     let places = places(alloc, run, standings.as_slice())?;
     let procedures = procedures(alloc, run, order.as_slice(), places.as_slice())?;
     let nodes = nodes(alloc, run, standings.as_slice())?;
     let version = version_of(run.rules(), nodes.len());
-    let region = run.configuration.region;
     write_certificate(
         alloc,
         version,

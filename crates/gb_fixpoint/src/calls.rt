@@ -18,7 +18,7 @@ impl<'a> Run<'a> {
     pub(crate) fn call(
         &mut self,
         number: usize,
-        caller: &Abs,
+        caller: &mut Abs,
         target: u16,
         back: u16,
         is_handler: bool,
@@ -29,7 +29,7 @@ impl<'a> Run<'a> {
         let procedure = node.key.procedure;
         if self.is_inlined(target) {
             self.returns.insert(back)?;
-            return self.flow(number, target, caller.copied());
+            return self.flow(number, target, caller);
         }
         self.ask_callee(procedure, caller, target)?;
         let context = self.context(procedure, caller, target);
@@ -41,10 +41,21 @@ impl<'a> Run<'a> {
         self.link(number, procedure, callee, target)?;
         self.arrive(Some(number), NodeKey::of_entry(callee, target), &entered)?;
         self.inherit_ranges(procedure, callee)?;
-        if let Some(resumed) = self.resumed(callee, caller) {
-            self.flow(number, back, resumed)?;
+        self.go_behind(number, callee, caller, back)
+    }
+
+    /// A node goes on at an address behind a callee that has returned.
+    pub(crate) fn go_behind(
+        &mut self,
+        number: usize,
+        callee: usize,
+        caller: &Abs,
+        back: u16,
+    ) -> Result<(), Stop> {
+        match self.resumed(callee, caller) {
+            Some(mut resumed) => self.flow(number, back, &mut resumed),
+            None => Ok(()),
         }
-        Ok(())
     }
 
     /// The key of the procedure that begins at a target in a state, with the number of the values of its key cells.
@@ -159,7 +170,7 @@ impl<'a> Run<'a> {
     }
 
     /// What a callee may write its caller may write too; by the rules of version 3 main may write everywhere.
-    fn inherit_ranges(&mut self, caller: usize, callee: usize) -> Result<(), Stop> {
+    pub(crate) fn inherit_ranges(&mut self, caller: usize, callee: usize) -> Result<(), Stop> {
         if caller == 0 && self.rules() == Rules::Extended {
             return Ok(());
         }
@@ -190,9 +201,14 @@ impl<'a> Run<'a> {
         let Some(called) = self.procedures.get_mut(procedure) else {
             return Ok(());
         };
+        let is_handler = called.key.is_handler;
         let sites = mem::replace(&mut called.sites, BTreeSet::new(self.alloc));
         for site in &sites {
-            self.enqueue(*site)?;
+            if is_handler {
+                self.enqueue_behind(*site, procedure)?;
+            } else {
+                self.enqueue(*site)?;
+            }
         }
         if let Some(called) = self.procedures.get_mut(procedure) {
             called.sites = sites;

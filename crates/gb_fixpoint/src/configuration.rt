@@ -41,6 +41,8 @@ pub struct Configuration {
     /// The bytes of the stack whose known values are part of the key, a bit for each of the first 64 by its place: counters that are
     /// kept on the stack.
     pub counted_items: HashMap<Place, u64>,
+    /// Where the carry is part of the key beside the known registers: it is read from there on.
+    pub carried: HashSet<Place>,
     /// The registers of which is part of the key whether they are 0, or FF: counters that begin at 0, or that are counted down
     /// before they are looked at, where the first or the last round is told apart.
     pub peeled: HashMap<Place, RegisterSet>,
@@ -89,6 +91,7 @@ impl Configuration {
             split: HashMap::new(alloc),
             counted: HashMap::new(alloc),
             counted_items: HashMap::new(alloc),
+            carried: HashSet::new(alloc),
             peeled: HashMap::new(alloc),
             parted: HashMap::new(alloc),
             flat: HashSet::new(alloc),

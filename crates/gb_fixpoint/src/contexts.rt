@@ -63,7 +63,7 @@ impl<'a> Run<'a> {
         &mut self,
         number: usize,
         address: u16,
-        state: Abs,
+        state: &mut Abs,
     ) -> Result<(), Stop> {
         self.flow_in(number, 0, address, state)
     }

@@ -2,7 +2,7 @@
 
 use crate::contexts::Context;
 use crate::instruction::decoded;
-use crate::stepping::FIRST_VECTOR;
+use crate::interrupting::FIRST_VECTOR;
 use crate::tracking::keep_tracked;
 use crate::types::Run;
 use gb_verify::{Abs, Successor, Target, enter, left_by_dispatch, may_come, successors_of};

@@ -1,6 +1,7 @@
 //! Exits: what procedures return with, and what their callers see of it.
 
 use crate::bounds::{WORD_PAIRS, facts_of, halves_of, set_facts};
+use crate::covering::is_covered;
 use crate::limits::{EXIT_GROWTHS, PAIR_GROWTHS};
 use crate::steps::Growth;
 use crate::stop::Stop;
@@ -9,7 +10,7 @@ use arrayvec::ArrayVec;
 use gb_domain::pairs::{NOTHING_KNOWN, Pairs};
 use gb_ops::op::Register;
 use gb_ops::registers::Registers;
-use gb_verify::{Abs, Cell, Core, Ctl, Flg, May, OneByte, Origin, Range, Relations, Val, covers};
+use gb_verify::{Abs, Cell, Core, Ctl, Flg, May, OneByte, Origin, Range, Relations, Val};
 
 /// Any value of a bit.
 const EITHER: May = May {
@@ -150,7 +151,7 @@ fn seen(ranges: &[Range], exit: &Abs) -> Abs {
 
 impl<'a> Run<'a> {
     /// A procedure's exit becomes one above it and a state. Where its callers see that it grew, they go on again.
-    pub(crate) fn exit(&mut self, procedure: usize, state: Abs) -> Result<(), Stop> {
+    pub(crate) fn exit(&mut self, procedure: usize, state: &Abs) -> Result<(), Stop> {
         let Some(exit) = self.grown_exit(procedure, state) else {
             return Ok(());
         };
@@ -166,12 +167,12 @@ impl<'a> Run<'a> {
     }
 
     /// A procedure's exit with one more state; None where it covers that already.
-    fn grown_exit(&self, procedure: usize, state: Abs) -> Option<Abs> {
+    fn grown_exit(&self, procedure: usize, state: &Abs) -> Option<Abs> {
         let left = self.procedures.get(procedure)?;
         let Some(exit) = &left.exit else {
-            return Some(state);
+            return Some(state.copied());
         };
-        if covers(&state, exit) {
+        if is_covered(state, exit) {
             return None;
         }
         let growth = if left.growths > PAIR_GROWTHS {
@@ -181,7 +182,7 @@ impl<'a> Run<'a> {
         } else {
             Growth::Joined
         };
-        Some(self.widening.grown(self.rules(), growth, exit, &state))
+        Some(self.widening.grown(self.rules(), growth, exit, state))
     }
 
     /// Whether a procedure's callers see that its exit grows to this one.
@@ -193,6 +194,6 @@ impl<'a> Run<'a> {
             return true;
         };
         let ranges = left.ranges.as_slice();
-        !covers(&seen(ranges, grown), &seen(ranges, exit))
+        !is_covered(&seen(ranges, grown), &seen(ranges, exit))
     }
 }

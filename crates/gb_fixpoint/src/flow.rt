@@ -1,23 +1,24 @@
 //! States flow to the nodes of their keys.
 
 use crate::configuration::Place;
+use crate::covering::is_covered;
 use crate::keys::{KnownRegisters, NodeKey};
 use crate::limits::{
     GROWTHS, HEAD_GROWTHS, PAGES, PAIR_GROWTHS, SIMPLE_GROWTHS, SIMPLE_HEAD_GROWTHS,
 };
 use crate::register_set::{REGISTERS, RegisterSet};
-use crate::steps::Growth;
+use crate::steps::{Growth, link_in};
 use crate::stop::Stop;
 use crate::tracking::keep_tracked;
 use crate::types::{CellValue, Edge, Node, Run, Spot};
 use arrayvec::ArrayVec;
 use gb_ops::op::Register;
 use gb_product::reduced::reduced;
-use gb_verify::{Abs, Cell, Core, Rules, Val, cell_at, covers};
+use gb_verify::{Abs, Cell, Core, Rules, Val, cell_at};
 
 impl<'a> Run<'a> {
     /// A state goes on from a node to an address of the same procedure.
-    pub(crate) fn flow(&mut self, from: usize, to: u16, state: Abs) -> Result<(), Stop> {
+    pub(crate) fn flow(&mut self, from: usize, to: u16, state: &mut Abs) -> Result<(), Stop> {
         let Some(node) = self.nodes.get(from) else {
             return Ok(());
         };
@@ -36,19 +37,19 @@ impl<'a> Run<'a> {
         from: usize,
         procedure: usize,
         to: u16,
-        mut state: Abs,
+        state: &mut Abs,
     ) -> Result<(), Stop> {
-        keep_tracked(&mut state, self.tracked.as_slice());
+        keep_tracked(state, self.tracked.as_slice());
         let place = Place {
             target: self.target(procedure),
             address: to,
         };
         let Some(register) = self.split_register(place, state.core()) else {
-            return self.arrive_peeled(from, procedure, place, &state);
+            return self.arrive_peeled(from, procedure, place, state);
         };
         let val = state.core().registers.get(register);
         for value in val.lo..=val.hi {
-            if let Some(single) = self.with_bounds(register, value, value, &state) {
+            if let Some(single) = self.with_bounds(register, value, value, state) {
                 self.arrive_at(from, procedure, place, &single)?;
             }
         }
@@ -137,11 +138,16 @@ impl<'a> Run<'a> {
         core.bound != 0 || self.configuration.keyed.contains(&place)
     }
 
-    /// The registers whose known values are part of the key.
+    /// The registers whose known values are part of the key, and the carry where all are and it is told apart.
     fn key_registers(&self, place: Place, core: &Core) -> KnownRegisters {
         let values = &core.registers;
         if self.is_keyed(place, core) {
-            return KnownRegisters::of(values, &RegisterSet::all());
+            let known = KnownRegisters::of(values, &RegisterSet::all());
+            return if self.configuration.carried.contains(&place) {
+                known.with_carry(core.flags.carry)
+            } else {
+                known
+            };
         }
         let mut wanted = match self.configuration.counted.get(&place) {
             Some(registers) => *registers,
@@ -265,32 +271,60 @@ impl<'a> Run<'a> {
     }
 
     /// A node's state becomes one above it and another one.
-    fn grow(&mut self, number: usize, state: &Abs) -> Result<(), Stop> {
-        let Some(grown) = self.grown_state(number, state) else {
+    pub(crate) fn grow(&mut self, number: usize, state: &Abs) -> Result<(), Stop> {
+        let Some(node) = self.nodes.get(number) else {
             return Ok(());
         };
+        if is_covered(state, &node.state) {
+            return Ok(());
+        }
+        self.grow_to_hold(number, state)
+    }
+
+    /// The same for a state that the node doesn't hold yet.
+    fn grow_to_hold(&mut self, number: usize, state: &Abs) -> Result<(), Stop> {
+        let Some(node) = self.nodes.get(number) else {
+            return Ok(());
+        };
+        let growth = self.growth_of(node);
+        if growth == Growth::Linked {
+            let rules = self.rules();
+            if let Some(node) = self.nodes.get_mut(number) {
+                link_in(rules, &mut node.state, state);
+            }
+        } else {
+            self.widen(number, growth, state)?;
+        }
         if let Some(node) = self.nodes.get_mut(number) {
-            node.state = grown;
             node.growths = node.growths.saturating_add(1);
         }
         self.enqueue(number)
     }
 
-    /// A node's state with one more; None where it covers that already.
-    fn grown_state(&self, number: usize, state: &Abs) -> Option<Abs> {
-        let node = self.nodes.get(number)?;
-        if covers(state, &node.state) {
-            return None;
+    /// A node's state is widened.
+    fn widen(&mut self, number: usize, growth: Growth, state: &Abs) -> Result<(), Stop> {
+        let Some(node) = self.nodes.get(number) else {
+            return Ok(());
+        };
+        let mut grown = self
+            .widening
+            .grown(self.rules(), growth, &node.state, state);
+        self.hasten(number, &mut grown)?;
+        if let Some(node) = self.nodes.get_mut(number) {
+            node.state = grown;
         }
-        let rules = self.rules();
-        let growth = if node.growths >= PAIR_GROWTHS {
+        Ok(())
+    }
+
+    /// How a node grows the next time.
+    fn growth_of(&self, node: &Node) -> Growth {
+        if node.growths >= PAIR_GROWTHS {
             Growth::WidenedWithoutPairs
         } else if node.growths >= self.patience(node.key) {
             Growth::Widened
         } else {
             Growth::Linked
-        };
-        Some(self.widening.grown(rules, growth, &node.state, state))
+        }
     }
 
     /// Whether a node stands at the head of a loop.

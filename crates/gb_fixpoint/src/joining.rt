@@ -109,7 +109,7 @@ pub(crate) fn known_of(state: &Abs) -> Known<'_> {
 }
 
 /// What is known of several parts together in both.
-fn join_all_relations(rules: Rules, a: &Abs, b: &Abs) -> Relations {
+pub(crate) fn join_all_relations(rules: Rules, a: &Abs, b: &Abs) -> Relations {
     match rules {
         Rules::Simple => join_tests(a.relations(), b.relations()),
         Rules::Extended => join_relations(known_of(a), known_of(b)),
@@ -117,7 +117,7 @@ fn join_all_relations(rules: Rules, a: &Abs, b: &Abs) -> Relations {
 }
 
 /// The bytes of both, as far as both have them.
-fn join_items(a: &[Val], b: &[Val]) -> ArrayVec<Val, 255> {
+pub(crate) fn join_items(a: &[Val], b: &[Val]) -> ArrayVec<Val, 255> {
     let mut items = ArrayVec::new();
     for (first, second) in a.iter().zip(b) {
         let _ = items.try_push(join_val(*first, *second));
@@ -126,7 +126,7 @@ fn join_items(a: &[Val], b: &[Val]) -> ArrayVec<Val, 255> {
 }
 
 /// The cells of both that say something together. Both are in order of address.
-fn join_cells(a: &[Cell], b: &[Cell]) -> ArrayVec<Cell, 64> {
+pub(crate) fn join_cells(a: &[Cell], b: &[Cell]) -> ArrayVec<Cell, 64> {
     let mut cells = ArrayVec::new();
     let mut rest = b;
     for first in a {

@@ -3,12 +3,13 @@
 use crate::register_set::{REGISTERS, RegisterSet};
 use gb_ops::op::Register;
 use gb_ops::registers::Registers;
-use gb_verify::{Core, Ctl, Val};
+use gb_verify::{Core, Ctl, May, Val};
 
-/// The values of registers that have one alone, in the order of their letters.
+/// The values of registers that have one alone, in the order of their letters, and the carry where it is known and tells apart.
 #[derive(Clone, Copy, PartialEq, Eq, Hash)]
 pub struct KnownRegisters {
     values: [Option<u8>; 7],
+    carry: Option<bool>,
 }
 
 /// The bounds and sets of a controller's registers.
@@ -90,6 +91,7 @@ impl KnownRegisters {
                 known(registers.h, wanted.contains(Register::H)),
                 known(registers.l, wanted.contains(Register::L)),
             ],
+            carry: None,
         }
     }
 
@@ -109,9 +111,24 @@ impl KnownRegisters {
         KnownRegisters::of(registers, &wanted.union(&ends))
     }
 
+    /// These, and the carry where it is known.
+    pub fn with_carry(self, carry: May) -> KnownRegisters {
+        KnownRegisters {
+            carry: if carry.clear == carry.set {
+                None
+            } else {
+                Some(carry.set)
+            },
+            ..self
+        }
+    }
+
     /// No register.
     pub fn none() -> KnownRegisters {
-        KnownRegisters { values: [None; 7] }
+        KnownRegisters {
+            values: [None; 7],
+            carry: None,
+        }
     }
 }
 

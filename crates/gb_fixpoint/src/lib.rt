@@ -16,10 +16,13 @@ mod calls;
 pub mod cause;
 pub mod configuration;
 mod contexts;
+mod covering;
+mod creeping;
 pub mod entries;
 mod exits;
 mod flow;
 mod instruction;
+mod interrupting;
 mod joining;
 pub mod keys;
 pub mod limits;
@@ -40,6 +43,7 @@ pub mod types;
 mod words;
 
 // What lies below, for the crates above.
+pub use gb_ops::machine::Region;
 pub use gb_verify::check::check;
 pub use gb_verify::verdict::Verdict;
 pub use gb_verify::{

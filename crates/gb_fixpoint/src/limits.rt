@@ -20,6 +20,9 @@ pub const ALL_STEPS: u64 = 4_000_000;
 /// The same for each node that is allowed.
 pub const STEPS_A_NODE: u64 = 200;
 
+/// From how many steps of a run on a round is dear.
+pub const DEAR_STEPS: u64 = 10_000;
+
 /// The most obstacles that are told.
 pub const OBSTACLES: usize = 10;
 
@@ -41,6 +44,12 @@ pub const EXIT_GROWTHS: u32 = 40;
 /// How often a node or an exit grows before nothing more is known of pairs.
 pub const PAIR_GROWTHS: u32 = 400;
 
+/// How often a cell is widened at a node before it goes on to what it is compared with itself.
+pub const CREEPS: u8 = 4;
+
+/// How many instructions are gone back from a comparison to the cell that it looks at.
+pub const POINT_STEPS: u32 = 12;
+
 /// The greatest factor of a link.
 pub const FACTOR: u16 = 127;
 
@@ -52,6 +61,9 @@ pub const WORDS: usize = 48;
 
 /// The most bytes above the return word that a procedure takes over.
 pub const ARGUMENTS: u8 = 96;
+
+/// The most bytes of code in RAM that are wanted at once.
+pub const CODE_AHEAD: u8 = 16;
 
 /// The most nodes of an address that are compared with one another, so that those are left out that another one covers.
 pub const COMPARED: usize = 400;
@@ -73,6 +85,15 @@ pub const STEPS_BACK: u32 = 16;
 
 /// How many instructions a slice goes back.
 pub const SLICE: u32 = 40;
+
+/// The same where it goes through a loop.
+pub const LONG_SLICE: u32 = 80;
+
+/// How often what a loop computes from is sought among the registers that were found: there are seven of them.
+pub const SOURCES: u32 = 7;
+
+/// How many instructions lie at most between what makes a carry and what reads it.
+pub const CARRIED: u32 = 8;
 
 /// The most values that a register is split into, while there may be something better.
 pub const FEW_VALUES: u32 = 64;

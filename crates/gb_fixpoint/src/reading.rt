@@ -3,6 +3,7 @@
 use crate::asking::known_hl;
 use crate::cause::{Cause, StackMisuse, Wish};
 use crate::instruction::{decoded, refused};
+use crate::limits::CODE_AHEAD;
 use crate::register_set::RegisterSet;
 use crate::stacks::is_settable;
 use crate::steps::Steps;
@@ -40,7 +41,7 @@ impl<'a> Run<'a> {
             Op::LoadSpHl => self.set_by_hl(number, found.procedure)?,
             _ => {}
         }
-        self.record_points(row.op)?;
+        self.record_points(number, row.op)?;
         Ok(row)
     }
 
@@ -65,11 +66,12 @@ impl<'a> Run<'a> {
         })
     }
 
-    /// The bytes of an instruction in RAM are wanted, as far as its length is known.
+    /// The bytes of an instruction in RAM are wanted, as far as its length is known; else what was copied there with its first
+    /// byte, since code is copied whole.
     fn record_code(&mut self, address: u16, opcode: Option<u8>) -> Result<(), Stop> {
         let length = match opcode {
             Some(opcode) => length_of(opcode),
-            None => 1,
+            None => self.copied_from(address),
         };
         for offset in 0..length {
             let byte = address.saturating_add(u16::from(offset));
@@ -77,6 +79,17 @@ impl<'a> Run<'a> {
             self.fetched.insert(byte)?;
         }
         Ok(())
+    }
+
+    /// How many bytes from an address on were copied, at least one, and at most so many as are wanted at once.
+    fn copied_from(&self, address: u16) -> u8 {
+        for offset in 1..CODE_AHEAD {
+            let byte = address.saturating_add(u16::from(offset));
+            if !self.copied.contains(&byte) {
+                return offset;
+            }
+        }
+        CODE_AHEAD
     }
 
     /// Why a known instruction can't be executed, after what it asks of the configuration.
@@ -163,15 +176,20 @@ impl<'a> Run<'a> {
     }
 
     /// The values at which widening had better stop, by an instruction.
-    fn record_points(&mut self, op: Op) -> Result<(), Stop> {
+    fn record_points(&mut self, number: usize, op: Op) -> Result<(), Stop> {
         match op {
             Op::AluImmediate(AluOp::Cp, value) => {
-                self.add_point(value.saturating_sub(1))?;
-                self.add_point(value)?;
-                self.add_point(value.saturating_add(1))
+                let points = [value.saturating_sub(1), value, value.saturating_add(1)];
+                for point in points {
+                    self.add_point(point)?;
+                }
+                self.record_cell_points(number, &points)
             }
-            Op::AluImmediate(AluOp::And, value)
-            | Op::LoadImmediate(Operand::Register(Register::A) | Operand::AtHl, value) => {
+            Op::AluImmediate(AluOp::And, value) => {
+                self.add_point(value)?;
+                self.record_cell_points(number, &[value])
+            }
+            Op::LoadImmediate(Operand::Register(Register::A) | Operand::AtHl, value) => {
                 self.add_point(value)
             }
             _ => Ok(()),

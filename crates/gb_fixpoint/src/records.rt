@@ -96,6 +96,7 @@ impl<'a> Run<'a> {
         }
         let cell = span.first;
         if span.is_one() {
+            self.copied.insert(cell)?;
             if !is_known && stores_a(op) && self.configuration.tracked.contains(&cell) {
                 self.stores.insert(CellStore { cell, spot })?;
             }

@@ -3,7 +3,7 @@
 use crate::cause::{Cause, Failure, Outcome};
 use crate::configuration::{Configuration, Place};
 use crate::keys::{NodeKey, ProcedureKey};
-use crate::limits::{PROCEDURES, RUN_STEPS};
+use crate::limits::{DEAR_STEPS, PROCEDURES, RUN_STEPS};
 use crate::ranges::RangeSet;
 use crate::register_set::RegisterSet;
 use crate::stacks::main_base;
@@ -14,7 +14,7 @@ use gb_ops::op::Register;
 use gb_verify::check::core_at_power_up;
 use gb_verify::{Abs, Rom, known_bytes};
 use std::alloc::{AllocError, Global};
-use std::collections::{BTreeSet, HashMap, HashSet};
+use std::collections::{BTreeMap, BTreeSet, HashMap, HashSet};
 
 /// Where main begins.
 const START: u16 = 0x0100;
@@ -54,6 +54,7 @@ impl<'a> Run<'a> {
             heads: HashSet::new(alloc),
             wanted: BTreeSet::new(alloc),
             fetched: BTreeSet::new(alloc),
+            copied: BTreeSet::new(alloc),
             named: BTreeSet::new(alloc),
             killers: BTreeSet::new(alloc),
             switches: BTreeSet::new(alloc),
@@ -63,6 +64,8 @@ impl<'a> Run<'a> {
             sp: None,
             lowest: u16::MAX,
             failures: Vec::new(alloc),
+            passed: Vec::new(alloc),
+            last_step: u64::MAX,
             steps: 0,
             alloc,
             tracked,
@@ -74,18 +77,29 @@ impl<'a> Run<'a> {
             cyclic: BTreeSet::new(alloc),
             queue: BTreeSet::new(alloc),
             widening,
+            cell_points: BTreeSet::new(alloc),
+            creeps: BTreeMap::new(alloc),
         })
     }
 
-    /// Goes from power-up to the fixpoint, to the first failure at a place that wasn't given up, or to a limit.
+    /// Goes from power-up to the fixpoint, to the first failure at a place that wasn't given up, or to a limit. A run that was
+    /// long goes on past it, since others may be met besides.
     pub fn run(&mut self) -> Result<Outcome, AllocError> {
         match self.run_to_stop() {
-            Ok(()) => Ok(Outcome::Finished),
-            Err(Stop::Failed(failure)) => Ok(Outcome::Failed(failure)),
-            Err(Stop::StackSet(sp)) => Ok(Outcome::StackSet { sp }),
-            Err(Stop::Wanted(wish)) => Ok(Outcome::Wanted(wish)),
-            Err(Stop::TooLarge) => Ok(Outcome::TooLarge),
+            Ok(()) => Ok(self.outcome(Outcome::Finished)),
+            Err(Stop::Failed(failure)) => Ok(self.outcome(Outcome::Failed(failure))),
+            Err(Stop::StackSet(sp)) => Ok(self.outcome(Outcome::StackSet { sp })),
+            Err(Stop::Wanted(wish)) => Ok(self.outcome(Outcome::Wanted(wish))),
+            Err(Stop::TooLarge) => Ok(self.outcome(Outcome::TooLarge)),
             Err(Stop::Memory(error)) => Err(error),
+        }
+    }
+
+    /// What a run came to: the first failure that it went past, if there is one.
+    fn outcome(&self, last: Outcome) -> Outcome {
+        match self.passed.first() {
+            Some(failure) => Outcome::Failed(*failure),
+            None => last,
         }
     }
 
@@ -95,10 +109,13 @@ impl<'a> Run<'a> {
             let Some(turn) = self.queue.pop_first() else {
                 return Ok(());
             };
+            if self.steps > self.last_step {
+                return Ok(());
+            }
             if self.nodes.len() > self.configuration.limit {
                 return Err(Stop::TooLarge);
             }
-            self.take_turn(turn.node)?;
+            self.take_turn(turn)?;
         }
         Err(Stop::TooLarge)
     }
@@ -113,13 +130,17 @@ impl<'a> Run<'a> {
         self.arrive(None, NodeKey::of_entry(0, START), &Abs::new(core))
     }
 
-    /// Steps a node.
-    fn take_turn(&mut self, node: usize) -> Result<(), Stop> {
-        if let Some(waiting) = self.nodes.get_mut(node) {
-            waiting.is_queued = false;
-        }
-        self.steps = self.steps.saturating_add(1);
-        let outcome = self.step(node);
+    /// Steps a node, or goes on behind a handler there.
+    fn take_turn(&mut self, turn: Turn) -> Result<(), Stop> {
+        let outcome = if turn.handler == 0 {
+            if let Some(waiting) = self.nodes.get_mut(turn.node) {
+                waiting.is_queued = false;
+            }
+            self.steps = self.steps.saturating_add(1);
+            self.step(turn.node)
+        } else {
+            self.come_back(turn.node, turn.handler)
+        };
         self.keep(outcome)
     }
 
@@ -132,8 +153,30 @@ impl<'a> Run<'a> {
                 }
                 Ok(())
             }
+            Err(Stop::Failed(failure)) if self.steps >= DEAR_STEPS => self.pass(failure),
             outcome => outcome,
         }
+    }
+
+    /// The run goes past a failure, half as far again as it has come, and keeps the first of each place.
+    fn pass(&mut self, failure: Failure) -> Result<(), Stop> {
+        if self.passed.is_empty() {
+            self.last_step = self.steps.saturating_add(self.steps / 2);
+        }
+        if !self.is_passed(self.place_of(failure.node)) {
+            self.passed.push(failure)?;
+        }
+        Ok(())
+    }
+
+    /// Whether the run went past a failure at a place already.
+    fn is_passed(&self, place: Option<Place>) -> bool {
+        for failure in &self.passed {
+            if self.place_of(failure.node) == place {
+                return true;
+            }
+        }
+        false
     }
 
     /// A failure at a node.
@@ -171,6 +214,24 @@ impl<'a> Run<'a> {
                 rank: PROCEDURES.saturating_sub(waiting.key.procedure),
                 address: waiting.key.address,
                 node,
+                handler: 0,
+            };
+            self.queue.insert(turn)?;
+        }
+        Ok(())
+    }
+
+    /// A node waits to go on behind a handler; where it waits for its turn, it does so then.
+    pub(crate) fn enqueue_behind(&mut self, node: usize, handler: usize) -> Result<(), Stop> {
+        let Some(waiting) = self.nodes.get(node) else {
+            return Ok(());
+        };
+        if !waiting.is_queued {
+            let turn = Turn {
+                rank: PROCEDURES.saturating_sub(waiting.key.procedure),
+                address: waiting.key.address,
+                node,
+                handler,
             };
             self.queue.insert(turn)?;
         }

@@ -7,12 +7,7 @@ use crate::stop::Stop;
 use crate::tracking::keep_tracked;
 use crate::types::Run;
 use gb_ops::op::Op;
-use gb_verify::{
-    Abs, Rules, Successor, Successors, Target, left_by_dispatch, may_come, successors_of,
-};
-
-/// The address that interrupt 0 calls; those of the others follow it, 8 bytes apart.
-pub(crate) const FIRST_VECTOR: u16 = 0x40;
+use gb_verify::{Abs, Rules, Successor, Successors, Target, successors_of};
 
 /// The bytes of a return word.
 const RETURN_WORD: usize = 2;
@@ -73,51 +68,37 @@ impl<'a> Run<'a> {
 
     /// Goes on by one way.
     fn follow(&mut self, number: usize, way: Option<Successor<'_>>) -> Result<(), Stop> {
-        let Some(successor) = way else {
-            return Ok(());
-        };
+        match way {
+            Some(successor) => self.go_on(number, &successor),
+            None => Ok(()),
+        }
+    }
+
+    fn go_on(&mut self, number: usize, successor: &Successor<'_>) -> Result<(), Stop> {
         match successor.target {
-            Target::At(address) => self.flow(number, address, successor.state()),
-            Target::Call(address) => {
-                self.call(number, &successor.state(), address, successor.next, false)
-            }
-            Target::Return => self.leave(number, successor.state()),
-            Target::Main(address) => self.begin_anew(number, address, successor.state()),
             Target::Lost => {
                 let cause = Cause::ReturnToUnknown;
                 Err(Run::failure(number, cause, RegisterSet::empty()))
             }
             Target::Unknown => Ok(()),
+            _ => self.go_on_in(number, successor),
         }
     }
 
-    /// Dispatches each interrupt that may come at a node.
-    fn interrupt(&mut self, number: usize) -> Result<(), Stop> {
-        let Some(node) = self.nodes.get(number) else {
-            return Ok(());
-        };
-        let core = *node.state.core();
-        let address = node.key.address;
-        if !core.ime.on {
-            return Ok(());
+    /// Goes on where a known address follows.
+    fn go_on_in(&mut self, number: usize, successor: &Successor<'_>) -> Result<(), Stop> {
+        let mut state = successor.state();
+        match successor.target {
+            Target::At(address) => self.flow(number, address, &mut state),
+            Target::Call(address) => self.call(number, &mut state, address, successor.next, false),
+            Target::Return => self.leave(number, &mut state),
+            Target::Main(address) => self.begin_anew(number, address, &mut state),
+            Target::Lost | Target::Unknown => Ok(()),
         }
-        let after = left_by_dispatch(self.configuration.rules, address, &node.state);
-        for interrupt in 0..5u8 {
-            if may_come(interrupt, &core) {
-                if !core.stack_set {
-                    let cause = Cause::InterruptWithoutStack { interrupt };
-                    return Err(Run::failure(number, cause, RegisterSet::empty()));
-                }
-                let vector = FIRST_VECTOR + 8 * u16::from(interrupt);
-                let outcome = self.call(number, &after, vector, address, true);
-                self.keep(outcome)?;
-            }
-        }
-        Ok(())
     }
 
     /// A node's procedure returns in a state.
-    fn leave(&mut self, number: usize, mut state: Abs) -> Result<(), Stop> {
+    fn leave(&mut self, number: usize, state: &mut Abs) -> Result<(), Stop> {
         let Some(node) = self.nodes.get(number) else {
             return Ok(());
         };
@@ -130,8 +111,8 @@ impl<'a> Run<'a> {
             let cause = Cause::ReturnWithBytes { bytes };
             return Err(Run::failure(number, cause, RegisterSet::empty()));
         }
-        keep_tracked(&mut state, self.tracked.as_slice());
-        if self.leaves_others(procedure, &state) {
+        keep_tracked(state, self.tracked.as_slice());
+        if self.leaves_others(procedure, state) {
             self.want_inline(procedure)?;
             let cause = Cause::ReturnWithOthers;
             return Err(Run::failure(number, cause, RegisterSet::empty()));

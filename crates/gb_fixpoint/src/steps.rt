@@ -1,7 +1,8 @@
 //! Widening: bounds that grew go on to the next of some steps, so that they grow a few times only.
 
 use crate::bounds::{WORD_PAIRS, facts_of, set_facts};
-use crate::joining::{join, known_of};
+use crate::covering::{are_cells_known, are_items_known};
+use crate::joining::{join, join_all_relations, join_cells, join_core, join_items, known_of};
 use crate::linking::with_links;
 use crate::relating::without_boxes;
 use arrayvec::ArrayVec;
@@ -233,7 +234,11 @@ impl Steps {
     fn above(&self, rules: Rules, growth: Growth, old: &Abs, added: &Abs) -> Abs {
         match growth {
             Growth::Joined => join(rules, old, added),
-            Growth::Linked => joined_with_links(rules, old, added),
+            Growth::Linked => {
+                let mut joined = old.copied();
+                link_in(rules, &mut joined, added);
+                joined
+            }
             Growth::Widened => self.widen(rules, old, added),
             Growth::WidenedWithoutPairs => without_pairs(self.widen(rules, old, added)),
         }
@@ -260,17 +265,30 @@ fn without_pairs(mut state: Abs) -> Abs {
     state
 }
 
-/// Both states joined, with links that hold in both.
-fn joined_with_links(rules: Rules, old: &Abs, added: &Abs) -> Abs {
-    let mut joined = join(rules, old, added);
-    if rules == Rules::Extended {
-        let pairs = joined.relations().pairs;
-        let linked = with_links(&pairs, known_of(old), known_of(added));
-        let relations = Relations {
-            pairs: linked,
-            ..*joined.relations()
-        };
-        joined.set_relations(relations);
+/// What is known of several parts together in both states, with links that hold in both.
+fn linked_relations(rules: Rules, old: &Abs, added: &Abs) -> Relations {
+    let joined = join_all_relations(rules, old, added);
+    match rules {
+        Rules::Simple => joined,
+        Rules::Extended => Relations {
+            pairs: with_links(&joined.pairs, known_of(old), known_of(added)),
+            ..joined
+        },
     }
-    joined
+}
+
+/// A state becomes its join with another one, with links that hold in both. Bytes and cells that stay are not written again.
+pub(crate) fn link_in(rules: Rules, state: &mut Abs, added: &Abs) {
+    let core = join_core(state.core(), added.core());
+    let relations = linked_relations(rules, state, added);
+    if !are_items_known(state.items(), added.items()) {
+        let items = join_items(state.items(), added.items());
+        state.set_items(items);
+    }
+    if !are_cells_known(state.cells(), added.cells()) {
+        let cells = join_cells(state.cells(), added.cells());
+        state.set_cells(cells);
+    }
+    state.set_core(core);
+    state.set_relations(without_boxes(&core.registers, &relations));
 }

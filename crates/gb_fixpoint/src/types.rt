@@ -7,7 +7,7 @@ use crate::ranges::RangeSet;
 use crate::steps::Steps;
 use gb_verify::{Abs, Rom};
 use std::alloc::Global;
-use std::collections::{BTreeSet, HashMap, HashSet};
+use std::collections::{BTreeMap, BTreeSet, HashMap, HashSet};
 
 /// An address of a procedure.
 #[derive(Clone, Copy, PartialEq, Eq, PartialOrd, Ord, Hash)]
@@ -43,6 +43,20 @@ pub struct CellStore {
     pub spot: Spot,
 }
 
+/// A value that a cell's byte is compared with, or masked by.
+#[derive(Clone, Copy, PartialEq, Eq, PartialOrd, Ord)]
+pub(crate) struct CellPoint {
+    pub cell: u16,
+    pub point: u8,
+}
+
+/// A cell of a node, whose bounds go on and on.
+#[derive(Clone, Copy, PartialEq, Eq, PartialOrd, Ord)]
+pub(crate) struct Creep {
+    pub node: usize,
+    pub cell: u16,
+}
+
 /// A cell that has one value alone.
 #[derive(Clone, Copy, Default, PartialEq, Eq, Hash)]
 pub struct CellValue {
@@ -67,6 +81,8 @@ pub(crate) struct Turn {
     pub rank: usize,
     pub address: u16,
     pub node: usize,
+    /// 0 where the node's instruction is executed; else the number of a handler that may interrupt it, behind which it goes on.
+    pub handler: usize,
 }
 
 /// A set of states at an address of a procedure.
@@ -118,8 +134,10 @@ pub struct Run<'a> {
     pub heads: HashSet<Spot>,
     /// Cells that were read at a single address, or fetched.
     pub wanted: BTreeSet<u16>,
-    /// Cells that were fetched.
+    /// Cells that hold code.
     pub fetched: BTreeSet<u16>,
+    /// Cells that were stored to each by itself, as a loop does whose rounds are told apart.
+    pub(crate) copied: BTreeSet<u16>,
     /// Cells that an instruction names: LD A,(n16) and LDH A,(n8).
     pub named: BTreeSet<u16>,
     /// Stores to several addresses that dropped tracked cells.
@@ -137,6 +155,10 @@ pub struct Run<'a> {
     pub lowest: u16,
     /// The failures at places that were given up, the first of each.
     pub failures: Vec<Failure>,
+    /// The failures at other places that a long run went past, the first of each.
+    pub passed: Vec<Failure>,
+    /// How many nodes are stepped at most, once there is one of these.
+    pub(crate) last_step: u64,
     /// How many nodes were stepped.
     pub steps: u64,
     pub(crate) alloc: Global,
@@ -154,4 +176,8 @@ pub struct Run<'a> {
     pub(crate) cyclic: BTreeSet<Call>,
     pub(crate) queue: BTreeSet<Turn>,
     pub(crate) widening: Steps,
+    /// Where the widening of single cells stops.
+    pub(crate) cell_points: BTreeSet<CellPoint>,
+    /// How often cells were widened.
+    pub(crate) creeps: BTreeMap<Creep, u8>,
 }

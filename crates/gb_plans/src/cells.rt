@@ -21,12 +21,22 @@ struct Question {
     wanted: RegisterSet,
 }
 
+/// What a search follows.
+#[derive(Clone, Copy, PartialEq, Eq)]
+enum Sources {
+    /// Copies alone, and nothing that is computed.
+    Copies,
+    /// What isn't known.
+    Unknown,
+    /// What is known, too: it may have been told apart value by value.
+    All,
+}
+
 /// A search back from registers to the cells that they were loaded from: over joins, calls, and PUSH with POP.
 #[derive(Drop)]
 struct Search {
     alloc: Global,
-    /// Only copies are followed, and nothing that is computed.
-    is_of_copies: bool,
+    by: Sources,
     cells: BTreeSet<u16>,
     seen: BTreeSet<(Spot, u32)>,
     left: Vec<Question>,
@@ -192,11 +202,11 @@ impl Search {
         };
         // A byte of ROM at a known address is known itself, so that what is computed comes from elsewhere.
         if let Some(cell) = pointer_of(op, wanted).and_then(|pair| pointed_at(run, spot, pair))
-            && (self.is_of_copies || ROM < cell)
+            && (self.by == Sources::Copies || ROM < cell)
         {
             return self.meet_pointed(run, spot, cell, op, wanted);
         }
-        let before = if self.is_of_copies {
+        let before = if self.by == Sources::Copies {
             copied(op, wanted)
         } else {
             sources(op, wanted)
@@ -208,7 +218,8 @@ impl Search {
             Op::LoadHigh(low) => self.meet_cell(run, spot, 0xFF00 | u16::from(low), wanted),
             Op::LoadAbsolute(cell) => self.meet_cell(run, spot, cell, wanted),
             Op::Pop(to) => self.meet_pop(run, spot, to, wanted),
-            Op::Alu(operation, Operand::AtHl) if operation != AluOp::Cp && !self.is_of_copies => {
+            Op::Alu(operation, Operand::AtHl)
+                if operation != AluOp::Cp && self.by != Sources::Copies => {
                 self.meet_operand(run, spot, wanted)
             }
             _ => Ok(()),
@@ -218,10 +229,10 @@ impl Search {
     /// Takes a question back by one instruction, on all ways. What is known at the spot needs no answer, but for copies.
     fn answer(&mut self, run: &Run<'_>, question: Question) -> Result<(), AllocError> {
         let Question { spot, wanted } = question;
-        let open = if self.is_of_copies {
-            wanted
-        } else {
+        let open = if self.by == Sources::Unknown {
             open_at(run, spot, &wanted, true)
+        } else {
+            wanted
         };
         if open.is_empty() || !self.seen.insert((spot, number_of(&open)))? {
             return Ok(());
@@ -244,11 +255,11 @@ fn cells_behind(
     run: &Run<'_>,
     spot: Spot,
     wanted: &RegisterSet,
-    is_of_copies: bool,
+    by: Sources,
 ) -> Result<BTreeSet<u16>, AllocError> {
     let mut search = Search {
         alloc,
-        is_of_copies,
+        by,
         cells: BTreeSet::new(alloc),
         seen: BTreeSet::new(alloc),
         left: Vec::new(alloc),
@@ -272,9 +283,29 @@ pub(crate) fn key_cells(
     spot: Spot,
     wanted: &RegisterSet,
 ) -> Result<Option<Plan>, AllocError> {
+    let cells = cells_behind(alloc, run, spot, wanted, Sources::Unknown)?;
+    plan_of_cells(alloc, run, &cells)
+}
+
+/// The same of registers that are known, since they were told apart value by value.
+pub(crate) fn key_all_cells(
+    alloc: Global,
+    run: &Run<'_>,
+    spot: Spot,
+    wanted: &RegisterSet,
+) -> Result<Option<Plan>, AllocError> {
+    let cells = cells_behind(alloc, run, spot, wanted, Sources::All)?;
+    plan_of_cells(alloc, run, &cells)
+}
+
+fn plan_of_cells(
+    alloc: Global,
+    run: &Run<'_>,
+    cells: &BTreeSet<u16>,
+) -> Result<Option<Plan>, AllocError> {
     let mut plan = Plan::new(alloc);
     let mut has_some = false;
-    for cell in cells_behind(alloc, run, spot, wanted, false)?.iter() {
+    for cell in cells.iter() {
         if !run.configuration.key_cells.contains(cell) {
             plan.add(Edit::Cell(*cell))?;
             has_some = true;
@@ -294,5 +325,11 @@ pub fn pointer_cells(
     spot: Spot,
     registers: &RegisterSet,
 ) -> Result<BTreeSet<u16>, AllocError> {
-    cells_behind(alloc, run, spot, &high_registers(registers), true)
+    cells_behind(
+        alloc,
+        run,
+        spot,
+        &high_registers(registers),
+        Sources::Copies,
+    )
 }

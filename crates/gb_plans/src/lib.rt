@@ -6,6 +6,7 @@
 //! plan that doesn't help costs time alone.
 #![tactic(auto)]
 
+mod carries;
 mod cells;
 mod loops;
 mod plan;

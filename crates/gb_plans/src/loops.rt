@@ -35,6 +35,7 @@ fn is_paged(run: &Run<'_>, target: u16, around: &Loop) -> bool {
 fn refine_loop(
     alloc: Global,
     run: &Run<'_>,
+    ways: &Ways,
     procedure: usize,
     around: &Loop,
 ) -> Result<Option<Plan>, AllocError> {
@@ -43,11 +44,37 @@ fn refine_loop(
     if is_keyed(run, target, around) {
         return Ok(None);
     }
-    let plan = if is_whole || is_paged(run, target, around) {
-        Plan::key_all(alloc, target, around)?
+    let is_paged = is_paged(run, target, around);
+    let plan = if is_whole || is_paged {
+        Plan::key_all(alloc, run, ways, procedure, around)?
     } else {
         Plan::page_all(alloc, target, around)?
     };
+    match unless_taken_back(run, plan) {
+        None if is_paged && run.rules() == Rules::Extended => {
+            key_without_pages(alloc, run, ways, procedure, around)
+        }
+        plan => Ok(plan),
+    }
+}
+
+/// A paged loop is keyed, and paged no more: compiled code looks at high bytes that are no pointer's, and of these no page has to be
+/// told apart.
+fn key_without_pages(
+    alloc: Global,
+    run: &Run<'_>,
+    ways: &Ways,
+    procedure: usize,
+    around: &Loop,
+) -> Result<Option<Plan>, AllocError> {
+    let target = run.target(procedure);
+    let mut plan = Plan::key_all(alloc, run, ways, procedure, around)?;
+    for address in around.iter() {
+        plan.add(Edit::Unpage(Place {
+            target,
+            address: *address,
+        }))?;
+    }
     Ok(unless_taken_back(run, plan))
 }
 
@@ -186,6 +213,21 @@ fn may_be_zero(run: &Run<'_>, procedure: usize, heads: &[u16], register: Registe
     false
 }
 
+/// Whether a loop changes a register by counting alone: A is mostly counted on its way from and to RAM, and no counter then.
+fn is_only_counted(run: &Run<'_>, procedure: usize, around: &Loop, register: Register) -> bool {
+    around.iter().all(|address| {
+        let spot = Spot {
+            procedure,
+            address: *address,
+        };
+        match op_at(run, spot) {
+            Some(Op::Increment(Operand::Register(_)) | Op::Decrement(Operand::Register(_))) => true,
+            Some(op) => !written(op).contains(register),
+            None => true,
+        }
+    })
+}
+
 /// The first or the last round of a loop is told apart whose counter may be 0.
 fn peel_loop(
     alloc: Global,
@@ -200,6 +242,7 @@ fn peel_loop(
     for register in REGISTERS {
         if counters.contains(register)
             && !is_told(&run.configuration.peeled, target, around, register)
+            && (register != Register::A || is_only_counted(run, procedure, around, register))
             && may_be_zero(run, procedure, heads.as_slice(), register)
         {
             let plan = at_all(alloc, target, around, register, true)?;
@@ -421,6 +464,7 @@ fn has_pointer(registers: &RegisterSet) -> bool {
 fn edits_of_outer(
     alloc: Global,
     run: &Run<'_>,
+    ways: &Ways,
     procedure: usize,
     around: &Loop,
     innermost: &Loop,
@@ -438,7 +482,14 @@ fn edits_of_outer(
             continue;
         }
         if !innermost.contains(address) || !has_pointer(&kept) {
-            plan.add(Edit::Key(place))?;
+            plan.key(
+                run,
+                ways,
+                Spot {
+                    procedure,
+                    address: *address,
+                },
+            )?;
             is_new = true;
             continue;
         }
@@ -474,7 +525,7 @@ fn key_outer(
     }
     for around in outer {
         if !ways.is_endless(around) {
-            return edits_of_outer(alloc, run, procedure, around, innermost);
+            return edits_of_outer(alloc, run, ways, procedure, around, innermost);
         }
     }
     Ok(None)
@@ -530,7 +581,7 @@ pub(crate) fn refine_loops(
     }
     for around in &loops {
         if !ways.is_endless(around) {
-            if let Some(plan) = refine_loop(alloc, run, spot.procedure, around)? {
+            if let Some(plan) = refine_loop(alloc, run, ways, spot.procedure, around)? {
                 return Ok(Some(plan));
             }
         }
@@ -544,7 +595,7 @@ pub(crate) fn refine_loops(
     }
     for around in &loops {
         if with_endless && ways.is_endless(around) {
-            if let Some(plan) = refine_loop(alloc, run, spot.procedure, around)? {
+            if let Some(plan) = refine_loop(alloc, run, ways, spot.procedure, around)? {
                 return Ok(Some(plan));
             }
         }

@@ -1,8 +1,12 @@
 //! What refinement changes.
 
+use crate::carries::is_carry_read;
+use crate::spots::place_of;
+use crate::ways::Ways;
+use gb_fixpoint::Rules;
 use gb_fixpoint::configuration::{Configuration, Place};
 use gb_fixpoint::register_set::{REGISTERS, RegisterSet};
-use gb_fixpoint::types::Run;
+use gb_fixpoint::types::{Run, Spot};
 use gb_ops::op::Register;
 use std::alloc::{AllocError, Global};
 use std::collections::{BTreeSet, HashMap};
@@ -12,8 +16,12 @@ use std::collections::{BTreeSet, HashMap};
 pub enum Edit {
     /// The known registers become part of the key at a place.
     Key(Place),
+    /// Beside them the carry becomes part of the key at a place.
+    Carry(Place),
     /// H and D are taken value by value at a place.
     Page(Place),
+    /// They no longer are.
+    Unpage(Place),
     /// A register is taken value by value at a place.
     Split(Place, Register),
     /// The procedures at a target are parted by registers.
@@ -89,18 +97,34 @@ impl Plan {
         Ok(plan)
     }
 
-    /// All addresses are keyed, in the procedures that begin at a target.
+    /// An address is keyed. By the rules of version 3 the carry is part of the key where it is read from there on.
+    pub(crate) fn key(&mut self, run: &Run<'_>, ways: &Ways, spot: Spot) -> Result<(), AllocError> {
+        let place = place_of(run, spot);
+        self.add(Edit::Key(place))?;
+        if run.rules() == Rules::Extended && is_carry_read(run, ways, spot) {
+            self.add(Edit::Carry(place))?;
+        }
+        Ok(())
+    }
+
+    /// All addresses are keyed, in a procedure and those that begin where it does.
     pub(crate) fn key_all(
         alloc: Global,
-        target: u16,
+        run: &Run<'_>,
+        ways: &Ways,
+        procedure: usize,
         addresses: &BTreeSet<u16>,
     ) -> Result<Plan, AllocError> {
         let mut plan = Plan::new(alloc);
         for address in addresses.iter() {
-            plan.add(Edit::Key(Place {
-                target,
-                address: *address,
-            }))?;
+            plan.key(
+                run,
+                ways,
+                Spot {
+                    procedure,
+                    address: *address,
+                },
+            )?;
         }
         Ok(plan)
     }
@@ -112,7 +136,9 @@ impl Plan {
             match edit {
                 Edit::Key(place) => keys.push(*place)?,
                 Edit::Split(..) => return Ok(Vec::new(self.alloc)),
-                Edit::Page(_)
+                Edit::Carry(_)
+                | Edit::Page(_)
+                | Edit::Unpage(_)
                 | Edit::Part(..)
                 | Edit::Cell(_)
                 | Edit::Count(..)
@@ -170,6 +196,8 @@ fn parts_of(edit: Edit) -> [u64; 3] {
         ],
         Edit::Cell(cell) => return [7, u64::from(cell), 0],
         Edit::Inline(target) => return [8, u64::from(target), 0],
+        Edit::Carry(place) => (9, place, 0),
+        Edit::Unpage(place) => (10, place, 0),
     };
     [parts_of_place(kind, place), u64::from(more), 0]
 }
@@ -185,8 +213,14 @@ fn apply_edit(edit: Edit, configuration: &mut Configuration) -> Result<(), Alloc
         Edit::Key(place) => {
             configuration.keyed.insert(place)?;
         }
+        Edit::Carry(place) => {
+            configuration.carried.insert(place)?;
+        }
         Edit::Page(place) => {
             configuration.paged.insert(place)?;
+        }
+        Edit::Unpage(place) => {
+            configuration.paged.remove(&place);
         }
         Edit::Split(place, register) => {
             let mut registers = split_at(configuration, place);

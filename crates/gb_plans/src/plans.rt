@@ -1,14 +1,16 @@
 //! What to refine after a failure.
 
-use crate::cells::{key_cells, pointer_cells};
+use crate::cells::{key_all_cells, key_cells, pointer_cells};
 use crate::loops::{pointers_read, refine_loops};
 use crate::plan::{Edit, Plan, parted_by, unless_taken_back};
-use crate::slices::{By, Sought, slice, slice_to_call};
+use crate::slices::{By, Sought, slice, slice_through_loop, slice_to_call};
 use crate::sources::high_registers;
 use crate::spots::{is_known, place_of, value_of};
 use crate::ways::Ways;
 use gb_fixpoint::cause::{Cause, Failure, StackMisuse};
-use gb_fixpoint::limits::{ALL_VALUES, CALL_KINDS, CALL_VALUES, CALLERS, FEW_VALUES, VISITS};
+use gb_fixpoint::limits::{
+    ALL_VALUES, CALL_KINDS, CALL_VALUES, CALLERS, DEAR_STEPS, FEW_VALUES, VISITS,
+};
 use gb_fixpoint::register_set::{REGISTERS, RegisterSet};
 use gb_fixpoint::types::{Procedure, Run, Spot};
 use gb_fixpoint::{Rules, cell_at};
@@ -159,9 +161,10 @@ fn known_or(lo: u8, hi: u8) -> u16 {
     if lo == hi { u16::from(lo) } else { 0x100 }
 }
 
-/// All of a procedure is paged, or keyed where it is paged already.
+/// All of a procedure is paged, or keyed where it is paged already, or where another round would take long.
 fn refine_all(alloc: Global, run: &Run<'_>, number: usize) -> Result<Option<Plan>, AllocError> {
     let mut all = BTreeSet::new(alloc);
+    let is_dear = run.steps >= DEAR_STEPS;
     let mut is_paged = true;
     let mut is_keyed = true;
     for node in &run.nodes {
@@ -181,8 +184,9 @@ fn refine_all(alloc: Global, run: &Run<'_>, number: usize) -> Result<Option<Plan
         return Ok(None);
     }
     let target = run.target(number);
-    let plan = if is_paged {
-        Plan::key_all(alloc, target, &all)?
+    let plan = if is_paged || is_dear {
+        let ways = Ways::of(alloc, run, number)?;
+        Plan::key_all(alloc, run, &ways, number, &all)?
     } else {
         Plan::page_all(alloc, target, &all)?
     };
@@ -233,6 +237,8 @@ fn slice_to_page(
 enum Near {
     /// The procedure is parted by what its calls know.
     Calls,
+    /// A slice through a loop that loses what is known.
+    Through,
     /// A slice with few values.
     Slice,
     /// What a jump comes from.
@@ -246,8 +252,9 @@ enum Near {
     Call,
 }
 
-const NEAR: [Near; 7] = [
+const NEAR: [Near; 8] = [
     Near::Calls,
+    Near::Through,
     Near::Slice,
     Near::Jump,
     Near::Loops,
@@ -275,7 +282,8 @@ fn try_near(
         Near::Jump if trouble.is_jump => plan_jump(alloc, run, ways, spot, trouble),
         Near::Loops => refine_loops(alloc, run, ways, spot, !trouble.is_kept_in_ram),
         Near::Jump => Ok(None),
-        Near::Call | Near::Page | Near::WideSlice if trouble.is_jump => Ok(None),
+        Near::Through | Near::Call | Near::Page | Near::WideSlice if trouble.is_jump => Ok(None),
+        Near::Through => slice_through_loop(alloc, run, ways, spot, &trouble.wanted),
         Near::Call => {
             let sought = Sought {
                 wanted: trouble.wanted,
@@ -567,9 +575,7 @@ fn plan_pointer(
     let is_exact = REGISTERS.iter().all(|register| !wanted.contains(*register)
         || is_known(node, *register));
     if is_exact && !wanted.is_empty() {
-        // Only a loop that isn't exact itself may have brought it here.
-        let ways = Ways::of(alloc, run, spot.procedure)?;
-        return refine_loops(alloc, run, &ways, spot, !is_kept_in_ram);
+        return plan_exact(alloc, run, spot, failure, is_kept_in_ram);
     }
     if wanted.is_empty() {
         // The instruction names its address, so it is the gate that isn't known.
@@ -596,6 +602,45 @@ fn plan_pointer(
         Some(plan) => Ok(Some(plan)),
         None => part_exits(alloc, run),
     }
+}
+
+/// A pointer that is known ran too far: a loop that isn't exact itself has brought it here, or, where its procedure can't be
+/// followed in its callers any more, it was told apart too late, behind a comparison or a table that bounds it; else what it comes
+/// from in RAM is told apart.
+fn plan_exact(
+    alloc: Global,
+    run: &Run<'_>,
+    spot: Spot,
+    failure: &Failure,
+    is_kept_in_ram: bool,
+) -> Result<Option<Plan>, AllocError> {
+    let ways = Ways::of(alloc, run, spot.procedure)?;
+    if let Some(plan) = refine_loops(alloc, run, &ways, spot, !is_kept_in_ram)? {
+        return Ok(Some(plan));
+    }
+    let is_tried = run.rules() == Rules::Extended && failure.cause != Cause::JumpHl;
+    if !is_tried || inline_plan(alloc, run, failure)?.is_some() {
+        return Ok(None);
+    }
+    let few = Sought {
+        wanted: failure.registers,
+        most: FEW_VALUES,
+        by: By::First,
+    };
+    if let Some(plan) = slice(alloc, run, &ways, spot, &few)? {
+        return Ok(Some(plan));
+    }
+    if let Some(plan) = key_all_cells(alloc, run, spot, &failure.registers)? {
+        return Ok(Some(plan));
+    }
+    if let Some(plan) = part_exits(alloc, run)? {
+        return Ok(Some(plan));
+    }
+    let all = Sought {
+        most: ALL_VALUES,
+        ..few
+    };
+    slice(alloc, run, &ways, spot, &all)
 }
 
 /// A pointer is kept in RAM, or one by which the loop around the spot reads, as a text's up to its 0: the cells where it is kept

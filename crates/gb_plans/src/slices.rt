@@ -2,14 +2,14 @@
 //! taken value by value.
 
 use crate::plan::{Edit, Plan, split_at, unless_taken_back};
-use crate::sources::{count, first, meet, pointer_of, written};
+use crate::sources::{count, first, meet, pointer_of, sources, written};
 use crate::spots::{has_entry, narrower, op_at, open_at, place_of, points_to_rom, width_at};
 use crate::waiting::{Waiting, may_change_stack};
-use crate::ways::Ways;
+use crate::ways::{Loop, Ways};
 use gb_fixpoint::Rules;
 use gb_fixpoint::configuration::Place;
-use gb_fixpoint::limits::{ALL_VALUES, PAIRS, SLICE};
-use gb_fixpoint::register_set::RegisterSet;
+use gb_fixpoint::limits::{ALL_VALUES, FEW_VALUES, LONG_SLICE, PAIRS, SLICE, SOURCES};
+use gb_fixpoint::register_set::{REGISTERS, RegisterSet};
 use gb_fixpoint::types::{Run, Spot};
 use gb_ops::op::{AluOp, Op, Operand, Register};
 use std::alloc::{AllocError, Global};
@@ -33,6 +33,10 @@ pub(crate) enum By {
     Table,
     /// These, and those that are added to an address.
     Index,
+    /// All, and as early as one register alone isn't known: what is told apart behind a comparison isn't bounded by it.
+    First,
+    /// All, before a loop that loses what is known.
+    Loop,
 }
 
 /// A register that may be split at an address, and how many addresses from there on are to be keyed.
@@ -60,6 +64,8 @@ struct Walk {
     is_compared: bool,
     /// The addresses so far, the last instruction first.
     chain: Vec<u16>,
+    /// Whether it went through a loop by which wanted registers are lost.
+    is_through: bool,
     /// What is called right before, where the wanted registers come from there.
     callee: Option<u16>,
     /// The best register to split alone, and the best of two.
@@ -81,7 +87,7 @@ impl Walk {
     }
 
     /// One register alone is open: it may be split here.
-    fn note_one(&mut self, run: &Run<'_>, open: &RegisterSet, most: u32) {
+    fn note_one(&mut self, run: &Run<'_>, open: &RegisterSet, most: u32, by: By) {
         let Some(register) = first(open) else { return };
         let width = width_at(run, self.spot(), register);
         if width > most || Walk::is_split(run, place_of(run, self.spot()), register) {
@@ -89,8 +95,12 @@ impl Walk {
         }
         let is_better = match self.one {
             None => true,
-            Some(cut) => width < cut.width,
+            Some(cut) => by == By::First || width < cut.width,
         };
+        // What was told apart beside another register isn't bounded earlier.
+        if by == By::First && !split_at(run.configuration, place_of(run, self.spot())).is_empty() {
+            return;
+        }
         if is_better {
             self.one = Some(Cut {
                 width,
@@ -134,17 +144,20 @@ impl Walk {
             return true;
         }
         if open.is_empty() {
-            return false;
+            return sought.by == By::First && !self.wanted.is_empty();
         }
         let is_wanted = match sought.by {
-            By::Any => true,
+            By::Any | By::First => true,
+            By::Loop => self.is_through,
             By::Table => self.is_behind_table,
             By::Index => self.is_behind_table || self.is_behind_sum,
         };
         let may_split = is_wanted && !has_entry(run, spot);
         match count(&open) {
-            1 if may_split => self.note_one(run, &open, self.most(sought)),
-            2 if may_split => self.note_two(run, &open),
+            1 if may_split => self.note_one(run, &open, self.most(sought), sought.by),
+            2 if may_split && sought.by != By::First && sought.by != By::Loop => {
+                self.note_two(run, &open)
+            }
             _ => {}
         }
         true
@@ -177,12 +190,64 @@ impl Walk {
     }
 
     /// The address before, where there is just one. A loop that leaves the wanted registers as they are, as one that waits, is
-    /// passed by where it is entered.
-    fn address_before(&mut self, run: &Run<'_>, ways: &Ways) -> Result<Option<u16>, AllocError> {
-        match ways.only_before(self.at) {
-            Some(before) => Ok(Some(before)),
-            None => self.before_wait(run, ways),
+    /// passed by where it is entered; so is one that loses them, where that is sought.
+    fn address_before(
+        &mut self,
+        run: &Run<'_>,
+        ways: &Ways,
+        by: By,
+    ) -> Result<Option<u16>, AllocError> {
+        if let Some(before) = ways.only_before(self.at) {
+            return Ok(Some(before));
         }
+        match self.before_wait(run, ways)? {
+            None if by == By::Loop => self.before_losing_loop(run, ways),
+            before => Ok(before),
+        }
+    }
+
+    /// Before a loop by which a wanted register becomes any byte: what it computes from is wanted there, and its addresses are
+    /// keyed with the others.
+    fn before_losing_loop(
+        &mut self,
+        run: &Run<'_>,
+        ways: &Ways,
+    ) -> Result<Option<u16>, AllocError> {
+        let Some((around, before)) = ways.entered_loop(self.at)? else {
+            return Ok(None);
+        };
+        // A loop around the spot itself is refined elsewhere.
+        if self
+            .chain
+            .first()
+            .is_some_and(|address| around.contains(address))
+        {
+            return Ok(None);
+        }
+        let computed = written_in(run, self.procedure, &around);
+        let is_lost = REGISTERS.iter().any(|register| self.wanted.contains(*register)
+            && computed.contains(*register)
+            && width_at(run, self.spot(), *register) == ALL_VALUES);
+        if !is_lost || !self.waiting.is_empty() {
+            return Ok(None);
+        }
+        let Some(wanted) = computed_from(run, self.procedure, &around, &computed) else {
+            return Ok(None);
+        };
+        self.wanted = wanted;
+        self.is_through = true;
+        self.add_loop(&around)?;
+        Ok(Some(before))
+    }
+
+    /// A loop's addresses become part of the chain.
+    fn add_loop(&mut self, around: &Loop) -> Result<(), AllocError> {
+        for address in around.iter() {
+            if !self.chain.contains(address) {
+                self.chain.push(*address)?;
+            }
+        }
+        Ok(())
     }
 
     /// Before a loop that leaves the wanted registers as they are: its addresses are keyed with the others.
@@ -200,11 +265,7 @@ impl Walk {
                 _ => return Ok(None),
             }
         }
-        for address in around.iter() {
-            if !self.chain.contains(address) {
-                self.chain.push(*address)?;
-            }
-        }
+        self.add_loop(&around)?;
         Ok(Some(before))
     }
 
@@ -214,8 +275,14 @@ impl Walk {
     }
 
     /// Goes back by one instruction; whether that was possible.
-    fn step_back(&mut self, alloc: Global, run: &Run<'_>, ways: &Ways) -> Result<bool, AllocError> {
-        let Some(before) = self.address_before(run, ways)? else {
+    fn step_back(
+        &mut self,
+        alloc: Global,
+        run: &Run<'_>,
+        ways: &Ways,
+        by: By,
+    ) -> Result<bool, AllocError> {
+        let Some(before) = self.address_before(run, ways, by)? else {
             return Ok(false);
         };
         if self.chain.contains(&before) {
@@ -228,10 +295,7 @@ impl Walk {
         let Some(op) = op_at(run, spot) else {
             return Ok(false);
         };
-        // What is known at the spot needs no source.
-        let here = self.spot();
-        let open = open_at(run, here, &self.wanted, true);
-        self.waiting.keep_open(alloc, run, here)?;
+        let open = self.open_here(alloc, run, by)?;
         let wanted = if is_inlined_call(op, self.at) {
             open
         } else {
@@ -256,8 +320,23 @@ impl Walk {
         Ok(true)
     }
 
+    /// Those of the wanted registers whose source is sought: what is known needs none, but where it may be known too late.
+    fn open_here(
+        &mut self,
+        alloc: Global,
+        run: &Run<'_>,
+        by: By,
+    ) -> Result<RegisterSet, AllocError> {
+        let here = self.spot();
+        if by == By::First {
+            return Ok(self.wanted);
+        }
+        self.waiting.keep_open(alloc, run, here)?;
+        Ok(open_at(run, here, &self.wanted, true))
+    }
+
     /// The register is split, and the addresses from there on are keyed.
-    fn plan(&self, alloc: Global, run: &Run<'_>) -> Result<Option<Plan>, AllocError> {
+    fn plan(&self, alloc: Global, run: &Run<'_>, ways: &Ways) -> Result<Option<Plan>, AllocError> {
         let target = run.target(self.procedure);
         let cut = match (self.one, self.two) {
             (Some(cut), _) | (None, Some(cut)) => cut,
@@ -265,10 +344,14 @@ impl Walk {
         };
         let mut plan = Plan::new(alloc);
         for address in self.chain.iter().take(cut.keyed) {
-            plan.add(Edit::Key(Place {
-                target,
-                address: *address,
-            }))?;
+            plan.key(
+                run,
+                ways,
+                Spot {
+                    procedure: self.procedure,
+                    address: *address,
+                },
+            )?;
         }
         let place = Place {
             target,
@@ -279,17 +362,21 @@ impl Walk {
     }
 
     /// The addresses are keyed, as far as they aren't yet, and what is called before them is followed here.
-    fn plan_of_ways(&self, alloc: Global, run: &Run<'_>) -> Result<Option<Plan>, AllocError> {
-        let target = run.target(self.procedure);
+    fn plan_of_ways(
+        &self,
+        alloc: Global,
+        run: &Run<'_>,
+        ways: &Ways,
+    ) -> Result<Option<Plan>, AllocError> {
         let mut plan = Plan::new(alloc);
         let mut is_new = false;
         for address in &self.chain {
-            let place = Place {
-                target,
+            let spot = Spot {
+                procedure: self.procedure,
                 address: *address,
             };
-            if !run.configuration.keyed.contains(&place) {
-                plan.add(Edit::Key(place))?;
+            if !run.configuration.keyed.contains(&place_of(run, spot)) {
+                plan.key(run, ways, spot)?;
                 is_new = true;
             }
         }
@@ -305,6 +392,42 @@ impl Walk {
             Ok(None)
         }
     }
+}
+
+/// The registers that a loop's instructions may change.
+fn written_in(run: &Run<'_>, procedure: usize, around: &Loop) -> RegisterSet {
+    let mut changed = RegisterSet::empty();
+    for address in around.iter() {
+        let spot = Spot {
+            procedure,
+            address: *address,
+        };
+        if let Some(op) = op_at(run, spot) {
+            changed = changed.union(&written(op));
+        }
+    }
+    changed
+}
+
+/// The registers from which a loop computes others; none where they come from elsewhere.
+fn computed_from(
+    run: &Run<'_>,
+    procedure: usize,
+    around: &Loop,
+    computed: &RegisterSet,
+) -> Option<RegisterSet> {
+    let mut all = *computed;
+    for _ in 0..SOURCES {
+        for address in around.iter() {
+            let spot = Spot {
+                procedure,
+                address: *address,
+            };
+            let op = op_at(run, spot)?;
+            all = all.union(&sources(op, &all)?);
+        }
+    }
+    Some(all)
 }
 
 /// What an instruction calls, but for what RST 38 calls in ROM that is filled with FF.
@@ -343,13 +466,19 @@ fn walk_back(
         is_behind_table: false,
         is_behind_sum: false,
         is_compared: false,
+        is_through: false,
         chain,
         callee: None,
         one: None,
         two: None,
     };
-    for _ in 0..SLICE {
-        if !walk.look(run, sought) || !walk.step_back(alloc, run, ways)? {
+    let most = if sought.by == By::Loop {
+        LONG_SLICE
+    } else {
+        SLICE
+    };
+    for _ in 0..most {
+        if !walk.look(run, sought) || !walk.step_back(alloc, run, ways, sought.by)? {
             break;
         }
     }
@@ -365,7 +494,27 @@ pub(crate) fn slice(
     sought: &Sought,
 ) -> Result<Option<Plan>, AllocError> {
     let walk = walk_back(alloc, run, ways, spot, sought)?;
-    walk.plan(alloc, run)
+    walk.plan(alloc, run, ways)
+}
+
+/// A register to be split before a loop behind which a wanted register is any byte, as one that shifts: its rounds are told apart
+/// by what they compute with. By the rules of version 3.
+pub(crate) fn slice_through_loop(
+    alloc: Global,
+    run: &Run<'_>,
+    ways: &Ways,
+    spot: Spot,
+    wanted: &RegisterSet,
+) -> Result<Option<Plan>, AllocError> {
+    if run.rules() == Rules::Simple || wanted.is_empty() {
+        return Ok(None);
+    }
+    let sought = Sought {
+        wanted: *wanted,
+        most: FEW_VALUES,
+        by: By::Loop,
+    };
+    slice(alloc, run, ways, spot, &sought)
 }
 
 /// What is called where the wanted registers come from a call is followed there, and what is known behind it, or where ways meet,
@@ -381,5 +530,5 @@ pub(crate) fn slice_to_call(
         return Ok(None);
     }
     let walk = walk_back(alloc, run, ways, spot, sought)?;
-    walk.plan_of_ways(alloc, run)
+    walk.plan_of_ways(alloc, run, ways)
 }

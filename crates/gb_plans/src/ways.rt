@@ -68,6 +68,20 @@ impl Ways {
         before
     }
 
+    /// The address behind, where there is just one.
+    pub fn only_behind(&self, address: u16) -> Option<u16> {
+        let mut behind = None;
+        for way in &self.ways {
+            if way.from == address {
+                if behind.is_some() {
+                    return None;
+                }
+                behind = Some(way.to);
+            }
+        }
+        behind
+    }
+
     /// The addresses before.
     pub fn before(&self, address: u16) -> Result<Vec<u16>, AllocError> {
         let mut before = Vec::new(self.alloc);

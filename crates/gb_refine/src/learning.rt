@@ -4,8 +4,8 @@ use crate::failures::{add_failure, add_failures, told};
 use crate::rounds::{
     Change, Lesson, Mending, News, Refinement, Tried, WORD, alone, is_in_ram, region_below,
 };
-use crate::written::written;
-use gb_draft::limits::{EDITS, EDITS_OF_KEPT, OBSTACLES, STEPS_BACK};
+use crate::written::{is_accepted, written};
+use gb_draft::limits::{DEAR_STEPS, EDITS, EDITS_OF_KEPT, OBSTACLES, STEPS_BACK};
 use gb_draft::{Cause, Failure, Outcome, Place, Rules, Run, find_needs};
 use gb_ops::machine::Region;
 use gb_plans::{Plan, inline_plan, plan_for};
@@ -158,13 +158,13 @@ impl<'a> Refinement<'a> {
             return Ok(Lesson::EndAt(place));
         }
         match told(self.alloc, run, failure)? {
-            Some(obstacle) => self.mend(run, failure, place, obstacle),
+            Some(obstacle) => self.learn_mending(run, failure, place, obstacle),
             None => self.give_up(run, failure, place),
         }
     }
 
     /// A failure that there is something to tell of.
-    fn mend(
+    fn learn_mending(
         &self,
         run: &Run<'_>,
         failure: &Failure,
@@ -237,9 +237,20 @@ impl<'a> Refinement<'a> {
         match region_of(bytes, region.last) {
             Some(needed) if region.first <= needed.first => { self.learn_certificate(run) }
             Some(needed) if self.limits.region.is_none() && is_in_ram(needed) => {
-                Ok(Lesson::Change(Change::Region(needed)))
+                self.learn_deeper(run, needed)
             }
             _ => self.end_too_deep(bytes),
+        }
+    }
+
+    /// The stack region has to reach further down: mostly nothing else depends on that, so that the checker accepts what was
+    /// found with it. Else there is another round.
+    fn learn_deeper(&self, run: &Run<'_>, region: Region) -> Result<Lesson, AllocError> {
+        match written(self.alloc, run, region)? {
+            Some(bytes) if is_accepted(self.alloc, self.rom(), &bytes) => {
+                Ok(Lesson::Deeper(region, bytes))
+            }
+            _ => Ok(Lesson::Change(Change::Region(region))),
         }
     }
 
@@ -271,7 +282,7 @@ impl<'a> Refinement<'a> {
 
     /// The certificate of a run. Where a limit stands against it, it is told as one that the checker refuses.
     fn learn_certificate(&self, run: &Run<'_>) -> Result<Lesson, AllocError> {
-        match written(self.alloc, run)? {
+        match written(self.alloc, run, self.configuration.region)? {
             Some(bytes) => Ok(Lesson::Certificate(bytes)),
             None => end_by(self.alloc, Obstacle::Refused),
         }
@@ -283,7 +294,7 @@ impl<'a> Refinement<'a> {
             return Ok(lesson);
         }
         match outcome {
-            Outcome::Wanted(wish) => Ok(Lesson::Change(Change::Wish(wish))),
+            Outcome::Wanted(wish) => Ok(Lesson::Change(Change::Wish(wish, self.news(run)?))),
             Outcome::TooLarge => Ok(Lesson::TooLarge(Crowd::of(self.alloc, run)?)),
             Outcome::StackSet { sp } => self.learn_stack(sp),
             Outcome::Failed(failure) => self.learn_failed(run, &failure),
@@ -291,14 +302,54 @@ impl<'a> Refinement<'a> {
         }
     }
 
-    /// A failure is looked into only where no more can be known of cells and widening.
+    /// A failure is looked into only where no more can be known of cells and widening, but in a long run.
     fn learn_failed(&self, run: &Run<'_>, failure: &Failure) -> Result<Lesson, AllocError> {
         let news = self.news(run)?;
-        if news.cells.is_empty() && news.points.is_empty() {
+        if run.steps >= DEAR_STEPS {
+            self.learn_at_once(run, failure, news)
+        } else if news.is_empty() {
             self.learn_failure(run, failure)
         } else {
             Ok(Lesson::Change(Change::Track(news)))
         }
+    }
+
+    /// Where rounds are dear, what may help against a failure isn't put off until more is known, and against those that the run
+    /// went past neither.
+    fn learn_at_once(
+        &self,
+        run: &Run<'_>,
+        failure: &Failure,
+        news: News,
+    ) -> Result<Lesson, AllocError> {
+        match self.learn_failure(run, failure)? {
+            Lesson::Change(Change::Mend(mending)) => {
+                let mut mendings = Vec::new(self.alloc);
+                mendings.push(mending)?;
+                self.add_passed(run, &mut mendings)?;
+                Ok(Lesson::Change(Change::MendAll(mendings, news)))
+            }
+            lesson if news.is_empty() => Ok(lesson),
+            _ => Ok(Lesson::Change(Change::Track(news))),
+        }
+    }
+
+    /// What may help against the failures that a run went past, one in the procedures of each target.
+    fn add_passed(&self, run: &Run<'_>, mendings: &mut Vec<Mending>) -> Result<(), AllocError> {
+        for failure in &run.passed {
+            let Some(place) = run.place_of(failure.node) else {
+                continue;
+            };
+            let is_met = mendings
+                .iter()
+                .any(|mending| mending.place.target == place.target);
+            if !is_met
+                && let Lesson::Change(Change::Mend(mending)) = self.learn_failure(run, failure)?
+            {
+                mendings.push(mending)?;
+            }
+        }
+        Ok(())
     }
 
     fn learn_finished(&self, run: &mut Run<'_>) -> Result<Lesson, AllocError> {

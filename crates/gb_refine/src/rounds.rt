@@ -76,6 +76,13 @@ pub(crate) struct News {
     pub(crate) points: Vec<u8>,
 }
 
+impl News {
+    /// Whether there is nothing new.
+    pub(crate) fn is_empty(&self) -> bool {
+        self.cells.is_empty() && self.points.is_empty()
+    }
+}
+
 /// Something is to be refined; the failure stands otherwise.
 #[derive(Drop)]
 pub(crate) struct Mending {
@@ -92,11 +99,13 @@ pub(crate) enum Change {
     Region(Region),
     /// It reaches down to this one's first address.
     Deepen(Region),
-    /// What a run wants of its configuration.
-    Wish(Wish),
+    /// What a run wants of its configuration, and what it has met beside it.
+    Wish(Wish, News),
     /// More cells and more values at which widening stops.
     Track(News),
     Mend(Mending),
+    /// Some things are to be refined at once, and more cells and values are to be known.
+    MendAll(Vec<Mending>, News),
     /// The failure stands; runs go on elsewhere.
     GiveUp(Place),
     /// The last edit led into what is no code, so it was none that helps.
@@ -115,6 +124,8 @@ pub(crate) enum Lesson {
     EndAt(Place),
     /// A certificate, which no one has checked yet.
     Certificate(Vec<u8>),
+    /// A certificate that the checker accepts, with a stack region that reaches further down than the run's.
+    Deeper(Region, Vec<u8>),
 }
 
 /// The refinement of one cartridge.
@@ -255,9 +266,27 @@ impl<'a> Refinement<'a> {
 
     /// Something is refined; what was before is kept.
     fn refine(&mut self, mending: Mending) -> Result<(), AllocError> {
-        self.count_edit(mending.place, mending.reason)?;
         let number = mending.plan.number();
         self.keep_before(mending.place, mending.obstacle.cause, number)?;
+        self.mend(mending)
+    }
+
+    /// Some things are refined; what was before all of them is kept.
+    fn refine_all(&mut self, mendings: Vec<Mending>) -> Result<(), AllocError> {
+        let mut is_first = true;
+        for mending in mendings {
+            if is_first {
+                self.refine(mending)?;
+            } else {
+                self.mend(mending)?;
+            }
+            is_first = false;
+        }
+        Ok(())
+    }
+
+    fn mend(&mut self, mending: Mending) -> Result<(), AllocError> {
+        self.count_edit(mending.place, mending.reason)?;
         self.make_edit(&mending.plan)?;
         // Beside this one another plan may help that didn't before.
         self.configuration.taken_back = BTreeSet::new(self.alloc);
@@ -443,6 +472,10 @@ impl<'a> Refinement<'a> {
             Lesson::End(obstacles) => Ok(Some(self.end(obstacles)?)),
             Lesson::EndAt(place) => Ok(Some(self.end_as_first(place)?)),
             Lesson::Certificate(bytes) => Ok(Some(Made::Certificate(bytes))),
+            Lesson::Deeper(region, bytes) => {
+                self.deepen(region)?;
+                Ok(Some(Made::Certificate(bytes)))
+            }
         }
     }
 
@@ -450,9 +483,16 @@ impl<'a> Refinement<'a> {
         match change {
             Change::Region(region) => self.set_region(region),
             Change::Deepen(region) => self.deepen(region),
-            Change::Wish(wish) => self.grant(wish),
+            Change::Wish(wish, news) => {
+                self.grant(wish)?;
+                self.track(&news)
+            }
             Change::Track(news) => self.track(&news),
             Change::Mend(mending) => self.refine(mending),
+            Change::MendAll(mendings, news) => {
+                self.track(&news)?;
+                self.refine_all(mendings)
+            }
             Change::GiveUp(place) => self.stand(place),
             Change::TakeBack => {
                 self.take_back(TAKEN_BACK_OF_MANY)?;

@@ -1,11 +1,9 @@
 //! Shrinking: what a certificate doesn't need is taken back while the checker accepts what is left.
 
 use crate::rounds::{Progress, Refinement};
-use crate::written::written;
+use crate::written::{is_accepted, written};
 use gb_draft::limits::{SHRINK_ATTEMPTS, SHRINK_STEPS, SPARE_NODES, STEPS_A_PAIR};
-use gb_draft::{
-    Cert, Configuration, Outcome, Place, REGISTERS, Rom, Run, Verdict, check, find_needs,
-};
+use gb_draft::{Configuration, Outcome, Place, REGISTERS, Rom, Run, find_needs};
 use gb_ops::op::Register;
 use gb_plans::{parted_by, without};
 use std::alloc::{AllocError, Global};
@@ -37,7 +35,7 @@ fn accepted(
     if !is_clean(alloc, run)? {
         return Ok(None);
     }
-    match written(alloc, run)? {
+    match written(alloc, run, run.configuration.region)? {
         Some(bytes) if is_accepted(alloc, rom, &bytes) => Ok(Some(bytes)),
         _ => Ok(None),
     }
@@ -49,13 +47,6 @@ fn is_clean(alloc: Global, run: &mut Run<'_>) -> Result<bool, AllocError> {
         return Ok(false);
     }
     Ok(find_needs(alloc, run)?.is_none())
-}
-
-fn is_accepted(alloc: Global, rom: &Rom<'_>, bytes: &[u8]) -> bool {
-    match Cert::parse(alloc, bytes) {
-        Ok(cert) => matches!(check(rom, &cert), Verdict::Accepted { .. }),
-        Err(_) => false,
-    }
 }
 
 /// The configuration without something at these addresses.

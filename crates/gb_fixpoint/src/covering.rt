@@ -1,0 +1,50 @@
+//! Whether a node holds a state already: the checker's test, with both lists of cells gone through once.
+
+use gb_abs::covering::{covers_core, covers_val};
+use gb_product::covering::covers_relations;
+use gb_verify::{Abs, Cell, Val, any};
+
+/// The cells from an address on; they are in order of address.
+fn from_address(address: u16, cells: &[Cell]) -> &[Cell] {
+    match cells {
+        [first, rest @ ..] if first.address < address => from_address(address, rest),
+        _ => cells,
+    }
+}
+
+/// Whether all that cells say of the bytes at their addresses is known of others too. Both are in order of address.
+pub(crate) fn are_cells_known(cells: &[Cell], others: &[Cell]) -> bool {
+    let mut rest = others;
+    for cell in cells {
+        rest = from_address(cell.address, rest);
+        let known = match rest {
+            [other, ..] if other.address == cell.address => other.val,
+            _ => any(),
+        };
+        if !covers_val(&known, &cell.val) {
+            return false;
+        }
+    }
+    true
+}
+
+/// Whether there are as many bytes, and each is among the values of the other's.
+pub(crate) fn are_items_known(items: &[Val], others: &[Val]) -> bool {
+    items.len() == others.len()
+        && items
+            .iter()
+            .zip(others)
+            .all(|(item, other)| covers_val(other, item))
+}
+
+/// Whether a state stands for all that another one does.
+pub(crate) fn is_covered(other: &Abs, state: &Abs) -> bool {
+    covers_core(other.core(), state.core())
+        && are_items_known(state.items(), other.items())
+        && are_cells_known(state.cells(), other.cells())
+        && covers_relations(
+            &other.core().registers,
+            other.relations(),
+            state.relations(),
+        )
+}

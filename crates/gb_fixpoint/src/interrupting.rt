@@ -1,0 +1,263 @@
+//! Interrupts. Most of those that may come at a node tell nothing new, which is seen by comparing: no state is made for them.
+
+use crate::bounds::{WORD_PAIRS, facts_of};
+use crate::cause::Cause;
+use crate::contexts::Context;
+use crate::covering::{are_cells_known, are_items_known};
+use crate::register_set::{REGISTERS, RegisterSet};
+use crate::stop::Stop;
+use crate::types::{Node, Procedure, Run};
+use gb_abs::covering::{covers_controller, covers_core, covers_ime, covers_val};
+use gb_domain::pairs::Pairs;
+use gb_ops::op::Register;
+use gb_ops::registers::Registers;
+use gb_product::covering::covers_relations;
+use gb_verify::{
+    Abs, Cell, Core, Ctl, Flg, ImeSet, Origin, Range, Rules, Val, cell_at, left_by_dispatch,
+    may_come,
+};
+
+/// The address that interrupt 0 calls; those of the others follow it, 8 bytes apart.
+pub(crate) const FIRST_VECTOR: u16 = 0x40;
+
+/// The bytes of a return word.
+const RETURN_WORD: u8 = 2;
+
+/// Each register is a copy of what it holds.
+fn own_registers(registers: &Registers<Val>) -> Registers<Val> {
+    let mut own = *registers;
+    for register in REGISTERS {
+        let origin = Some(Origin::Register(register));
+        let val = registers.get(register);
+        own.set(register, Val { origin, ..val });
+    }
+    own
+}
+
+/// What a handler begins with that comes in this core, where no transfer may run.
+fn entered_core(core: &Core) -> Core {
+    Core {
+        ime: ImeSet {
+            off: true,
+            pending: false,
+            on: false,
+        },
+        ctl: Ctl {
+            is_kept: true,
+            ..core.ctl
+        },
+        flags: Flg {
+            is_own: true,
+            ..core.flags
+        },
+        ie: Val {
+            origin: Some(Origin::Ie),
+            ..core.ie
+        },
+        registers: own_registers(&core.registers),
+        ..*core
+    }
+}
+
+/// The bytes of a return word, as a handler takes them over.
+fn return_word(address: u16) -> [Val; 2] {
+    let [high, low] = address.to_be_bytes();
+    [
+        Val {
+            lo: high,
+            hi: high,
+            origin: Some(Origin::ReturnHigh),
+        },
+        Val {
+            lo: low,
+            hi: low,
+            origin: Some(Origin::ReturnLow),
+        },
+    ]
+}
+
+/// Whether registers, flags and IE are given back as they were.
+fn gives_back_all(exit: &Core) -> bool {
+    let are_own = REGISTERS.iter().all(|register| {
+        exit.registers.get(*register).origin == Some(Origin::Register(*register))
+    });
+    are_own && exit.flags.is_own && exit.ie.origin == Some(Origin::Ie)
+}
+
+/// Whether a core holds what is left of it by a handler that gives registers, flags and IE back.
+fn holds_core(core: &Core, exit: &Core) -> bool {
+    (exit.ctl.is_kept || covers_controller(&exit.ctl, &core.ctl))
+        && covers_ime(&exit.ime, &core.ime)
+        && exit.bound <= core.bound
+}
+
+fn has_links(pairs: &Pairs) -> bool {
+    WORD_PAIRS
+        .iter()
+        .any(|pair| facts_of(*pair, pairs).link.is_some())
+}
+
+fn is_in(ranges: &[Range], address: u16) -> bool {
+    ranges
+        .iter()
+        .any(|range| range.first <= address && address <= range.last)
+}
+
+/// Whether what is known of the cells that a handler may write is known behind it.
+fn holds_cells(ranges: &[Range], cells: &[Cell], exit: &[Cell]) -> bool {
+    cells.iter().all(|cell| {
+        !is_in(ranges, cell.address)
+            || {
+                let left = Val {
+                    origin: None,
+                    ..cell_at(cell.address, exit)
+                };
+                covers_val(&left, &cell.val)
+            }
+    })
+}
+
+/// Whether a state holds all that it goes on with behind a handler with these ranges and this exit.
+fn holds_left(state: &Abs, ranges: &[Range], exit: &Abs) -> bool {
+    let is_place_kept = match state.relations().byte.address {
+        Some(address) => !is_in(ranges, address),
+        None => true,
+    };
+    exit.items().is_empty()
+        && gives_back_all(exit.core())
+        && holds_core(state.core(), exit.core())
+        && !has_links(&exit.relations().pairs)
+        && is_place_kept
+        && holds_cells(ranges, state.cells(), exit.cells())
+}
+
+impl<'a> Run<'a> {
+    /// Dispatches each interrupt that may come at a node.
+    pub(crate) fn interrupt(&mut self, number: usize) -> Result<(), Stop> {
+        let Some(node) = self.nodes.get(number) else {
+            return Ok(());
+        };
+        let core = *node.state.core();
+        if !core.ime.on {
+            return Ok(());
+        }
+        for interrupt in 0..5u8 {
+            if may_come(interrupt, &core) {
+                if !core.stack_set {
+                    let cause = Cause::InterruptWithoutStack { interrupt };
+                    return Err(Run::failure(number, cause, RegisterSet::empty()));
+                }
+                let vector = FIRST_VECTOR + 8 * u16::from(interrupt);
+                let outcome = self.dispatch(number, vector);
+                self.keep(outcome)?;
+            }
+        }
+        Ok(())
+    }
+
+    /// A handler comes at a node. Where nothing is new in that, nothing is done.
+    fn dispatch(&mut self, number: usize, vector: u16) -> Result<(), Stop> {
+        let Some(node) = self.nodes.get(number) else {
+            return Ok(());
+        };
+        if self.is_handled(number, node, vector) {
+            return Ok(());
+        }
+        let address = node.key.address;
+        let mut after = left_by_dispatch(self.rules(), address, &node.state);
+        self.call(number, &mut after, vector, address, true)
+    }
+
+    /// Whether a handler's target is called plainly: its return word alone is taken over, and its base isn't known.
+    fn is_plain(&self, vector: u16) -> bool {
+        self.rules() == Rules::Extended
+            && self.configuration.taken_at(vector) == RETURN_WORD
+            && !self.configuration.based.contains(&vector)
+            && !self.is_inlined(vector)
+    }
+
+    /// The handler at a vector that was entered in a node's states before, whose core it begins with is given.
+    fn handler_of(&self, node: &Node, vector: u16, entered: &Core) -> Option<usize> {
+        let cells = self.find_cells(node.state.cells())?;
+        let context = Context {
+            base: 0,
+            taken: RETURN_WORD,
+        };
+        let key = self.procedure_key(entered, vector, true, cells, context);
+        self.procedure_index.get(&key).copied()
+    }
+
+    /// Whether a handler comes at a node and leaves it with nothing new.
+    fn is_handled(&self, number: usize, node: &Node, vector: u16) -> bool {
+        if node.state.core().bound != 0 || !self.is_plain(vector) {
+            return false;
+        }
+        let entered = entered_core(node.state.core());
+        let Some(handler) = self.handler_of(node, vector, &entered) else {
+            return false;
+        };
+        match self.procedures.get(handler) {
+            Some(handler) => {
+                handler.sites.contains(&number)
+                    && self.is_entered(handler, node, &entered)
+                    && is_left(handler, node)
+            }
+            None => false,
+        }
+    }
+
+    /// Whether a handler's first node holds all that it begins with at a node.
+    fn is_entered(&self, handler: &Procedure, node: &Node, entered: &Core) -> bool {
+        let Some(entry) = handler.entry else {
+            return false;
+        };
+        let Some(first) = self.nodes.get(entry) else {
+            return false;
+        };
+        let state = &first.state;
+        covers_core(entered, state.core())
+            && are_items_known(state.items(), &return_word(node.key.address))
+            && are_cells_known(state.cells(), node.state.cells())
+            && covers_relations(
+                &entered.registers,
+                node.state.relations(),
+                state.relations(),
+            )
+    }
+
+    /// Whether it is still this handler that comes at a node, whose state may have grown since.
+    fn is_still_entered(&self, node: &Node, handler: usize) -> bool {
+        let vector = self.target(handler);
+        !self.is_plain(vector)
+            || self.handler_of(node, vector, &entered_core(node.state.core())) == Some(handler)
+    }
+
+    /// A node goes on behind a handler that may interrupt it, and whose exit or ranges grew.
+    pub(crate) fn come_back(&mut self, number: usize, handler: usize) -> Result<(), Stop> {
+        let Some(node) = self.nodes.get(number) else {
+            return Ok(());
+        };
+        let (procedure, address) = (node.key.procedure, node.key.address);
+        self.inherit_ranges(procedure, handler)?;
+        let Some(node) = self.nodes.get(number) else {
+            return Ok(());
+        };
+        let is_held = match self.procedures.get(handler) {
+            Some(handler) => self.is_plain(handler.key.target) && is_left(handler, node),
+            None => true,
+        };
+        if is_held || !self.is_still_entered(node, handler) {
+            return Ok(());
+        }
+        let after = left_by_dispatch(self.rules(), address, &node.state);
+        self.go_behind(number, handler, &after, address)
+    }
+}
+
+/// Whether a node holds all that it goes on with behind a handler, or the handler hasn't returned yet.
+fn is_left(handler: &Procedure, node: &Node) -> bool {
+    match &handler.exit {
+        Some(exit) => holds_left(&node.state, handler.ranges.as_slice(), exit),
+        None => true,
+    }
+}
