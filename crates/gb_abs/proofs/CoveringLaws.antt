@@ -39,28 +39,28 @@ implied_use false b h p = cc
 
 origin_at : ℕ → Origin
 origin_at n =
-    if n == 0 then origin.Register A
-    else if n == 1 then origin.Register B
-    else if n == 2 then origin.Register C
-    else if n == 3 then origin.Register D
-    else if n == 4 then origin.Register E
-    else if n == 5 then origin.Register H
-    else if n == 6 then origin.Register L
-    else if n == 7 then origin.F
-    else if n == 8 then origin.Ie
-    else if n == 9 then origin.ReturnHigh
+    if n == 1 then origin.A
+    else if n == 2 then origin.F
+    else if n == 3 then origin.B
+    else if n == 4 then origin.C
+    else if n == 5 then origin.D
+    else if n == 6 then origin.E
+    else if n == 7 then origin.H
+    else if n == 8 then origin.L
+    else if n == 9 then origin.Ie
+    else if n == 10 then origin.ReturnHigh
     else origin.ReturnLow
 
 origin_at-number : (o : Origin) → origin_at (origin_number o) ≡ o
 unfolding origin_at
-origin_at-number (origin.Register A) = refl
-origin_at-number (origin.Register B) = refl
-origin_at-number (origin.Register C) = refl
-origin_at-number (origin.Register D) = refl
-origin_at-number (origin.Register E) = refl
-origin_at-number (origin.Register H) = refl
-origin_at-number (origin.Register L) = refl
+origin_at-number origin.A = refl
 origin_at-number origin.F = refl
+origin_at-number origin.B = refl
+origin_at-number origin.C = refl
+origin_at-number origin.D = refl
+origin_at-number origin.E = refl
+origin_at-number origin.H = refl
+origin_at-number origin.L = refl
 origin_at-number origin.Ie = refl
 origin_at-number origin.ReturnHigh = refl
 origin_at-number origin.ReturnLow = refl

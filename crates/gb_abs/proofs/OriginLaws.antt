@@ -10,10 +10,20 @@ use Rattle.gb_domain.specs.declared.types.Origin.{Origin}
 use Rattle.gb_domain.specs.declared.types.Val.{Val}
 use Rattle.gb_domain.specs.declared.types.Cell.{Cell}
 use Rattle.gb_domain.specs.declared.types.Core.{Core}
+use Rattle.gb_domain.specs.Types.{origin_of_register}
 use Rattle.gb_abs.specs.Meaning.{origin_value, Holds, AreItems, MeansCore}
 use Rattle.gb_abs.specs.Origins.{own, without_origin, cell_without_origin, registers_without_origins, core_without_origins}
 use Rattle.gb_abs.specs.Storage.{peek}
 use Rattle.gb_abs.proofs.CoveringLaws.{AreCells}
+
+pub origin_value-of_register : (r : Register) (s : MState) → origin_value (origin_of_register r) s ≡ get r s.processor.registers
+origin_value-of_register A s = refl
+origin_value-of_register B s = refl
+origin_value-of_register C s = refl
+origin_value-of_register D s = refl
+origin_value-of_register E s = refl
+origin_value-of_register H s = refl
+origin_value-of_register L s = refl
 
 same_Some : (o p : Origin) → Some o ≡ Some p → o ≡ p
 same_Some o p h = cc

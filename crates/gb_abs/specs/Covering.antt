@@ -1,8 +1,6 @@
 -- Covering: one abstract state stands for all that another one does (abstract interpretation: inclusion).
 use Rattle.std.specs.Prelude.{ℕ, Bool, true, false, not, ◌&&◌, ◌||◌, ◌==◌, if◌then◌else◌, nat_le, List, [], ◌∷◌, Option, Some, None}
 use Rattle.std.specs.List.{list_all}
-use Rattle.gb_ops.specs.declared.op.Register.{Register}
-use Rattle.gb_ops.specs.declared.op.Register.TheVariants.{A, B, C, D, E, H, L}
 use Rattle.gb_ops.specs.declared.registers.Registers.{Registers}
 use Rattle.gb_domain.specs.declared.types.Origin.{Origin}
 use Rattle.gb_domain.specs.declared.types.Origin.TheVariants as origin
@@ -16,22 +14,19 @@ use Rattle.gb_domain.specs.declared.types.Core.{Core}
 use Rattle.gb_domain.specs.Types.{AbsState}
 use Rattle.gb_vals.specs.Vals.{any_val}
 
--- an origin's number, by which two origins are compared
-abbrev pub register_number : Register → ℕ
-register_number A = 0
-register_number B = 1
-register_number C = 2
-register_number D = 3
-register_number E = 4
-register_number H = 5
-register_number L = 6
-
+-- an origin's number in a certificate, by which two origins are compared
 abbrev pub origin_number : Origin → ℕ
-origin_number (origin.Register r) = register_number r
-origin_number origin.F = 7
-origin_number origin.Ie = 8
-origin_number origin.ReturnHigh = 9
-origin_number origin.ReturnLow = 10
+origin_number origin.A = 1
+origin_number origin.F = 2
+origin_number origin.B = 3
+origin_number origin.C = 4
+origin_number origin.D = 5
+origin_number origin.E = 6
+origin_number origin.H = 7
+origin_number origin.L = 8
+origin_number origin.Ie = 9
+origin_number origin.ReturnHigh = 10
+origin_number origin.ReturnLow = 11
 
 -- one fact asks for another
 abbrev pub implied : Bool → Bool → Bool

@@ -23,8 +23,14 @@ use Rattle.gb_abs.specs.Storage.{peek}
 
 -- what an origin held in the state in which a procedure was entered; the return word is on top of the stack there
 abbrev pub origin_value : Origin → MState → ℕ
-origin_value (origin.Register r) s = get r s.processor.registers
+origin_value origin.A s = s.processor.registers.a
 origin_value origin.F s = flags_byte s.processor.flags
+origin_value origin.B s = s.processor.registers.b
+origin_value origin.C s = s.processor.registers.c
+origin_value origin.D s = s.processor.registers.d
+origin_value origin.E s = s.processor.registers.e
+origin_value origin.H s = s.processor.registers.h
+origin_value origin.L s = s.processor.registers.l
 origin_value origin.Ie s = s.storage.ie
 origin_value origin.ReturnHigh s = peek s.storage (s.processor.sp + 1)
 origin_value origin.ReturnLow s = peek s.storage s.processor.sp

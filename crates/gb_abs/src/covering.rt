@@ -2,40 +2,29 @@
 
 ghost use Rattle.std.specs.Prelude.{◌≡◌, ◌&&◌, true};
 ghost use Rattle.gb_abs.specs.Sound.{IsPartOf};
-ghost use Rattle.gb_abs.specs.Covering.{origin_number, register_number, implied, covers_origin, covers_val, covers_may, covers_flags, covers_ime, covers_controller, covers_registers, covers_core, covers_items, cell_at, covers_cells, covers_parts};
+ghost use Rattle.gb_abs.specs.Covering.{origin_number, implied, covers_origin, covers_val, covers_may, covers_flags, covers_ime, covers_controller, covers_registers, covers_core, covers_items, cell_at, covers_cells, covers_parts};
 
 use gb_domain::types::{Abs, Cell, Core, Ctl, Flg, ImeSet, May, Origin, Val};
-use gb_ops::op::Register;
 use gb_ops::registers::Registers;
 use gb_vals::vals::any;
 
-/// A register's number, by which two registers are compared.
-#[inline(always)]
-fn register_number(register: Register) -> u8
-    ensures { result ≡ register_number register }
-{
-    match register {
-        Register::A => 0,
-        Register::B => 1,
-        Register::C => 2,
-        Register::D => 3,
-        Register::E => 4,
-        Register::H => 5,
-        Register::L => 6,
-    }
-}
-
-/// An origin's number, by which two origins are compared.
+/// An origin's number in a certificate, by which two origins are compared.
 #[inline(always)]
 fn origin_number(origin: Origin) -> u8
     ensures { result ≡ origin_number origin }
 {
     match origin {
-        Origin::Register(register) => register_number(register),
-        Origin::F => 7,
-        Origin::Ie => 8,
-        Origin::ReturnHigh => 9,
-        Origin::ReturnLow => 10,
+        Origin::A => 1,
+        Origin::F => 2,
+        Origin::B => 3,
+        Origin::C => 4,
+        Origin::D => 5,
+        Origin::E => 6,
+        Origin::H => 7,
+        Origin::L => 8,
+        Origin::Ie => 9,
+        Origin::ReturnHigh => 10,
+        Origin::ReturnLow => 11,
     }
 }
 

@@ -12,22 +12,20 @@ use gb_ops::op::Register;
 const OAM_TRANSFER: u8 = 161;
 
 #[tactic(auto, unfolding(crate::specs::Operations::core_set_register))]
-fn register_set(register: Register, value: Val, core: &Core) -> Core
-    ensures { result ≡ core_set_register register value core.now }
+fn put_register(register: Register, value: Val, core: &mut Core)
+    ensures { core.new ≡ core_set_register register value core.old }
 {
-    let mut after = *core;
-    after.registers.set(register, value);
-    after
+    core.registers.set(register, value);
 }
 
 /// A register gets a value.
 #[tactic(auto, using(crate::proofs::OperationLaws::set_register_sound))]
-pub fn set_register(register: Register, value: Val, core: &Core) -> Core
-    ensures exact { result ≡ core_set_register register value core.now }
-    ensures sound { IsSoundSet register value core.now result }
-    ensures inhabited { IsVal value → IsCore core.now → IsCore result }
+pub fn set_register(register: Register, value: Val, core: &mut Core)
+    ensures exact { core.new ≡ core_set_register register value core.old }
+    ensures sound { IsSoundSet register value core.old core.new }
+    ensures inhabited { IsVal value → IsCore core.old → IsCore core.new }
 {
-    register_set(register, value, core)
+    put_register(register, value, core);
 }
 
 #[tactic(auto, unfolding(crate::specs::Operations::core_with_value))]

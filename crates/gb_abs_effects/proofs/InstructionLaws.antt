@@ -1,5 +1,5 @@
 -- The lines of the opcode table: what each does to the machine is followed.
-use Rattle.std.proofs.Common.{◌≡◌, ℕ, ◌+◌, ◌%◌, ◌≤◌, ◌<◌, Bool, true, false, ◌||◌, refl, arith}
+use Rattle.std.proofs.Common.{◌≡◌, ℕ, ◌+◌, ◌%◌, ◌≤◌, ◌<◌, Bool, true, false, ◌||◌, refl}
 use Rattle.gb_ops.specs.declared.op.Register.TheVariants.{A}
 use Rattle.gb_ops.specs.declared.op.Pair.{Pair}
 use Rattle.gb_ops.specs.declared.op.Pair.TheVariants as pair
@@ -26,7 +26,6 @@ use Rattle.gb_vals.specs.Meaning.{FlagsIn}
 use Rattle.gb_vals.specs.Sums.{increment, decrement}
 use Rattle.gb_vals.specs.Shifts.{shift_of, shift_result}
 use Rattle.gb_vals.specs.Bits.{reset_bit, set_bit}
-use Rattle.gb_vals.proofs.MeaningLaws.{either-may_be}
 use Rattle.gb_vals.proofs.SumLaws.{increment_sound, decrement_sound, increment_inhabited, decrement_inhabited}
 use Rattle.gb_vals.proofs.ShiftLaws.{shift_sound, shift_inhabited}
 use Rattle.gb_vals.proofs.BitLaws.{reset_bit_sound, set_bit_sound, reset_bit_inhabited, set_bit_inhabited}

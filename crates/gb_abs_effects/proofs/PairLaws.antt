@@ -343,8 +343,14 @@ flags-again f = again f.zero f.subtract f.half_carry f.carry
 
 own-origin : (o : Option Origin) → is_own_origin o ≡ true → o ≡ Some origin.F
 own-origin None e = cc
-own-origin (Some (origin.Register r)) e = cc
+own-origin (Some origin.A) e = cc
 own-origin (Some origin.F) e = refl
+own-origin (Some origin.B) e = cc
+own-origin (Some origin.C) e = cc
+own-origin (Some origin.D) e = cc
+own-origin (Some origin.E) e = cc
+own-origin (Some origin.H) e = cc
+own-origin (Some origin.L) e = cc
 own-origin (Some origin.Ie) e = cc
 own-origin (Some origin.ReturnHigh) e = cc
 own-origin (Some origin.ReturnLow) e = cc

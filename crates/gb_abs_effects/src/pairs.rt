@@ -206,14 +206,13 @@ pub(crate) fn pair_or_sp(pair: Pair, sp: Halves, core: &Core) -> Halves
     }
 }
 
-/// The core with another word in a pair.
+/// A pair of the core gets another word.
 #[tactic(auto, unfolding(crate::specs::Pairs::with_pair))]
-pub(crate) fn with_pair(pair: Pair, halves: Halves, core: &Core) -> Core
-    ensures { result ≡ Pairs.with_pair pair halves core.now }
+pub(crate) fn set_pair(pair: Pair, halves: Halves, core: &mut Core)
+    ensures { core.new ≡ Pairs.with_pair pair halves core.old }
 {
     let Halves { high, low } = halves;
-    let mut after = *core;
-    let registers = &mut after.registers;
+    let registers = &mut core.registers;
     match pair {
         Pair::Bc => {
             registers.b = high;
@@ -229,19 +228,18 @@ pub(crate) fn with_pair(pair: Pair, halves: Halves, core: &Core) -> Core
         }
         Pair::Sp => {}
     }
-    after
 }
 
 /// HL counts up or down where the operand says so.
 #[tactic(auto, unfolding(crate::specs::Pairs::with_indirect))]
-pub(crate) fn with_indirect(indirect: Indirect, core: &Core) -> Core
-    ensures { result ≡ Pairs.with_indirect indirect core.now }
+pub(crate) fn count_hl(indirect: Indirect, core: &mut Core)
+    ensures { core.new ≡ Pairs.with_indirect indirect core.old }
 {
     let hl = pair_halves(Pair::Hl, core);
     match indirect {
-        Indirect::Bc | Indirect::De => *core,
-        Indirect::HlIncrement => with_pair(Pair::Hl, next_word(hl), core),
-        Indirect::HlDecrement => with_pair(Pair::Hl, previous_word(hl), core),
+        Indirect::Bc | Indirect::De => {}
+        Indirect::HlIncrement => set_pair(Pair::Hl, next_word(hl), core),
+        Indirect::HlDecrement => set_pair(Pair::Hl, previous_word(hl), core),
     }
 }
 
@@ -260,20 +258,18 @@ pub(crate) fn stack_pair_halves(pair: StackPair, core: &Core) -> Halves
     Halves { high, low }
 }
 
-/// The core with a pair that was popped, a copy of the word on the stack.
+/// A pair is popped, and becomes a copy of the word on the stack.
 #[tactic(auto, unfolding(crate::specs::Pairs::with_stack_pair))]
-pub(crate) fn with_stack_pair(pair: StackPair, halves: Halves, core: &Core) -> Core
-    ensures { result ≡ Pairs.with_stack_pair pair halves core.now }
+pub(crate) fn pop_pair(pair: StackPair, halves: Halves, core: &mut Core)
+    ensures { core.new ≡ Pairs.with_stack_pair pair halves core.old }
 {
     match pair {
-        StackPair::Bc => with_pair(Pair::Bc, halves, core),
-        StackPair::De => with_pair(Pair::De, halves, core),
-        StackPair::Hl => with_pair(Pair::Hl, halves, core),
+        StackPair::Bc => set_pair(Pair::Bc, halves, core),
+        StackPair::De => set_pair(Pair::De, halves, core),
+        StackPair::Hl => set_pair(Pair::Hl, halves, core),
         StackPair::Af => {
-            let mut after = *core;
-            after.registers.a = halves.high;
-            after.flags = flags_of_val(halves.low);
-            after
+            core.registers.a = halves.high;
+            core.flags = flags_of_val(halves.low);
         }
     }
 }

@@ -61,6 +61,7 @@ fn operand_read(operand: Operand, core: &Core) -> AbsRead
 
 /// What an instruction that is taken may read besides its own bytes: addresses that hold the
 /// machine's, those of a pair from both least bytes to both greatest.
+#[inline(always)]
 #[tactic(auto, using(crate::proofs::ReadLaws::read_of_sound, crate::proofs::ReadLaws::read_of_at))]
 pub fn read_of(op: Op, core: &Core) -> AbsRead
     ensures exact { result ≡ Accesses.read_of op core.now }
@@ -70,6 +71,7 @@ pub fn read_of(op: Op, core: &Core) -> AbsRead
     data_of(op, core)
 }
 
+#[inline(always)]
 #[tactic(auto, unfolding(crate::specs::Accesses::read_of))]
 fn data_of(op: Op, core: &Core) -> AbsRead
     ensures exact { result ≡ Accesses.read_of op core.now }

@@ -41,6 +41,7 @@ fn word_target(halves: Halves) -> Target
 /// Where an instruction that is taken goes on (CPU instruction set: jumps and subroutines). The address
 /// behind it is given. What returns, and JP HL where HL isn't known, may go on anywhere.
 /// It never answers `Main` or `Lost`, which depend on the stack too.
+#[inline(always)]
 #[tactic(auto, using(crate::proofs::TargetLaws::target_of_sound, crate::proofs::TargetLaws::target_of_at))]
 pub fn target_of(op: Op, next: u16, core: &Core) -> Target
     ensures exact { result ≡ Targets.target_of op next core.now }
@@ -50,6 +51,7 @@ pub fn target_of(op: Op, next: u16, core: &Core) -> Target
     way(op, next, core)
 }
 
+#[inline(always)]
 #[tactic(auto, unfolding(crate::specs::Targets::target_of))]
 fn way(op: Op, next: u16, core: &Core) -> Target
     ensures exact { result ≡ Targets.target_of op next core.now }

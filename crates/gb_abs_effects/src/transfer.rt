@@ -2,22 +2,32 @@
 
 ghost use Rattle.std.specs.Prelude.{◌≡◌};
 ghost use Rattle.gb_domain.specs.Rules.{IsVal, IsCore, IsWord};
+ghost use Rattle.gb_ops.specs.declared.op.Pair.TheVariants.{Hl};
+ghost use Rattle.gb_vals.specs.Alu as Alu;
+ghost use Rattle.gb_vals.specs.Bits as Bits;
+ghost use Rattle.gb_vals.specs.Daa as Daa;
+ghost use Rattle.gb_vals.specs.Logic as Logic;
+ghost use Rattle.gb_vals.specs.Shifts as Shifts;
+ghost use Rattle.gb_vals.specs.Sums as Sums;
+ghost use Rattle.gb_vals.specs.Vals as Vals;
+ghost use Rattle.gb_abs_effects.specs.Pairs as Pairs;
+ghost use Rattle.gb_abs_effects.specs.Pairs.{with_pair};
 ghost use Rattle.gb_abs_effects.specs.Transfer as Transfer;
+ghost use Rattle.gb_abs_effects.specs.declared.writes.AbsWrite.TheVariants.{Nothing, Byte};
 ghost use Rattle.gb_abs_effects.specs.Sound.{HasBytes, IsSoundTransfer, IsSoundUntaken, IsAbsEffect};
 
 use crate::pairs::{
-    displaced_flags, displaced_word, known_word, next_word, pair_halves, pair_or_sp, previous_word,
-    stack_pair_halves, with_indirect, with_pair, with_stack_pair, word_sum, word_sum_flags,
+    count_hl, displaced_flags, displaced_word, known_word, next_word, pair_halves, pair_or_sp,
+    pop_pair, previous_word, set_pair, stack_pair_halves, word_sum, word_sum_flags,
 };
 use crate::reads::{high_span, indirect_span};
 use crate::writes::{
-    AbsEffect, AbsWrite, operand_val, pushes, quiet, store_operand, update_a, update_operand,
-    with_flags, with_ime, writes,
+    AbsEffect, AbsWrite, operand_val, push, quiet, store_operand, update_a, update_operand,
 };
 use gb_abs::operations::set_register;
 use gb_abs::span::Span;
-use gb_domain::types::{Core, Flg, Halves, ImeSet, Val};
-use gb_ops::op::{AluOp, Op, Operand, Pair, Register};
+use gb_domain::types::{Core, Halves, ImeSet, Val};
+use gb_ops::op::{AluOp, Op, Operand, Pair, Register, Shift, StackPair};
 use gb_vals::alu::{alu, alu_itself};
 use gb_vals::bits::{reset_bit, set_bit, test_bit};
 use gb_vals::carry::{complement_carry, set_carry};
@@ -60,30 +70,250 @@ fn only_on() -> ImeSet
     }
 }
 
+/// What an instruction takes from elsewhere than the core.
+#[derive(Clone, Copy)]
+pub struct Inputs {
+    /// The address behind it.
+    pub next: u16,
+    /// SP as a pair.
+    pub sp: Halves,
+    /// What its reads gave: the byte, as the low one, or a word.
+    pub word: Halves,
+}
+
+// What each instruction does to the core: kept out of line, so that the frame that chooses among them stays small, and what
+// they take is lent.
+
+// ---- words
+
+/// LD of a pair and a word.
+#[inline(never)]
+fn load_pair(pair: Pair, word: u16, core: &mut Core)
+    ensures { core.new ≡ with_pair pair (Pairs.known_word word) core.old }
+{
+    set_pair(pair, known_word(word), core);
+}
+
+/// INC of a pair.
+#[inline(never)]
+fn increment_pair(pair: Pair, core: &mut Core)
+    ensures { core.new ≡ with_pair pair (Pairs.next_word (Pairs.pair_halves pair core.old)) core.old }
+{
+    set_pair(pair, next_word(pair_halves(pair, core)), core);
+}
+
+/// DEC of a pair.
+#[inline(never)]
+fn decrement_pair(pair: Pair, core: &mut Core)
+    ensures { core.new ≡ with_pair pair (Pairs.previous_word (Pairs.pair_halves pair core.old)) core.old }
+{
+    set_pair(pair, previous_word(pair_halves(pair, core)), core);
+}
+
 /// ADD HL, of a pair of registers or of SP, whose halves are given.
-fn add_hl(pair: Pair, sp: Halves, core: &Core) -> AbsEffect
-    ensures { result ≡ Transfer.add_hl pair sp core.now }
+#[inline(never)]
+fn add_hl(pair: Pair, inputs: &Inputs, core: &mut Core)
+    ensures { core.new ≡ (Transfer.add_hl pair inputs.now.sp core.old).core }
 {
     let hl = pair_halves(Pair::Hl, core);
-    let added = pair_or_sp(pair, sp, core);
+    let added = pair_or_sp(pair, inputs.sp, core);
     let flags = word_sum_flags(hl, added, core.flags);
-    quiet(with_flags(flags, &with_pair(Pair::Hl, word_sum(hl, added), core)))
+    set_pair(Pair::Hl, word_sum(hl, added), core);
+    core.flags = flags;
+}
+
+/// The flags of ADD SP.
+#[inline(never)]
+fn add_sp(inputs: &Inputs, e8: u8, core: &mut Core)
+    ensures { core.new ≡ Transfer.with_flags (Pairs.displaced_flags inputs.now.sp e8) core.old }
+{
+    core.flags = displaced_flags(inputs.sp, e8);
+}
+
+/// LD HL of SP and a displacement.
+#[inline(never)]
+fn load_hl_sp(inputs: &Inputs, e8: u8, core: &mut Core)
+    ensures { core.new ≡ Transfer.with_flags (Pairs.displaced_flags inputs.now.sp e8) (with_pair Hl (Pairs.displaced_word inputs.now.sp e8) core.old) }
+{
+    set_pair(Pair::Hl, displaced_word(inputs.sp, e8), core);
+    core.flags = displaced_flags(inputs.sp, e8);
+}
+
+/// PUSH of a pair.
+#[inline(never)]
+fn push_pair(pair: StackPair, effect: &mut AbsEffect)
+    ensures { effect.new ≡ Transfer.pushes effect.old.core (Pairs.stack_pair_halves pair effect.old.core) }
+{
+    push(stack_pair_halves(pair, &effect.core), effect);
+}
+
+/// The address behind a call goes on the stack.
+#[inline(never)]
+fn push_next(inputs: &Inputs, effect: &mut AbsEffect)
+    ensures { effect.new ≡ Transfer.pushes effect.old.core (Pairs.known_word inputs.now.next) }
+{
+    push(known_word(inputs.next), effect);
+}
+
+/// POP of the word that was read.
+#[inline(never)]
+fn pop_word(pair: StackPair, inputs: &Inputs, core: &mut Core)
+    ensures { core.new ≡ Pairs.with_stack_pair pair inputs.now.word core.old }
+{
+    pop_pair(pair, inputs.word, core);
+}
+
+// ---- bytes
+
+/// A is stored at one of these addresses.
+fn store_a(span: Span, effect: &mut AbsEffect)
+    ensures { effect.new ≡ Transfer.writes effect.old.core (Byte span effect.old.core.registers.a) }
+{
+    effect.write = AbsWrite::Byte(span, effect.core.registers.a);
+}
+
+/// INC of a byte.
+#[inline(never)]
+fn increment_operand(operand: Operand, inputs: &Inputs, effect: &mut AbsEffect)
+    requires { effect.old.write ≡ Nothing }
+    ensures { effect.new ≡ Transfer.update_operand operand (Sums.increment (Transfer.operand_val operand effect.old.core inputs.now.word.low) effect.old.core.flags) effect.old.core }
+{
+    let val = operand_val(operand, &effect.core, inputs.word.low);
+    update_operand(operand, increment(val, effect.core.flags), effect);
+}
+
+/// DEC of a byte.
+#[inline(never)]
+fn decrement_operand(operand: Operand, inputs: &Inputs, effect: &mut AbsEffect)
+    requires { effect.old.write ≡ Nothing }
+    ensures { effect.new ≡ Transfer.update_operand operand (Sums.decrement (Transfer.operand_val operand effect.old.core inputs.now.word.low) effect.old.core.flags) effect.old.core }
+{
+    let val = operand_val(operand, &effect.core, inputs.word.low);
+    update_operand(operand, decrement(val, effect.core.flags), effect);
+}
+
+/// A rotation or shift of a byte.
+#[inline(never)]
+fn shift_operand(how: Shift, operand: Operand, inputs: &Inputs, effect: &mut AbsEffect)
+    requires { effect.old.write ≡ Nothing }
+    ensures { effect.new ≡ Transfer.update_operand operand (Shifts.shift_of how (Transfer.operand_val operand effect.old.core inputs.now.word.low) effect.old.core.flags) effect.old.core }
+{
+    let val = operand_val(operand, &effect.core, inputs.word.low);
+    update_operand(operand, shift(how, val, effect.core.flags), effect);
+}
+
+/// RES of a byte's bit.
+#[inline(never)]
+fn reset_operand(n: u8, operand: Operand, inputs: &Inputs, effect: &mut AbsEffect)
+    requires { effect.old.write ≡ Nothing }
+    ensures { effect.new ≡ Transfer.store_operand operand (Bits.reset_bit n (Transfer.operand_val operand effect.old.core inputs.now.word.low)) effect.old.core }
+{
+    let val = operand_val(operand, &effect.core, inputs.word.low);
+    store_operand(operand, reset_bit(n, val), effect);
+}
+
+/// SET of a byte's bit.
+#[inline(never)]
+fn set_operand(n: u8, operand: Operand, inputs: &Inputs, effect: &mut AbsEffect)
+    requires { effect.old.write ≡ Nothing }
+    ensures { effect.new ≡ Transfer.store_operand operand (Bits.set_bit n (Transfer.operand_val operand effect.old.core inputs.now.word.low)) effect.old.core }
+{
+    let val = operand_val(operand, &effect.core, inputs.word.low);
+    store_operand(operand, set_bit(n, val), effect);
+}
+
+/// The flags of BIT.
+#[inline(never)]
+fn test_operand(n: u8, operand: Operand, inputs: &Inputs, core: &mut Core)
+    ensures { core.new ≡ Transfer.with_flags (Bits.test_bit n (Transfer.operand_val operand core.old inputs.now.word.low) core.old.flags) core.old }
+{
+    let val = operand_val(operand, core, inputs.word.low);
+    core.flags = test_bit(n, val, core.flags);
+}
+
+/// LD of a byte and a number.
+#[inline(never)]
+fn load_immediate(to: Operand, value: u8, effect: &mut AbsEffect)
+    requires { effect.old.write ≡ Nothing }
+    ensures { effect.new ≡ Transfer.store_operand to (Vals.single value) effect.old.core }
+{
+    store_operand(to, single(value), effect);
+}
+
+/// LD of a byte.
+#[inline(never)]
+fn load_operand(to: Operand, from: Operand, inputs: &Inputs, effect: &mut AbsEffect)
+    requires { effect.old.write ≡ Nothing }
+    ensures { effect.new ≡ Transfer.store_operand to (Transfer.operand_val from effect.old.core inputs.now.word.low) effect.old.core }
+{
+    store_operand(to, operand_val(from, &effect.core, inputs.word.low), effect);
+}
+
+// ---- A
+
+/// RLCA, RRCA, RLA and RRA.
+#[inline(never)]
+fn rotate(how: Shift, effect: &mut AbsEffect)
+    requires { effect.old.write ≡ Nothing }
+    ensures { effect.new ≡ Transfer.update_a (Shifts.rotation_of_a how effect.old.core.registers.a effect.old.core.flags) effect.old.core }
+{
+    let outcome = rotate_a(how, effect.core.registers.a, effect.core.flags);
+    update_a(outcome, effect);
+}
+
+/// DAA.
+#[inline(never)]
+fn adjust_a(effect: &mut AbsEffect)
+    requires { effect.old.write ≡ Nothing }
+    ensures { effect.new ≡ Transfer.update_a (Daa.adjustment_of effect.old.core.registers.a effect.old.core.flags) effect.old.core }
+{
+    let outcome = adjust(effect.core.registers.a, effect.core.flags);
+    update_a(outcome, effect);
+}
+
+/// CPL.
+#[inline(never)]
+fn complement_a(effect: &mut AbsEffect)
+    requires { effect.old.write ≡ Nothing }
+    ensures { effect.new ≡ Transfer.update_a (Logic.complement effect.old.core.registers.a effect.old.core.flags) effect.old.core }
+{
+    let outcome = complement(effect.core.registers.a, effect.core.flags);
+    update_a(outcome, effect);
+}
+
+/// An operation of A and a number.
+#[inline(never)]
+fn apply_immediate(how: AluOp, value: u8, effect: &mut AbsEffect)
+    requires { effect.old.write ≡ Nothing }
+    ensures { effect.new ≡ Transfer.update_a (Alu.alu how effect.old.core.registers.a (Vals.single value) effect.old.core.flags) effect.old.core }
+{
+    let outcome = alu(
+        how,
+        effect.core.registers.a,
+        single(value),
+        effect.core.flags,
+    );
+    update_a(outcome, effect);
 }
 
 /// An operation of A; where the operand is A too, more is known.
+#[inline(never)]
 #[tactic(auto, unfolding(crate::specs::Transfer::apply_alu))]
-fn apply_alu(how: AluOp, operand: Operand, core: &Core, low: Val) -> AbsEffect
-    ensures { result ≡ Transfer.apply_alu how operand core.now low }
+fn apply_alu(how: AluOp, operand: Operand, inputs: &Inputs, effect: &mut AbsEffect)
+    requires { effect.old.write ≡ Nothing }
+    ensures { effect.new ≡ Transfer.apply_alu how operand effect.old.core inputs.now.word.low }
 {
-    let a = core.registers.a;
+    let (a, flags) = (effect.core.registers.a, effect.core.flags);
     match operand {
-        Operand::Register(Register::A) => { update_a(alu_itself(how, a, core.flags), core) }
+        Operand::Register(Register::A) => update_a(alu_itself(how, a, flags), effect),
         _ => {
-            let val = operand_val(operand, core, low);
-            update_a(alu(how, a, val, core.flags), core)
+            let val = operand_val(operand, &effect.core, inputs.word.low);
+            update_a(alu(how, a, val, flags), effect);
         }
     }
 }
+
+// ---- instructions
 
 /// What an instruction that is taken makes of a core whose pending interrupts have become on, and
 /// what it writes. The address behind it is given, SP as a pair, and what its reads gave: the byte, or a word's
@@ -103,87 +333,71 @@ fn holds_bytes(op: Op)
     ensures { HasBytes op }
 {}
 
-#[tactic(auto, unfolding(crate::specs::Transfer::transfer))]
+/// The core is copied once, and then changed in place.
 fn apply(op: Op, next: u16, sp: Halves, core: &Core, low: Val, high: Val) -> AbsEffect
     ensures { result ≡ Transfer.transfer op next sp core.now low high }
 {
-    let a = core.registers.a;
-    let flags = core.flags;
+    let word = Halves { high, low };
+    let mut effect = quiet(core);
+    transfer_in(op, &Inputs { next, sp, word }, &mut effect);
+    effect
+}
+
+/// The same in the place of an effect that is the core before it, and in which nothing is written yet.
+#[inline(never)]
+#[tactic(auto, unfolding(crate::specs::Transfer::transfer))]
+pub fn transfer_in(op: Op, inputs: &Inputs, effect: &mut AbsEffect)
+    requires { effect.old.write ≡ Nothing }
+    ensures { effect.new ≡ Transfer.transfer op inputs.now.next inputs.now.sp effect.old.core inputs.now.word.low inputs.now.word.high }
+{
+    let core = &mut effect.core;
     match op {
-        Op::LoadPair(to, word) => quiet(with_pair(to, known_word(word), core)),
+        Op::LoadPair(to, word) => load_pair(to, word, core),
         Op::StoreA(to) => {
-            let write = AbsWrite::Byte(indirect_span(to, core), a);
-            writes(with_indirect(to, core), write)
+            store_a(indirect_span(to, core), effect);
+            count_hl(to, &mut effect.core);
         }
-        Op::LoadA(from) => quiet(set_register(Register::A, low, &with_indirect(from, core))),
-        Op::IncrementPair(pair) => {
-            let counted = next_word(pair_halves(pair, core));
-            quiet(with_pair(pair, counted, core))
+        Op::LoadA(from) => {
+            count_hl(from, core);
+            set_register(Register::A, inputs.word.low, core);
         }
-        Op::DecrementPair(pair) => {
-            let counted = previous_word(pair_halves(pair, core));
-            quiet(with_pair(pair, counted, core))
+        Op::IncrementPair(pair) => increment_pair(pair, core),
+        Op::DecrementPair(pair) => decrement_pair(pair, core),
+        Op::Increment(operand) => increment_operand(operand, inputs, effect),
+        Op::Decrement(operand) => decrement_operand(operand, inputs, effect),
+        Op::LoadImmediate(to, value) => load_immediate(to, value, effect),
+        Op::RotateA(how) => rotate(how, effect),
+        Op::StoreSp(address) => {
+            effect.write = AbsWrite::Word(address, inputs.sp.low, inputs.sp.high);
         }
-        Op::Increment(operand) => {
-            let val = operand_val(operand, core, low);
-            update_operand(operand, increment(val, flags), core)
-        }
-        Op::Decrement(operand) => {
-            let val = operand_val(operand, core, low);
-            update_operand(operand, decrement(val, flags), core)
-        }
-        Op::LoadImmediate(to, value) => store_operand(to, single(value), core),
-        Op::RotateA(how) => update_a(rotate_a(how, a, flags), core),
-        Op::StoreSp(address) => writes(*core, AbsWrite::Word(address, sp.low, sp.high)),
-        Op::AddHl(pair) => add_hl(pair, sp, core),
-        Op::DecimalAdjust => update_a(adjust(a, flags), core),
-        Op::Complement => update_a(complement(a, flags), core),
-        Op::SetCarry => quiet(with_flags(set_carry(flags), core)),
-        Op::ComplementCarry => quiet(with_flags(complement_carry(flags), core)),
-        Op::Load(to, from) => store_operand(to, operand_val(from, core, low), core),
-        Op::Alu(how, from) => apply_alu(how, from, core, low),
-        Op::AluImmediate(how, value) => {
-            let outcome = alu(how, a, single(value), flags);
-            update_a(outcome, core)
-        }
-        Op::ReturnFromInterrupt => quiet(with_ime(only_on(), core)),
-        Op::Pop(to) => quiet(with_stack_pair(to, Halves { high, low }, core)),
-        Op::Push(from) => pushes(core, stack_pair_halves(from, core)),
-        Op::CallIf(_, _) | Op::Call(_) | Op::Restart(_) => pushes(core, known_word(next)),
-        Op::StoreHigh(byte) => {
-            let span = Span::one(0xFF00 + u16::from(byte));
-            writes(*core, AbsWrite::Byte(span, a))
-        }
-        Op::StoreHighC => writes(*core, AbsWrite::Byte(high_span(core), a)),
-        Op::StoreAbsolute(address) => writes(*core, AbsWrite::Byte(Span::one(address), a)),
+        Op::AddHl(pair) => add_hl(pair, inputs, core),
+        Op::DecimalAdjust => adjust_a(effect),
+        Op::Complement => complement_a(effect),
+        Op::SetCarry => core.flags = set_carry(core.flags),
+        Op::ComplementCarry => core.flags = complement_carry(core.flags),
+        Op::Load(to, from) => load_operand(to, from, inputs, effect),
+        Op::Alu(how, from) => apply_alu(how, from, inputs, effect),
+        Op::AluImmediate(how, value) => apply_immediate(how, value, effect),
+        Op::ReturnFromInterrupt => core.ime = only_on(),
+        Op::Pop(to) => pop_word(to, inputs, core),
+        Op::Push(from) => push_pair(from, effect),
+        Op::CallIf(_, _) | Op::Call(_) | Op::Restart(_) => push_next(inputs, effect),
+        Op::StoreHigh(byte) => store_a(Span::one(0xFF00 + u16::from(byte)), effect),
+        Op::StoreHighC => store_a(high_span(core), effect),
+        Op::StoreAbsolute(address) => store_a(Span::one(address), effect),
         Op::LoadHigh(_) | Op::LoadHighC | Op::LoadAbsolute(_) => {
-            quiet(set_register(Register::A, low, core))
+            set_register(Register::A, inputs.word.low, core);
         }
-        Op::AddSp(e8) => quiet(with_flags(displaced_flags(sp, e8), core)),
-        Op::LoadHlSp(e8) => {
-            let sum = with_pair(Pair::Hl, displaced_word(sp, e8), core);
-            quiet(with_flags(displaced_flags(sp, e8), &sum))
-        }
-        Op::DisableInterrupts => quiet(with_ime(only_off(), core)),
-        Op::EnableInterrupts => quiet(with_ime(enabled(core.ime), core)),
-        Op::Shift(how, operand) => {
-            let val = operand_val(operand, core, low);
-            update_operand(operand, shift(how, val, flags), core)
-        }
-        Op::Bit(n, operand) => {
-            let val = operand_val(operand, core, low);
-            quiet(with_flags(test_bit(n, val, flags), core))
-        }
-        Op::Reset(n, operand) => {
-            let val = operand_val(operand, core, low);
-            store_operand(operand, reset_bit(n, val), core)
-        }
-        Op::Set(n, operand) => {
-            let val = operand_val(operand, core, low);
-            store_operand(operand, set_bit(n, val), core)
-        }
+        Op::AddSp(e8) => add_sp(inputs, e8, core),
+        Op::LoadHlSp(e8) => load_hl_sp(inputs, e8, core),
+        Op::DisableInterrupts => core.ime = only_off(),
+        Op::EnableInterrupts => core.ime = enabled(core.ime),
+        Op::Shift(how, operand) => shift_operand(how, operand, inputs, effect),
+        Op::Bit(n, operand) => test_operand(n, operand, inputs, core),
+        Op::Reset(n, operand) => reset_operand(n, operand, inputs, effect),
+        Op::Set(n, operand) => set_operand(n, operand, inputs, effect),
         // Jumps and returns, HALT and STOP, and LD SP,HL.
-        _ => quiet(*core),
+        _ => {}
     }
 }
 
@@ -194,5 +408,5 @@ pub fn untaken(core: &Core) -> AbsEffect
     ensures sound { IsSoundUntaken core.now result }
     ensures inhabited { IsCore core.now → IsAbsEffect result }
 {
-    writes(*core, AbsWrite::Nothing)
+    quiet(core)
 }

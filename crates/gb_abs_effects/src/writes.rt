@@ -2,11 +2,12 @@
 
 ghost use Rattle.std.specs.Prelude.{◌≡◌};
 ghost use Rattle.gb_abs_effects.specs.Transfer as Transfer;
+ghost use Rattle.gb_abs_effects.specs.declared.writes.AbsWrite.TheVariants.{Nothing};
 
 use crate::reads::hl_span;
 use gb_abs::operations::set_register;
 use gb_abs::span::Span;
-use gb_domain::types::{Core, Flg, Halves, ImeSet, Val};
+use gb_domain::types::{Core, Halves, Val};
 use gb_ops::op::Operand;
 use gb_vals::outcome::Outcome;
 
@@ -29,40 +30,14 @@ pub struct AbsEffect {
     pub write: AbsWrite,
 }
 
-/// The core changes, and nothing is written.
-pub(crate) fn quiet(core: Core) -> AbsEffect
-    ensures { result ≡ Transfer.quiet core }
+/// The core as it is, and nothing is written.
+pub fn quiet(core: &Core) -> AbsEffect
+    ensures { result ≡ Transfer.quiet core.now }
 {
-    writes(core, AbsWrite::Nothing)
-}
-
-/// The core changes, and something may be written.
-pub(crate) fn writes(core: Core, write: AbsWrite) -> AbsEffect
-    ensures { result ≡ Transfer.writes core write }
-{
-    AbsEffect { core, write }
-}
-
-/// A word goes on the stack.
-pub(crate) fn pushes(core: &Core, halves: Halves) -> AbsEffect
-    ensures { result ≡ Transfer.pushes core.now halves }
-{
-    let Halves { high, low } = halves;
-    writes(*core, AbsWrite::Push { high, low })
-}
-
-/// The core with new flags.
-pub(crate) fn with_flags(flags: Flg, core: &Core) -> Core
-    ensures { result ≡ Transfer.with_flags flags core.now }
-{
-    Core { flags, ..*core }
-}
-
-/// The core with another IME.
-pub(crate) fn with_ime(ime: ImeSet, core: &Core) -> Core
-    ensures { result ≡ Transfer.with_ime ime core.now }
-{
-    Core { ime, ..*core }
+    AbsEffect {
+        core: *core,
+        write: AbsWrite::Nothing,
+    }
 }
 
 /// The value of an operand, with the byte that was read at HL given.
@@ -76,32 +51,43 @@ pub(crate) fn operand_val(operand: Operand, core: &Core, low: Val) -> Val
     }
 }
 
-/// The operand gets a value: a register, or the byte at HL.
+/// A word goes on the stack.
+pub(crate) fn push(halves: Halves, effect: &mut AbsEffect)
+    ensures { effect.new ≡ Transfer.pushes effect.old.core halves }
+{
+    let Halves { high, low } = halves;
+    effect.write = AbsWrite::Push { high, low };
+}
+
+/// The operand gets a value: a register, or the byte at HL. Nothing was written before.
+#[inline(never)]
 #[tactic(auto, unfolding(crate::specs::Transfer::store_operand))]
-pub(crate) fn store_operand(operand: Operand, val: Val, core: &Core) -> AbsEffect
-    ensures { result ≡ Transfer.store_operand operand val core.now }
+pub(crate) fn store_operand(operand: Operand, val: Val, effect: &mut AbsEffect)
+    requires { effect.old.write ≡ Nothing }
+    ensures { effect.new ≡ Transfer.store_operand operand val effect.old.core }
 {
     match operand {
-        Operand::Register(which) => quiet(set_register(which, val, core)),
-        Operand::AtHl => writes(*core, AbsWrite::Byte(hl_span(core), val)),
+        Operand::Register(which) => set_register(which, val, &mut effect.core),
+        Operand::AtHl => effect.write = AbsWrite::Byte(hl_span(&effect.core), val),
     }
 }
 
-/// The operand and the flags become what was computed.
+/// The operand and the flags become what was computed. Nothing was written before.
 #[tactic(auto, unfolding(crate::specs::Transfer::update_operand))]
-pub(crate) fn update_operand(operand: Operand, outcome: Outcome, core: &Core) -> AbsEffect
-    ensures { result ≡ Transfer.update_operand operand outcome core.now }
+pub(crate) fn update_operand(operand: Operand, outcome: Outcome, effect: &mut AbsEffect)
+    requires { effect.old.write ≡ Nothing }
+    ensures { effect.new ≡ Transfer.update_operand operand outcome effect.old.core }
 {
-    store_operand(operand, outcome.val, &with_flags(outcome.flags, core))
+    effect.core.flags = outcome.flags;
+    store_operand(operand, outcome.val, effect);
 }
 
-/// A and the flags become what was computed.
+/// A and the flags become what was computed. Nothing was written before.
 #[tactic(auto, unfolding(crate::specs::Transfer::update_a))]
-pub(crate) fn update_a(outcome: Outcome, core: &Core) -> AbsEffect
-    ensures { result ≡ Transfer.update_a outcome core.now }
+pub(crate) fn update_a(outcome: Outcome, effect: &mut AbsEffect)
+    requires { effect.old.write ≡ Nothing }
+    ensures { effect.new ≡ Transfer.update_a outcome effect.old.core }
 {
-    let mut after = *core;
-    after.registers.a = outcome.val;
-    after.flags = outcome.flags;
-    quiet(after)
+    effect.core.registers.a = outcome.val;
+    effect.core.flags = outcome.flags;
 }

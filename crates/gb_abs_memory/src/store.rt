@@ -183,17 +183,17 @@ fn store_to_ram(setting: Setting, region: Region, span: Span, val: &Val, state: 
 }
 
 /// A store changes the core.
+#[inline(never)]
 #[tactic(auto, unfolding(crate::specs::Access::stored_core))]
-pub fn stored_core(kind: Kind, span: Span, val: &Val, core: &Core) -> Core
-    ensures { result ≡ Access.stored_core kind span val.now core.now }
+pub fn store_in_core(kind: Kind, span: Span, val: &Val, core: &mut Core)
+    ensures { core.new ≡ Access.stored_core kind span val.now core.old }
 {
     match area_of(kind, span) {
         Some(Area::Controller(Some(register))) => {
-            let ctl = ctl_after(kind, register, val, &core.ctl);
-            Core { ctl, ..*core }
+            core.ctl = ctl_after(kind, register, val, &core.ctl);
         }
-        Some(Area::InterruptEnable) => Core { ie: *val, ..*core },
-        Some(Area::Controller(None) | Area::Hardware | Area::Ram) | None => *core,
+        Some(Area::InterruptEnable) => core.ie = *val,
+        Some(Area::Controller(None) | Area::Hardware | Area::Ram) | None => {}
     }
 }
 

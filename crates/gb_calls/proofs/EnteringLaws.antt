@@ -10,10 +10,10 @@ use Rattle.gb_domain.specs.declared.rules.Rules.TheVariants.{Simple, Extended}
 use Rattle.gb_domain.specs.declared.types.Origin.TheVariants as origin
 use Rattle.gb_domain.specs.declared.types.Val.{Val}
 use Rattle.gb_domain.specs.declared.types.Core.{Core}
-use Rattle.gb_domain.specs.Types.{AbsState}
+use Rattle.gb_domain.specs.Types.{AbsState, origin_of_register}
 use Rattle.gb_abs.specs.Meaning.{Holds, MeansCore}
 use Rattle.gb_abs.specs.Origins.{own}
-use Rattle.gb_abs.proofs.OriginLaws.{Holds-own, AreCells-without_origins}
+use Rattle.gb_abs.proofs.OriginLaws.{origin_value-of_register, Holds-own, AreCells-without_origins}
 use Rattle.gb_product.specs.Meaning.{Means}
 use Rattle.gb_calls.specs.Calls.{own_registers, entered_core, entered_by}
 use Rattle.gb_calls.specs.Sound.{without_word, IsCalled, Begins, callee_base, IsSoundEntering}
@@ -22,7 +22,7 @@ use Rattle.gb_calls.proofs.TakenOverLaws.{taken_over-items, taken_over-pointer}
 
 -- ---- states
 
-register_own : (s : Registers Val) (r : Register) → get r (own_registers s) ≡ own (origin.Register r) (get r s)
+register_own : (s : Registers Val) (r : Register) → get r (own_registers s) ≡ own (origin_of_register r) (get r s)
 register_own s A = refl
 register_own s B = refl
 register_own s C = refl
@@ -35,7 +35,7 @@ MeansCore-entered : (s : Core) (entry x : MState) → MeansCore s entry x → Me
 MeansCore-entered s entry x m =
     record {
       registers = λ r. subst (λ v. Holds v x (get r x.processor.registers)) (sym (register_own s.registers r))
-          (Holds-own (origin.Register r) (get r s.registers) entry x (get r x.processor.registers) (m.registers r) refl);
+          (Holds-own (origin_of_register r) (get r s.registers) entry x (get r x.processor.registers) (m.registers r) (sym (origin_value-of_register r x)));
       flags = record {
         zero = m.flags.zero;
         subtract = m.flags.subtract;

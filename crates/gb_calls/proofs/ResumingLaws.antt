@@ -31,7 +31,7 @@ use Rattle.gb_domain.specs.declared.pairs.Link.{Link}
 use Rattle.gb_domain.specs.declared.pairs.PairFacts.{PairFacts}
 use Rattle.gb_domain.specs.declared.relations.Relations.{Relations}
 use Rattle.gb_domain.specs.Pairs.{facts_of, IsLink, IsPairFacts, ArePairs}
-use Rattle.gb_domain.specs.Types.{AbsState}
+use Rattle.gb_domain.specs.Types.{AbsState, origin_of_register}
 use Rattle.gb_domain.specs.Limits.{cell_room, item_room}
 use Rattle.gb_domain.specs.Places.{no_byte}
 use Rattle.gb_domain.specs.Rules.{IsCore}
@@ -65,7 +65,7 @@ use Rattle.gb_abs.proofs.StorageLaws.{region_in_ram, placed_in_ram, AreItems-sam
 use Rattle.gb_abs_memory.specs.Access.{is_range}
 use Rattle.gb_abs_memory.specs.Kept.{keeps, IsKept}
 use Rattle.gb_abs.specs.Origins.{is_own, without_origin, cell_without_origin}
-use Rattle.gb_abs.proofs.OriginLaws.{Holds-without_origin, AreCells-without_origins}
+use Rattle.gb_abs.proofs.OriginLaws.{origin_value-of_register, Holds-without_origin, AreCells-without_origins}
 use Rattle.gb_calls.specs.declared.resuming.Resumed.{Resumed}
 use Rattle.gb_calls.specs.declared.resuming.Resumed.TheVariants.{Nothing, States, TooDeep}
 use Rattle.gb_calls.specs.Resuming.{given_back, registers_back, core_back, is_address_in, is_in_ranges, is_out_of_ranges, merged, byte_back, cells_back, resumed_alone, is_address_kept, own_by_register, kept_by, rejoined, with_values, with_values_if, reduced_state, resumed, IsTooDeep, IsResumed}
@@ -95,7 +95,7 @@ Holds-given_back o caller exit entry called n m h = choose (is_own o exit) refl
     choose false is = Holds-without_origin exit called entry n h
 
 register_back :
-    (s x : Registers Val) (r : Register) → get r (registers_back s x) ≡ given_back (origin.Register r) (get r s) (get r x)
+    (s x : Registers Val) (r : Register) → get r (registers_back s x) ≡ given_back (origin_of_register r) (get r s) (get r x)
 register_back s x A = refl
 register_back s x B = refl
 register_back s x C = refl
@@ -138,7 +138,8 @@ MeansCore-resumed :
 MeansCore-resumed s x entry called y m h =
     record {
       registers = λ r. subst (λ v. Holds v entry (get r y.processor.registers)) (sym (register_back s.registers x.registers r))
-          (Holds-given_back (origin.Register r) (get r s.registers) (get r x.registers) entry called (get r y.processor.registers) (m.registers r) (h.registers r));
+          (Holds-given_back (origin_of_register r) (get r s.registers) (get r x.registers) entry called (get r y.processor.registers)
+          (subst (λ n. Holds (get r s.registers) entry n) (sym (origin_value-of_register r called)) (m.registers r)) (h.registers r));
       flags = HoldsFlags-back s.flags x.flags entry called y.processor.flags m.flags h.flags;
       ie = Holds-given_back origin.Ie s.ie x.ie entry called y.storage.ie m.ie h.ie;
       ime = h.ime;
@@ -221,18 +222,18 @@ registers_are_bytes c entry x is m =
 HoldOneByte-back :
     (s exit : AbsState) (called x : MState) → HoldOneByte s.relations.byte called.processor.registers (peek called.storage) called.processor.flags
     → MeansCore exit.core called x → HoldOneByte (byte_back s exit) x.processor.registers (peek x.storage) x.processor.flags
-HoldOneByte-back s exit called x holds h = choose (is_own (origin.Register A) exit.core.registers.a) exit.core.flags.is_own refl refl
+HoldOneByte-back s exit called x holds h = choose (is_own origin.A exit.core.registers.a) exit.core.flags.is_own refl refl
   where
-    choose : (p q : Bool) → is_own (origin.Register A) exit.core.registers.a ≡ p → exit.core.flags.is_own ≡ q
+    choose : (p q : Bool) → is_own origin.A exit.core.registers.a ≡ p → exit.core.flags.is_own ≡ q
         → HoldOneByte (cond (p && q) (only_of_a s.relations.byte) no_byte) x.processor.registers (peek x.storage) x.processor.flags
     choose true true is own =
         HoldOneByte-only_of_a s.relations.byte called.processor.registers x.processor.registers (peek called.storage) (peek x.storage) called.processor.flags x.processor.flags
-        (own-value (origin.Register A) exit.core.registers.a called x.processor.registers.a is (h.registers A)) (h.flags.own own) holds
+        (own-value origin.A exit.core.registers.a called x.processor.registers.a is (h.registers A)) (h.flags.own own) holds
     choose true false is own = HoldOneByte-nothing _ _ _
     choose false q is own = HoldOneByte-nothing _ _ _
 
 -- what the exit gives back is kept
-register_own : (s : Registers Val) (r : Register) → get r (own_by_register s) ≡ is_own (origin.Register r) (get r s)
+register_own : (s : Registers Val) (r : Register) → get r (own_by_register s) ≡ is_own (origin_of_register r) (get r s)
 register_own s A = refl
 register_own s B = refl
 register_own s C = refl
@@ -268,8 +269,9 @@ Returned-kept :
     (peek called.storage) (peek x.storage) called.processor.flags x.processor.flags
 Returned-kept z region ranges base s exit called x does kept free h =
     record {
-      registers = λ r is. own-value (origin.Register r) (get r exit.core.registers) called (get r x.processor.registers)
-          (sym (register_own exit.core.registers r) ∙ is) (h.registers r);
+      registers = λ r is. own-value (origin_of_register r) (get r exit.core.registers) called (get r x.processor.registers)
+          (sym (register_own exit.core.registers r) ∙ is) (h.registers r)
+          ∙ origin_value-of_register r called;
       memory = λ out a is. address_kept z region ranges base s.relations.byte.address called.storage x.storage does kept free out a is;
       flags = λ is. h.flags.own is;
     }

@@ -1,7 +1,6 @@
 -- What a procedure begins with, which one is called, and what it may write (own rules: calls).
 use Rattle.std.specs.Prelude.{ℕ, ◌+◌, ◌-◌, Bool, true, false, ◌&&◌, ◌||◌, ◌==◌, nat_le, List, [], ◌∷◌, length, map, slice_get, Option, Some, None}
 use Rattle.std.specs.List.{list_any, list_all}
-use Rattle.gb_ops.specs.declared.op.Register.TheVariants as register
 use Rattle.gb_ops.specs.declared.registers.Registers.{Registers}
 use Rattle.gb_domain.specs.declared.types.Origin.TheVariants as origin
 use Rattle.gb_domain.specs.declared.types.Val.{Val}
@@ -22,13 +21,13 @@ use Rattle.gb_calls.specs.TakenOver.{taken_over}
 
 abbrev pub own_registers : Registers Val → Registers Val
 own_registers r = record {
-  a = own (origin.Register register.A) r.a;
-  b = own (origin.Register register.B) r.b;
-  c = own (origin.Register register.C) r.c;
-  d = own (origin.Register register.D) r.d;
-  e = own (origin.Register register.E) r.e;
-  h = own (origin.Register register.H) r.h;
-  l = own (origin.Register register.L) r.l;
+  a = own origin.A r.a;
+  b = own origin.B r.b;
+  c = own origin.C r.c;
+  d = own origin.D r.d;
+  e = own origin.E r.e;
+  h = own origin.H r.h;
+  l = own origin.L r.l;
 }
 
 abbrev pub entered_core : Core → Core

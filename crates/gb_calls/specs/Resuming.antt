@@ -1,7 +1,6 @@
 -- What a caller goes on with behind a call (own rules: calls).
 use Rattle.std.specs.Prelude.{◌≡◌, ℕ, ◌<◌, Bool, true, false, ◌&&◌, if◌then◌else◌, nat_lt, List, [], ◌∷◌, length, map, take, Option, Some, None}
 use Rattle.std.specs.List.{filter, list_any}
-use Rattle.gb_ops.specs.declared.op.Register.TheVariants as register
 use Rattle.gb_ops.specs.declared.registers.Registers.{Registers}
 use Rattle.gb_domain.specs.declared.types.Origin.{Origin}
 use Rattle.gb_domain.specs.declared.types.Origin.TheVariants as origin
@@ -39,13 +38,13 @@ given_back o caller exit = if is_own o exit then caller else without_origin exit
 
 abbrev pub registers_back : Registers Val → Registers Val → Registers Val
 registers_back s x = record {
-  a = given_back (origin.Register register.A) s.a x.a;
-  b = given_back (origin.Register register.B) s.b x.b;
-  c = given_back (origin.Register register.C) s.c x.c;
-  d = given_back (origin.Register register.D) s.d x.d;
-  e = given_back (origin.Register register.E) s.e x.e;
-  h = given_back (origin.Register register.H) s.h x.h;
-  l = given_back (origin.Register register.L) s.l x.l;
+  a = given_back origin.A s.a x.a;
+  b = given_back origin.B s.b x.b;
+  c = given_back origin.C s.c x.c;
+  d = given_back origin.D s.d x.d;
+  e = given_back origin.E s.e x.e;
+  h = given_back origin.H s.h x.h;
+  l = given_back origin.L s.l x.l;
 }
 
 -- interrupts and the bound are the exit's, the stack is the caller's
@@ -96,7 +95,7 @@ cells_back room ranges caller exit = take room (all_cells_back ranges caller exi
 -- what is said of the caller's A holds again where A and the flags are the caller's
 abbrev pub byte_back : AbsState → AbsState → OneByte
 byte_back s x =
-    if is_own (origin.Register register.A) x.core.registers.a && x.core.flags.is_own then only_of_a s.relations.byte else no_byte
+    if is_own origin.A x.core.registers.a && x.core.flags.is_own then only_of_a s.relations.byte else no_byte
 
 -- the caller holds what it held, its cells and a comparison of A as far as they are kept
 unfoldable pub resumed_alone : List Range → AbsState → AbsState → AbsState
@@ -117,13 +116,13 @@ is_address_kept ranges (Some a) = if is_address_in ranges a then false else true
 
 abbrev pub own_by_register : Registers Val → Registers Bool
 own_by_register r = record {
-  a = is_own (origin.Register register.A) r.a;
-  b = is_own (origin.Register register.B) r.b;
-  c = is_own (origin.Register register.C) r.c;
-  d = is_own (origin.Register register.D) r.d;
-  e = is_own (origin.Register register.E) r.e;
-  h = is_own (origin.Register register.H) r.h;
-  l = is_own (origin.Register register.L) r.l;
+  a = is_own origin.A r.a;
+  b = is_own origin.B r.b;
+  c = is_own origin.C r.c;
+  d = is_own origin.D r.d;
+  e = is_own origin.E r.e;
+  h = is_own origin.H r.h;
+  l = is_own origin.L r.l;
 }
 
 -- what a callee with these ranges and this exit gives back as it was, of what the caller's byte b and its pairs read

@@ -1,7 +1,8 @@
 //! Whether a state of a certificate stands for others, in its bytes.
 
-ghost use Rattle.std.specs.Prelude.{◌≡◌, ◌&&◌};
+ghost use Rattle.std.specs.Prelude.{◌≡◌, ◌<◌, ◌&&◌};
 ghost use Rattle.std.specs.List.{flat_map};
+ghost use Rattle.gb_domain.specs.RelationRules.{test_alone};
 ghost use Rattle.gb_states.specs.Spelling as spelled;
 ghost use Rattle.gb_abs.specs.Covering.{covers_items, covers_cells};
 ghost use Rattle.gb_product.specs.Covering.{covers, covers_relations};
@@ -10,6 +11,7 @@ ghost use Rattle.gb_calls.specs.Parts.{with_parts};
 use crate::in_bytes::{covers_core_in, covers_items_in};
 use gb_abs::covering::covers_lists;
 use gb_cert::StateRef;
+use gb_domain::pairs::Pairs;
 use gb_domain::relations::Relations;
 use gb_domain::types::{Abs, Core};
 use gb_product::covering::covers_relations;
@@ -90,19 +92,35 @@ fn covers_read(states: &States<'_>, claimed: &StateRef<'_>) -> bool
         && covers_relations(&states.core.registers, states.relations, &relations)
 }
 
+/// The bounds of pairs are words.
+fn holds_words(pairs: Pairs)
+    ensures bc { pairs.bc.bounds.last < 65536 }
+    ensures de { pairs.de.bounds.last < 65536 }
+    ensures hl { pairs.hl.bounds.last < 65536 }
+{}
+
+/// Whether a test stands for what is known together of states, where nothing else is claimed. Where no test is claimed either
+/// nothing is asked of them.
+#[inline(always)]
+fn covers_test(states: &States<'_>, test: Option<u8>) -> bool
+    ensures { result ≡ covers_relations states.now.core.now.registers states.now.relations.now (test_alone test) }
+{
+    holds_words(states.relations.pairs);
+    match test {
+        None => true,
+        Some(_) => covers_relations(&states.core.registers, states.relations, &test_alone(test)),
+    }
+}
+
 /// Whether all of a state but the core stands for that of others.
+#[inline(always)]
 fn covers_rest(states: &States<'_>, claimed: &StateRef<'_>) -> bool
     ensures { result ≡ ((covers_items states.now.lists.now.items claimed.now.items && covers_cells states.now.lists.now.cells claimed.now.cells) && covers_relations states.now.core.now.registers states.now.relations.now claimed.now.relations) }
 {
     if claimed.has_lists() {
         covers_read(states, claimed)
     } else {
-        covers_held(states.lists, claimed)
-            && covers_relations(
-                &states.core.registers,
-                states.relations,
-                &relations_of(claimed),
-            )
+        states.lists.items().is_empty() && covers_test(states, claimed.test())
     }
 }
 

@@ -8,7 +8,6 @@ ghost use Rattle.gb_calls.specs.TakenOver as TakenOver;
 
 use gb_abs::origins::{cell_without_origin, own, without_origin};
 use gb_domain::types::{Abs, Cell, Core, Ctl, Flg, Origin, Rules, Val};
-use gb_ops::op::Register;
 use gb_ops::registers::Registers;
 
 /// Each register is a copy of what it held at entry.
@@ -16,13 +15,13 @@ fn own_registers(registers: &Registers<Val>) -> Registers<Val>
     ensures { result ≡ Calls.own_registers registers.now }
 {
     Registers {
-        a: own(Origin::Register(Register::A), registers.a),
-        b: own(Origin::Register(Register::B), registers.b),
-        c: own(Origin::Register(Register::C), registers.c),
-        d: own(Origin::Register(Register::D), registers.d),
-        e: own(Origin::Register(Register::E), registers.e),
-        h: own(Origin::Register(Register::H), registers.h),
-        l: own(Origin::Register(Register::L), registers.l),
+        a: own(Origin::A, registers.a),
+        b: own(Origin::B, registers.b),
+        c: own(Origin::C, registers.c),
+        d: own(Origin::D, registers.d),
+        e: own(Origin::E, registers.e),
+        h: own(Origin::H, registers.h),
+        l: own(Origin::L, registers.l),
     }
 }
 

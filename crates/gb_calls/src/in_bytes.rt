@@ -1,36 +1,17 @@
 //! Covering by the core of a node's states, part by part in the certificate's bytes.
 
-ghost use Rattle.std.specs.Prelude.{◌≡◌, ◌+◌, ◌≤◌, [], length};
+ghost use Rattle.std.specs.Prelude.{◌≡◌, ◌+◌, ◌≤◌, ◌<◌, ◌==◌, [], length};
 ghost use Rattle.gb_abs.specs.Covering as Covering;
-ghost use Rattle.gb_states.specs.Checked.{core_in, val_in, vals_in, listed_items};
+ghost use Rattle.gb_states.specs.Checked.{core_in, flg_in, val_in, vals_in, listed_items};
 ghost use Rattle.gb_states.specs.Reading.{origin_of};
 
-use gb_abs::covering::{covers_controller, covers_flags, covers_ime};
-use gb_domain::types::{Core, Origin, Val};
-use gb_ops::op::Register;
+use gb_abs::covering::{covers_controller, covers_ime, covers_origin};
+use gb_domain::types::{Core, Flg, Val};
 use gb_ops::registers::Registers;
-use gb_states::fields::{ctl_in, flg_in, ime_in};
+use gb_states::fields::{ctl_in, ime_in, origin_of};
 
-/// Whether a value of an origin is one of that with the number, by which a certificate names it: 0 where it says none.
-#[inline(always)]
-fn covers_origin_in(from: Option<Origin>, number: u8) -> bool
-    ensures { result ≡ Covering.covers_origin from (origin_of number) }
-{
-    match from {
-        None => number == 0,
-        Some(Origin::Register(Register::A)) => number == 0 || number == 1,
-        Some(Origin::F) => number == 0 || number == 2,
-        Some(Origin::Register(Register::B)) => number == 0 || number == 3,
-        Some(Origin::Register(Register::C)) => number == 0 || number == 4,
-        Some(Origin::Register(Register::D)) => number == 0 || number == 5,
-        Some(Origin::Register(Register::E)) => number == 0 || number == 6,
-        Some(Origin::Register(Register::H)) => number == 0 || number == 7,
-        Some(Origin::Register(Register::L)) => number == 0 || number == 8,
-        Some(Origin::Ie) => number == 0 || number == 9,
-        Some(Origin::ReturnHigh) => number == 0 || number == 10,
-        Some(Origin::ReturnLow) => number == 0 || number > 10,
-    }
-}
+/// The bytes of a core.
+const CORE: usize = 40;
 
 /// Whether the value at a place stands for this one.
 #[inline(always)]
@@ -39,7 +20,9 @@ fn covers_val_in(s: &Val, bytes: &[u8], place: usize) -> bool
     requires { place + 3 ≤ length bytes.now }
     ensures { result ≡ Covering.covers_val s.now (val_in bytes.now place) }
 {
-    bytes[place] <= s.lo && s.hi <= bytes[place + 1] && covers_origin_in(s.origin, bytes[place + 2])
+    bytes[place] <= s.lo
+        && s.hi <= bytes[place + 1]
+        && covers_origin(s.origin, origin_of(bytes[place + 2]))
 }
 
 #[inline(always)]
@@ -63,7 +46,7 @@ fn covers_registers_in(s: &Registers<Val>, bytes: &[u8]) -> bool
 fn covers_val_of(s: &Val, lo: u8, hi: u8, number: u8) -> bool
     ensures { result ≡ Covering.covers_val s.now (record { lo = lo; hi = hi; origin = origin_of number }) }
 {
-    lo <= s.lo && s.hi <= hi && covers_origin_in(s.origin, number)
+    lo <= s.lo && s.hi <= hi && covers_origin(s.origin, origin_of(number))
 }
 
 fn are_none(s: &[Val]) -> bool
@@ -88,14 +71,44 @@ pub(crate) fn covers_items_in(s: &[Val], bytes: &[u8]) -> bool
     }
 }
 
+/// Whether a value that may be is one that a bit says may be.
+#[inline(always)]
+fn is_allowed(may: bool, bit: u8) -> bool
+    requires { bit < 2 }
+    ensures { result ≡ Covering.implied may (bit == 1) }
+{
+    !(may && bit == 0)
+}
+
+/// Whether flags that two bytes say stand for these.
+#[inline(always)]
+#[tactic(auto, unfolding(gb_abs::specs::Covering::covers_flags))]
+fn covers_flags_in(s: &Flg, bits: u8, own: u8) -> bool
+    ensures { result ≡ Covering.covers_flags s.now (flg_in bits own) }
+{
+    is_allowed(s.zero.set, bits / 128)
+        && is_allowed(s.zero.clear, bits / 8 % 2)
+        && is_allowed(s.subtract.set, bits / 64 % 2)
+        && is_allowed(s.subtract.clear, bits / 4 % 2)
+        && is_allowed(s.half_carry.set, bits / 32 % 2)
+        && is_allowed(s.half_carry.clear, bits / 2 % 2)
+        && is_allowed(s.carry.set, bits / 16 % 2)
+        && is_allowed(s.carry.clear, bits % 2)
+        && (own != 2 || s.is_own)
+}
+
 /// Whether the core at the front of bytes that have been checked stands for what this one does.
 #[tactic(auto, unfolding(gb_abs::specs::Covering::covers_core))]
 pub(crate) fn covers_core_in(s: &Core, bytes: &[u8]) -> bool
     requires { 40 ≤ length bytes.now }
     ensures { result ≡ Covering.covers_core s.now (core_in bytes.now) }
 {
+    // The length is tested once, and not at each byte.
+    if bytes.len() < CORE {
+        unreachable!();
+    }
     covers_registers_in(&s.registers, bytes)
-        && covers_flags(&s.flags, &flg_in(bytes[14], bytes[15]))
+        && covers_flags_in(&s.flags, bytes[14], bytes[15])
         && covers_val_in(&s.ie, bytes, 16)
         && covers_ime(&s.ime, &ime_in(bytes[0]))
         && covers_controller(&s.ctl, &ctl_in(bytes))

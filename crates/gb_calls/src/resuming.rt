@@ -12,7 +12,6 @@ use gb_abs::origins::{is_own, without_origin};
 use gb_domain::places::OneByte;
 use gb_domain::relations::Relations;
 use gb_domain::types::{Abs, Core, Origin, Range, Rules, Val};
-use gb_ops::op::Register;
 use gb_ops::registers::Registers;
 use gb_pairs::reduced::reduced;
 use gb_pairs::values::Values;
@@ -58,13 +57,13 @@ fn registers_back(caller: &Registers<Val>, exit: &Registers<Val>) -> Registers<V
     ensures { result ≡ Resuming.registers_back caller.now exit.now }
 {
     Registers {
-        a: given_back(Origin::Register(Register::A), caller.a, exit.a),
-        b: given_back(Origin::Register(Register::B), caller.b, exit.b),
-        c: given_back(Origin::Register(Register::C), caller.c, exit.c),
-        d: given_back(Origin::Register(Register::D), caller.d, exit.d),
-        e: given_back(Origin::Register(Register::E), caller.e, exit.e),
-        h: given_back(Origin::Register(Register::H), caller.h, exit.h),
-        l: given_back(Origin::Register(Register::L), caller.l, exit.l),
+        a: given_back(Origin::A, caller.a, exit.a),
+        b: given_back(Origin::B, caller.b, exit.b),
+        c: given_back(Origin::C, caller.c, exit.c),
+        d: given_back(Origin::D, caller.d, exit.d),
+        e: given_back(Origin::E, caller.e, exit.e),
+        h: given_back(Origin::H, caller.h, exit.h),
+        l: given_back(Origin::L, caller.l, exit.l),
     }
 }
 
@@ -118,7 +117,7 @@ fn byte_back(caller: &Abs, exit: &Abs) -> OneByte
     ensures { result ≡ Resuming.byte_back caller.now exit.now }
 {
     let core = exit.core();
-    if is_own(Origin::Register(Register::A), core.registers.a) && core.flags.is_own {
+    if is_own(Origin::A, core.registers.a) && core.flags.is_own {
         only_of_a(&caller.relations().byte)
     } else {
         OneByte::default()
@@ -155,13 +154,13 @@ fn own_by_register(registers: &Registers<Val>) -> Registers<bool>
     ensures { result ≡ Resuming.own_by_register registers.now }
 {
     Registers {
-        a: is_own(Origin::Register(Register::A), registers.a),
-        b: is_own(Origin::Register(Register::B), registers.b),
-        c: is_own(Origin::Register(Register::C), registers.c),
-        d: is_own(Origin::Register(Register::D), registers.d),
-        e: is_own(Origin::Register(Register::E), registers.e),
-        h: is_own(Origin::Register(Register::H), registers.h),
-        l: is_own(Origin::Register(Register::L), registers.l),
+        a: is_own(Origin::A, registers.a),
+        b: is_own(Origin::B, registers.b),
+        c: is_own(Origin::C, registers.c),
+        d: is_own(Origin::D, registers.d),
+        e: is_own(Origin::E, registers.e),
+        h: is_own(Origin::H, registers.h),
+        l: is_own(Origin::L, registers.l),
     }
 }
 

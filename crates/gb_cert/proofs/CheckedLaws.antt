@@ -26,7 +26,7 @@ use Rattle.gb_domain.specs.RelationRules.{has_place, compared, test_alone, IsRel
 use Rattle.gb_fields.specs.Limits.{unit}
 use Rattle.gb_states.specs.Rules.{is_whole, may_be_known}
 use Rattle.gb_states.specs.RelationSpelling as told
-use Rattle.gb_states.specs.Checked.{flg_in, core_in, test_in, begins_with_zero, begins_with_zeros, are_none, listed_items, cell_of, listed_cells}
+use Rattle.gb_states.specs.Checked.{flg_in, core_in, test_in, begins_with_zero, begins_with_zeros, are_none, listed_items, listed_cells}
 use Rattle.gb_states.proofs.RelationLaws.{is-alone, nothing-told}
 use Rattle.gb_states.proofs.FieldLaws.{and_both, same, Flags, number_of, of-flag, origin_of-number, may-number, ime-number, flags-number, own-again}
 use Rattle.gb_cert.proofs.Lending.{core-long, vals-long, cell-long, lists-behind}

@@ -1,11 +1,11 @@
 //! The nodes with a key.
 
-ghost use Rattle.std.specs.Prelude.{◌≡◌, ◌<◌, ◌≤◌, map, length, ℕ, List};
+ghost use Rattle.std.specs.Prelude.{◌≡◌, ◌<◌, ◌≤◌, false, map, length, ℕ, List};
 ghost use Rattle.gb_states.specs.Rules.{key};
-ghost use Rattle.gb_rows.specs.Rows.{IsFound};
+ghost use Rattle.gb_rows.specs.Rows.{IsFound, IsBetween};
 
 use crate::cert::Cert;
-use gb_rows::{Found, Rows, find_in, find_near};
+use gb_rows::{Found, Rows, find_in, find_near, first_near, found_from};
 
 /// The nodes of a certificate, as rows, and how many of their keys were asked for.
 #[derive(Drop)]
@@ -42,6 +42,13 @@ pub struct Search {
     pub asked: u32,
 }
 
+/// The number of nodes before a key, and how many keys were asked for to find it.
+#[derive(Clone, Copy, PartialEq, Eq)]
+pub struct First {
+    pub number: u32,
+    pub asked: u32,
+}
+
 impl<'a> Cert<'a> {
     /// The numbers of the nodes of a procedure at an address, by `find_in`: at most 32 keys are asked for among
     /// 65,535 nodes, 42 among 1,048,576.
@@ -75,6 +82,46 @@ impl<'a> Cert<'a> {
             asked: 0,
         };
         let found = find_near(&mut rows, near, procedure, address);
+        Search {
+            found,
+            asked: rows.asked,
+        }
+    }
+
+    /// The number of the first node of a procedure at an address, by `first_near`: quickly found where it is a little above
+    /// `near`. Where there is none it is the number of nodes before. At most 32 keys are asked for among 65,535 nodes, 42
+    /// among 1,048,576.
+    pub fn first_near(&self, near: u32, procedure: u8, address: u16) -> First
+        ensures first { IsBetween (map key self.now.nodes) false (procedure, address) result.number result.number }
+        ensures few { length self.now.nodes ≤ 65535 → result.asked ≤ 32 }
+        ensures most { length self.now.nodes ≤ 1048576 → result.asked ≤ 42 }
+    {
+        let _region = self.region();
+        let mut rows = NodeRows {
+            cert: self,
+            asked: 0,
+        };
+        let number = first_near(&mut rows, near, procedure, address);
+        First {
+            number,
+            asked: rows.asked,
+        }
+    }
+
+    /// The numbers of the nodes of a procedure at an address, the first of which is known, by `found_from`. At most 32 keys
+    /// are asked for among 65,535 nodes, 42 among 1,048,576.
+    pub fn found_from(&self, first: u32, procedure: u8, address: u16) -> Search
+        requires { IsBetween (map key self.now.nodes) false (procedure, address) first first }
+        ensures found { IsFound (map key self.now.nodes) (procedure, address) result.found.first result.found.after }
+        ensures few { length self.now.nodes ≤ 65535 → result.asked ≤ 32 }
+        ensures most { length self.now.nodes ≤ 1048576 → result.asked ≤ 42 }
+    {
+        let _region = self.region();
+        let mut rows = NodeRows {
+            cert: self,
+            asked: 0,
+        };
+        let found = found_from(&mut rows, first, procedure, address);
         Search {
             found,
             asked: rows.asked,

@@ -22,7 +22,7 @@ mod walk;
 mod writer;
 
 pub use cert::{Cert, encode};
-pub use find::Search;
+pub use find::{First, Search};
 pub use gb_fields::CertFault;
 pub use gb_rows::Found;
 pub use node::NodeRef;

@@ -129,8 +129,8 @@ impl<'a> NodeRef<'a> {
     fn read_plain(&self, state: &mut Abs)
         ensures { state.new ≡ record (state_of self.now.state.core) { relations = test_alone (compared self.now.state.relations.byte.test) } }
     {
-        state.set_plain(self.core());
-        state.set_relations(test_alone(self.test()));
+        self.lent().put_core(state.core_mut());
+        state.clear_lists(test_alone(self.test()));
     }
 
     /// The same where it holds some: kept out of line, so that a state is cleared and copied only then.

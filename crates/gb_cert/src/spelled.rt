@@ -7,7 +7,6 @@ ghost use Rattle.gb_states.specs.Spelling as spelled;
 
 use crate::told::{compared, put_relations_by};
 use gb_domain::types::{Abs, Cell, Core, Ctl, Flg, ImeSet, May, Origin, Rules, Val};
-use gb_ops::op::Register;
 use gb_ops::registers::Registers;
 use std::alloc::AllocError;
 
@@ -33,14 +32,14 @@ fn origin_number(origin: Option<Origin>) -> u8
 {
     match origin {
         None => 0,
-        Some(Origin::Register(Register::A)) => 1,
+        Some(Origin::A) => 1,
         Some(Origin::F) => 2,
-        Some(Origin::Register(Register::B)) => 3,
-        Some(Origin::Register(Register::C)) => 4,
-        Some(Origin::Register(Register::D)) => 5,
-        Some(Origin::Register(Register::E)) => 6,
-        Some(Origin::Register(Register::H)) => 7,
-        Some(Origin::Register(Register::L)) => 8,
+        Some(Origin::B) => 3,
+        Some(Origin::C) => 4,
+        Some(Origin::D) => 5,
+        Some(Origin::E) => 6,
+        Some(Origin::H) => 7,
+        Some(Origin::L) => 8,
         Some(Origin::Ie) => 9,
         Some(Origin::ReturnHigh) => 10,
         Some(Origin::ReturnLow) => 11,

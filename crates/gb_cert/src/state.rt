@@ -11,7 +11,7 @@ use gb_domain::relations::Relations;
 use gb_domain::types::{Abs, Core, Rules};
 use gb_fields::numbers::{counted, from_place};
 use gb_ops::machine::Region;
-use gb_states::fields::{are_none, core_in, test_in};
+use gb_states::fields::{are_none, core_in, put_core, test_in};
 use gb_states::listed::{append_cells, append_items};
 use gb_states::relations::relations_by;
 use gb_states::role::Role;
@@ -122,6 +122,14 @@ impl<'a> StateRef<'a> {
         core_in(self.bytes)
     }
 
+    /// Its core, in the place of another one.
+    #[inline(always)]
+    pub(crate) fn put_core(&self, core: &mut Core)
+        ensures { core.new ≡ self.now.core }
+    {
+        put_core(self.bytes, core);
+    }
+
     /// The bytes of its stack items, three each, the oldest first.
     pub fn items(&self) -> &'a [u8]
         ensures items { result.now ≡ flat_map spelled.val self.now.items }
@@ -177,8 +185,8 @@ impl<'a> StateRef<'a> {
         ensures { state.new ≡ self.now }
     {
         let (relations, cells) = self.told();
-        state.set_plain(self.known_core());
-        state.set_relations(relations);
+        self.put_core(state.core_mut());
+        state.clear_lists(relations);
         append_items(state, self.items());
         append_cells(state, cells);
     }

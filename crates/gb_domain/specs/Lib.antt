@@ -1,5 +1,6 @@
 pub mod Areas
 pub mod Certificate
+pub mod Lending
 pub mod Limits
 pub mod Pairs
 pub mod Places

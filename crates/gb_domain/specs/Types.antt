@@ -1,5 +1,9 @@
 -- What contracts see of states, procedures and nodes: plain lists.
 use Rattle.std.specs.Prelude.{ℕ, List, [], Option, None}
+use Rattle.gb_ops.specs.declared.op.Register.{Register}
+use Rattle.gb_ops.specs.declared.op.Register.TheVariants as register
+use Rattle.gb_domain.specs.declared.types.Origin.{Origin}
+use Rattle.gb_domain.specs.declared.types.Origin.TheVariants.{A, B, C, D, E, H, L}
 use Rattle.gb_domain.specs.declared.types.Val.{Val}
 use Rattle.gb_domain.specs.declared.types.Core.{Core}
 use Rattle.gb_domain.specs.declared.types.Cell.{Cell}
@@ -32,6 +36,16 @@ pub record Node : Type 0 where
   pub address : ℕ
   pub bank : ℕ
   pub state : AbsState
+
+-- what a register held as the procedure was entered
+abbrev pub origin_of_register : Register → Origin
+origin_of_register register.A = A
+origin_of_register register.B = B
+origin_of_register register.C = C
+origin_of_register register.D = D
+origin_of_register register.E = E
+origin_of_register register.H = H
+origin_of_register register.L = L
 
 -- any byte
 abbrev pub any_val : Val

@@ -27,6 +27,9 @@ impl Model for Abs {
 }
 
 impl Abs {
+    ghost use Rattle.std.specs.Borrow.{sem};
+    ghost use Rattle.gb_domain.specs.Lending.{LendsCore};
+
     /// A state without items and cells, of whose parts nothing is known together.
     pub fn new(core: Core) -> Abs
         ensures { result ≡ state_of core }
@@ -99,15 +102,32 @@ impl Abs {
         self.core = core;
     }
 
+    /// Its core, to be changed in place. All else stays.
+    #[inline(always)]
+    pub fn core_mut(&mut self) -> &mut Core
+        ensures value { result.now ≡ self.old.core }
+        ensures* writes_back { sem 𝓛 (LendsCore self.entry result) }
+    {
+        &mut self.core
+    }
+
+    /// It becomes a state with the same core, without items and cells, of which this is known of several parts together.
+    #[inline(always)]
+    pub fn clear_lists(&mut self, relations: Relations)
+        ensures { self.new ≡ record (state_of self.old.core) { relations = relations } }
+    {
+        self.relations = relations;
+        self.items.clear();
+        self.cells.clear();
+    }
+
     /// It becomes the state with this core, without items and cells, of whose parts nothing is known together.
     #[inline(always)]
     pub fn set_plain(&mut self, core: Core)
         ensures { self.new ≡ state_of core }
     {
         self.core = core;
-        self.relations = Relations::default();
-        self.items.clear();
-        self.cells.clear();
+        self.clear_lists(Relations::default());
     }
 
     /// It gets other items. All else stays.

@@ -1,7 +1,7 @@
 //! What a certificate is made of: values, the core of a state, items, cells and ranges.
 
 ghost use Rattle.std.specs.Prelude.{◌≡◌};
-ghost use Rattle.gb_domain.specs.Types.{zero_val, zero_cell, least_range};
+ghost use Rattle.gb_domain.specs.Types.{origin_of_register, zero_val, zero_cell, least_range};
 
 pub use crate::abs::Abs;
 pub use crate::rules::Rules;
@@ -13,13 +13,37 @@ use gb_ops::registers::Registers;
 pub const RANGES: usize = 8;
 
 /// What a value may be a copy of: what one of these held as the procedure was entered, its return word's bytes among them.
+/// They stand in the order of their numbers in a certificate.
 #[derive(Clone, Copy, PartialEq, Eq)]
 pub enum Origin {
-    Register(Register),
+    A,
     F,
+    B,
+    C,
+    D,
+    E,
+    H,
+    L,
     Ie,
     ReturnHigh,
     ReturnLow,
+}
+
+impl Origin {
+    /// What a register held as the procedure was entered.
+    pub fn of(register: Register) -> Origin
+        ensures { result ≡ origin_of_register register }
+    {
+        match register {
+            Register::A => Origin::A,
+            Register::B => Origin::B,
+            Register::C => Origin::C,
+            Register::D => Origin::D,
+            Register::E => Origin::E,
+            Register::H => Origin::H,
+            Register::L => Origin::L,
+        }
+    }
 }
 
 /// An interval of bytes, both ends included, and what its value is a copy of.

@@ -426,7 +426,7 @@ const EXTENDED_STORES: [(u16, u16, Val, Left); 3] = [
 const HIGH: Val = Val {
     lo: 64,
     hi: 65,
-    origin: Some(Origin::Register(Register::B)),
+    origin: Some(Origin::B),
 };
 
 const LOW: Val = Val {

@@ -80,7 +80,7 @@ fn full() -> Core {
 const OF_H: Val = Val {
     lo: 0x80,
     hi: 0x8F,
-    origin: Some(Origin::Register(Register::H)),
+    origin: Some(Origin::H),
 };
 
 const WORDS: &[Halves] = &[

@@ -239,7 +239,7 @@ fn an_unknown_carry_is_rotated_in(rt: HostRuntime) {
 const A: Val = Val {
     lo: 3,
     hi: 9,
-    origin: Some(Origin::Register(Register::A)),
+    origin: Some(Origin::A),
 };
 
 const KNOWN_A: Val = Val { hi: 3, ..A };

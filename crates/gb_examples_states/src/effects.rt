@@ -141,7 +141,7 @@ fn counts_words(rt: HostRuntime) {
     for (is_copy, before, up, down) in COUNTS {
         let mut core = with_bounds(before);
         if is_copy {
-            core.registers.b.origin = Some(Origin::Register(Register::B));
+            core.registers.b.origin = Some(Origin::B);
         }
         leaves(&rt, Op::IncrementPair(Pair::Bc), &core, with_bounds(up));
         leaves(&rt, Op::DecrementPair(Pair::Bc), &core, with_bounds(down));

@@ -49,10 +49,7 @@ pub struct Procedure {
 
 /// Whether a register's value is what it was as the procedure was entered.
 fn is_kept(val: Val, register: Register) -> bool {
-    match val.origin {
-        Some(Origin::Register(origin)) => origin == register,
-        _ => false,
-    }
+    val.origin == Some(Origin::of(register))
 }
 
 /// The registers that are what they were.

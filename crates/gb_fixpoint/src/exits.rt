@@ -8,7 +8,6 @@ use crate::stop::Stop;
 use crate::types::Run;
 use arrayvec::ArrayVec;
 use gb_domain::pairs::{NOTHING_KNOWN, Pairs};
-use gb_ops::op::Register;
 use gb_ops::registers::Registers;
 use gb_verify::{Abs, Cell, Core, Ctl, Flg, May, OneByte, Origin, Range, Relations, Val};
 
@@ -61,13 +60,13 @@ fn seen_flags(flags: Flg) -> Flg {
 
 fn seen_registers(registers: &Registers<Val>) -> Registers<Val> {
     Registers {
-        a: seen_val(Origin::Register(Register::A), registers.a),
-        b: seen_val(Origin::Register(Register::B), registers.b),
-        c: seen_val(Origin::Register(Register::C), registers.c),
-        d: seen_val(Origin::Register(Register::D), registers.d),
-        e: seen_val(Origin::Register(Register::E), registers.e),
-        h: seen_val(Origin::Register(Register::H), registers.h),
-        l: seen_val(Origin::Register(Register::L), registers.l),
+        a: seen_val(Origin::A, registers.a),
+        b: seen_val(Origin::B, registers.b),
+        c: seen_val(Origin::C, registers.c),
+        d: seen_val(Origin::D, registers.d),
+        e: seen_val(Origin::E, registers.e),
+        h: seen_val(Origin::H, registers.h),
+        l: seen_val(Origin::L, registers.l),
     }
 }
 
@@ -108,8 +107,8 @@ fn seen_pairs(exit: &Abs) -> Pairs {
     let mut pairs = exit.relations().pairs;
     for pair in WORD_PAIRS {
         let (high, low) = halves_of(pair);
-        let is_kept = registers.get(high).origin == Some(Origin::Register(high))
-            && registers.get(low).origin == Some(Origin::Register(low));
+        let is_kept = registers.get(high).origin == Some(Origin::of(high))
+            && registers.get(low).origin == Some(Origin::of(low));
         if is_kept && facts_of(pair, &pairs).link.is_none() {
             set_facts(pair, NOTHING_KNOWN, &mut pairs);
         }

@@ -9,7 +9,6 @@ use crate::stop::Stop;
 use crate::types::{Node, Procedure, Run};
 use gb_abs::covering::{covers_controller, covers_core, covers_ime, covers_val};
 use gb_domain::pairs::Pairs;
-use gb_ops::op::Register;
 use gb_ops::registers::Registers;
 use gb_product::covering::covers_relations;
 use gb_verify::{
@@ -27,7 +26,7 @@ const RETURN_WORD: u8 = 2;
 fn own_registers(registers: &Registers<Val>) -> Registers<Val> {
     let mut own = *registers;
     for register in REGISTERS {
-        let origin = Some(Origin::Register(register));
+        let origin = Some(Origin::of(register));
         let val = registers.get(register);
         own.set(register, Val { origin, ..val });
     }
@@ -79,7 +78,7 @@ fn return_word(address: u16) -> [Val; 2] {
 /// Whether registers, flags and IE are given back as they were.
 fn gives_back_all(exit: &Core) -> bool {
     let are_own = REGISTERS.iter().all(|register| {
-        exit.registers.get(*register).origin == Some(Origin::Register(*register))
+        exit.registers.get(*register).origin == Some(Origin::of(*register))
     });
     are_own && exit.flags.is_own && exit.ie.origin == Some(Origin::Ie)
 }

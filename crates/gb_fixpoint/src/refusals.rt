@@ -200,10 +200,10 @@ fn transfer_refusal(standing: Standing<'_>, ways: &Successors<'_>) -> Option<Ref
     } = standing;
     let (region, core) = (stack.region, state.core());
     let none = RegisterSet::empty();
-    if core.bound != 0 && ways.lent().are_some() && !lies_in_high_ram(address, row.length) {
+    if core.bound != 0 && ways.are_some() && !lies_in_high_ram(address, row.length) {
         return Some((Cause::OamTransfer(TransferMisuse::Code), none));
     }
-    if ways.lent().meet_oam_transfer(region, core) {
+    if ways.meet_oam_transfer(region, core) {
         let misuse = transfer_misuse(core, ways);
         return Some((Cause::OamTransfer(misuse), pointer(row.op)));
     }
@@ -228,16 +228,16 @@ pub fn refusal(rom: &Rom<'_>, standing: Standing<'_>, ways: &Successors<'_>) -> 
         return Some((Cause::PushesTooMany, RegisterSet::empty()));
     }
     let storable = storable(rules, stack.region);
-    if ways.lent().store_outside(stack.setting, rom.kind(), stack.region, storable.as_slice()) {
+    if ways.store_outside(stack.setting, rom.kind(), stack.region, storable.as_slice()) {
         return Some(store_refusal(row.op, ways));
     }
-    if ways.lent().meet_closed_ram(rom, core) {
+    if ways.meet_closed_ram(rom, core) {
         return Some(closed_refusal(rom, core, row.op, ways));
     }
     if let Some(refusal) = transfer_refusal(standing, ways) {
         return Some(refusal);
     }
-    if ways.lent().lead_anywhere() {
+    if ways.lead_anywhere() {
         return Some((Cause::JumpHl, pointer(row.op)));
     }
     None

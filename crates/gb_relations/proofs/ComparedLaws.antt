@@ -6,7 +6,6 @@ use Rattle.std.specs.Int.Bits.{and_self, or_self}
 use Rattle.gb_ops.specs.declared.op.Register.{Register}
 use Rattle.gb_ops.specs.declared.op.Register.TheVariants.{A, B, C, D, E, H, L}
 use Rattle.gb_ops.specs.declared.op.AluOp.TheVariants as alu
-use Rattle.gb_ops.specs.declared.op.Operand.{Operand}
 use Rattle.gb_ops.specs.declared.op.Operand.TheVariants as operand
 use Rattle.gb_ops.specs.declared.op.Op.{Op}
 use Rattle.gb_ops.specs.declared.op.Op.TheVariants as op
@@ -23,8 +22,8 @@ use Rattle.gb_domain.specs.declared.places.OneByte.{OneByte}
 use Rattle.gb_domain.specs.Places.{no_byte, no_place}
 use Rattle.gb_pairs.specs.Meaning.{AreBytes}
 use Rattle.gb_pairs.specs.Written.{is_same}
-use Rattle.gb_places.specs.Meaning.{IsTested, HoldOneByte}
-use Rattle.gb_places.specs.Places.{byte_at, with_place, only_tested}
+use Rattle.gb_places.specs.Meaning.{HoldOneByte}
+use Rattle.gb_places.specs.Places.{byte_at, with_place}
 use Rattle.gb_places.proofs.PlaceLaws.{only_tested_sound}
 use Rattle.gb_relations.specs.Written.{written, writes_flags}
 use Rattle.gb_relations.specs.Compared.{comparison_of, writes_a, only_of_a, compared_by, compared_after}
@@ -63,6 +62,12 @@ only_a b x y memory after f is same h =
     held E e = cc
     held H e = cc
     held L e = cc
+
+-- nothing is said of A: whatever is written, nothing is known behind it
+pub without_a : (is_written : Bool) (b : OneByte) → b.registers.a ≡ false → cond is_written no_byte (only_of_a b) ≡ no_byte
+unfolding only_of_a
+without_a true b h = refl
+without_a false b h = ap (λ is. cond is (record (byte_at (place.Register A)) { test = b.test }) no_byte) h
 
 -- where A stays, and the flags
 pub HoldOneByte-only_of_a : (b : OneByte) (x y : Registers ℕ) (memory after : ℕ → ℕ) (f g : Flags) → y.a ≡ x.a → g ≡ f → HoldOneByte b x memory f → HoldOneByte (only_of_a b) y after g

@@ -1,5 +1,5 @@
 -- What is known together behind a call holds: each part is the caller's, where all that it reads is kept, or the exit's.
-use Rattle.std.proofs.Common.{◌≡◌, ℕ, ◌+◌, ◌*◌, ◌%◌, ◌≤◌, Bool, true, false, cond, ◌&&◌, ◌||◌, ◌==◌, Option, Some, None, refl, sym, ◌∙◌, ap, subst}
+use Rattle.std.proofs.Common.{◌≡◌, ℕ, ◌+◌, ◌*◌, ◌%◌, ◌≤◌, Bool, true, false, cond, ◌&&◌, ◌==◌, Option, Some, None, refl, sym, ◌∙◌, ap, subst}
 use Rattle.std.proofs.lemmas.Bool.{and_parts}
 use Rattle.gb_ops.specs.declared.op.Register.{Register}
 use Rattle.gb_ops.specs.declared.op.Register.TheVariants.{A, B, C, D, E, H, L}
@@ -11,14 +11,12 @@ use Rattle.gb_domain.specs.declared.pairs.WordPair.{WordPair}
 use Rattle.gb_domain.specs.declared.pairs.WordPair.TheVariants as pair
 use Rattle.gb_domain.specs.declared.pairs.Other.{Other}
 use Rattle.gb_domain.specs.declared.pairs.Other.TheVariants as other
-use Rattle.gb_domain.specs.declared.pairs.Bounds.{Bounds}
 use Rattle.gb_domain.specs.declared.pairs.Link.{Link}
 use Rattle.gb_domain.specs.declared.pairs.PairFacts.{PairFacts}
 use Rattle.gb_domain.specs.declared.places.OneByte.{OneByte}
 use Rattle.gb_domain.specs.declared.relations.Relations.{Relations}
 use Rattle.gb_domain.specs.Pairs.{facts_of}
-use Rattle.gb_pairs.specs.Bounds.{high_of, low_of}
-use Rattle.gb_pairs.specs.Meaning.{word_of, other_of, IsLinked, HoldsPair, HoldPairs}
+use Rattle.gb_pairs.specs.Meaning.{word_of, other_of, IsLinked, HoldsPair}
 use Rattle.gb_places.specs.Meaning.{HoldOneByte}
 use Rattle.gb_places.specs.Places.{has_place, of_places, without_test}
 use Rattle.gb_relations.specs.declared.returned.Kept.{Kept}

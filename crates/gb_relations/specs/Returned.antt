@@ -1,6 +1,6 @@
 -- What is known together of a caller's states behind a call: of what was known as it called, and of what the callee's exit says
 -- (own rules: calls, version 3).
-use Rattle.std.specs.Prelude.{◌≡◌, ℕ, Bool, true, false, ◌&&◌, if◌then◌else◌, Option, Some, None}
+use Rattle.std.specs.Prelude.{◌≡◌, ℕ, Bool, true, ◌&&◌, if◌then◌else◌, Option, Some, None}
 use Rattle.gb_ops.specs.declared.op.Register.{Register}
 use Rattle.gb_ops.specs.declared.registers.Registers.{Registers}
 use Rattle.gb_ops.specs.declared.registers.Flags.{Flags}
@@ -11,7 +11,6 @@ use Rattle.gb_domain.specs.declared.pairs.Other.{Other}
 use Rattle.gb_domain.specs.declared.pairs.Other.TheVariants as other
 use Rattle.gb_domain.specs.declared.pairs.Link.{Link}
 use Rattle.gb_domain.specs.declared.pairs.PairFacts.{PairFacts}
-use Rattle.gb_domain.specs.declared.pairs.Pairs.{Pairs}
 use Rattle.gb_domain.specs.declared.places.OneByte.{OneByte}
 use Rattle.gb_domain.specs.declared.relations.Relations.{Relations}
 use Rattle.gb_pairs.specs.Bounds.{high_of, low_of}

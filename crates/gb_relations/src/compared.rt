@@ -70,12 +70,14 @@ pub fn only_of_a(byte: &OneByte) -> OneByte
 }
 
 /// The comparison of A behind an instruction: its own, or the one before it until A or the flags are written.
-#[tactic(auto, unfolding(crate::specs::Compared::compared_after))]
+#[inline(always)]
+#[tactic(auto, using(crate::proofs::ComparedLaws::without_a), unfolding(crate::specs::Compared::compared_after))]
 pub(crate) fn compared_after(op: Op, byte: &OneByte) -> OneByte
     ensures { result ≡ Compared.compared_after op byte.now }
 {
     match comparison_of(op) {
         Some(value) => only_tested(Place::Register(Register::A), Test::Compare(value)),
+        None if !byte.registers.a => OneByte::default(),
         None if writes_flags(op) || writes_a(op) => OneByte::default(),
         None => only_of_a(byte),
     }

@@ -2,6 +2,9 @@
 //! carry of ADD HL.
 
 ghost use Rattle.std.specs.Prelude.{◌≡◌};
+ghost use Rattle.gb_ops.specs.declared.op.Op.TheVariants.{AddHl};
+ghost use Rattle.gb_pairs.specs.Bounds.{bounds_of};
+ghost use Rattle.gb_relations.specs.Transfer.{values_of};
 ghost use Rattle.gb_relations.specs.Pointers as Pointers;
 ghost use Rattle.gb_relations.specs.Pointers.{IsSoundPointer, IsSoundCarry};
 
@@ -9,7 +12,7 @@ use crate::pairs::{addend, is_hl};
 use crate::transfer::holds_words;
 use gb_domain::pairs::{Bounds, Pairs, WordPair};
 use gb_domain::types::{Rules, Val};
-use gb_ops::op::{Indirect, Op, Operand};
+use gb_ops::op::{Indirect, Op, Operand, Pair};
 use gb_ops::registers::Registers;
 use gb_pairs::bounds::bounds_of;
 use gb_pairs::moved::added;
@@ -56,6 +59,19 @@ fn pointer_of(op: Op) -> Option<WordPair>
     }
 }
 
+/// The bounds of a pair, kept out of line, so that the values are copied only where one is asked for.
+#[inline(never)]
+fn pair_bounds(pair: WordPair, registers: &Registers<Val>, pairs: &Pairs) -> Bounds
+    ensures { result ≡ bounds_of pair (values_of registers.now pairs.now) }
+{
+    let values = Values {
+        registers: *registers,
+        pairs: *pairs,
+    };
+    bounds_of(pair, &values)
+}
+
+#[inline(always)]
 #[tactic(auto, unfolding(crate::specs::Pointers::pointer_bounds))]
 fn bounds_at(rules: Rules, op: Op, registers: &Registers<Val>, pairs: &Pairs) -> Option<Bounds>
     ensures { result ≡ Pointers.pointer_bounds rules op registers.now pairs.now }
@@ -64,15 +80,12 @@ fn bounds_at(rules: Rules, op: Op, registers: &Registers<Val>, pairs: &Pairs) ->
         return None;
     }
     let pointer = pointer_of(op)?;
-    let values = Values {
-        registers: *registers,
-        pairs: *pairs,
-    };
-    Some(bounds_of(pointer, &values))
+    Some(pair_bounds(pointer, registers, pairs))
 }
 
 /// The addresses of the byte that an instruction reads or writes, where a pair holds its address: the pair's bounds, as registers
 /// and pairs are before it. None where no pair does, and by the rules of versions 1 and 2.
+#[inline(always)]
 #[tactic(auto, using(crate::proofs::PointerLaws::pointer_bounds_sound))]
 pub fn pointer_bounds(
     rules: Rules,
@@ -86,6 +99,19 @@ pub fn pointer_bounds(
     bounds_at(rules, op, registers, pairs)
 }
 
+/// The carry of ADD HL, by the rules of version 3.
+#[inline(never)]
+fn sum_carry(pair: Pair, sp: Bounds, registers: &Registers<Val>, pairs: &Pairs) -> Option<bool>
+    ensures { result ≡ Pointers.carry_after (AddHl pair) sp (values_of registers.now pairs.now) }
+{
+    let values = Values {
+        registers: *registers,
+        pairs: *pairs,
+    };
+    added(addend(pair, sp, &values), is_hl(pair), &values).carry
+}
+
+#[inline(always)]
 #[tactic(auto, unfolding(crate::specs::Pointers::known_carry))]
 fn carry_after(
     rules: Rules,
@@ -99,18 +125,15 @@ fn carry_after(
     if rules == Rules::Simple {
         return None;
     }
-    let values = Values {
-        registers: *registers,
-        pairs: *pairs,
-    };
     match op {
-        Op::AddHl(pair) => added(addend(pair, sp, &values), is_hl(pair), &values).carry,
+        Op::AddHl(pair) => sum_carry(pair, sp, registers, pairs),
         _ => None,
     }
 }
 
 /// The carry of ADD HL, where it is known, as registers and pairs are before it, and SP has these bounds. None for other
 /// instructions, and by the rules of versions 1 and 2.
+#[inline(always)]
 #[tactic(auto, using(crate::proofs::PointerLaws::known_carry_sound))]
 pub fn known_carry(
     rules: Rules,

@@ -1,6 +1,7 @@
 //! What an instruction leaves of what is known of several parts together.
 
 ghost use Rattle.std.specs.Prelude.{◌≡◌, ◌<◌};
+ghost use Rattle.gb_domain.specs.declared.rules.Rules.TheVariants.{Extended};
 ghost use Rattle.gb_domain.specs.Pairs.{ArePairs};
 ghost use Rattle.gb_pairs.specs.Written as Halves;
 ghost use Rattle.gb_relations.specs.Written.{list_of};
@@ -104,6 +105,31 @@ pub(crate) fn holds_words(pairs: Pairs)
     ensures hl { pairs.hl.bounds.last < 65536 }
 {}
 
+/// By the rules of version 3.
+#[inline(never)]
+#[tactic(auto, unfolding(crate::specs::Transfer::relations_after))]
+fn related_after(
+    region: Region,
+    op: Op,
+    sp: Bounds,
+    registers: &Registers<Val>,
+    low: Val,
+    relations: &Relations,
+) -> Relations
+    ensures { result ≡ Transfer.relations_after Extended region op sp registers.now low relations.now }
+{
+    let values = Values {
+        registers: *registers,
+        pairs: relations.pairs,
+    };
+    Relations {
+        byte: byte_after(region, op, &values, low, &relations.byte),
+        zero: zero_after(op, &relations.byte, relations.zero),
+        pairs: pairs_after(op, sp, &values),
+    }
+}
+
+#[inline(always)]
 #[tactic(auto, unfolding(crate::specs::Transfer::relations_after))]
 fn apply(
     rules: Rules,
@@ -116,25 +142,18 @@ fn apply(
 ) -> Relations
     ensures { result ≡ Transfer.relations_after rules region op sp registers.now low relations.now }
 {
-    if rules == Rules::Simple {
-        return Relations {
+    match rules {
+        Rules::Simple => Relations {
             byte: compared_after(op, &relations.byte),
             ..Relations::default()
-        };
-    }
-    let values = Values {
-        registers: *registers,
-        pairs: relations.pairs,
-    };
-    Relations {
-        byte: byte_after(region, op, &values, low, &relations.byte),
-        zero: zero_after(op, &relations.byte, relations.zero),
-        pairs: pairs_after(op, sp, &values),
+        },
+        Rules::Extended => related_after(region, op, sp, registers, low, relations),
     }
 }
 
 /// What is known together behind a taken instruction. Registers and relations are those before it, SP has these bounds, and
 /// `low` is what it read at an address. By the rules of versions 1 and 2 that is a comparison of A alone.
+#[inline(always)]
 #[tactic(auto, using(crate::proofs::TransferLaws::relations_after_sound, crate::proofs::TransferLaws::relations_after_kept))]
 pub fn relations_after(
     rules: Rules,

@@ -144,6 +144,34 @@ pub fn find_in<R: Rows>(rows: &mut R, procedure: u8, address: u16) -> Found
     Found { first, after }
 }
 
+/// The number of rows before a key, which is the first row with it where there is one. It is looked for from a row on: few
+/// keys are asked for where it is a little behind it, and wherever it is at most 2 * n among fewer than 2 ^ n rows: 32 among
+/// 65,535 rows, 42 among 1,048,576.
+pub fn first_near<R: Rows>(rows: &mut R, near: u32, procedure: u8, address: u16) -> u32
+    requires { AreInOrder (R.keys rows.old) }
+    ensures first { IsBetween (R.keys rows.old) false (procedure, address) result result }
+    ensures same { R.keys rows.new ≡ R.keys rows.old }
+    ensures asked { (bits : ℕ) → length (R.keys rows.old) < 2 ^ bits → AskedAtMost (R.asked rows.old) (R.asked rows.new) (2 * bits) }
+    ensures few { length (R.keys rows.old) ≤ 65535 → AskedAtMost (R.asked rows.old) (R.asked rows.new) 32 }
+    ensures most { length (R.keys rows.old) ≤ 1048576 → AskedAtMost (R.asked rows.old) (R.asked rows.new) 42 }
+{
+    count_near(rows, false, (procedure, address), near)
+}
+
+/// The rows with a key, where the number of those before them is known: as many keys are asked for at most.
+pub fn found_from<R: Rows>(rows: &mut R, first: u32, procedure: u8, address: u16) -> Found
+    requires order { AreInOrder (R.keys rows.old) }
+    requires first { IsBetween (R.keys rows.old) false (procedure, address) first first }
+    ensures found { IsFound (R.keys rows.old) (procedure, address) result.first result.after }
+    ensures same { R.keys rows.new ≡ R.keys rows.old }
+    ensures asked { (bits : ℕ) → length (R.keys rows.old) < 2 ^ bits → AskedAtMost (R.asked rows.old) (R.asked rows.new) (2 * bits) }
+    ensures few { length (R.keys rows.old) ≤ 65535 → AskedAtMost (R.asked rows.old) (R.asked rows.new) 32 }
+    ensures most { length (R.keys rows.old) ≤ 1048576 → AskedAtMost (R.asked rows.old) (R.asked rows.new) 42 }
+{
+    let after = count_near(rows, true, (procedure, address), first);
+    Found { first, after }
+}
+
 /// The same rows, looked for from a row on: few keys are asked for where they are a little behind it, and wherever they
 /// are at most 4 * n among fewer than 2 ^ n rows: 64 among 65,535 rows, 84 among 1,048,576.
 pub fn find_near<R: Rows>(rows: &mut R, near: u32, procedure: u8, address: u16) -> Found
@@ -154,8 +182,6 @@ pub fn find_near<R: Rows>(rows: &mut R, near: u32, procedure: u8, address: u16) 
     ensures few { length (R.keys rows.old) ≤ 65535 → AskedAtMost (R.asked rows.old) (R.asked rows.new) 64 }
     ensures most { length (R.keys rows.old) ≤ 1048576 → AskedAtMost (R.asked rows.old) (R.asked rows.new) 84 }
 {
-    let key = (procedure, address);
-    let first = count_near(rows, false, key, near);
-    let after = count_near(rows, true, key, first);
-    Found { first, after }
+    let first = first_near(rows, near, procedure, address);
+    found_from(rows, first, procedure, address)
 }

@@ -17,6 +17,7 @@ pub mod EventLaws
 pub mod DispatchLaws
 pub mod HandlerLaws
 pub mod InterruptLaws
+pub mod LowestLaws
 pub mod AnswerLaws
 pub mod FrameLaws
 pub mod ResumedLaws

@@ -1,15 +1,16 @@
 -- A node that covers lies among those with its key.
-use Rattle.std.proofs.Common.{◌≡◌, ℕ, zero, suc, ◌+◌, ◌≤◌, ◌<◌, Bool, true, false, ◌&&◌, ◌==◌, List, [], ◌∷◌, map, slice_get, ◌⊎◌, inl, inr, Some, refl, sym, ◌∙◌, ap, arith}
+use Rattle.std.proofs.Common.{◌≡◌, ℕ, zero, suc, ◌+◌, ◌≤◌, ◌<◌, Bool, true, false, ◌&&◌, ◌==◌, List, [], ◌∷◌, map, slice_get, ◌⊎◌, inl, inr, Option, Some, refl, sym, ◌∙◌, ap, subst, arith}
 use Rattle.std.proofs.lemmas.Bool.{or_right, and_parts, eqb-true}
 use Rattle.std.proofs.lemmas.Bool.Decides.{nat_tests}
 use Rattle.std.proofs.lemmas.Option.{slice_get_within, get_or_from_slice_get, slice_get-map}
-use Rattle.std.specs.Prelude.{option_map}
+use Rattle.std.specs.Prelude.{◌||◌, option_map, IfSome}
 use Rattle.std.specs.List.{Contains, list_any}
 use Rattle.gb_calls.specs.Below.gb_rows.Rows.{IsFound}
+use Rattle.gb_domain.specs.declared.rules.Rules.{Rules}
 use Rattle.gb_domain.specs.Types.{AbsState, Node}
 use Rattle.gb_states.specs.Rules.{key}
 use Rattle.gb_product.specs.Covering.{covers}
-use Rattle.gb_rules.specs.Covered.{is_cover, is_covered_by_one}
+use Rattle.gb_rules.specs.Covered.{is_cover, is_covered_by_one, covered_at}
 
 -- one that passes
 found_at : {X : Type 0} (test : X → Bool) (xs : List X) (i : ℕ) (x : X) → slice_get xs i ≡ Some x → test x ≡ true → list_any test xs ≡ true
@@ -84,6 +85,23 @@ one_covers nodes procedure a s first after i n found least most at h =
   where
     covering : (m procedure b a : ℕ) (c : Bool) → m ≡ procedure → b ≡ a → c ≡ true → ((m == procedure) && (b == a) && c) ≡ true
     covering m procedure b a c e f h = grind (arith, nat_tests)
+
+-- the node with a number covers
+pub covered_by : (rules : Rules) (nodes : List Node) (procedure a : ℕ) (s : AbsState) (i : ℕ) (n : Node) (has covering : Bool) → IfSome (slice_get nodes i) (λ m. has ≡ ((m.procedure == procedure) && (m.address == a)))
+    → slice_get nodes i ≡ Some n → covering ≡ covers s n.state → has ≡ true → covering ≡ true → true ≡ covered_at rules nodes procedure a s
+unfolding covered_at is_covered_by_one
+covered_by rules nodes procedure a s i n has covering key at is keyed covers =
+    let told : has ≡ ((n.procedure == procedure) && (n.address == a)) = subst (λ (o : Option Node). IfSome o (λ m. has ≡ ((m.procedure == procedure) && (m.address == a)))) at key in
+    let both : is_cover procedure a s n ≡ true = both_true _ _ (sym told ∙ keyed) (sym is ∙ covers) in
+    sym (or_left _ _ (found_at (is_cover procedure a s) nodes i n at both))
+  where
+    both_true : (b c : Bool) → b ≡ true → c ≡ true → (b && c) ≡ true
+    both_true true c e f = f
+    both_true false c e f = e
+
+    or_left : (b c : Bool) → b ≡ true → (b || c) ≡ true
+    or_left true c e = refl
+    or_left false c e = cc
 
 -- the element with a number is an element
 pub Contains-slice_get : {X : Type 0} (xs : List X) (i : ℕ) (x : X) → slice_get xs i ≡ Some x → Contains xs x

@@ -39,7 +39,6 @@ use Rattle.gb_calls.specs.Calls.{callee_of, are_ranges_inside}
 use Rattle.gb_calls.specs.Resuming.{resumed}
 use Rattle.gb_calls.specs.Interrupts.{left_by_dispatch, may_come, handler_of}
 use Rattle.gb_rules.specs.declared.procedures.Called.{Called}
-use Rattle.gb_rules.specs.declared.procedures.Calls.{Calls}
 use Rattle.gb_rules.specs.Covered.{covered_at}
 use Rattle.gb_rules.specs.Procedures.{ranges_of, need_of, setting_of, stack_of, exit_of, taken_by}
 
@@ -159,6 +158,16 @@ abbrev pub moves_too_deep : Rules → ℕ → Node → Op → Option Successor �
 moves_too_deep Simple need n o taken = pushes_too_deep need n o
 moves_too_deep Extended need n o taken = grows_over need n o taken
 
+-- what of that is asked wherever the instruction leads
+abbrev pub moves_alone_too_deep : Rules → ℕ → Node → Op → Bool
+moves_alone_too_deep Simple need n o = pushes_too_deep need n o
+moves_alone_too_deep Extended need n o = false
+
+-- and what where it is taken
+abbrev pub taken_too_deep : Rules → ℕ → Node → Op → Bool
+taken_too_deep Simple need n o = false
+taken_too_deep Extended need n o = is_deep_if need (bytes_after o (length n.state.items))
+
 -- ---- its successors
 
 -- an OAM transfer may close a byte of the instruction
@@ -243,13 +252,6 @@ no_call = record { callee = None; is_deep = false; is_uncovered = false }
 abbrev pub called_to : Certificate → Stack → ℕ → Target → ℕ → AbsState → Called
 called_to cert k procedure (target.Call a) back s = called_by cert k procedure a back s
 called_to cert k procedure _ back s = no_call
-
-abbrev pub called_in : Certificate → Stack → ℕ → Option Successor → Called
-called_in cert k procedure None = no_call
-called_in cert k procedure (Some t) = called_to cert k procedure t.target t.next t.state
-
-unfoldable pub calls_of : Certificate → Stack → ℕ → Successors → Calls
-calls_of cert k procedure ss = record { taken = called_in cert k procedure ss.taken; not_taken = called_in cert k procedure ss.not_taken; stays = called_in cert k procedure ss.stays }
 
 -- By the rules of versions 1 and 2 a callee is asked for, and that it writes where its caller may alone. By those of version 3
 -- main may write anywhere, and what has no callee is inlined.

@@ -1,6 +1,6 @@
 //! Covering at an address.
 
-ghost use Rattle.std.specs.Prelude.{◌≡◌, ◌<◌, ◌&&◌, ◌||◌, ℕ, false, nat_le, slice_index_or, IfSome, IfNone, map};
+ghost use Rattle.std.specs.Prelude.{◌≡◌, ◌==◌, ◌<◌, ◌&&◌, ◌||◌, ℕ, true, false, nat_le, slice_get, slice_index_or, length, IfSome, IfNone, map};
 ghost use Rattle.gb_calls.specs.Below.gb_rows.Rows.{IsFound};
 ghost use Rattle.gb_domain.specs.declared.rules.Rules.TheVariants.{Simple, Extended};
 ghost use Rattle.gb_states.specs.Rules.{key};
@@ -265,10 +265,48 @@ fn is_covered_by_values(
     }
 }
 
-/// Whether one node of the procedure stands for these states at the address, or for one register value
-/// by value some do. Only the nodes of that procedure and address are looked at, and they are looked for from the node with
-/// the number `near` on.
+/// Whether one of the nodes that were found stands for these states, or for one register value by value some do.
 #[tactic(auto, unfolding(crate::specs::Covered::covered_at))]
+fn is_covered_among(
+    rules: Rules,
+    cert: &Cert<'_>,
+    found: Found,
+    procedure: u8,
+    address: u16,
+    states: &States<'_>,
+) -> bool
+    requires { IsFound (map key cert.now.nodes) (procedure, address) found.first found.after }
+    ensures { result ≡ Covered.covered_at rules cert.now.nodes procedure address (Covered.with_parts states.now.core.now states.now.relations.now states.now.lists.now) }
+{
+    is_covered_by_one(cert, &found, procedure, address, states)
+        || is_covered_by_values(rules, cert, &found, procedure, address, states, Register::A)
+        || is_covered_by_values(rules, cert, &found, procedure, address, states, Register::B)
+        || is_covered_by_values(rules, cert, &found, procedure, address, states, Register::C)
+        || is_covered_by_values(rules, cert, &found, procedure, address, states, Register::D)
+        || is_covered_by_values(rules, cert, &found, procedure, address, states, Register::E)
+        || is_covered_by_values(rules, cert, &found, procedure, address, states, Register::H)
+        || is_covered_by_values(rules, cert, &found, procedure, address, states, Register::L)
+}
+
+/// Whether there is a node with a number, of this procedure and at this address.
+#[inline(always)]
+fn has_key(cert: &Cert<'_>, number: u32, procedure: u8, address: u16) -> bool
+    ensures some { IfSome (slice_get cert.now.nodes number) (λ n. result ≡ (n.procedure == procedure && n.address == address)) }
+    ensures none { IfNone (slice_get cert.now.nodes number) (result ≡ false) }
+    ensures inside { result ≡ true → number < length cert.now.nodes }
+{
+    if number < cert.nodes() {
+        let node = cert.node(number);
+        node.procedure() == procedure && node.address() == address
+    } else {
+        false
+    }
+}
+
+/// Whether one node of the procedure stands for these states at the address, or for one register value
+/// by value some do. Only the nodes of that procedure and address are looked at. Mostly the one behind the node with the number
+/// `near` stands for them, or else the first one, which is looked for from there on; the others are looked for only where it
+/// doesn't.
 pub fn covered_near(
     rules: Rules,
     cert: &Cert<'_>,
@@ -279,15 +317,18 @@ pub fn covered_near(
 ) -> bool
     ensures { result ≡ Covered.covered_at rules cert.now.nodes procedure address (Covered.with_parts states.now.core.now states.now.relations.now states.now.lists.now) }
 {
-    let found = cert.find_near(near, procedure, address).found;
-    is_covered_by_one(cert, &found, procedure, address, states)
-        || is_covered_by_values(rules, cert, &found, procedure, address, states, Register::A)
-        || is_covered_by_values(rules, cert, &found, procedure, address, states, Register::B)
-        || is_covered_by_values(rules, cert, &found, procedure, address, states, Register::C)
-        || is_covered_by_values(rules, cert, &found, procedure, address, states, Register::D)
-        || is_covered_by_values(rules, cert, &found, procedure, address, states, Register::E)
-        || is_covered_by_values(rules, cert, &found, procedure, address, states, Register::H)
-        || is_covered_by_values(rules, cert, &found, procedure, address, states, Register::L)
+    let behind = near.saturating_add(1);
+    let is_there = has_key(cert, behind, procedure, address);
+    if is_there && covers_states(states, &cert.node(behind)) {
+        return true;
+    }
+    let start = if is_there { near } else { behind };
+    let first = cert.first_near(start, procedure, address).number;
+    if has_key(cert, first, procedure, address) && covers_states(states, &cert.node(first)) {
+        return true;
+    }
+    let found = cert.found_from(first, procedure, address).found;
+    is_covered_among(rules, cert, found, procedure, address, states)
 }
 
 /// Whether one node of the procedure stands for these states at the address, or for one register value

@@ -7,7 +7,6 @@ ghost use Rattle.gb_rules.specs.Rules as Ruled;
 use gb_calls::NodeRef;
 use gb_domain::types::{Abs, Rules};
 use gb_ops::op::{Op, Pair};
-use gb_successors::successor::Successor;
 
 /// Whether so many bytes are more than the need, or than a state can hold.
 #[tactic(auto, unfolding(gb_domain::specs::Limits::item_room))]
@@ -52,37 +51,47 @@ fn bytes_after(op: Op, held: usize) -> Option<usize>
     }
 }
 
-/// Whether more bytes are held behind a taken instruction than the need, or than a state can hold.
-fn grows_over(
-    need: u16,
-    node: &NodeRef<'_>,
-    state: &Abs,
-    op: Op,
-    taken: &Option<Successor<'_>>,
-) -> bool
+/// Whether more bytes are held behind an instruction that is taken than the need, or than a state can hold.
+fn grows_over(need: u16, node: &NodeRef<'_>, state: &Abs, op: Op) -> bool
     requires { state.now ≡ node.now.state }
-    ensures { result ≡ Ruled.grows_over need node.now op taken.now }
+    ensures { result ≡ Ruled.is_deep_if need (Ruled.bytes_after op (length node.now.state.items)) }
 {
     match bytes_after(op, state.items().len()) {
-        Some(bytes) => taken.is_some() && is_deep(Rules::Extended, need, bytes),
+        Some(bytes) => is_deep(Rules::Extended, need, bytes),
         None => false,
     }
 }
 
-/// Whether the stack grows too deep behind the instruction.
-pub(crate) fn moves_too_deep(
+/// Whether the stack grows too deep behind the instruction, by what is asked of it alone.
+pub(crate) fn moves_alone_too_deep(
     rules: Rules,
     need: u16,
     node: &NodeRef<'_>,
     state: &Abs,
     op: Op,
-    taken: &Option<Successor<'_>>,
 ) -> bool
     requires { state.now ≡ node.now.state }
-    ensures { result ≡ Ruled.moves_too_deep rules need node.now op taken.now }
+    ensures { result ≡ Ruled.moves_alone_too_deep rules need node.now op }
 {
     match rules {
         Rules::Simple => pushes_too_deep(need, node, state, op),
-        Rules::Extended => grows_over(need, node, state, op, taken),
+        Rules::Extended => false,
+    }
+}
+
+/// Whether it grows too deep where the instruction is taken.
+pub(crate) fn taken_too_deep(
+    rules: Rules,
+    need: u16,
+    node: &NodeRef<'_>,
+    state: &Abs,
+    op: Op,
+) -> bool
+    requires { state.now ≡ node.now.state }
+    ensures { result ≡ Ruled.taken_too_deep rules need node.now op }
+{
+    match rules {
+        Rules::Simple => false,
+        Rules::Extended => grows_over(need, node, state, op),
     }
 }

@@ -6,7 +6,7 @@
 //! holds of each event, a dispatch among them.
 //!
 //! Read `covered` (the nodes that stand for a successor's states), `procedures` (calls and returns),
-//! `interrupts`, and then `rules`. Of the definitions, `Covered`, `Procedures`, `Rules` and `Safety`; then `Frames`: the
+//! `interrupts`, `ways`, and then `rules`. Of the definitions, `Covered`, `Procedures`, `Rules` and `Safety`; then `Frames`: the
 //! procedures that wait for one another.
 #![tactic(auto)]
 
@@ -17,6 +17,7 @@ pub mod procedures;
 pub mod room;
 pub mod rules;
 mod stacks;
+mod ways;
 
 // What lies below, for the crates above.
 pub use gb_abs::covering::cell_at;

@@ -4,7 +4,6 @@
 ghost use Rattle.std.specs.Prelude.{◌≡◌, ◌<◌, length, slice_get, Option, Some};
 ghost use Rattle.gb_domain.specs.Limits as Limits;
 ghost use Rattle.gb_calls.specs.Calls.{callee_of};
-ghost use Rattle.gb_successors.specs.Successors.{has};
 ghost use Rattle.gb_rules.specs.Covered as Covered;
 ghost use Rattle.gb_rules.specs.Procedures as Procedures;
 ghost use Rattle.gb_rules.specs.Rules as Ruled;
@@ -21,7 +20,6 @@ use gb_domain::types::{Abs, Range, Rules, Setting};
 use gb_successors::Target;
 use gb_successors::stacks::Stack;
 use gb_successors::successor::Successor;
-use gb_successors::successors::Ways;
 
 /// What a procedure may write; nothing where there is none with the number.
 #[tactic(auto, unfolding(crate::specs::Procedures::ranges_of))]
@@ -388,14 +386,6 @@ const NO_CALL: Called = Called {
     is_uncovered: false,
 };
 
-/// What the calls of an instruction's successors ask.
-#[derive(Clone, Copy, PartialEq, Eq)]
-pub(crate) struct Calls {
-    pub taken: Called,
-    pub not_taken: Called,
-    pub stays: Called,
-}
-
 /// What a call at an address asks: the states behind it are built once.
 #[inline(never)]
 fn called_from(
@@ -435,58 +425,39 @@ fn called_from(
     }
 }
 
-fn called_in(
+/// What a successor's call asks.
+pub(crate) fn called_by(
     cert: &Cert<'_>,
     near: u32,
     stack: Stack,
     procedure: u8,
-    way: &Option<Successor<'_>>,
+    successor: &Successor<'_>,
     room: &mut Room,
 ) -> Called
-    ensures { result ≡ Ruled.called_in cert.now stack procedure way.now }
+    ensures { result ≡ Ruled.called_to cert.now stack procedure successor.now.target successor.now.next successor.now.state }
 {
-    let Some(successor) = way else { return NO_CALL };
     match successor.target {
         Target::Call(address) => called_from(
             cert, near, stack, procedure, address, successor, room,
         ),
-        Target::At(_) | Target::Main(_) | Target::Return | Target::Unknown | Target::Lost =>
-            NO_CALL,
-    }
-}
-
-/// What the calls of the successors ask.
-#[tactic(auto, unfolding(crate::specs::Rules::calls_of))]
-pub(crate) fn calls_of(
-    cert: &Cert<'_>,
-    near: u32,
-    stack: Stack,
-    procedure: u8,
-    ways: &Ways<'_, '_>,
-    room: &mut Room,
-) -> Calls
-    ensures { result ≡ Ruled.calls_of cert.now stack procedure ways.now }
-{
-    Calls {
-        taken: called_in(cert, near, stack, procedure, ways.taken, room),
-        not_taken: called_in(cert, near, stack, procedure, ways.not_taken, room),
-        stays: called_in(cert, near, stack, procedure, ways.stays, room),
+        Target::At(_) | Target::Main(_) | Target::Return | Target::Unknown | Target::Lost => {
+            NO_CALL
+        }
     }
 }
 
 /// Whether a successor and its callee hold more bytes than the need.
 #[tactic(auto, unfolding(crate::specs::Rules::calls_too_deep, crate::specs::Rules::callee_at))]
-pub(crate) fn has_deep(
+pub(crate) fn calls_too_deep(
     cert: &Cert<'_>,
     stack: Stack,
     procedure: u8,
-    way: &Option<Successor<'_>>,
+    successor: &Successor<'_>,
     called: Called,
 ) -> bool
-    requires { called ≡ Ruled.called_in cert.now stack procedure way.now }
-    ensures { result ≡ has (Ruled.calls_too_deep cert.now stack.setting stack.need) way.now }
+    requires { called ≡ Ruled.called_to cert.now stack procedure successor.now.target successor.now.next successor.now.state }
+    ensures { result ≡ Ruled.calls_too_deep cert.now stack.setting stack.need successor.now }
 {
-    let Some(successor) = way else { return false };
     match successor.target {
         Target::Call(_) => called.is_deep,
         Target::At(_) | Target::Main(_) | Target::Return | Target::Unknown | Target::Lost => false,
@@ -496,19 +467,18 @@ pub(crate) fn has_deep(
 /// Whether no node stands for the states behind an instruction, where they go on in the same procedure, at once or when the
 /// callee returns, or in main.
 #[tactic(auto, unfolding(crate::specs::Rules::is_uncovered))]
-pub(crate) fn has_uncovered(
+pub(crate) fn is_uncovered(
     cert: &Cert<'_>,
     near: u32,
     stack: Stack,
     procedure: u8,
-    way: &Option<Successor<'_>>,
+    successor: &Successor<'_>,
     called: Called,
     room: &mut Room,
 ) -> bool
-    requires { called ≡ Ruled.called_in cert.now stack procedure way.now }
-    ensures { result ≡ has (Ruled.is_uncovered stack.setting cert.now procedure) way.now }
+    requires { called ≡ Ruled.called_to cert.now stack procedure successor.now.target successor.now.next successor.now.state }
+    ensures { result ≡ Ruled.is_uncovered stack.setting cert.now procedure successor.now }
 {
-    let Some(successor) = way else { return false };
     let rules = stack.setting.rules;
     match successor.target {
         Target::At(address) => !is_covered(rules, cert, near, procedure, address, successor, room),
@@ -520,17 +490,16 @@ pub(crate) fn has_uncovered(
 
 /// Whether a successor calls what it may not.
 #[tactic(auto, unfolding(crate::specs::Rules::is_uncallable))]
-pub(crate) fn has_uncallable(
+pub(crate) fn is_uncallable(
     cert: &Cert<'_>,
     stack: Stack,
     procedure: u8,
-    way: &Option<Successor<'_>>,
+    successor: &Successor<'_>,
     called: Called,
 ) -> bool
-    requires { called ≡ Ruled.called_in cert.now stack procedure way.now }
-    ensures { result ≡ has (Ruled.is_uncallable stack.setting cert.now procedure) way.now }
+    requires { called ≡ Ruled.called_to cert.now stack procedure successor.now.target successor.now.next successor.now.state }
+    ensures { result ≡ Ruled.is_uncallable stack.setting cert.now procedure successor.now }
 {
-    let Some(successor) = way else { return false };
     match successor.target {
         Target::Call(_) => is_outside_of(cert, stack.setting, procedure, called.callee),
         Target::At(_) | Target::Main(_) | Target::Return | Target::Unknown | Target::Lost => false,
@@ -577,7 +546,7 @@ fn is_exit_missed_from(
 
 /// Whether a successor returns as its procedure may not. Main may not at all.
 #[tactic(auto, unfolding(crate::specs::Rules::is_unreturnable))]
-fn is_unreturnable(
+pub(crate) fn is_unreturnable(
     rules: Rules,
     cert: &Cert<'_>,
     procedure: u8,
@@ -592,20 +561,5 @@ fn is_unreturnable(
         }
         Target::Lost => true,
         Target::At(_) | Target::Call(_) | Target::Main(_) | Target::Unknown => false,
-    }
-}
-
-pub(crate) fn has_unreturnable(
-    rules: Rules,
-    cert: &Cert<'_>,
-    procedure: u8,
-    way: &Option<Successor<'_>>,
-    room: &mut Room,
-) -> bool
-    ensures { result ≡ has (Ruled.is_unreturnable rules cert.now procedure) way.now }
-{
-    match way {
-        None => false,
-        Some(successor) => is_unreturnable(rules, cert, procedure, successor, room),
     }
 }

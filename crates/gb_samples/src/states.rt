@@ -58,7 +58,7 @@ pub fn copy_of(register: Register, lo: u8, hi: u8) -> Val {
     Val {
         lo,
         hi,
-        origin: Some(Origin::Register(register)),
+        origin: Some(Origin::of(register)),
     }
 }
 

@@ -8,7 +8,7 @@ use Rattle.gb_ops.specs.declared.registers.Registers.{Registers}
 use Rattle.gb_ops.specs.Registers.{get}
 use Rattle.gb_fields.specs.declared.fault.CertFault.TheVariants as fault
 use Rattle.gb_domain.specs.declared.types.Origin.{Origin}
-use Rattle.gb_domain.specs.declared.types.Origin.TheVariants.{Register as Of, F, Ie, ReturnHigh, ReturnLow}
+use Rattle.gb_domain.specs.declared.types.Origin.TheVariants as origin
 use Rattle.gb_domain.specs.declared.types.Val.{Val}
 use Rattle.gb_domain.specs.declared.types.May.{May}
 use Rattle.gb_domain.specs.declared.types.Flg.{Flg}
@@ -191,17 +191,17 @@ IsFormat-yes_no =
 
 pub origin_of-number : (o : Option Origin) → origin_of (spelled.origin_number o) ≡ o
 origin_of-number None = refl
-origin_of-number (Some (Of A)) = refl
-origin_of-number (Some F) = refl
-origin_of-number (Some (Of B)) = refl
-origin_of-number (Some (Of C)) = refl
-origin_of-number (Some (Of D)) = refl
-origin_of-number (Some (Of E)) = refl
-origin_of-number (Some (Of H)) = refl
-origin_of-number (Some (Of L)) = refl
-origin_of-number (Some Ie) = refl
-origin_of-number (Some ReturnHigh) = refl
-origin_of-number (Some ReturnLow) = refl
+origin_of-number (Some origin.A) = refl
+origin_of-number (Some origin.F) = refl
+origin_of-number (Some origin.B) = refl
+origin_of-number (Some origin.C) = refl
+origin_of-number (Some origin.D) = refl
+origin_of-number (Some origin.E) = refl
+origin_of-number (Some origin.H) = refl
+origin_of-number (Some origin.L) = refl
+origin_of-number (Some origin.Ie) = refl
+origin_of-number (Some origin.ReturnHigh) = refl
+origin_of-number (Some origin.ReturnLow) = refl
 
 -- so small a number stands for an origin
 abbrev IsOriginNumber : Rules → ℕ → Type 0
@@ -219,44 +219,44 @@ number-origin_of rules n h = same _ _ (below 12 (λ c. spelled.origin_number (or
 origin_fits : (rules : Rules) (o : Option Origin) → may_be_of rules o ≡ true → IsOriginNumber rules (spelled.origin_number o)
 unfolding origin_limit
 origin_fits Simple None h = (omega arith, refl)
-origin_fits Simple (Some (Of A)) h = (omega arith, refl)
-origin_fits Simple (Some F) h = (omega arith, refl)
-origin_fits Simple (Some (Of B)) h = (omega arith, refl)
-origin_fits Simple (Some (Of C)) h = (omega arith, refl)
-origin_fits Simple (Some (Of D)) h = (omega arith, refl)
-origin_fits Simple (Some (Of E)) h = (omega arith, refl)
-origin_fits Simple (Some (Of H)) h = (omega arith, refl)
-origin_fits Simple (Some (Of L)) h = (omega arith, refl)
-origin_fits Simple (Some Ie) h = (omega arith, refl)
-origin_fits Simple (Some ReturnHigh) h = absurd cc
-origin_fits Simple (Some ReturnLow) h = absurd cc
+origin_fits Simple (Some origin.A) h = (omega arith, refl)
+origin_fits Simple (Some origin.F) h = (omega arith, refl)
+origin_fits Simple (Some origin.B) h = (omega arith, refl)
+origin_fits Simple (Some origin.C) h = (omega arith, refl)
+origin_fits Simple (Some origin.D) h = (omega arith, refl)
+origin_fits Simple (Some origin.E) h = (omega arith, refl)
+origin_fits Simple (Some origin.H) h = (omega arith, refl)
+origin_fits Simple (Some origin.L) h = (omega arith, refl)
+origin_fits Simple (Some origin.Ie) h = (omega arith, refl)
+origin_fits Simple (Some origin.ReturnHigh) h = absurd cc
+origin_fits Simple (Some origin.ReturnLow) h = absurd cc
 origin_fits Extended None h = (omega arith, refl)
-origin_fits Extended (Some (Of A)) h = (omega arith, refl)
-origin_fits Extended (Some F) h = (omega arith, refl)
-origin_fits Extended (Some (Of B)) h = (omega arith, refl)
-origin_fits Extended (Some (Of C)) h = (omega arith, refl)
-origin_fits Extended (Some (Of D)) h = (omega arith, refl)
-origin_fits Extended (Some (Of E)) h = (omega arith, refl)
-origin_fits Extended (Some (Of H)) h = (omega arith, refl)
-origin_fits Extended (Some (Of L)) h = (omega arith, refl)
-origin_fits Extended (Some Ie) h = (omega arith, refl)
-origin_fits Extended (Some ReturnHigh) h = (omega arith, refl)
-origin_fits Extended (Some ReturnLow) h = (omega arith, refl)
+origin_fits Extended (Some origin.A) h = (omega arith, refl)
+origin_fits Extended (Some origin.F) h = (omega arith, refl)
+origin_fits Extended (Some origin.B) h = (omega arith, refl)
+origin_fits Extended (Some origin.C) h = (omega arith, refl)
+origin_fits Extended (Some origin.D) h = (omega arith, refl)
+origin_fits Extended (Some origin.E) h = (omega arith, refl)
+origin_fits Extended (Some origin.H) h = (omega arith, refl)
+origin_fits Extended (Some origin.L) h = (omega arith, refl)
+origin_fits Extended (Some origin.Ie) h = (omega arith, refl)
+origin_fits Extended (Some origin.ReturnHigh) h = (omega arith, refl)
+origin_fits Extended (Some origin.ReturnLow) h = (omega arith, refl)
 
 fits_origin : (rules : Rules) (o : Option Origin) → IsOriginNumber rules (spelled.origin_number o) → may_be_of rules o ≡ true
 unfolding origin_limit
 fits_origin Simple None h = refl
-fits_origin Simple (Some (Of A)) h = refl
-fits_origin Simple (Some F) h = refl
-fits_origin Simple (Some (Of B)) h = refl
-fits_origin Simple (Some (Of C)) h = refl
-fits_origin Simple (Some (Of D)) h = refl
-fits_origin Simple (Some (Of E)) h = refl
-fits_origin Simple (Some (Of H)) h = refl
-fits_origin Simple (Some (Of L)) h = refl
-fits_origin Simple (Some Ie) h = refl
-fits_origin Simple (Some ReturnHigh) h = absurd cc
-fits_origin Simple (Some ReturnLow) h = absurd cc
+fits_origin Simple (Some origin.A) h = refl
+fits_origin Simple (Some origin.F) h = refl
+fits_origin Simple (Some origin.B) h = refl
+fits_origin Simple (Some origin.C) h = refl
+fits_origin Simple (Some origin.D) h = refl
+fits_origin Simple (Some origin.E) h = refl
+fits_origin Simple (Some origin.H) h = refl
+fits_origin Simple (Some origin.L) h = refl
+fits_origin Simple (Some origin.Ie) h = refl
+fits_origin Simple (Some origin.ReturnHigh) h = absurd cc
+fits_origin Simple (Some origin.ReturnLow) h = absurd cc
 fits_origin Extended o h = refl
 
 abbrev spelled_origin : Option Origin → List ℕ

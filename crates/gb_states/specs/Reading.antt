@@ -1,12 +1,11 @@
 -- Reading a certificate, field by field (own format). A test of two fields is made behind the later one.
 use Rattle.std.specs.Prelude.{ℕ, ◌/◌, ◌%◌, Bool, true, ◌&&◌, ◌||◌, not, ◌==◌, nat_le, List, Option, Some, None, Result, if◌then◌else◌}
 use Rattle.gb_ops.specs.declared.machine.Region.{Region}
-use Rattle.gb_ops.specs.declared.op.Register.TheVariants.{A, B, C, D, E, H, L}
 use Rattle.gb_ops.specs.declared.registers.Registers.{Registers}
 use Rattle.gb_fields.specs.declared.fault.CertFault.{CertFault}
 use Rattle.gb_fields.specs.declared.fault.CertFault.TheVariants as fault
 use Rattle.gb_domain.specs.declared.types.Origin.{Origin}
-use Rattle.gb_domain.specs.declared.types.Origin.TheVariants.{Register as Of, F, Ie, ReturnHigh, ReturnLow}
+use Rattle.gb_domain.specs.declared.types.Origin.TheVariants.{A, F, B, C, D, E, H, L, Ie, ReturnHigh, ReturnLow}
 use Rattle.gb_domain.specs.declared.types.Val.{Val}
 use Rattle.gb_domain.specs.declared.types.May.{May}
 use Rattle.gb_domain.specs.declared.types.Flg.{Flg}
@@ -36,14 +35,14 @@ use Rattle.gb_states.specs.Rules.{after_range, role_of, needs_stack, may_be_push
 abbrev pub origin_of : ℕ → Option Origin
 origin_of n =
     if n == 0 then None
-    else if n == 1 then Some (Of A)
+    else if n == 1 then Some A
     else if n == 2 then Some F
-    else if n == 3 then Some (Of B)
-    else if n == 4 then Some (Of C)
-    else if n == 5 then Some (Of D)
-    else if n == 6 then Some (Of E)
-    else if n == 7 then Some (Of H)
-    else if n == 8 then Some (Of L)
+    else if n == 3 then Some B
+    else if n == 4 then Some C
+    else if n == 5 then Some D
+    else if n == 6 then Some E
+    else if n == 7 then Some H
+    else if n == 8 then Some L
     else if n == 9 then Some Ie
     else if n == 10 then Some ReturnHigh
     else Some ReturnLow

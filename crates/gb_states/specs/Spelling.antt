@@ -1,10 +1,9 @@
 -- The one spelling of each certificate, in bytes (own format). Words have their low byte first.
 use Rattle.std.specs.Prelude.{◌≡◌, ℕ, ◌+◌, ◌*◌, ◌/◌, Bool, true, false, List, [], ◌∷◌, ◌++◌, length, Option, Some, None}
 use Rattle.std.specs.List.{flat_map}
-use Rattle.gb_ops.specs.declared.op.Register.TheVariants.{A, B, C, D, E, H, L}
 use Rattle.gb_ops.specs.declared.registers.Registers.{Registers}
 use Rattle.gb_domain.specs.declared.types.Origin.{Origin}
-use Rattle.gb_domain.specs.declared.types.Origin.TheVariants.{Register as Of, F, Ie, ReturnHigh, ReturnLow}
+use Rattle.gb_domain.specs.declared.types.Origin.TheVariants.{A, F, B, C, D, E, H, L, Ie, ReturnHigh, ReturnLow}
 use Rattle.gb_domain.specs.declared.types.Val.{Val}
 use Rattle.gb_domain.specs.declared.types.May.{May}
 use Rattle.gb_domain.specs.declared.types.Flg.{Flg}
@@ -26,14 +25,14 @@ use Rattle.gb_states.specs.Rules.{IsCertificate}
 
 abbrev pub origin_number : Option Origin → ℕ
 origin_number None = 0
-origin_number (Some (Of A)) = 1
+origin_number (Some A) = 1
 origin_number (Some F) = 2
-origin_number (Some (Of B)) = 3
-origin_number (Some (Of C)) = 4
-origin_number (Some (Of D)) = 5
-origin_number (Some (Of E)) = 6
-origin_number (Some (Of H)) = 7
-origin_number (Some (Of L)) = 8
+origin_number (Some B) = 3
+origin_number (Some C) = 4
+origin_number (Some D) = 5
+origin_number (Some E) = 6
+origin_number (Some H) = 7
+origin_number (Some L) = 8
 origin_number (Some Ie) = 9
 origin_number (Some ReturnHigh) = 10
 origin_number (Some ReturnLow) = 11

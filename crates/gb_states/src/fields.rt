@@ -11,7 +11,6 @@ use gb_domain::types::{Core, Ctl, Flg, ImeSet, May, Origin, Rules, Val};
 use gb_fields::CertFault;
 use gb_fields::limits::origin_limit;
 use gb_fields::numbers::{byte, byte_between, word_between, yes_no};
-use gb_ops::op::Register;
 use gb_ops::registers::Registers;
 
 #[inline(always)]
@@ -20,14 +19,14 @@ pub fn origin_of(number: u8) -> Option<Origin>
 {
     match number {
         0 => None,
-        1 => Some(Origin::Register(Register::A)),
+        1 => Some(Origin::A),
         2 => Some(Origin::F),
-        3 => Some(Origin::Register(Register::B)),
-        4 => Some(Origin::Register(Register::C)),
-        5 => Some(Origin::Register(Register::D)),
-        6 => Some(Origin::Register(Register::E)),
-        7 => Some(Origin::Register(Register::H)),
-        8 => Some(Origin::Register(Register::L)),
+        3 => Some(Origin::B),
+        4 => Some(Origin::C),
+        5 => Some(Origin::D),
+        6 => Some(Origin::E),
+        7 => Some(Origin::H),
+        8 => Some(Origin::L),
         9 => Some(Origin::Ie),
         10 => Some(Origin::ReturnHigh),
         _ => Some(Origin::ReturnLow),
@@ -341,6 +340,27 @@ pub fn core_in(bytes: &[u8]) -> Core
         ie: val_in(bytes, 16),
         registers: vals_in(bytes),
     }
+}
+
+/// The core at the front of bytes that have been checked, put in the place of another one, part by part.
+#[inline(always)]
+pub fn put_core(bytes: &[u8], core: &mut Core)
+    requires { 40 ≤ length bytes.now }
+    ensures { core.new ≡ core_in bytes.now }
+{
+    core.ime = ime_in(bytes[0]);
+    core.bound = bytes[1];
+    core.stack_set = bytes[2] == 1;
+    core.ctl = ctl_in(bytes);
+    core.flags = flg_in(bytes[14], bytes[15]);
+    core.ie = val_in(bytes, 16);
+    core.registers.a = val_in(bytes, 19);
+    core.registers.b = val_in(bytes, 22);
+    core.registers.c = val_in(bytes, 25);
+    core.registers.d = val_in(bytes, 28);
+    core.registers.e = val_in(bytes, 31);
+    core.registers.h = val_in(bytes, 34);
+    core.registers.l = val_in(bytes, 37);
 }
 
 /// The test at the front of bytes that have been checked.

@@ -1,5 +1,5 @@
 -- The possible successors of an instruction (abstract interpretation: abstract semantics; own).
-use Rattle.std.specs.Prelude.{ℕ, ◌+◌, ◌%◌, Bool, false, ◌&&◌, ◌||◌, if◌then◌else◌, List, Option, Some, None, option_map, option_and_then}
+use Rattle.std.specs.Prelude.{ℕ, ◌+◌, ◌%◌, Bool, true, false, ◌&&◌, ◌||◌, if◌then◌else◌, List, Option, Some, None, option_map, option_and_then}
 use Rattle.gb_ops.specs.declared.op.Op.{Op}
 use Rattle.gb_ops.specs.declared.op.Op.TheVariants as op
 use Rattle.gb_ops.specs.declared.op.Row.{Row}
@@ -108,6 +108,11 @@ with_product t p = record t { state = with_relations p.relations (with_core t.st
 -- the states behind are reduced; where nothing is meant it isn't possible
 unfoldable pub reduced_successor : Rules → Successor → Option Successor
 reduced_successor rules t = option_map (with_product t) (reduced rules t.state.core t.state.relations)
+
+-- a successor, where it is possible
+abbrev pub some_if : Bool → Successor → Option Successor
+some_if false t = None
+some_if true t = Some t
 
 -- interrupts became on while the processor stays on HALT
 abbrev pub woken : Core → Core

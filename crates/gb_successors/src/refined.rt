@@ -10,6 +10,7 @@ use gb_abs::span::Span;
 use gb_abs_effects::pairs::{is_word_known, least_word, pair_halves};
 use gb_abs_effects::reads::AbsRead;
 use gb_abs_effects::targets::Target;
+use gb_abs_effects::transfer::Inputs;
 use gb_abs_effects::writes::{AbsEffect, AbsWrite};
 use gb_domain::pairs::Bounds;
 use gb_domain::types::{Core, Halves, Origin, Rules, Setting};
@@ -37,12 +38,14 @@ pub(crate) fn cut_read(bounds: Option<Bounds>, read: AbsRead) -> AbsRead
     }
 }
 
-fn cut_write(bounds: Option<Bounds>, write: AbsWrite) -> AbsWrite
-    ensures { result ≡ Refined.cut_write bounds write }
+fn cut_write(bounds: Option<Bounds>, write: &mut AbsWrite)
+    ensures { write.new ≡ Refined.cut_write bounds write.old }
 {
-    match write {
-        AbsWrite::Byte(span, val) => AbsWrite::Byte(span_within(bounds, span), val),
-        AbsWrite::Nothing | AbsWrite::Word(_, _, _) | AbsWrite::Push { .. } => write,
+    let Some(Bounds { first, last }) = bounds else {
+        return;
+    };
+    if let AbsWrite::Byte(span, _) = write {
+        *span = Span { first, last };
     }
 }
 
@@ -54,7 +57,7 @@ pub(crate) fn refine(bounds: Option<Bounds>, carry: Option<bool>, effect: &mut A
     if let Some(carry) = carry {
         effect.core.flags.carry = known(carry);
     }
-    effect.write = cut_write(bounds, effect.write);
+    cut_write(bounds, &mut effect.write);
 }
 
 /// Whether a word is the one that was pushed as the procedure was entered.
@@ -112,38 +115,46 @@ fn moved_target(stack_move: StackMove, next: u16, target: Target) -> Target
     }
 }
 
-/// What is known of where an instruction goes on.
-#[derive(Clone, Copy)]
-pub(crate) struct Going<'a> {
-    pub op: Op,
-    /// The address behind it.
-    pub next: u16,
-    /// The word that it read.
-    pub word: Halves,
-    /// The core before it.
-    pub core: &'a Core,
-    /// The bounds of an address that it takes from a pair.
-    pub pointer: Option<Bounds>,
-    pub stack_move: StackMove,
+/// Where an instruction goes on, by the rules of version 3: kept out of line, so that the others copy nothing for it.
+#[inline(never)]
+fn extended_target(
+    setting: Setting,
+    op: Op,
+    inputs: &Inputs,
+    core: &Core,
+    pointer: Option<Bounds>,
+    stack_move: StackMove,
+    target: Target,
+) -> Target
+    ensures { result ≡ Refined.extended_target setting op inputs.now.next inputs.now.word core.now pointer stack_move target }
+{
+    match op {
+        Op::ReturnIf(_) | Op::Return | Op::ReturnFromInterrupt => {
+            popped_target(setting.is_main, inputs.word)
+        }
+        Op::JumpHl => jumped_target(setting.is_main, pair_halves(Pair::Hl, core), pointer),
+        _ => moved_target(stack_move, inputs.next, target),
+    }
 }
 
 /// Where an instruction goes on that read a word; by the rules of versions 1 and 2 where its registers say.
+#[inline(always)]
 #[tactic(auto, unfolding(crate::specs::Refined::refined_target))]
-pub(crate) fn refined_target(setting: Setting, going: Going<'_>, target: Target) -> Target
-    ensures { result ≡ Refined.refined_target setting.rules setting going.entry.op going.entry.next going.entry.word going.entry.core.now going.entry.pointer going.entry.stack_move target }
+pub(crate) fn refined_target(
+    setting: Setting,
+    op: Op,
+    inputs: &Inputs,
+    core: &Core,
+    pointer: Option<Bounds>,
+    stack_move: StackMove,
+    target: Target,
+) -> Target
+    ensures { result ≡ Refined.refined_target setting.rules setting op inputs.now.next inputs.now.word core.now pointer stack_move target }
 {
-    if setting.rules == Rules::Simple {
-        return target;
-    }
-    match going.op {
-        Op::ReturnIf(_) | Op::Return | Op::ReturnFromInterrupt => {
-            popped_target(setting.is_main, going.word)
+    match setting.rules {
+        Rules::Simple => target,
+        Rules::Extended => {
+            extended_target(setting, op, inputs, core, pointer, stack_move, target)
         }
-        Op::JumpHl => jumped_target(
-            setting.is_main,
-            pair_halves(Pair::Hl, going.core),
-            going.pointer,
-        ),
-        _ => moved_target(going.stack_move, going.next, target),
     }
 }

@@ -5,7 +5,7 @@ ghost use Rattle.gb_successors.specs.Refused as Refused;
 ghost use Rattle.gb_successors.specs.Successors.{has};
 
 use crate::successor::Successor;
-use crate::successors::Ways;
+use crate::successors::Successors;
 use gb_abs::span::Span;
 use gb_abs_effects::reads::AbsRead;
 use gb_abs_effects::targets::Target;
@@ -109,7 +109,7 @@ fn is_write_limited(region: Region, core: &Core, write: AbsWrite) -> bool
 
 /// Whether an access of the way on may meet cartridge RAM while it is closed, at this gate.
 #[tactic(auto, unfolding(crate::specs::Refused::meets_closed))]
-fn meets_closed(rom: &Rom<'_>, core: &Core, successor: &Successor<'_>) -> bool
+pub fn meets_closed(rom: &Rom<'_>, core: &Core, successor: &Successor<'_>) -> bool
     ensures { result ≡ Refused.meets_closed rom.now core.now successor.now }
 {
     reads_closed_ram(rom, core, successor.read) || writes_closed_ram(rom, core, successor.write)
@@ -117,14 +117,14 @@ fn meets_closed(rom: &Rom<'_>, core: &Core, successor: &Successor<'_>) -> bool
 
 /// Whether an OAM transfer may close an access of the way on, at this bound, or start unseen.
 #[tactic(auto, unfolding(crate::specs::Refused::meets_oam_transfer))]
-fn meets_oam_transfer(region: Region, core: &Core, successor: &Successor<'_>) -> bool
+pub fn meets_oam_transfer(region: Region, core: &Core, successor: &Successor<'_>) -> bool
     ensures { result ≡ Refused.meets_oam_transfer region core.now successor.now }
 {
     is_read_limited(region, core, successor.read) || is_write_limited(region, core, successor.write)
 }
 
 /// Whether the way on may lead anywhere.
-fn is_unknown(target: Target) -> bool
+pub fn is_unknown(target: Target) -> bool
     ensures { result ≡ Refused.is_unknown target }
 {
     matches!(target, Target::Unknown)
@@ -172,7 +172,7 @@ fn has_unknown(way: &Option<Successor<'_>>) -> bool
     }
 }
 
-impl<'w, 'a> Ways<'w, 'a> {
+impl<'a> Successors<'a> {
     ghost use Rattle.gb_successors.specs.Successors.{any_successor};
     ghost use Rattle.gb_successors.specs.Refused as Refused;
 
@@ -187,9 +187,9 @@ impl<'w, 'a> Ways<'w, 'a> {
     ) -> bool
         ensures { result ≡ any_successor (λ t. Refused.is_unstorable setting kind region ranges.now t.write) self.now }
     {
-        has_unstorable(setting, kind, region, ranges, self.taken)
-            || has_unstorable(setting, kind, region, ranges, self.not_taken)
-            || has_unstorable(setting, kind, region, ranges, self.stays)
+        has_unstorable(setting, kind, region, ranges, &self.taken)
+            || has_unstorable(setting, kind, region, ranges, &self.not_taken)
+            || has_unstorable(setting, kind, region, ranges, &self.stays)
     }
 
     /// Whether one of them may meet cartridge RAM while it is closed, at the gate of the state before.
@@ -197,9 +197,9 @@ impl<'w, 'a> Ways<'w, 'a> {
     pub fn meet_closed_ram(&self, rom: &Rom<'_>, core: &Core) -> bool
         ensures { result ≡ any_successor (Refused.meets_closed rom.now core.now) self.now }
     {
-        has_closed(rom, core, self.taken)
-            || has_closed(rom, core, self.not_taken)
-            || has_closed(rom, core, self.stays)
+        has_closed(rom, core, &self.taken)
+            || has_closed(rom, core, &self.not_taken)
+            || has_closed(rom, core, &self.stays)
     }
 
     /// Whether an OAM transfer may close an access of one of them, at the bound of the state before,
@@ -208,9 +208,9 @@ impl<'w, 'a> Ways<'w, 'a> {
     pub fn meet_oam_transfer(&self, region: Region, core: &Core) -> bool
         ensures { result ≡ any_successor (Refused.meets_oam_transfer region core.now) self.now }
     {
-        has_limited(region, core, self.taken)
-            || has_limited(region, core, self.not_taken)
-            || has_limited(region, core, self.stays)
+        has_limited(region, core, &self.taken)
+            || has_limited(region, core, &self.not_taken)
+            || has_limited(region, core, &self.stays)
     }
 
     /// Whether there is one.
@@ -226,6 +226,6 @@ impl<'w, 'a> Ways<'w, 'a> {
     pub fn lead_anywhere(&self) -> bool
         ensures { result ≡ any_successor (λ t. Refused.is_unknown t.target) self.now }
     {
-        has_unknown(self.taken) || has_unknown(self.not_taken) || has_unknown(self.stays)
+        has_unknown(&self.taken) || has_unknown(&self.not_taken) || has_unknown(&self.stays)
     }
 }

@@ -1,7 +1,9 @@
 //! What an instruction does to the stack.
 
 ghost use Rattle.std.specs.Prelude.{◌≡◌};
+ghost use Rattle.gb_domain.specs.declared.rules.Rules.TheVariants.{Extended};
 ghost use Rattle.gb_abs.specs.Bytes as Bytes;
+ghost use Rattle.gb_abs.specs.Origins as Origins;
 ghost use Rattle.gb_successors.specs.Stacks as Stacks;
 
 use arrayvec::ArrayVec;
@@ -87,13 +89,22 @@ fn set_by(own: Option<u8>, main: Option<u8>) -> StackMove
     }
 }
 
+/// SP becomes a known address, by the rules of version 3.
+#[inline(never)]
+fn set_among(stack: Stack, address: u16) -> StackMove
+    ensures { result ≡ Stacks.set_to Extended stack address }
+{
+    set_by(own_bytes(stack, address), main_bytes(stack, address))
+}
+
 /// SP becomes a known address.
+#[inline(always)]
 fn set_to(stack: Stack, address: u16) -> StackMove
     ensures { result ≡ Stacks.set_to stack.setting.rules stack address }
 {
     match stack.setting.rules {
         Rules::Simple => StackMove::Set(0),
-        Rules::Extended => set_by(own_bytes(stack, address), main_bytes(stack, address)),
+        Rules::Extended => set_among(stack, address),
     }
 }
 
@@ -145,6 +156,7 @@ fn push_of(write: AbsWrite) -> StackMove
 }
 
 /// What an instruction does to the stack that writes so; where it takes an address of HL, that has the bounds.
+#[inline(always)]
 #[tactic(auto, unfolding(crate::specs::Stacks::stack_move))]
 pub fn stack_move(stack: Stack, op: Op, write: AbsWrite, hl: Option<Bounds>) -> StackMove
     ensures { result ≡ Stacks.stack_move stack op write hl }
@@ -258,6 +270,15 @@ pub(crate) fn move_stack(setting: Setting, stack_move: StackMove, state: &mut Ab
     }
 }
 
+/// Main begins anew: kept out of line, as few instructions do it.
+#[inline(never)]
+fn restart_core(core: &mut Core)
+    ensures { core.new ≡ Stacks.core_set (Origins.core_without_origins core.old) }
+{
+    *core = core_without_origins(core);
+    core.stack_set = true;
+}
+
 /// The core behind the stack's move.
 #[tactic(auto, unfolding(crate::specs::Stacks::moved_core))]
 pub(crate) fn move_core(stack_move: StackMove, core: &mut Core)
@@ -265,10 +286,7 @@ pub(crate) fn move_core(stack_move: StackMove, core: &mut Core)
 {
     match stack_move {
         StackMove::Set(_) => core.stack_set = true,
-        StackMove::Restart(_) => {
-            *core = core_without_origins(core);
-            core.stack_set = true;
-        }
+        StackMove::Restart(_) => restart_core(core),
         StackMove::Stay
         | StackMove::Push(_)
         | StackMove::Take(_)

@@ -2,15 +2,18 @@
 
 ghost use Rattle.std.specs.Prelude.{◌≡◌, None};
 ghost use Rattle.gb_abs.specs.Operations.{with_core};
-ghost use Rattle.gb_domain.specs.declared.rules.Rules.TheVariants.{Extended};
+ghost use Rattle.gb_domain.specs.declared.rules.Rules.TheVariants.{Simple, Extended};
 ghost use Rattle.gb_abs.specs.Stack.{youngest};
+ghost use Rattle.gb_abs_effects.specs.Transfer as Transfer;
+ghost use Rattle.gb_abs_effects.specs.declared.reads.AbsRead.TheVariants.{Byte};
 ghost use Rattle.gb_abs_effects.specs.declared.writes.AbsWrite.TheVariants.{Nothing};
 ghost use Rattle.gb_successors.specs.declared.stacks.StackMove.TheVariants.{Stay};
 ghost use Rattle.gb_successors.specs.Behind as Behind;
+ghost use Rattle.gb_successors.specs.Behind.{state_behind};
 ghost use Rattle.gb_successors.specs.Successors as Succession;
 ghost use Rattle.gb_successors.specs.Words.{word_or_any};
 
-use crate::refined::{Going, cut_read, refine, refined_target};
+use crate::refined::{cut_read, refine, refined_target};
 use crate::stacks::{Stack, StackMove, move_core, stack_move};
 pub use crate::way::{Moved, Successor};
 use gb_abs::any;
@@ -20,21 +23,21 @@ use gb_abs::span::Span;
 use gb_abs_effects::pairs::any_word;
 use gb_abs_effects::reads::{AbsRead, read_of};
 use gb_abs_effects::targets::{Target, target_of};
-use gb_abs_effects::transfer::transfer;
-use gb_abs_effects::writes::AbsWrite;
+use gb_abs_effects::transfer::{Inputs, transfer_in};
+use gb_abs_effects::writes::{AbsEffect, AbsWrite, quiet};
 use gb_abs_memory::Rom;
 use gb_abs_memory::load::loaded_by;
-use gb_abs_memory::store::{Area, area_of, starts_oam_transfer, stored_core};
+use gb_abs_memory::store::{Area, area_of, starts_oam_transfer, store_in_core};
 use gb_domain::pairs::Bounds;
 use gb_domain::relations::Relations;
 use gb_domain::types::{Abs, Cell, Core, Halves, ImeSet, Rules, Setting};
 use gb_ops::machine::Kind;
 use gb_ops::op::{Op, Row};
 use gb_product::parts::{Branch, Product};
-use gb_product::reduced::reduced;
 use gb_product::{known_carry, pointer_bounds, relations_after};
 
 /// The word that was pushed last, as far as it is known.
+#[inline(never)]
 #[tactic(auto, using(crate::proofs::WordLaws::top_word_is, crate::proofs::WordLaws::no_word_is))]
 fn top_word(state: &Abs) -> Halves
     ensures { result ≡ word_or_any (youngest state.now) }
@@ -48,16 +51,26 @@ fn top_word(state: &Abs) -> Halves
     }
 }
 
+/// What is known of a byte that is read.
+#[inline(never)]
+#[tactic(auto, unfolding(crate::specs::Behind::read_word))]
+fn read_byte(setting: Setting, rom: &Rom<'_>, state: &Abs, core: &Core, span: Span) -> Halves
+    ensures { result ≡ Behind.read_word setting rom.now (with_core state.now core.now) (Byte span) }
+{
+    Halves {
+        high: any(),
+        low: loaded_by(setting, rom, core, state, span),
+    }
+}
+
 /// What is known of what is read: of a byte, or of the word that was pushed last.
+#[inline(always)]
 #[tactic(auto, unfolding(crate::specs::Behind::read_word, gb_abs::specs::Stack::youngest))]
 fn read_word(setting: Setting, rom: &Rom<'_>, state: &Abs, core: &Core, read: AbsRead) -> Halves
     ensures { result ≡ Behind.read_word setting rom.now (with_core state.now core.now) read }
 {
     match read {
-        AbsRead::Byte(span) => Halves {
-            high: any(),
-            low: loaded_by(setting, rom, core, state, span),
-        },
+        AbsRead::Byte(span) => read_byte(setting, rom, state, core, span),
         AbsRead::Top => top_word(state),
         AbsRead::Nothing => any_word(),
     }
@@ -104,21 +117,22 @@ fn changes_cells(kind: Kind, write: AbsWrite) -> bool
 }
 
 /// What changes items or cells, if something does.
+#[inline(always)]
 #[tactic(auto, unfolding(crate::specs::Behind::move_of))]
 fn move_of(
-    stack: Stack,
+    stack: &Stack,
     kind: Kind,
-    cell: Option<Cell>,
+    cell: &Option<Cell>,
     stack_move: StackMove,
     write: AbsWrite,
 ) -> Option<Moved>
-    ensures { result ≡ Behind.move_of stack kind cell stack_move write }
+    ensures { result ≡ Behind.move_of stack.now kind cell.now stack_move write }
 {
     if cell.is_some() || moves_stack(stack_move) || changes_cells(kind, write) {
         Some(Moved {
-            stack,
+            stack: *stack,
             kind,
-            cell,
+            cell: *cell,
             stack_move,
         })
     } else {
@@ -132,16 +146,17 @@ fn write_core(kind: Kind, write: AbsWrite, core: &mut Core)
     ensures { core.new ≡ Behind.written_core kind write core.old }
 {
     match write {
-        AbsWrite::Byte(span, val) => *core = stored_core(kind, span, &val, core),
+        AbsWrite::Byte(span, val) => store_in_core(kind, span, &val, core),
         AbsWrite::Word(address, low, high) => {
-            *core = stored_core(kind, Span::one(address), &low, core);
-            *core = stored_core(kind, Span::one(address.wrapping_add(1)), &high, core);
+            store_in_core(kind, Span::one(address), &low, core);
+            store_in_core(kind, Span::one(address.wrapping_add(1)), &high, core);
         }
         AbsWrite::Nothing | AbsWrite::Push { .. } => {}
     }
 }
 
 /// The core behind an instruction, of its effect.
+#[inline(always)]
 #[tactic(auto, unfolding(crate::specs::Behind::core_behind))]
 fn end_core(kind: Kind, stack_move: StackMove, cycles: u8, write: AbsWrite, core: &mut Core)
     ensures { core.new ≡ Behind.core_behind kind stack_move cycles write core.old }
@@ -163,97 +178,136 @@ pub fn pointer_in(stack: Stack, op: Op, product: &Product) -> Option<Bounds>
     )
 }
 
-/// The states behind are reduced in place; where nothing is meant the successor isn't possible. By the rules of version 3.
-#[inline(never)]
-#[tactic(auto, unfolding(crate::specs::Successors::reduced_successor))]
-fn put_reduced_together<'a>(successor: Successor<'a>, way: &mut Option<Successor<'a>>)
-    requires { way.old ≡ None }
-    ensures { way.new ≡ Succession.reduced_successor Extended successor.entry }
-{
-    let reduced = reduced(Rules::Extended, &successor.core, &successor.relations);
-    if let Some(Product { core, relations }) = reduced {
-        *way = Some(Successor {
-            core,
-            relations,
-            ..successor
-        });
-    }
-}
-
-/// The same by either, in the place of none.
+/// A successor of an effect.
 #[inline(always)]
-#[tactic(auto, unfolding(crate::specs::Successors::reduced_successor, gb_product::specs::Reduced::reduced))]
-pub(crate) fn put_reduced<'a>(
-    rules: Rules,
-    successor: Successor<'a>,
-    way: &mut Option<Successor<'a>>,
-)
-    requires { way.old ≡ None }
-    ensures { way.new ≡ Succession.reduced_successor rules successor.entry }
+fn with_effect<'a>(
+    read: AbsRead,
+    effect: &AbsEffect,
+    target: Target,
+    next: u16,
+    relations: Relations,
+    moved: Option<Moved>,
+    before: &'a Abs,
+) -> Successor<'a>
+    ensures { result ≡ record { read = read; write = effect.now.write; target = target; next = next; state = state_behind moved effect.now.write effect.now.core relations before.now } }
 {
-    match rules {
-        Rules::Simple => *way = Some(successor),
-        Rules::Extended => put_reduced_together(successor, way),
+    Successor {
+        read,
+        write: effect.write,
+        target,
+        next,
+        core: effect.core,
+        relations,
+        moved,
+        before,
     }
 }
 
-/// The successor where the instruction is taken, from a side that is settled. The address behind it is given.
-#[tactic(auto, using(crate::proofs::MovedLaws::taken_state), unfolding(crate::specs::Successors::taken_successor, crate::specs::Successors::taken_parts, crate::specs::Successors::effect_in, crate::specs::Successors::relations_behind))]
-pub(crate) fn taken_successor<'a>(
-    stack: Stack,
+/// An instruction that is taken, and the side that it is taken from, which is settled.
+#[derive(Clone, Copy)]
+struct Taken<'w, 'a> {
+    stack: &'w Stack,
+    rom: &'w Rom<'w>,
+    row: &'w Row,
+    /// The address behind it.
+    next: u16,
+    state: &'a Abs,
+    core: &'w Core,
+    relations: &'w Relations,
+    cell: &'w Option<Cell>,
+}
+
+/// The successor where the instruction is taken, by rules that are the stack's own: so that they are known where it is made. Its
+/// effect is made where it is given, in the place of the core before it.
+#[inline(always)]
+fn successor_by<'a>(rules: Rules, taken: &Taken<'_, 'a>, effect: &mut AbsEffect) -> Successor<'a>
+    requires own { taken.now.stack.now.setting.rules ≡ rules }
+    requires before { effect.old ≡ Transfer.quiet taken.now.core.now }
+    ensures { result ≡ Succession.taken_successor taken.now.stack.now taken.now.rom.now taken.now.row.now taken.now.next taken.now.state.now (record { core = taken.now.core.now; relations = taken.now.relations.now; cell = taken.now.cell.now }) }
+{
+    let (stack, state) = (taken.stack, taken.state);
+    let (core, relations) = (taken.core, taken.relations);
+    let (op, next) = (taken.row.op, taken.next);
+    let setting = Setting {
+        rules,
+        ..stack.setting
+    };
+    let pointer = pointer_bounds(rules, op, &core.registers, &relations.pairs);
+    let sp = sp_bounds(setting, state);
+    let read = cut_read(pointer, read_of(op, core));
+    let inputs = Inputs {
+        next,
+        sp: sp_halves(setting, state),
+        word: read_word(setting, taken.rom, state, core, read),
+    };
+    transfer_in(op, &inputs, effect);
+    let carry = known_carry(rules, op, sp, &core.registers, &relations.pairs);
+    refine(pointer, carry, effect);
+    let stack_move = stack_move(Stack { setting, ..*stack }, op, effect.write, pointer);
+    let behind = target_of(op, next, core);
+    let target = refined_target(setting, op, &inputs, core, pointer, stack_move, behind);
+    let low = inputs.word.low;
+    let relations = relations_after(rules, stack.region, op, sp, &core.registers, low, relations);
+    let kind = taken.rom.kind();
+    let moved = move_of(stack, kind, taken.cell, stack_move, effect.write);
+    end_core(
+        kind,
+        stack_move,
+        taken.row.cycles,
+        effect.write,
+        &mut effect.core,
+    );
+    with_effect(read, effect, target, next, relations, moved, state)
+}
+
+/// The same by the rules of versions 1 and 2.
+#[inline(never)]
+fn simple_successor<'a>(taken: &Taken<'_, 'a>) -> Successor<'a>
+    requires { taken.now.stack.now.setting.rules ≡ Simple }
+    ensures { result ≡ Succession.taken_successor taken.now.stack.now taken.now.rom.now taken.now.row.now taken.now.next taken.now.state.now (record { core = taken.now.core.now; relations = taken.now.relations.now; cell = taken.now.cell.now }) }
+{
+    let mut effect = quiet(taken.core);
+    successor_by(Rules::Simple, taken, &mut effect)
+}
+
+/// The same by the rules of version 3.
+#[inline(never)]
+fn extended_successor<'a>(taken: &Taken<'_, 'a>) -> Successor<'a>
+    requires { taken.now.stack.now.setting.rules ≡ Extended }
+    ensures { result ≡ Succession.taken_successor taken.now.stack.now taken.now.rom.now taken.now.row.now taken.now.next taken.now.state.now (record { core = taken.now.core.now; relations = taken.now.relations.now; cell = taken.now.cell.now }) }
+{
+    let mut effect = quiet(taken.core);
+    successor_by(Rules::Extended, taken, &mut effect)
+}
+
+/// The successor where the instruction is taken, from a side that is settled: by either rules, so that what only those of version
+/// 3 ask for costs the others nothing. The address behind it is given.
+#[inline(always)]
+pub fn taken_successor<'a>(
+    stack: &Stack,
     rom: &Rom<'_>,
-    row: Row,
+    row: &Row,
     next: u16,
     state: &'a Abs,
     core: &Core,
     relations: &Relations,
-    cell: Option<Cell>,
+    cell: &Option<Cell>,
 ) -> Successor<'a>
-    ensures { result ≡ Succession.taken_successor stack rom.now row next state.now (record { core = core.now; relations = relations.now; cell = cell }) }
+    ensures { result ≡ Succession.taken_successor stack.now rom.now row.now next state.now (record { core = core.now; relations = relations.now; cell = cell.now }) }
 {
-    let (op, setting) = (row.op, stack.setting);
-    let pointer = pointer_bounds(setting.rules, op, &core.registers, &relations.pairs);
-    let sp = sp_bounds(setting, state);
-    let read = cut_read(pointer, read_of(op, core));
-    let word = read_word(setting, rom, state, core, read);
-    let mut effect = transfer(
-        op,
+    let taken = Taken {
+        stack,
+        rom,
+        row,
         next,
-        sp_halves(setting, state),
+        state,
         core,
-        word.low,
-        word.high,
-    );
-    let carry = known_carry(setting.rules, op, sp, &core.registers, &relations.pairs);
-    refine(pointer, carry, &mut effect);
-    let stack_move = stack_move(stack, op, effect.write, pointer);
-    let going = Going {
-        op,
-        next,
-        word,
-        core,
-        pointer,
-        stack_move,
+        relations,
+        cell,
     };
-    let kind = rom.kind();
-    end_core(kind, stack_move, row.cycles, effect.write, &mut effect.core);
-    Successor {
-        read,
-        write: effect.write,
-        target: refined_target(setting, going, target_of(op, next, core)),
-        next,
-        core: effect.core,
-        relations: relations_after(
-            setting.rules,
-            stack.region,
-            op,
-            sp,
-            &core.registers,
-            word.low,
-            relations,
-        ),
-        moved: move_of(stack, kind, cell, stack_move, effect.write),
-        before: state,
+    match stack.setting.rules {
+        Rules::Simple => simple_successor(&taken),
+        Rules::Extended => extended_successor(&taken),
     }
 }
 
@@ -261,12 +315,12 @@ pub(crate) fn taken_successor<'a>(
 fn cell_alone(stack: Stack, kind: Kind, cell: Option<Cell>) -> Option<Moved>
     ensures { result ≡ Behind.move_of stack kind cell Stay Nothing }
 {
-    move_of(stack, kind, cell, StackMove::Stay, AbsWrite::Nothing)
+    move_of(&stack, kind, &cell, StackMove::Stay, AbsWrite::Nothing)
 }
 
 /// The successor where the instruction isn't taken: nothing happens but that time passes.
 #[tactic(auto, using(crate::proofs::MovedLaws::untaken_state), unfolding(crate::specs::Successors::untaken_successor, crate::specs::Behind::ended))]
-pub(crate) fn untaken_successor<'a>(
+pub fn untaken_successor<'a>(
     stack: Stack,
     kind: Kind,
     row: Row,
@@ -291,7 +345,7 @@ pub(crate) fn untaken_successor<'a>(
 /// The successor where the processor stays on HALT, and interrupts become on.
 #[inline(never)]
 #[tactic(auto, unfolding(crate::specs::Successors::staying_successor, crate::specs::Behind::ended))]
-pub(crate) fn staying_successor(address: u16, state: &Abs) -> Successor<'_>
+pub fn staying_successor(address: u16, state: &Abs) -> Successor<'_>
     ensures { result ≡ Succession.staying_successor address state.now }
 {
     let woken = Core {

@@ -1,13 +1,15 @@
 //! All successors of an instruction.
 
-ghost use Rattle.std.specs.Prelude.{◌≡◌, ◌+◌, ◌%◌, None};
+ghost use Rattle.std.specs.Prelude.{◌≡◌, ◌+◌, ◌%◌, false, List, Some, None};
+ghost use Rattle.gb_domain.specs.declared.relations.Relations.{Relations};
+ghost use Rattle.gb_domain.specs.declared.types.Cell.{Cell};
+ghost use Rattle.gb_domain.specs.declared.types.Core.{Core};
+ghost use Rattle.gb_product.specs.Sides.{taken_side, not_taken_side};
 ghost use Rattle.gb_successors.specs.Successors as Succession;
 ghost use Rattle.gb_successors.specs.Sound.{AreSoundSuccessors};
 
 use crate::stacks::Stack;
-use crate::successor::{
-    Successor, put_reduced, staying_successor, taken_successor, untaken_successor,
-};
+use crate::successor::{Successor, staying_successor, taken_successor, untaken_successor};
 use gb_abs::may_enable;
 use gb_abs::operations::settle;
 use gb_abs_effects::sides::condition_of;
@@ -18,7 +20,6 @@ use gb_ops::op::{Op, Row};
 use gb_product::parts::{Branch, Product};
 use gb_product::reduced::reduced;
 use gb_product::sides::{not_taken_side, taken_side};
-use std::marker::Model;
 
 /// The possible successors of an instruction.
 #[derive(Drop)]
@@ -29,39 +30,9 @@ pub struct Successors<'a> {
     pub stays: Option<Successor<'a>>,
 }
 
-/// The possible successors of an instruction, lent, so that none is copied. Contracts see them as `Successors`.
-#[derive(Drop)]
-pub struct Ways<'w, 'a> {
-    pub taken: &'w Option<Successor<'a>>,
-    pub not_taken: &'w Option<Successor<'a>>,
-    pub stays: &'w Option<Successor<'a>>,
-}
-
-impl<'w, 'a> Model for Ways<'w, 'a> {
-    ghost use Rattle.gb_successors.specs.declared.successors.Successors.{Successors};
-
-    ghost Value = { Successors };
-
-    ghost view = { λ w. record { taken = w.taken.now; not_taken = w.not_taken.now; stays = w.stays.now } };
-}
-
-impl<'a> Successors<'a> {
-    /// The same, lent.
-    #[inline(always)]
-    pub fn lent(&self) -> Ways<'_, 'a>
-        ensures { result ≡ self.now }
-    {
-        Ways {
-            taken: &self.taken,
-            not_taken: &self.not_taken,
-            stays: &self.stays,
-        }
-    }
-}
-
 /// Whether the processor may stay on the instruction (halt).
 #[tactic(auto, unfolding(crate::specs::Successors::may_stay))]
-fn may_stay(op: Op, core: &Core) -> bool
+pub fn may_stay(op: Op, core: &Core) -> bool
     ensures { result ≡ Succession.may_stay op core.now }
 {
     match op {
@@ -102,6 +73,27 @@ pub fn product_before(rules: Rules, state: &Abs) -> Option<Product>
     }
 }
 
+/// Whether an instruction has a condition. Where it has none it is always taken, and nothing is cut.
+#[tactic(auto, unfolding(gb_product::specs::Sides::taken_side, gb_product::specs::Sides::not_taken_side, gb_abs_effects::specs::Sides::sides_of))]
+pub fn has_condition(op: Op) -> bool
+    ensures taken { result ≡ false → (cells : List Cell) (core : Core) (r : Relations) → taken_side op cells core r ≡ Some (record { core = core; relations = r; cell = None }) }
+    ensures not_taken { result ≡ false → (cells : List Cell) (core : Core) (r : Relations) → not_taken_side op cells core r ≡ None }
+{
+    condition_of(op).is_some()
+}
+
+/// A successor is reduced and put in the place of none, where something is meant by it.
+fn put_reduced<'a>(rules: Rules, successor: Successor<'a>, way: &mut Option<Successor<'a>>)
+    requires { way.old ≡ None }
+    ensures { way.new ≡ Succession.reduced_successor rules successor.entry }
+{
+    let mut successor = successor;
+    if successor.reduce(rules) {
+        *way = Some(successor);
+    }
+}
+
+/// The successor where the instruction is taken, from a side of it.
 fn side_successor<'a>(
     stack: Stack,
     rom: &Rom<'_>,
@@ -113,10 +105,10 @@ fn side_successor<'a>(
     ensures { result ≡ Succession.taken_successor stack rom.now row next state.now side.now }
 {
     let (core, relations) = (&side.core, &side.relations);
-    taken_successor(stack, rom, row, next, state, core, relations, side.cell)
+    taken_successor(&stack, rom, &row, next, state, core, relations, &side.cell)
 }
 
-/// The successor where the instruction is taken, from a side of it.
+/// The same, reduced, in the place of none.
 #[inline(never)]
 fn put_taken_side<'a>(
     stack: Stack,
@@ -139,8 +131,7 @@ fn put_taken_side<'a>(
     }
 }
 
-/// Where there is no condition nothing is cut, so that nothing is copied.
-#[tactic(auto, unfolding(gb_product::specs::Sides::taken_side, gb_abs_effects::specs::Sides::sides_of))]
+/// The same; where there is no condition nothing is cut, so that nothing is copied.
 fn put_taken_from<'a>(
     stack: Stack,
     rom: &Rom<'_>,
@@ -153,14 +144,12 @@ fn put_taken_from<'a>(
     requires { way.old ≡ None }
     ensures { way.new ≡ Succession.taken_from stack rom.now row next state.now product.now }
 {
-    let (core, relations) = (&product.core, &product.relations);
-    match condition_of(row.op) {
-        None => put_reduced(
-            stack.setting.rules,
-            taken_successor(stack, rom, row, next, state, core, relations, None),
-            way,
-        ),
-        Some(_) => put_taken_side(stack, rom, row, next, state, product, way),
+    if has_condition(row.op) {
+        put_taken_side(stack, rom, row, next, state, product, way);
+    } else {
+        let (core, relations) = (&product.core, &product.relations);
+        let successor = taken_successor(&stack, rom, &row, next, state, core, relations, &None);
+        put_reduced(stack.setting.rules, successor, way);
     }
 }
 
@@ -187,7 +176,6 @@ fn put_untaken<'a>(
 }
 
 /// Where there is no condition, it isn't asked for.
-#[tactic(auto, unfolding(gb_product::specs::Sides::not_taken_side, gb_abs_effects::specs::Sides::sides_of))]
 fn put_untaken_from<'a>(
     stack: Stack,
     kind: Kind,
@@ -200,7 +188,7 @@ fn put_untaken_from<'a>(
     requires { way.old ≡ None }
     ensures { way.new ≡ Succession.not_taken_from stack row next state.now product.now }
 {
-    if condition_of(row.op).is_some() {
+    if has_condition(row.op) {
         put_untaken(stack, kind, row, next, state, product, way);
     }
 }
@@ -215,7 +203,7 @@ fn behind(row: Row, address: u16) -> u16
 
 /// The successor where the instruction is taken, in the place of none; what is known before it is given.
 #[inline(always)]
-pub fn put_taken<'a>(
+fn put_taken<'a>(
     stack: Stack,
     rom: &Rom<'_>,
     row: Row,
@@ -235,7 +223,7 @@ pub fn put_taken<'a>(
 
 /// The successor where it isn't taken, in the place of none; what is known before it is given.
 #[inline(always)]
-pub fn put_not_taken<'a>(
+fn put_not_taken<'a>(
     stack: Stack,
     kind: Kind,
     row: Row,
@@ -266,7 +254,7 @@ fn put_stay<'a>(row: Row, address: u16, state: &'a Abs, way: &mut Option<Success
 
 /// The successor where the processor stays on it, in the place of none; what is known before it is given.
 #[inline(always)]
-pub fn put_staying<'a>(
+fn put_staying<'a>(
     rules: Rules,
     row: Row,
     address: u16,

@@ -54,13 +54,13 @@ Holds-own v entry x o l h e s =
 Holds-start : (rom : List ℕ) (cert : Certificate) (s : MState) (r : Register) → s.processor ≡ processor_at_power_up rom
     → Holds (get r (core_at_power_up rom cert.region).registers) s (get r s.processor.registers)
 unfolding core_at_power_up processor_at_power_up
-Holds-start rom cert s A h = let e = sym (ap (λ p. p.registers.a) h) in Holds-own _ _ _ (origin.Register A) e e refl refl
-Holds-start rom cert s B h = let e = sym (ap (λ p. p.registers.b) h) in Holds-own _ _ _ (origin.Register B) e e refl refl
-Holds-start rom cert s C h = let e = sym (ap (λ p. p.registers.c) h) in Holds-own _ _ _ (origin.Register C) e e refl refl
-Holds-start rom cert s D h = let e = sym (ap (λ p. p.registers.d) h) in Holds-own _ _ _ (origin.Register D) e e refl refl
-Holds-start rom cert s E h = let e = sym (ap (λ p. p.registers.e) h) in Holds-own _ _ _ (origin.Register E) e e refl refl
-Holds-start rom cert s H h = let e = sym (ap (λ p. p.registers.h) h) in Holds-own _ _ _ (origin.Register H) e e refl refl
-Holds-start rom cert s L h = let e = sym (ap (λ p. p.registers.l) h) in Holds-own _ _ _ (origin.Register L) e e refl refl
+Holds-start rom cert s A h = let e = sym (ap (λ p. p.registers.a) h) in Holds-own _ _ _ origin.A e e refl refl
+Holds-start rom cert s B h = let e = sym (ap (λ p. p.registers.b) h) in Holds-own _ _ _ origin.B e e refl refl
+Holds-start rom cert s C h = let e = sym (ap (λ p. p.registers.c) h) in Holds-own _ _ _ origin.C e e refl refl
+Holds-start rom cert s D h = let e = sym (ap (λ p. p.registers.d) h) in Holds-own _ _ _ origin.D e e refl refl
+Holds-start rom cert s E h = let e = sym (ap (λ p. p.registers.e) h) in Holds-own _ _ _ origin.E e e refl refl
+Holds-start rom cert s H h = let e = sym (ap (λ p. p.registers.h) h) in Holds-own _ _ _ origin.H e e refl refl
+Holds-start rom cert s L h = let e = sym (ap (λ p. p.registers.l) h) in Holds-own _ _ _ origin.L e e refl refl
 
 HoldsFlags-start : (rom : List ℕ) (cert : Certificate) (s : MState) → s.processor ≡ processor_at_power_up rom
     → HoldsFlags (core_at_power_up rom cert.region).flags s s.processor.flags

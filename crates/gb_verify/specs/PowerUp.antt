@@ -6,12 +6,12 @@ use Rattle.gb_ops.specs.declared.machine.Region.{Region}
 use Rattle.gb_domain.specs.declared.types.Origin.TheVariants as origin
 use Rattle.gb_domain.specs.declared.types.Val.{Val}
 use Rattle.gb_domain.specs.declared.types.Core.{Core}
-use Rattle.gb_domain.specs.Types.{AbsState, state_of}
+use Rattle.gb_domain.specs.Types.{AbsState, state_of, origin_of_register}
 use Rattle.gb_rules.specs.Below.gb_vals.Flags.{known}
 
 -- a register's value at power-up, which is its own origin
 abbrev pub own : Register → ℕ → Val
-own r x = record { lo = x; hi = x; origin = Some (origin.Register r) }
+own r x = record { lo = x; hi = x; origin = Some (origin_of_register r) }
 
 -- H and C are clear where the header's checksum is 00
 unfoldable pub core_at_power_up : List ℕ → Region → Core

@@ -26,7 +26,7 @@ fn own(register: Register, value: u8) -> Val
     Val {
         lo: value,
         hi: value,
-        origin: Some(Origin::Register(register)),
+        origin: Some(Origin::of(register)),
     }
 }
 

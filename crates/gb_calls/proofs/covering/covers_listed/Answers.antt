@@ -1,4 +1,4 @@
-use Rattle.std.proofs.Common.{◌≡◌, sym, ◌∙◌}
+use Rattle.std.proofs.Common.{sym, ◌∙◌}
 use Rattle.gb_calls.proofs.ItemLaws.{listed_alone}
 use Rattle.gb_calls.proofs.covering.covers_listed.Goals as goal
 

@@ -1,5 +1,4 @@
-use Rattle.std.proofs.Common.{◌≡◌, ◌+◌, ◌++◌, length, map, take}
-use Rattle.gb_domain.specs.Types.{AbsState}
+use Rattle.std.proofs.Common.{◌≡◌, ◌+◌, ◌++◌, length, take}
 use Rattle.gb_calls.proofs.resuming.append_items.Given as goal
 
 abbrev pub invariant-loop-item : goal.invariant-loop-item

@@ -1,5 +1,4 @@
 use Rattle.std.proofs.Common.{◌≡◌, ◌+◌, ◌++◌, length, map, take}
-use Rattle.gb_domain.specs.Types.{AbsState}
 use Rattle.gb_abs.specs.Origins.{without_origin}
 use Rattle.gb_calls.proofs.resuming.append_without_origins.Given as goal
 

@@ -1,4 +1,4 @@
-use Rattle.std.proofs.Common.{◌≡◌, refl}
+use Rattle.std.proofs.Common.{◌≡◌}
 use Rattle.gb_relations.specs.Returned.{returned}
 use Rattle.gb_calls.specs.Resuming.{kept_by, core_back}
 use Rattle.gb_calls.proofs.ResumingLaws.{too_deep}

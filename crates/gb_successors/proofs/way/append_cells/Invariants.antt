@@ -1,5 +1,4 @@
 use Rattle.std.proofs.Common.{◌≡◌, ◌+◌, ◌++◌, length, take}
-use Rattle.gb_domain.specs.Types.{AbsState}
 use Rattle.gb_successors.proofs.way.append_cells.Given as goal
 
 abbrev pub invariant-loop-cell : goal.invariant-loop-cell

@@ -1,0 +1,12 @@
+use Rattle.gb_cert.proofs.Counting.{counted, keys_many}
+use Rattle.gb_cert.proofs.Lending.{keys-in-order}
+use Rattle.gb_cert.proofs.cert.Cert.found_from.Goals as goal
+
+pub found_from-found-requires-clause-order : goal.found_from-found-requires-clause-order
+found_from-found-requires-clause-order c = keys-in-order c.args.self.now c.region-region.ensures.rules
+
+pub returns-clause-few : goal.returns-clause-few
+returns-clause-few c h = counted _ 32 (c.found_from-found.ensures.few (keys_many _ _ h))
+
+pub returns-clause-most : goal.returns-clause-most
+returns-clause-most c h = counted _ 42 (c.found_from-found.ensures.most (keys_many _ _ h))

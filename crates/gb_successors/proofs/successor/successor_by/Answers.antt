@@ -1,0 +1,30 @@
+use Rattle.std.proofs.Common.{refl, sym}
+use Rattle.gb_successors.specs.Successors.{effect_in, taken_parts, relations_behind, taken_successor}
+use Rattle.gb_successors.proofs.MovedLaws.{taken_state}
+use Rattle.gb_successors.proofs.successor.successor_by.Goals as goal
+
+pub returns : goal.returns
+unfolding effect_in taken_parts relations_behind taken_successor
+returns c =
+    rw (
+      c.with_effect.ensures,
+      c.move_of-moved.ensures,
+      taken_state c.args.taken.now.stack.now c.kind-kind.result c.args.taken.now.cell.now c.stack_move-stack_move.result c.refine.new.effect.write c.args.taken.now.state.now c.end_core.new.core c.relations_after-relations.result,
+      c.end_core.ensures,
+      c.relations_after-relations.ensures.exact,
+      c.refined_target-target.ensures,
+      c.target_of-behind.ensures.exact,
+      c.stack_move-stack_move.ensures,
+      c.refine.ensures,
+      c.known_carry-carry.ensures.exact,
+      c.transfer_in.ensures,
+      c.requires.before,
+      c.read_word.ensures,
+      c.sp_halves.ensures.exact,
+      c.cut_read-read.ensures,
+      c.read_of.ensures.exact,
+      c.sp_bounds-sp.ensures.exact,
+      c.pointer_bounds-pointer.ensures.exact,
+      c.kind-kind.ensures.kind,
+      sym c.requires.own,
+    ) refl
