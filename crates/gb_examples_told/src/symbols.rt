@@ -10,6 +10,10 @@ const SYM: &[u8] =
 const NOI: &[u8] =
     b"LOAD game.gb\nDEF .__.ABS. 0x0\nDEF _main 0x200\nDEF _far 0x14010\nDEF _count 0xC0A0\n";
 
+/// With names that are the linker's own: for debuggers, as `-y` adds them, a local label, and an area's length.
+const MARKED: &[u8] =
+    b"DEF A$game$20 0x150\nDEF l__DATA 0x151\nDEF _main 0x150\nDEF C$game.c$9$1_0$3 0x155\nDEF 00101$ 0x157\n";
+
 const MAP: &[u8] =
     b"ASxxxx Linker V03.00\n\n      Value  Global                              Global Defined In Module\n      -----  --------------------------------   ------------------------\n     00000200  _main                              game\n     00014010  _far                               game\n";
 
@@ -60,6 +64,8 @@ fn a_symbol_is_the_nearest_before(rt: HostRuntime) {
     assert!(rt; agrees(&rt, SYM, Format::RgbdsSym, 2, 0x4001, offset("Play", 1)));
     assert!(rt; agrees(&rt, SYM, Format::RgbdsSym, 0, 0xC000, offset("wCount", 0)));
     assert!(rt; agrees(&rt, NOI, Format::SdccNoi, 1, 0x4012, offset("_far", 2)));
+    assert!(rt; agrees(&rt, MARKED, Format::SdccNoi, 0, 0x0150, offset("_main", 0)));
+    assert!(rt; agrees(&rt, MARKED, Format::SdccNoi, 0, 0x0158, offset("_main", 8)));
     assert!(rt; agrees(&rt, MAP, Format::SdccMap, 1, 0x4010, offset("_far", 0)));
 }
 

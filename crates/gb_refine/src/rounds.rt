@@ -540,11 +540,20 @@ impl<'a> Refinement<'a> {
         ALL_STEPS.min((self.limits.nodes as u64).saturating_mul(STEPS_A_NODE))
     }
 
-    /// There were more rounds than allowed, or they took too long: the failure that was to be mended last is told.
+    /// A failure that was met and isn't told otherwise: the one to be mended last, or else the first by its place.
+    fn unmended(&mut self) -> Option<Place> {
+        let last = self.before.take().map(|before| before.place);
+        match last {
+            Some(place) if self.first.contains_key(&place) => Some(place),
+            _ => self.first.keys().next().copied(),
+        }
+    }
+
+    /// There were more rounds than allowed, or they took too long: a failure that was to be mended is told.
     fn out_of_rounds(&mut self, rounds: u32) -> Result<Made, AllocError> {
         let rounds = Obstacle::Rounds { rounds };
-        match self.before.take() {
-            Some(before) => self.end_at(before.place, rounds),
+        match self.unmended() {
+            Some(place) => self.end_at(place, rounds),
             None => end_alone(self.alloc, rounds),
         }
     }

@@ -1,5 +1,7 @@
 //! Where a run that was too large has its nodes and procedures.
 
+use crate::lines::SourceLine;
+use crate::symbols::Symbols;
 use gb_fixpoint::types::{Node, Procedure, Run};
 use std::alloc::{AllocError, Global};
 use std::collections::BTreeMap;
@@ -23,6 +25,20 @@ pub struct Crowd {
     pub crowded: Vec<Count>,
     /// The addresses at which most procedures begin.
     pub entered: Vec<Count>,
+}
+
+impl Crowd {
+    /// The author's line with most nodes: of an address below 4000, since elsewhere the bank isn't told.
+    pub(crate) fn line<'a>(&self, symbols: &Symbols<'a>) -> Option<SourceLine<'a>> {
+        for count in &self.crowded {
+            if count.address < 0x4000 {
+                if let Some(line) = symbols.line(0, count.address) {
+                    return Some(line);
+                }
+            }
+        }
+        None
+    }
 }
 
 /// How much there is at each address.

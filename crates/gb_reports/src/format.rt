@@ -141,13 +141,30 @@ fn map_line<'a>(line: &'a str) -> Line<'a> {
     }
 }
 
+/// Whether SDCC's linker made a name: one for debuggers (`C$game.c$7$1_0$3`, by `-y`), a local label's (`00101$`), or an area's
+/// length or start (`l__CODE`, `s__CODE`).
+fn is_the_linkers(name: &str) -> bool {
+    name.contains('$')
+        || name.starts_with("l__")
+        || name.starts_with("s__")
+        || name.starts_with(".__.")
+}
+
+/// A line of SDCC's linker, which tells of no symbol where the name is its own.
+fn of_authors(line: Line<'_>) -> Line<'_> {
+    match line {
+        Line::Symbol(named) if is_the_linkers(named.name) => Line::Other,
+        other => other,
+    }
+}
+
 impl Format {
     /// What a line is in this format.
     pub(crate) fn line<'a>(self, line: &'a str) -> Line<'a> {
         match self {
             Format::RgbdsSym => sym_line(line),
-            Format::SdccNoi => noi_line(line),
-            Format::SdccMap => map_line(line),
+            Format::SdccNoi => of_authors(noi_line(line)),
+            Format::SdccMap => of_authors(map_line(line)),
         }
     }
 

@@ -5,8 +5,19 @@ use gb_fixpoint::keys::ControllerKey;
 use gb_fixpoint::types::{Procedure, Run};
 use std::alloc::{AllocError, Global};
 
-/// Whether a procedure is a handler, and may return with another bank or gate than it was entered with.
-fn may_switch(run: &Run<'_>, procedure: &Procedure) -> bool {
+/// Whether what may be wrong of the controller is another at an exit than at the entry: the bank that is shown, or the gate.
+fn is_switched(cause: Cause, entry: &ControllerKey, exit: &ControllerKey) -> bool {
+    match cause {
+        Cause::Bank => {
+            entry.bank != exit.bank || entry.second != exit.second || entry.mode != exit.mode
+        }
+        Cause::CartridgeRam { .. } | Cause::CopiesCartridgeRam { .. } => entry.gate != exit.gate,
+        _ => false,
+    }
+}
+
+/// Whether a procedure is a handler that may return with another bank or gate than it was entered with, whichever may be wrong.
+fn may_switch(run: &Run<'_>, procedure: &Procedure, cause: Cause) -> bool {
     let Some(exit) = &procedure.exit else {
         return false;
     };
@@ -16,16 +27,9 @@ fn may_switch(run: &Run<'_>, procedure: &Procedure) -> bool {
     let Some(entry) = run.nodes.get(number) else {
         return false;
     };
-    procedure.key.is_handler
-        && ControllerKey::of(&entry.state.core().ctl) != ControllerKey::of(&exit.core().ctl)
-}
-
-/// Whether another bank or gate than was meant may be what is wrong.
-fn is_of_controller(cause: Cause) -> bool {
-    matches!(
-        cause,
-        Cause::Bank | Cause::CartridgeRam { .. } | Cause::CopiesCartridgeRam { .. }
-    )
+    let before = ControllerKey::of(&entry.state.core().ctl);
+    let behind = ControllerKey::of(&exit.core().ctl);
+    procedure.key.is_handler && is_switched(cause, &before, &behind)
 }
 
 /// Where the handlers begin that may return with another bank or gate, if that may be what is wrong.
@@ -35,12 +39,9 @@ pub(crate) fn switching_handlers(
     cause: Cause,
 ) -> Result<Vec<u16>, AllocError> {
     let mut targets = Vec::new(alloc);
-    if !is_of_controller(cause) {
-        return Ok(targets);
-    }
     for procedure in &run.procedures {
         let target = procedure.key.target;
-        if may_switch(run, procedure) && !targets.contains(&target) {
+        if may_switch(run, procedure, cause) && !targets.contains(&target) {
             targets.push(target)?;
         }
     }

@@ -68,10 +68,11 @@ fn op_of(run: &Run<'_>, node: &Node) -> Option<Op> {
 }
 
 impl Obstacle {
-    /// The author's line, of a failure at an instruction.
+    /// The author's line, of a failure at an instruction; where a certificate gets too large, that with most nodes.
     pub fn line<'a>(&self, symbols: &Symbols<'a>) -> Option<SourceLine<'a>> {
         match self {
             Obstacle::Standing(standing) => standing.line(symbols),
+            Obstacle::TooLarge(crowd) => crowd.line(symbols),
             _ => None,
         }
     }
