@@ -1,7 +1,7 @@
 //! The transfer functions of instructions (abstract interpretation): what each reads, computes and
-//! writes, over intervals and sets of flags. `transfer` gives the core that a taken instruction leaves
-//! and what it writes (`exact`); whatever the machine does from a state that the core stands for, the
-//! answer stands for (`sound`). STOP is left out, since no certificate may reach it.
+//! writes, over intervals and sets of flags. `transfer_in` makes of a core what a taken instruction
+//! leaves, and says what it writes (`exact`); whatever the machine does from a state that the core
+//! stands for, the outcome stands for (`sound`). STOP is left out, since no certificate may reach it.
 //!
 //! Read `reads`, `sides` and `targets` (where an instruction goes on), then `pairs` and `writes`, and
 //! last `transfer`. Where an OAM transfer is

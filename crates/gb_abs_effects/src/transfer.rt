@@ -1,6 +1,6 @@
 //! The transfer function: what instructions do to a core.
 
-ghost use Rattle.std.specs.Prelude.{◌≡◌};
+ghost use Rattle.std.specs.Prelude.{◌≡◌, ◌<◌};
 ghost use Rattle.gb_domain.specs.Rules.{IsVal, IsCore, IsWord};
 ghost use Rattle.gb_ops.specs.declared.op.Pair.TheVariants.{Hl};
 ghost use Rattle.gb_vals.specs.Alu as Alu;
@@ -316,37 +316,30 @@ fn apply_alu(how: AluOp, operand: Operand, inputs: &Inputs, effect: &mut AbsEffe
 // ---- instructions
 
 /// What an instruction that is taken makes of a core whose pending interrupts have become on, and
-/// what it writes. The address behind it is given, SP as a pair, and what its reads gave: the byte, or a word's
-/// low and high one. The machine's effect is followed, but for STOP.
+/// what it writes: in the place of an effect that is this core, and in which nothing is written yet. The
+/// machine's effect is followed, but for STOP.
+#[inline(never)]
 #[tactic(auto, using(crate::proofs::TransferLaws::transfer_sound))]
-pub fn transfer(op: Op, next: u16, sp: Halves, core: &Core, low: Val, high: Val) -> AbsEffect
-    ensures exact { result ≡ Transfer.transfer op next sp core.now low high }
-    ensures sound { IsCore core.now → IsVal low → IsSoundTransfer op next sp core.now low high result }
-    ensures inhabited { IsCore core.now → IsVal low → IsVal high → IsWord sp → IsAbsEffect result }
+pub fn transfer_in(op: Op, inputs: &Inputs, effect: &mut AbsEffect)
+    requires { effect.old.write ≡ Nothing }
+    ensures exact { effect.new ≡ Transfer.transfer op inputs.now.next inputs.now.sp effect.old.core inputs.now.word.low inputs.now.word.high }
+    ensures sound { IsCore effect.old.core → IsVal inputs.now.word.low → IsSoundTransfer op inputs.now.next inputs.now.sp effect.old.core inputs.now.word.low inputs.now.word.high effect.new }
+    ensures inhabited { IsCore effect.old.core → IsVal inputs.now.word.low → IsVal inputs.now.word.high → IsWord inputs.now.sp → IsAbsEffect effect.new }
 {
-    holds_bytes(op);
-    apply(op, next, sp, core, low, high)
+    holds_bytes(op, inputs.next);
+    apply(op, inputs, effect);
 }
 
-/// An instruction's numbers are bytes and words.
-fn holds_bytes(op: Op)
-    ensures { HasBytes op }
+/// An instruction's numbers are bytes and words, and the address behind it is a word.
+fn holds_bytes(op: Op, next: u16)
+    ensures numbers { HasBytes op }
+    ensures word { next < 65536 }
 {}
 
-/// The core is copied once, and then changed in place.
-fn apply(op: Op, next: u16, sp: Halves, core: &Core, low: Val, high: Val) -> AbsEffect
-    ensures { result ≡ Transfer.transfer op next sp core.now low high }
-{
-    let word = Halves { high, low };
-    let mut effect = quiet(core);
-    transfer_in(op, &Inputs { next, sp, word }, &mut effect);
-    effect
-}
-
-/// The same in the place of an effect that is the core before it, and in which nothing is written yet.
-#[inline(never)]
+/// Each instruction changes the core where it is, so that it isn't copied.
+#[inline(always)]
 #[tactic(auto, unfolding(crate::specs::Transfer::transfer))]
-pub fn transfer_in(op: Op, inputs: &Inputs, effect: &mut AbsEffect)
+fn apply(op: Op, inputs: &Inputs, effect: &mut AbsEffect)
     requires { effect.old.write ≡ Nothing }
     ensures { effect.new ≡ Transfer.transfer op inputs.now.next inputs.now.sp effect.old.core inputs.now.word.low inputs.now.word.high }
 {

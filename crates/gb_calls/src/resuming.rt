@@ -13,8 +13,7 @@ use gb_domain::places::OneByte;
 use gb_domain::relations::Relations;
 use gb_domain::types::{Abs, Core, Origin, Range, Rules, Val};
 use gb_ops::registers::Registers;
-use gb_pairs::reduced::reduced;
-use gb_pairs::values::Values;
+use gb_pairs::reduced::reduce;
 use gb_product::only_of_a;
 use gb_relations::returned::{Kept, returned};
 
@@ -206,25 +205,16 @@ fn put_rejoined(count: u8, ranges: &[Range], state: &Abs, exit: &Abs, resumed: &
     ensures reducing { ReducesSoundly (Resuming.rejoined count ranges.now state.now exit.now) }
 {
     let kept = kept_by(ranges, &state.relations().byte, exit.core());
-    let core = core_back(state.core(), exit.core());
-    let relations = returned(&kept, state.relations(), exit.relations());
-    let Some(values) = reduced(&Values {
-        registers: core.registers,
-        pairs: relations.pairs,
-    }) else {
+    let mut core = core_back(state.core(), exit.core());
+    let mut relations = returned(&kept, state.relations(), exit.relations());
+    if !reduce(&mut core.registers, &mut relations.pairs) {
         return Return::Nothing;
-    };
+    }
     if are_too_many(count, state.items(), exit.items()) {
         return Return::TooDeep;
     }
-    resumed.set_plain(Core {
-        registers: values.registers,
-        ..core
-    });
-    resumed.set_relations(Relations {
-        pairs: values.pairs,
-        ..relations
-    });
+    resumed.set_plain(core);
+    resumed.set_relations(relations);
     append_given_back(count, state.items(), exit.items(), resumed);
     resumed.set_cells(cells_back(Rules::Extended, ranges, state.cells(), exit.cells()));
     Return::States

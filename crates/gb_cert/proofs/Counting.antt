@@ -1,5 +1,5 @@
 -- How many keys were asked for, where they are counted from 0 on and the count stops at the most that it can hold.
-use Rattle.std.proofs.Common.{◌≡◌, ℕ, ◌+◌, ◌≤◌, List, length, map, refl, arith}
+use Rattle.std.proofs.Common.{◌≡◌, ℕ, ◌+◌, ◌≤◌, List, length, map, arith}
 use Rattle.std.specs.Prelude.{min}
 use Rattle.std.proofs.Math.Nat.{min-le_left}
 use Rattle.std.proofs.lemmas.List.{length-map}
@@ -8,9 +8,9 @@ use Rattle.gb_domain.specs.Types.{Node}
 use Rattle.gb_states.specs.Rules.{key}
 
 -- the count, where so many at most were asked for among the nodes
-pub counted : (count limit : ℕ) → AskedAtMost (λ n. 0 ≡ min n 4294967295) (λ n. count ≡ min n 4294967295) limit → count ≤ limit
-counted count limit most =
-    let asked = most 0 refl in
+pub counted : (before count limit : ℕ) → before ≡ 0 → AskedAtMost (λ n. before ≡ min n 4294967295) (λ n. count ≡ min n 4294967295) limit → count ≤ limit
+counted before count limit none most =
+    let asked = most 0 none in
     let few : asked.0 ≤ limit = asked.1 in
     let is : count ≡ min (0 + asked.0) 4294967295 = asked.2 in
     let left : min (0 + asked.0) 4294967295 ≤ 0 + asked.0 = min-le_left (0 + asked.0) 4294967295 in

@@ -103,7 +103,7 @@ way-on {S} {X} step next w good bytes first count start s t i left after places 
     } in
     subst (λ u. UnderWay step next w bytes first count start u (i + 1) after (places ++ (length bytes - length left) ∷ [])) p.0 (subst (λ r. UnderWay step next w bytes first count start (next c.0) (i + 1) r (places ++ (length bytes - length left) ∷ [])) p.1 made)
 
-mapped_wrong : {X Y : Type 0} (f : X → Y) (read : Result (X × List ℕ) CertFault) (e : CertFault) → go_on read (λ x rest. (let r : Result (Y × List ℕ) CertFault = Ok (f x, rest) in r)) ≡ Err e → read ≡ Err e
+pub mapped_wrong : {X Y : Type 0} (f : X → Y) (read : Result (X × List ℕ) CertFault) (e : CertFault) → go_on read (λ x rest. (let r : Result (Y × List ℕ) CertFault = Ok (f x, rest) in r)) ≡ Err e → read ≡ Err e
 mapped_wrong f (Ok p) e h = absurd cc
 mapped_wrong f (Err d) e h = cc
 

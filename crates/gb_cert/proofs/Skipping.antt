@@ -1,5 +1,5 @@
 -- Walking over fields is reading them, and forgetting their values.
-use Rattle.std.proofs.Common.{◌≡◌, ℕ, suc, ◌-◌, ◌+◌, ◌≤◌, ◌<◌, Bool, true, false, List, ◌∷◌, Some, Result, Ok, Err, refl, sym, ◌∙◌, arith}
+use Rattle.std.proofs.Common.{◌≡◌, ℕ, suc, ◌-◌, ◌+◌, ◌≤◌, ◌<◌, Bool, true, false, List, ◌∷◌, Option, Some, Result, Ok, Err, refl, sym, ◌∙◌, subst, arith}
 use Rattle.gb_ops.specs.declared.machine.Region.{Region}
 use Rattle.gb_fields.specs.declared.fault.CertFault.{CertFault}
 use Rattle.gb_domain.specs.declared.types.Val.{Val}
@@ -12,10 +12,12 @@ use Rattle.gb_states.specs.declared.role.Role.TheVariants as role
 use Rattle.gb_domain.specs.Types.{AbsState, Node}
 use Rattle.gb_fields.specs.Format.{Read, go_on, followed, both, mapped, optional, several}
 use Rattle.gb_cert.specs.Skipping.{skipped, past}
+use Rattle.gb_cert.proofs.Placing.{mapped_wrong}
 use Rattle.gb_states.specs.Rules.{role_of, key}
 use Rattle.gb_fields.specs.Reading.{word_between, returns_at, entry_at, base_at, need_at, key_at}
 use Rattle.gb_states.specs.RelationReading.{relations_by}
-use Rattle.gb_states.specs.Reading.{Tested, core_at, items_at, cells_at, to_state, state_at, ranges_at, exit_at, needed_at, body_at, to_procedure, procedure_at, to_node, node_at}
+use Rattle.gb_states.proofs.Formats.{went_on, same_pair}
+use Rattle.gb_states.specs.Reading.{Tested, passed, core_at, items_at, cells_at, to_state, state_at, ranges_at, exit_at, needed_at, body_at, to_procedure, procedure_at, to_node, node_at}
 
 pub skipped-mapped : {X Y : Type 0} (f : X → Y) (r : Read X) (bytes : List ℕ) → skipped (mapped f r) bytes ≡ skipped r bytes
 skipped-mapped {X} f r bytes = by (r bytes)
@@ -72,11 +74,21 @@ core_then rules role region bytes core rest e =
     ∙ skipped-followed (core_at rules role) behind bytes core rest e
     ∙ skipped-both (items_at rules role core.0.stack_set) (both (relations_by rules region core.1) (cells_at rules region)) rest
 
-pub no_core : (rules : Rules) (role : Role) (region : Region) (bytes : List ℕ) (e : CertFault) → core_at rules role bytes ≡ Err e → skipped (state_at rules role region) bytes ≡ Err e
-unfolding state_at
-no_core rules role region bytes e h = rw h refl
+pub pass_then :
+    (rules : Rules) (role : Role) (region : Region) (bytes : List ℕ) (k : Bool × Option ℕ) (rest : List ℕ) → mapped passed (core_at rules role) bytes ≡ Ok (k, rest)
+    → skipped (state_at rules role region) bytes ≡ past (skipped (items_at rules role k.0) rest) (skipped (both (relations_by rules region k.1) (cells_at rules region)))
+pass_then rules role region bytes k rest e =
+    let core = went_on (core_at rules role bytes) (λ x rest. Ok (passed x, rest)) (k, rest) e in
+    let p = same_pair (passed core.0) k core.1 rest core.3 in
+    let then = core_then rules role region bytes core.0 core.1 core.2 in
+    subst (λ (q : Bool × Option ℕ). skipped (state_at rules role region) bytes ≡ past (skipped (items_at rules role q.0) rest) (skipped (both (relations_by rules region q.1) (cells_at rules region)))) p.0
+    (subst (λ (r : List ℕ). skipped (state_at rules role region) bytes ≡ past (skipped (items_at rules role core.0.0.stack_set) r) (skipped (both (relations_by rules region core.0.1) (cells_at rules region)))) p.1 then)
 
-pub ruleset skip_state = (core_then, no_core)
+pub no_pass : (rules : Rules) (role : Role) (region : Region) (bytes : List ℕ) (e : CertFault) → mapped passed (core_at rules role) bytes ≡ Err e → skipped (state_at rules role region) bytes ≡ Err e
+unfolding state_at
+no_pass rules role region bytes e h = rw (mapped_wrong passed (core_at rules role bytes) e h) refl
+
+pub ruleset skip_state = (pass_then, no_pass)
 
 pub exit_then : (rules : Rules) (is_main : Bool) (region : Region) (bytes rest : List ℕ) → returns_at is_main bytes ≡ Ok (true, rest) → skipped (exit_at rules is_main region) bytes ≡ skipped (state_at rules role.Exit region) rest
 unfolding exit_at

@@ -5,7 +5,7 @@ ghost use Rattle.gb_states.specs.Rules.{key};
 ghost use Rattle.gb_rows.specs.Rows.{IsFound, IsBetween};
 
 use crate::cert::Cert;
-use gb_rows::{Found, Rows, find_in, find_near, first_near, found_from};
+use gb_rows::{Found, Rows, find_in, first_near, found_from};
 
 /// The nodes of a certificate, as rows, and how many of their keys were asked for.
 #[derive(Drop)]
@@ -50,6 +50,17 @@ pub struct First {
 }
 
 impl<'a> Cert<'a> {
+    /// The nodes as rows, none of whose keys was asked for.
+    fn rows(&self) -> NodeRows<'_, 'a>
+        ensures cert { result.cert.now ≡ self.now }
+        ensures asked { result.asked ≡ 0 }
+    {
+        NodeRows {
+            cert: self,
+            asked: 0,
+        }
+    }
+
     /// The numbers of the nodes of a procedure at an address, by `find_in`: at most 32 keys are asked for among
     /// 65,535 nodes, 42 among 1,048,576.
     pub fn find(&self, procedure: u8, address: u16) -> Search
@@ -58,30 +69,8 @@ impl<'a> Cert<'a> {
         ensures most { length self.now.nodes ≤ 1048576 → result.asked ≤ 42 }
     {
         let _region = self.region();
-        let mut rows = NodeRows {
-            cert: self,
-            asked: 0,
-        };
+        let mut rows = self.rows();
         let found = find_in(&mut rows, procedure, address);
-        Search {
-            found,
-            asked: rows.asked,
-        }
-    }
-
-    /// The same nodes, by `find_near`: quickly found where they are a little above `near`. At most 64 keys are asked
-    /// for among 65,535 nodes, 84 among 1,048,576.
-    pub fn find_near(&self, near: u32, procedure: u8, address: u16) -> Search
-        ensures found { IsFound (map key self.now.nodes) (procedure, address) result.found.first result.found.after }
-        ensures few { length self.now.nodes ≤ 65535 → result.asked ≤ 64 }
-        ensures most { length self.now.nodes ≤ 1048576 → result.asked ≤ 84 }
-    {
-        let _region = self.region();
-        let mut rows = NodeRows {
-            cert: self,
-            asked: 0,
-        };
-        let found = find_near(&mut rows, near, procedure, address);
         Search {
             found,
             asked: rows.asked,
@@ -97,10 +86,7 @@ impl<'a> Cert<'a> {
         ensures most { length self.now.nodes ≤ 1048576 → result.asked ≤ 42 }
     {
         let _region = self.region();
-        let mut rows = NodeRows {
-            cert: self,
-            asked: 0,
-        };
+        let mut rows = self.rows();
         let number = first_near(&mut rows, near, procedure, address);
         First {
             number,
@@ -117,10 +103,7 @@ impl<'a> Cert<'a> {
         ensures most { length self.now.nodes ≤ 1048576 → result.asked ≤ 42 }
     {
         let _region = self.region();
-        let mut rows = NodeRows {
-            cert: self,
-            asked: 0,
-        };
+        let mut rows = self.rows();
         let found = found_from(&mut rows, first, procedure, address);
         Search {
             found,

@@ -15,7 +15,7 @@ use gb_fields::limits::{cell_limit, item_bytes, range_room};
 use gb_fields::numbers::{count_within, word_between};
 use gb_fields::parts::{base_at, entry_at, key_at, need_at, returns_at};
 use gb_ops::machine::Region;
-use gb_states::fields::{core_at, val_at};
+use gb_states::fields::{pass_core, val_at};
 use gb_states::relations::relations_by;
 use gb_states::role::Role;
 use gb_states::states::{cell_at, item_count_at, range_at};
@@ -86,12 +86,13 @@ fn skip_told(
 }
 
 #[inline(always)]
+#[tactic(auto, using(crate::proofs::Skipping::skip_state))]
 fn skip_state(rules: Rules, role: Role, region: Region, bytes: &[u8]) -> Result<&[u8], CertFault>
     ensures { Gives (λ x. x.now) result (skipped (state_at rules role region) bytes.now) }
 {
-    let (core, rest) = core_at(rules, role, bytes)?;
-    let rest = skip_items(rules, role, core.0.stack_set, rest)?;
-    skip_told(rules, region, core.1, rest)
+    let ((stack_set, test), rest) = pass_core(rules, role, bytes)?;
+    let rest = skip_items(rules, role, stack_set, rest)?;
+    skip_told(rules, region, test, rest)
 }
 
 /// Passes over as many ranges as the count says.

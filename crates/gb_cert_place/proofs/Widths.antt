@@ -5,7 +5,7 @@ use Rattle.gb_fields.specs.declared.fault.CertFault.{CertFault}
 use Rattle.gb_fields.specs.declared.fault.CertFault.TheVariants as fault
 use Rattle.gb_states.specs.declared.role.Role.{Role}
 use Rattle.gb_domain.specs.declared.rules.Rules.{Rules}
-use Rattle.gb_domain.specs.declared.rules.Rules.TheVariants.{Simple, Extended}
+use Rattle.gb_domain.specs.declared.rules.Rules.TheVariants.{Extended}
 use Rattle.gb_domain.specs.declared.pairs.Other.{Other}
 use Rattle.gb_domain.specs.Limits.{rules_of}
 use Rattle.gb_domain.specs.Pairs.{nothing_known}

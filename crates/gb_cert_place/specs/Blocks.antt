@@ -1,5 +1,4 @@
 -- The blocks of a certificate: runs of fields, each of a fixed length by what stands before it.
-use Rattle.std.specs.Prelude.{ℕ}
 use Rattle.gb_domain.specs.declared.rules.Rules.TheVariants.{Extended}
 use Rattle.gb_domain.specs.Limits.{cell_room}
 use Rattle.gb_fields.specs.Limits.{range_room}

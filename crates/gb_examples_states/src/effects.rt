@@ -2,8 +2,8 @@
 
 use gb_abs::span::Span;
 use gb_abs_effects::reads::{AbsRead, read_of};
-use gb_abs_effects::transfer::transfer;
-use gb_abs_effects::writes::{AbsEffect, AbsWrite};
+use gb_abs_effects::transfer::{Inputs, transfer_in};
+use gb_abs_effects::writes::{AbsEffect, AbsWrite, quiet};
 use gb_domain::pairs::ANY_BOUNDS;
 use gb_domain::types::{Core, Flg, Halves, ImeSet, May, Origin, Rules, Val};
 use gb_ops::machine::Region;
@@ -21,8 +21,8 @@ const B: Operand = Operand::Register(Register::B);
 /// The address behind each instruction.
 const NEXT: u16 = 0x1234;
 
-/// SP, of which nothing is known.
-const SP: Halves = Halves {
+/// A word of which nothing is known.
+const ANY_WORD: Halves = Halves {
     high: ANY,
     low: ANY,
 };
@@ -51,9 +51,17 @@ fn with_hl(h: Val, l: Val) -> Core {
     core
 }
 
+/// What an instruction leaves that reads a word, or a byte as its low one, where SP is given.
+fn after_with(op: Op, core: &Core, sp: Halves, word: Halves) -> AbsEffect {
+    let next = NEXT;
+    let mut effect = quiet(core);
+    transfer_in(op, &Inputs { next, sp, word }, &mut effect);
+    effect
+}
+
 /// What an instruction that reads nothing leaves.
 fn after(op: Op, core: &Core) -> AbsEffect {
-    transfer(op, NEXT, SP, core, ANY, ANY)
+    after_with(op, core, ANY_WORD, ANY_WORD)
 }
 
 /// The instruction writes nothing, and leaves this core.
@@ -177,7 +185,11 @@ fn hl_counts_behind_an_access(rt: HostRuntime) {
     }
     // A gets what was read, with its origin.
     let load = Op::LoadA(Indirect::HlDecrement);
-    let loaded = transfer(load, NEXT, SP, &with_word(0xC000), own(Register::B), ANY);
+    let read = Halves {
+        high: ANY,
+        low: own(Register::B),
+    };
+    let loaded = after_with(load, &with_word(0xC000), ANY_WORD, read);
     let mut want = with_word(0xBFFF);
     want.registers.a = own(Register::B);
     assert!(rt; loaded.core == want);
@@ -260,7 +272,7 @@ fn sums_with_known_sp_are_exact(rt: HostRuntime) {
         let mut core = with_word(before);
         core.flags.zero = CLEAR;
         let want = summed(core, with_word(hl), flags(CLEAR, half_carry, carry));
-        let left = transfer(op, NEXT, sp, &core, ANY, ANY);
+        let left = after_with(op, &core, sp, ANY_WORD);
         assert!(rt; left.core == want, "{hl}");
     }
 }
@@ -308,7 +320,11 @@ fn pops_af(rt: &impl Abort, core: &Core, low: Val, flags: Flg) {
     let mut want = *core;
     want.registers.a = single(0x12);
     want.flags = flags;
-    let popped = transfer(Op::Pop(StackPair::Af), NEXT, SP, core, low, single(0x12));
+    let word = Halves {
+        high: single(0x12),
+        low,
+    };
+    let popped = after_with(Op::Pop(StackPair::Af), core, ANY_WORD, word);
     assert!(rt; popped.core == want, "{} to {}", low.lo, low.hi);
 }
 
@@ -321,7 +337,11 @@ fn pops(rt: HostRuntime) {
     want.registers.h = own(Register::D);
     want.registers.l = own(Register::E);
     let pop = Op::Pop(StackPair::Hl);
-    let popped = transfer(pop, NEXT, SP, &core, own(Register::E), own(Register::D));
+    let word = Halves {
+        high: own(Register::D),
+        low: own(Register::E),
+    };
+    let popped = after_with(pop, &core, ANY_WORD, word);
     assert!(rt; popped.core == want);
     // F1 sets all flags, its low bits dropped; a byte that isn't known gives any flags; F's own byte is F.
     let all_set = Flg {
@@ -486,14 +506,11 @@ fn changes_bytes(rt: HostRuntime) {
         last: 0xFFFF,
     };
     // What (HL) held goes up by one and back; C stays, H is either.
-    let counted = transfer(
-        Op::Increment(Operand::AtHl),
-        NEXT,
-        SP,
-        &core,
-        from_to(3, 9),
-        ANY,
-    );
+    let read = Halves {
+        high: ANY,
+        low: from_to(3, 9),
+    };
+    let counted = after_with(Op::Increment(Operand::AtHl), &core, ANY_WORD, read);
     let mut want = core;
     want.flags = flags(CLEAR, EITHER, EITHER);
     let write = AbsWrite::Byte(at_hl, from_to(4, 10));

@@ -9,7 +9,7 @@ use gb_domain::types::{Cell, Rules};
 use gb_ops::op::Register::{A, B, C, D, E, H};
 use gb_ops::op::{Condition, Indirect, Op, Operand, Pair, Register};
 use gb_pairs::moved::added;
-use gb_pairs::reduced::reduced;
+use gb_pairs::reduced::reduce;
 use gb_places::sides::{Contents, narrowed};
 use gb_product::covering::covers;
 use gb_product::parts::Branch;
@@ -143,14 +143,16 @@ fn points(op: Op, before: Facts, within: Option<(u16, u16)>) -> bool {
 }
 
 fn reduces(before: Facts, after: Option<Facts>) -> bool {
-    match (reduced(&Known::new(before).values()), after) {
-        (Some(values), Some(after)) => {
-            let known = Known::new(after);
-            values.registers == known.registers
-                && are_pairs_same(&values.pairs, &known.relations.pairs)
+    let mut known = Known::new(before);
+    let is_left = reduce(&mut known.registers, &mut known.relations.pairs);
+    match after {
+        Some(after) => {
+            let wanted = Known::new(after);
+            is_left
+                && known.registers == wanted.registers
+                && are_pairs_same(&known.relations.pairs, &wanted.relations.pairs)
         }
-        (None, None) => true,
-        _ => false,
+        None => !is_left,
     }
 }
 

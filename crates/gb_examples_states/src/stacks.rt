@@ -5,8 +5,8 @@ use gb_abs::cells::{widened_cells, with_cell};
 use gb_abs::covering::cell_at;
 use gb_abs::located::{item_at, sp_bounds, sp_halves};
 use gb_abs::stack::{pop, push};
-use gb_abs_effects::transfer::transfer;
-use gb_abs_effects::writes::AbsWrite;
+use gb_abs_effects::transfer::{Inputs, transfer_in};
+use gb_abs_effects::writes::{AbsWrite, quiet};
 use gb_domain::types::{Abs, Core, Halves, Rules, Setting, Val};
 use gb_ops::op::{Op, Register};
 use gb_samples::states::{ANY, copy_of, entered, from_to};
@@ -201,7 +201,16 @@ fn a_known_sp_is_stored(rt: HostRuntime) {
         high: single(0xDF),
         low: single(0xED),
     };
-    let stored = transfer(Op::StoreSp(0xC000), 0x1234, sp, &entered(), ANY, ANY);
+    let inputs = Inputs {
+        next: 0x1234,
+        sp,
+        word: Halves {
+            high: ANY,
+            low: ANY,
+        },
+    };
+    let mut stored = quiet(&entered());
+    transfer_in(Op::StoreSp(0xC000), &inputs, &mut stored);
     let write = AbsWrite::Word(0xC000, single(0xED), single(0xDF));
     assert!(rt; stored.core == entered() && stored.write == write);
 }

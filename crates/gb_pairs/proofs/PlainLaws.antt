@@ -11,7 +11,7 @@ use Rattle.gb_domain.specs.declared.pairs.WordPair.TheVariants as pair
 use Rattle.gb_domain.specs.declared.pairs.Bounds.{Bounds}
 use Rattle.gb_domain.specs.declared.pairs.Link.{Link}
 use Rattle.gb_domain.specs.declared.pairs.PairFacts.{PairFacts}
-use Rattle.gb_domain.specs.Pairs.{facts_of, ArePairs}
+use Rattle.gb_domain.specs.Pairs.{facts_of}
 use Rattle.gb_domain.specs.Rules.{IsVal}
 use Rattle.gb_vals.specs.Logic.{smaller, larger}
 use Rattle.gb_pairs.specs.declared.values.Values.{Values}
@@ -19,11 +19,9 @@ use Rattle.gb_pairs.specs.Bounds.{cut, is_empty, high_of, low_of, box, bounds_of
 use Rattle.gb_pairs.specs.Plain.{is_plain, are_plain, with_boxes, EndInBytes}
 use Rattle.gb_pairs.specs.Reduced.{cut_val, with_bounds, high_bounds, low_bounds, with_bytes_if, settled, reduced_within, reduced_pair, reduced_once, reduced}
 use Rattle.gb_pairs.specs.Meaning.{Holds}
-use Rattle.gb_pairs.specs.Sound.{IsSoundReducing, IsCut}
+use Rattle.gb_pairs.specs.Sound.{IsSoundReducing}
 use Rattle.gb_pairs.proofs.RegisterLaws.{each_facts}
 use Rattle.gb_pairs.proofs.BoundsLaws.{Within-bytes}
-use Rattle.gb_pairs.proofs.CutLaws.{reduced_cuts}
-use Rattle.gb_pairs.proofs.KeptLaws.{reduced_kept}
 use Rattle.gb_pairs.proofs.ReducedLaws.{Holds-with_bounds}
 
 -- a pair's bytes aren't empty, and it says nothing beyond them
@@ -223,9 +221,3 @@ with_boxes_sound v w e =
           let by_de = Holds-with_box pair.De (with_box pair.Bc v) x by_bc in
           Holds-with_box pair.Hl (with_box pair.De (with_box pair.Bc v)) x by_de;
     })
-
-pub reduced_to_cuts : (v w : Values) → reduced v ≡ Some w → IsCut v w
-reduced_to_cuts v w e = reduced_cuts v (Some w) (sym e)
-
-pub reduced_to_kept : (v w : Values) → reduced v ≡ Some w → ArePairs v.pairs → ArePairs w.pairs
-reduced_to_kept v w e = reduced_kept v (Some w) (sym e)

@@ -1,8 +1,9 @@
 -- Reducing: values are cut to what their pairs and links leave (abstract interpretation: a reduced product; own). Interval
 -- arithmetic is used only where it doesn't go round at 65536.
-use Rattle.std.specs.Prelude.{ℕ, ◌+◌, ◌-◌, ◌*◌, ◌/◌, ◌%◌, Bool, ◌||◌, ◌==◌, if◌then◌else◌, nat_lt, Option, Some, None, option_and_then}
+use Rattle.std.specs.Prelude.{ℕ, ◌+◌, ◌-◌, ◌*◌, ◌/◌, ◌%◌, Bool, true, false, ◌||◌, ◌==◌, if◌then◌else◌, nat_lt, Option, Some, None, option_and_then}
 use Rattle.std.specs.Int.{div_ceil}
 use Rattle.gb_ops.specs.declared.op.Register.{Register}
+use Rattle.gb_ops.specs.declared.registers.Registers.{Registers}
 use Rattle.gb_ops.specs.Registers.{get, set}
 use Rattle.gb_domain.specs.declared.types.Val.{Val}
 use Rattle.gb_domain.specs.declared.pairs.WordPair.{WordPair}
@@ -17,6 +18,15 @@ use Rattle.gb_domain.specs.Pairs.{facts_of}
 use Rattle.gb_vals.specs.Logic.{smaller, larger}
 use Rattle.gb_pairs.specs.declared.values.Values.{Values}
 use Rattle.gb_pairs.specs.Bounds.{cut, is_empty, high_of, low_of, bounds_of, bounds_of_other}
+
+-- registers, and what is known of their pairs
+abbrev pub values_of : Registers Val → Pairs → Values
+values_of registers pairs = record { registers = registers; pairs = pairs }
+
+-- values, where they stand for something
+abbrev pub values_if : Bool → Values → Option Values
+values_if false v = None
+values_if true v = Some v
 
 -- ---- what a link says of its pair
 

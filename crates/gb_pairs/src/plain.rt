@@ -2,11 +2,10 @@
 
 ghost use Rattle.std.specs.Prelude.{◌≡◌, true, Some};
 ghost use Rattle.gb_pairs.specs.Plain.{are_unlinked, is_plain, are_plain, with_boxes, EndInBytes};
-ghost use Rattle.gb_pairs.specs.Reduced.{reduced};
+ghost use Rattle.gb_pairs.specs.Reduced.{values_of, reduced};
 ghost use Rattle.gb_pairs.specs.Sound.{IsSoundReducing};
 
 use crate::bounds::box_of;
-use crate::values::Values;
 use gb_domain::pairs::{Bounds, Pairs};
 use gb_domain::types::Val;
 use gb_ops::registers::Registers;
@@ -27,11 +26,9 @@ fn is_plain(high: Val, low: Val, own: Bounds) -> bool
 
 /// Whether no pair is linked, or says more than its bytes.
 #[tactic(auto, unfolding(crate::specs::Plain::are_plain))]
-pub(crate) fn are_plain(values: &Values) -> bool
-    ensures { result ≡ are_plain values.now }
+pub(crate) fn are_plain(registers: &Registers<Val>, pairs: &Pairs) -> bool
+    ensures { result ≡ are_plain (values_of registers.now pairs.now) }
 {
-    let registers = &values.registers;
-    let pairs = &values.pairs;
     are_unlinked(pairs)
         && is_plain(registers.b, registers.c, pairs.bc.bounds)
         && is_plain(registers.d, registers.e, pairs.de.bounds)
@@ -43,18 +40,15 @@ fn end_in_bytes(registers: Registers<Val>)
     ensures { EndInBytes registers }
 {}
 
-/// The same values, where each pair's own bounds are those that its bytes give.
+/// Each pair's own bounds become those that its bytes give.
 #[tactic(auto, using(crate::proofs::PlainLaws::with_boxes_sound, crate::proofs::PlainLaws::with_boxes_plain), unfolding(crate::specs::Plain::with_boxes))]
-pub(crate) fn with_boxes(values: &Values) -> Values
-    ensures exact { result ≡ with_boxes values.now }
-    ensures sound { IsSoundReducing values.now (Some result) }
-    ensures plain { are_plain values.now ≡ true → reduced values.now ≡ Some result }
+pub(crate) fn put_boxes(registers: &Registers<Val>, pairs: &mut Pairs)
+    ensures exact { values_of registers.now pairs.new ≡ with_boxes (values_of registers.now pairs.old) }
+    ensures sound { IsSoundReducing (values_of registers.now pairs.old) (Some (values_of registers.now pairs.new)) }
+    ensures plain { are_plain (values_of registers.now pairs.old) ≡ true → reduced (values_of registers.now pairs.old) ≡ Some (values_of registers.now pairs.new) }
 {
-    let registers = values.registers;
-    end_in_bytes(registers);
-    let mut boxed = *values;
-    boxed.pairs.bc.bounds = box_of(registers.b, registers.c);
-    boxed.pairs.de.bounds = box_of(registers.d, registers.e);
-    boxed.pairs.hl.bounds = box_of(registers.h, registers.l);
-    boxed
+    end_in_bytes(*registers);
+    pairs.bc.bounds = box_of(registers.b, registers.c);
+    pairs.de.bounds = box_of(registers.d, registers.e);
+    pairs.hl.bounds = box_of(registers.h, registers.l);
 }

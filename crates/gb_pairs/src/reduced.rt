@@ -2,14 +2,15 @@
 
 ghost use Rattle.std.specs.Prelude.{◌≡◌, ◌*◌, IfSome};
 ghost use Rattle.gb_domain.specs.Pairs.{ArePairs};
-ghost use Rattle.gb_pairs.specs.Reduced.{is_rising, size, pair_at, pairs_at, cut_by_other, multiple_at, multiples_at, others_at, cut_val, with_facts, with_bounds, with_bounds_if, cut_other, high_bounds, low_bounds, settled, reduced_by_link, reduced_pair, reduced_once, reduced, restricted};
+ghost use Rattle.gb_pairs.specs.Reduced.{values_of, values_if, is_rising, size, pair_at, pairs_at, cut_by_other, multiple_at, multiples_at, others_at, cut_val, with_facts, with_bounds, with_bounds_if, cut_other, high_bounds, low_bounds, settled, reduced_by_link, reduced_pair, reduced_once, reduced, restricted};
 ghost use Rattle.gb_pairs.specs.Sound.{IsSoundByLink, IsSoundReducing, IsSoundRestriction, IsCut};
 
 use crate::bounds::{bounds_of, bounds_of_other, cut, facts_of, high_of, is_empty, low_of};
-use crate::plain::{are_plain, with_boxes};
+use crate::plain::{are_plain, put_boxes};
 use crate::values::Values;
-use gb_domain::pairs::{Bounds, Link, Other, PairFacts, WordPair};
+use gb_domain::pairs::{Bounds, Link, Other, PairFacts, Pairs, WordPair};
 use gb_domain::types::Val;
+use gb_ops::registers::Registers;
 
 /// Whether a link's factor is above 0.
 fn is_rising(link: Link) -> bool
@@ -287,20 +288,49 @@ fn reduced_twice(values: &Values) -> Option<Values>
     reduced_once(&reduced_once(values)?)
 }
 
-/// The same values, cut to what pairs and links leave: none where they stand for nothing. Where no
-/// pair says more than its bytes, that is known at once.
-#[tactic(auto, using(crate::proofs::CutLaws::reduced_cuts, crate::proofs::KeptLaws::reduced_kept, crate::proofs::PlainLaws::reduced_to_cuts, crate::proofs::PlainLaws::reduced_to_kept))]
-pub fn reduced(values: &Values) -> Option<Values>
-    ensures exact { result ≡ reduced values.now }
-    ensures sound { IsSoundReducing values.now result }
-    ensures cuts { IfSome result (IsCut values.now) }
-    ensures kept { ArePairs values.now.pairs → IfSome result (λ w. ArePairs w.pairs) }
+/// The same in place. Kept out of line, so that no values are copied where no pair says more than its bytes.
+#[inline(never)]
+fn reduce_twice(registers: &mut Registers<Val>, pairs: &mut Pairs) -> bool
+    ensures exact { reduced (values_of registers.old pairs.old) ≡ values_if result (values_of registers.new pairs.new) }
+    ensures sound { IsSoundReducing (values_of registers.old pairs.old) (values_if result (values_of registers.new pairs.new)) }
 {
-    if are_plain(values) {
-        Some(with_boxes(values))
-    } else {
-        reduced_twice(values)
+    let values = Values {
+        registers: *registers,
+        pairs: *pairs,
+    };
+    match reduced_twice(&values) {
+        Some(values) => {
+            *registers = values.registers;
+            *pairs = values.pairs;
+            true
+        }
+        None => false,
     }
+}
+
+/// The same. Where no pair says more than its bytes, that is known at once.
+#[inline(always)]
+fn reduce_by_need(registers: &mut Registers<Val>, pairs: &mut Pairs) -> bool
+    ensures exact { reduced (values_of registers.old pairs.old) ≡ values_if result (values_of registers.new pairs.new) }
+    ensures sound { IsSoundReducing (values_of registers.old pairs.old) (values_if result (values_of registers.new pairs.new)) }
+{
+    if are_plain(registers, pairs) {
+        put_boxes(registers, pairs);
+        true
+    } else {
+        reduce_twice(registers, pairs)
+    }
+}
+
+/// Registers and pairs are cut in place to what pairs and links leave of each other; whether they then stand for something.
+#[inline(always)]
+pub fn reduce(registers: &mut Registers<Val>, pairs: &mut Pairs) -> bool
+    ensures exact { reduced (values_of registers.old pairs.old) ≡ values_if result (values_of registers.new pairs.new) }
+    ensures sound { IsSoundReducing (values_of registers.old pairs.old) (values_if result (values_of registers.new pairs.new)) }
+    ensures cuts { IfSome (values_if result (values_of registers.new pairs.new)) (IsCut (values_of registers.old pairs.old)) }
+    ensures kept { ArePairs pairs.old → IfSome (values_if result (values_of registers.new pairs.new)) (λ w. ArePairs w.pairs) }
+{
+    reduce_by_need(registers, pairs)
 }
 
 #[tactic(auto, unfolding(crate::specs::Reduced::restricted))]

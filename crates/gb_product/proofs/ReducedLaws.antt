@@ -1,18 +1,22 @@
 -- Reducing a core and what is known together loses no machine state, and cuts nothing but bounds.
-use Rattle.std.proofs.Common.{◌≡◌, Option, Some, None, refl, sym, subst}
+use Rattle.std.proofs.Common.{◌≡◌, Bool, true, false, Option, Some, None, refl, sym, subst}
 use Rattle.std.specs.Prelude.{IfSome}
+use Rattle.gb_ops.specs.declared.registers.Registers.{Registers}
 use Rattle.gb_ops.specs.Registers.{get}
 use Rattle.gb_ops.specs.Play.{MState}
 use Rattle.gb_domain.specs.declared.relations.Relations.{Relations}
 use Rattle.gb_domain.specs.declared.rules.Rules.{Rules}
 use Rattle.gb_domain.specs.declared.rules.Rules.TheVariants.{Simple, Extended}
 use Rattle.gb_domain.specs.declared.types.Core.{Core}
+use Rattle.gb_domain.specs.declared.types.Val.{Val}
+use Rattle.gb_domain.specs.declared.pairs.Pairs.{Pairs}
 use Rattle.gb_domain.specs.Pairs.{ArePairs}
 use Rattle.gb_abs.specs.Meaning.{MeansCore}
 use Rattle.gb_abs_effects.proofs.CoreLaws.{In-from}
 use Rattle.gb_relations.specs.Below.gb_pairs.declared.values.Values.{Values}
 use Rattle.gb_relations.specs.Below.gb_pairs.Meaning.{Holds}
-use Rattle.gb_relations.specs.Below.gb_pairs.Reduced as Pairs
+use Rattle.gb_relations.specs.Below.gb_pairs.Reduced as Pairwise
+use Rattle.gb_relations.specs.Below.gb_pairs.Reduced.{values_if}
 use Rattle.gb_relations.specs.Below.gb_pairs.Sound.{HoldsIn, IsCut}
 use Rattle.gb_relations.specs.Below.gb_pairs.Sound as pairs
 use Rattle.gb_relations.proofs.Below.gb_pairs_laws.CutLaws as pair_cuts
@@ -22,7 +26,7 @@ use Rattle.gb_relations.specs.Transfer.{values_of}
 use Rattle.gb_product.specs.declared.parts.Branch.{Branch}
 use Rattle.gb_product.specs.declared.parts.Product.{Product}
 use Rattle.gb_product.specs.Meaning.{AreRelated}
-use Rattle.gb_product.specs.Reduced.{product_of, with_values_if, with_cell_if, reduced, reduced_branch}
+use Rattle.gb_product.specs.Reduced.{product_of, product_if, with_values_if, reduced_together, with_cell_if, reduced, reduced_branch}
 use Rattle.gb_product.specs.Sound.{IsReduced, IsReducedBranch, IsMeantProduct, IsMeantBranch, MeansBranch, IsSoundReducing, IsSoundBranch}
 use Rattle.gb_product.proofs.CutLaws.{AreCut, IsCutCore-registers, IsCutCore-itself, IsCore-cut, IsCutTogether-pairs}
 use Rattle.gb_product.proofs.MeaningLaws.{MeansCore-cut, AreRelated-cut}
@@ -50,7 +54,7 @@ same_sound core r = record { gives = λ entry x bytes m n. record { core = m; re
 -- by what the reduced values are
 pub with_values_sound :
     (core : Core) (r : Relations) (o : Option Values) (p : Option Product)
-    → p ≡ with_values_if core r o → o ≡ Pairs.reduced (values_of core.registers r.pairs)
+    → p ≡ with_values_if core r o → o ≡ Pairwise.reduced (values_of core.registers r.pairs)
     → pairs.IsSoundReducing (values_of core.registers r.pairs) o → IsSoundReducing core r p
 with_values_sound core r o p e f h =
     subst (λ q. IsSoundReducing core r q) (sym e)
@@ -59,6 +63,28 @@ with_values_sound core r o p e f h =
           IsMeantProduct-with_values core r o entry x (h.gives x.processor.registers bytes (Holds-values core r entry x m n))
           (pair_cuts.reduced_cuts _ o f) m n;
     })
+
+-- in place
+product-values :
+    (core : Core) (r : Relations) (b : Bool) (x : Registers Val) (s : Pairs)
+    → product_if b (record core { registers = x }) (record r { pairs = s }) ≡ with_values_if core r (values_if b (values_of x s))
+product-values core r false x s = refl
+product-values core r true x s = refl
+
+pub reduced_in_place :
+    (core : Core) (r : Relations) (b : Bool) (x : Registers Val) (s : Pairs)
+    → Pairwise.reduced (values_of core.registers r.pairs) ≡ values_if b (values_of x s)
+    → reduced_together core r ≡ product_if b (record core { registers = x }) (record r { pairs = s })
+reduced_in_place core r b x s e =
+    subst (λ o. with_values_if core r o ≡ product_if b (record core { registers = x }) (record r { pairs = s })) (sym e)
+    (sym (product-values core r b x s))
+
+pub reduced_in_place_sound :
+    (core : Core) (r : Relations) (b : Bool) (x : Registers Val) (s : Pairs)
+    → Pairwise.reduced (values_of core.registers r.pairs) ≡ values_if b (values_of x s)
+    → pairs.IsSoundReducing (values_of core.registers r.pairs) (values_if b (values_of x s))
+    → IsSoundReducing core r (product_if b (record core { registers = x }) (record r { pairs = s }))
+reduced_in_place_sound core r b x s e h = with_values_sound core r _ _ (product-values core r b x s) (sym e) h
 
 pub reduced_sound : (rules : Rules) (core : Core) (r : Relations) (o : Option Product) → o ≡ reduced rules core r → ArePairs r.pairs → IsSoundReducing core r o
 unfolding reduced
@@ -107,6 +133,9 @@ IfSome-reduced Extended core r = IsReduced-with_values core r _ (pair_cuts.reduc
 
 pub reduced_cuts : (rules : Rules) (core : Core) (r : Relations) (o : Option Product) → o ≡ reduced rules core r → IfSome o (IsReduced core r)
 reduced_cuts rules core r o e = subst (λ p. IfSome p (IsReduced core r)) (sym e) (IfSome-reduced rules core r)
+
+pub reduced_to_cuts : (rules : Rules) (core : Core) (r : Relations) (p : Product) → reduced rules core r ≡ Some p → IsReduced core r p
+reduced_to_cuts rules core r p e = reduced_cuts rules core r (Some p) (sym e)
 
 IsReducedBranch-with_cell :
     (b : Branch) (o : Option Product) → IfSome o (IsReduced b.core b.relations) → IfSome (with_cell_if b.cell o) (IsReducedBranch b)

@@ -1,6 +1,6 @@
 -- Reducing of whole states: registers and pairs are cut to what they leave of each other, where the rules are of version 3
 -- (abstract interpretation: a reduced product; own).
-use Rattle.std.specs.Prelude.{Option, Some, None}
+use Rattle.std.specs.Prelude.{Bool, true, false, Option, Some, None}
 use Rattle.gb_domain.specs.declared.relations.Relations.{Relations}
 use Rattle.gb_domain.specs.declared.rules.Rules.{Rules}
 use Rattle.gb_domain.specs.declared.rules.Rules.TheVariants.{Simple, Extended}
@@ -14,6 +14,11 @@ use Rattle.gb_product.specs.declared.parts.Product.{Product}
 
 abbrev pub product_of : Core → Relations → Product
 product_of core r = record { core = core; relations = r }
+
+-- both, where something is meant
+abbrev pub product_if : Bool → Core → Relations → Option Product
+product_if false core r = None
+product_if true core r = Some (product_of core r)
 
 abbrev pub with_values_if : Core → Relations → Option Values → Option Product
 with_values_if core r None = None

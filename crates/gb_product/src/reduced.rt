@@ -7,60 +7,47 @@ ghost use Rattle.gb_product.specs.Sound.{IsSoundReducing, IsReduced, IsSoundBran
 use crate::parts::{Branch, Product};
 use gb_domain::relations::Relations;
 use gb_domain::types::{Cell, Core, Rules};
-use gb_relations::Values;
-
-fn with_values(core: &Core, relations: &Relations, values: Option<Values>) -> Option<Product>
-    ensures { result ≡ Reducing.with_values_if core.now relations.now values }
-{
-    let values = values?;
-    Some(Product {
-        core: Core {
-            registers: values.registers,
-            ..*core
-        },
-        relations: Relations {
-            pairs: values.pairs,
-            ..*relations
-        },
-    })
-}
 
 /// By the rules of version 3.
-#[tactic(auto, using(crate::proofs::ReducedLaws::with_values_sound))]
-fn reduced_together(core: &Core, relations: &Relations) -> Option<Product>
-    ensures exact { result ≡ Reducing.reduced_together core.now relations.now }
-    ensures sound { IsSoundReducing core.now relations.now result }
+#[inline(always)]
+#[tactic(auto, using(crate::proofs::ReducedLaws::reduced_in_place, crate::proofs::ReducedLaws::reduced_in_place_sound))]
+fn reduce_together(core: &mut Core, relations: &mut Relations) -> bool
+    ensures exact { Reducing.reduced_together core.old relations.old ≡ Reducing.product_if result core.new relations.new }
+    ensures sound { IsSoundReducing core.old relations.old (Reducing.product_if result core.new relations.new) }
 {
-    let values = gb_relations::reduced(&Values {
-        registers: core.registers,
-        pairs: relations.pairs,
-    });
-    with_values(core, relations, values)
+    gb_relations::reduce(&mut core.registers, &mut relations.pairs)
 }
 
+/// A core and what is known together are cut in place to what registers, pairs and links leave of each other; whether they then
+/// mean something. By the rules of versions 1 and 2 they stay as they stand.
+#[inline(always)]
 #[tactic(auto, using(crate::proofs::ReducedLaws::same_sound), unfolding(crate::specs::Reduced::reduced))]
-fn reduced_by(rules: Rules, core: &Core, relations: &Relations) -> Option<Product>
-    ensures exact { result ≡ Reducing.reduced rules core.now relations.now }
-    ensures sound { IsSoundReducing core.now relations.now result }
+pub fn reduce(rules: Rules, core: &mut Core, relations: &mut Relations) -> bool
+    ensures exact { Reducing.reduced rules core.old relations.old ≡ Reducing.product_if result core.new relations.new }
+    ensures sound { IsSoundReducing core.old relations.old (Reducing.product_if result core.new relations.new) }
 {
     match rules {
-        Rules::Simple => Some(Product {
-            core: *core,
-            relations: *relations,
-        }),
-        Rules::Extended => reduced_together(core, relations),
+        Rules::Simple => true,
+        Rules::Extended => reduce_together(core, relations),
     }
 }
 
 /// The same core and relations, cut to what registers, pairs and links leave of each other: none where they mean nothing. By the
 /// rules of versions 1 and 2 they stay as they stand.
-#[tactic(auto, using(crate::proofs::ReducedLaws::reduced_cuts))]
 pub fn reduced(rules: Rules, core: &Core, relations: &Relations) -> Option<Product>
     ensures exact { result ≡ Reducing.reduced rules core.now relations.now }
     ensures sound { IsSoundReducing core.now relations.now result }
     ensures kept { IfSome result (IsReduced core.now relations.now) }
 {
-    reduced_by(rules, core, relations)
+    let mut product = Product {
+        core: *core,
+        relations: *relations,
+    };
+    if reduce(rules, &mut product.core, &mut product.relations) {
+        Some(product)
+    } else {
+        None
+    }
 }
 
 fn with_cell(cell: Option<Cell>, product: Option<Product>) -> Option<Branch>

@@ -13,13 +13,12 @@ use Rattle.gb_domain.specs.declared.types.Val.{Val}
 use Rattle.gb_domain.specs.declared.pairs.WordPair.{WordPair}
 use Rattle.gb_domain.specs.declared.pairs.WordPair.TheVariants as words
 use Rattle.gb_domain.specs.declared.pairs.Bounds.{Bounds}
-use Rattle.gb_domain.specs.declared.pairs.Pairs.{Pairs}
 use Rattle.gb_domain.specs.declared.places.OneByte.{OneByte}
 use Rattle.gb_domain.specs.declared.relations.Relations.{Relations}
 use Rattle.gb_domain.specs.declared.rules.Rules.{Rules}
 use Rattle.gb_domain.specs.declared.rules.Rules.TheVariants.{Simple, Extended}
 use Rattle.gb_domain.specs.Relations.{no_relations}
-use Rattle.gb_pairs.specs.declared.values.Values.{Values}
+pub use Rattle.gb_pairs.specs.Reduced.{values_of}
 use Rattle.gb_pairs.specs.Written.{is_half}
 use Rattle.gb_relations.specs.Written.{written, writes_flags}
 use Rattle.gb_relations.specs.Pairs.{pairs_after}
@@ -56,9 +55,6 @@ zero_after (op.Alu alu.Or (operand.Register r)) b zero = zero_by (other_half r) 
 zero_after o b zero = if writes_flags o then None else zero_without_registers (written o) zero
 
 -- ---- all of it
-
-abbrev pub values_of : Registers Val → Pairs → Values
-values_of registers pairs = record { registers = registers; pairs = pairs }
 
 -- what is known together behind a taken instruction; registers and relations are those before it, sp has SP's bounds, and low is
 -- what was read at an address; by the rules of versions 1 and 2 a comparison of A alone

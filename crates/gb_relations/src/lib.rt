@@ -18,7 +18,7 @@ mod written;
 
 // What lies below, for the crates above.
 pub use gb_pairs::covering::covers_pairs;
-pub use gb_pairs::reduced::{reduced, restricted};
+pub use gb_pairs::reduced::{reduce, restricted};
 pub use gb_pairs::values::Values;
 pub use gb_pairs::written::is_same_pair;
 pub use gb_places::covering::covers_byte;

@@ -1,6 +1,6 @@
 //! What an instruction leaves of what is known of several parts together.
 
-ghost use Rattle.std.specs.Prelude.{◌≡◌, ◌<◌};
+ghost use Rattle.std.specs.Prelude.{◌≡◌, ◌<◌, true};
 ghost use Rattle.gb_domain.specs.declared.rules.Rules.TheVariants.{Extended};
 ghost use Rattle.gb_domain.specs.Pairs.{ArePairs};
 ghost use Rattle.gb_pairs.specs.Written as Halves;
@@ -129,6 +129,32 @@ fn related_after(
     }
 }
 
+/// Whether an instruction writes neither a register of those, nor a flag, nor a byte but on the stack: then all stays known.
+#[inline(always)]
+#[tactic(auto, unfolding(crate::specs::Transfer::relations_after, crate::specs::Bytes::byte_after, crate::specs::Transfer::zero_after, crate::specs::Pairs::pairs_after, crate::specs::Written::written, crate::specs::Written::writes_flags))]
+fn leaves_all_known(op: Op) -> bool
+    ensures { result ≡ true → (region : Region) (sp : Bounds) (registers : Registers Val) (low : Val) (r : Relations) → Transfer.relations_after Extended region op sp registers low r ≡ r }
+{
+    matches!(
+        op,
+        Op::Nop
+            | Op::JumpRelative(_)
+            | Op::JumpRelativeIf(_, _)
+            | Op::Jump(_)
+            | Op::JumpIf(_, _)
+            | Op::JumpHl
+            | Op::Call(_)
+            | Op::CallIf(_, _)
+            | Op::Restart(_)
+            | Op::Return
+            | Op::ReturnIf(_)
+            | Op::ReturnFromInterrupt
+            | Op::Push(_)
+            | Op::DisableInterrupts
+            | Op::EnableInterrupts
+    )
+}
+
 #[inline(always)]
 #[tactic(auto, unfolding(crate::specs::Transfer::relations_after))]
 fn apply(
@@ -147,7 +173,13 @@ fn apply(
             byte: compared_after(op, &relations.byte),
             ..Relations::default()
         },
-        Rules::Extended => related_after(region, op, sp, registers, low, relations),
+        Rules::Extended => {
+            if leaves_all_known(op) {
+                *relations
+            } else {
+                related_after(region, op, sp, registers, low, relations)
+            }
+        }
     }
 }
 

@@ -171,17 +171,3 @@ pub fn found_from<R: Rows>(rows: &mut R, first: u32, procedure: u8, address: u16
     let after = count_near(rows, true, (procedure, address), first);
     Found { first, after }
 }
-
-/// The same rows, looked for from a row on: few keys are asked for where they are a little behind it, and wherever they
-/// are at most 4 * n among fewer than 2 ^ n rows: 64 among 65,535 rows, 84 among 1,048,576.
-pub fn find_near<R: Rows>(rows: &mut R, near: u32, procedure: u8, address: u16) -> Found
-    requires { AreInOrder (R.keys rows.old) }
-    ensures found { IsFound (R.keys rows.old) (procedure, address) result.first result.after }
-    ensures same { R.keys rows.new ≡ R.keys rows.old }
-    ensures asked { (bits : ℕ) → length (R.keys rows.old) < 2 ^ bits → AskedAtMost (R.asked rows.old) (R.asked rows.new) (4 * bits) }
-    ensures few { length (R.keys rows.old) ≤ 65535 → AskedAtMost (R.asked rows.old) (R.asked rows.new) 64 }
-    ensures most { length (R.keys rows.old) ≤ 1048576 → AskedAtMost (R.asked rows.old) (R.asked rows.new) 84 }
-{
-    let first = first_near(rows, near, procedure, address);
-    found_from(rows, first, procedure, address)
-}

@@ -27,13 +27,13 @@ use gb_code::code::lies_in_high_ram;
 use gb_domain::relations::Relations;
 use gb_domain::types::{Abs, Core, Rules, Setting};
 use gb_ops::op::Row;
-use gb_product::reduced::reduced;
+use gb_product::reduced::reduce;
 use gb_product::sides::{not_taken_side, taken_side};
 use gb_successors::AbsWrite;
 use gb_successors::refused::{is_unknown, is_unstorable, meets_closed, meets_oam_transfer};
 use gb_successors::stacks::Stack;
 use gb_successors::successor::{Successor, staying_successor, taken_successor, untaken_successor};
-use gb_successors::successors::{has_condition, may_stay};
+use gb_successors::successors::{has_condition, may_stay, side_successor};
 
 /// A node's instruction, whose successors are judged.
 #[derive(Clone, Copy)]
@@ -205,10 +205,9 @@ fn reason_on_side(
         return None;
     };
     let next = behind(site);
-    let (core, relations) = (&side.core, &side.relations);
     reason_of_possible(
         site,
-        &mut taken_successor(stack, rom, row, next, state, core, relations, &side.cell),
+        &mut side_successor(*stack, rom, *row, next, state, &side),
         room,
     )
 }
@@ -359,12 +358,12 @@ fn reason_of_reduced(site: &Site<'_>, core: &Core, room: &mut Room) -> Option<Re
     requires core { core.now ≡ core_settle site.now.state.now.core }
     ensures { result ≡ lowest (Ruled.applies_to_row site.now.rom.now site.now.cert.now site.now.node.now site.now.row.now) }
 {
-    match reduced(Rules::Extended, core, site.state.relations()) {
-        None => None,
-        Some(product) => {
-            let (core, relations) = (&product.core, &product.relations);
-            reason_of_each(site, core, relations, room)
-        }
+    let mut core = *core;
+    let mut relations = *site.state.relations();
+    if reduce(Rules::Extended, &mut core, &mut relations) {
+        reason_of_each(site, &core, &relations, room)
+    } else {
+        None
     }
 }
 

@@ -136,6 +136,10 @@ is_stack_right role stack_set = stack_set || not (needs_stack role)
 unfoldable pub core_at : Rules → Role → Read Tested
 core_at rules role = mapped to_core (both ime_at (both (byte_between 0 161) (both (checked fault.Field (is_stack_right role) yes_no) (both test_at (both ctl_at (both flg_at (both (val_at rules) (vals_at rules))))))))
 
+-- of a core that is passed over: whether the stack is set, and the test
+abbrev pub passed : Tested → Bool × Option ℕ
+passed k = (k.0.stack_set, k.1)
+
 -- so many bytes of the stack
 abbrev pub vals_of : Rules → ℕ → Read (List Val)
 vals_of rules count = several {S = Unit {0}} (λ s. val_at rules) (λ v. tt) tt count

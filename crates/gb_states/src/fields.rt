@@ -1,10 +1,10 @@
 //! Reading the fields of a state, one after the other.
 
 ghost use Rattle.std.specs.Prelude.{◌≡◌, ◌+◌, ◌≤◌, ◌&&◌, ◌||◌, nat_le, length};
-ghost use Rattle.gb_fields.specs.Format.{Gives};
+ghost use Rattle.gb_fields.specs.Format.{Gives, mapped};
 ghost use Rattle.gb_domain.specs.Rules.{has_value};
 ghost use Rattle.gb_states.specs.Checked.{val_in, flg_in, ctl_in, vals_in, core_in, test_in, are_none};
-ghost use Rattle.gb_states.specs.Reading.{to_may, to_ime, origin_of, origin_at, val_at, may_at, ime_at, test_at, flg_at, ctl_at, vals_at, core_at};
+ghost use Rattle.gb_states.specs.Reading.{passed, to_may, to_ime, origin_of, origin_at, val_at, may_at, ime_at, test_at, flg_at, ctl_at, vals_at, core_at};
 
 use crate::role::Role;
 use gb_domain::types::{Core, Ctl, Flg, ImeSet, May, Origin, Rules, Val};
@@ -230,6 +230,18 @@ pub fn core_at(
         registers,
     };
     Ok(((core, test), rest))
+}
+
+/// A core is checked and passed over: whether the stack is set, and the test.
+pub fn pass_core(
+    rules: Rules,
+    role: Role,
+    bytes: &[u8],
+) -> Result<((bool, Option<u8>), &[u8]), CertFault>
+    ensures { Gives (λ x. (x.0, x.1.now)) result (mapped passed (core_at rules role) bytes.now) }
+{
+    let ((core, test), rest) = core_at(rules, role, bytes)?;
+    Ok(((core.stack_set, test), rest))
 }
 
 // ---- reading again what has been checked

@@ -1,6 +1,6 @@
 //! Reading what a state says of several of its parts together.
 
-ghost use Rattle.std.specs.Prelude.{◌≡◌};
+ghost use Rattle.std.specs.Prelude.{◌≡◌, ◌∷◌, IfSome};
 ghost use Rattle.gb_fields.specs.Format.{Gives, optional, byte};
 ghost use Rattle.gb_domain.specs.Pairs.{nothing_known};
 ghost use Rattle.gb_domain.specs.Places.{no_byte};
@@ -331,6 +331,7 @@ fn pairs_at(present: Present, bytes: &[u8]) -> Result<(Pairs, &[u8]), CertFault>
 // ---- all of them
 
 /// What is known of several parts of a state together; the test is the state's.
+#[inline(never)]
 #[tactic(auto, unfolding(crate::specs::RelationReading::relations_at))]
 pub fn relations_at(
     region: Region,
@@ -377,8 +378,21 @@ pub fn test_alone(test: Option<u8>) -> Relations
     }
 }
 
-/// What is known of several parts of a state together: in versions 1 and 2 the test alone.
+/// What stands behind the number of no part, if that comes first.
 #[inline(always)]
+fn behind_nothing(bytes: &[u8]) -> Option<&[u8]>
+    ensures { IfSome result (λ rest. bytes.now ≡ 0 ∷ rest.now) }
+{
+    match bytes {
+        [0, rest @ ..] => Some(rest),
+        _ => None,
+    }
+}
+
+/// What is known of several parts of a state together: in versions 1 and 2 the test alone. Where nothing is known, that is seen at
+/// the first byte.
+#[inline(always)]
+#[tactic(auto, unfolding(crate::specs::RelationReading::relations_at, crate::specs::RelationReading::present_at, crate::specs::RelationReading::pairs_at))]
 pub fn relations_by(
     rules: Rules,
     region: Region,
@@ -389,6 +403,9 @@ pub fn relations_by(
 {
     match rules {
         Rules::Simple => Ok((test_alone(test), bytes)),
-        Rules::Extended => relations_at(region, test, bytes),
+        Rules::Extended => match (test, behind_nothing(bytes)) {
+            (None, Some(rest)) => Ok((Relations::default(), rest)),
+            _ => relations_at(region, test, bytes),
+        },
     }
 }

@@ -178,31 +178,6 @@ pub fn pointer_in(stack: Stack, op: Op, product: &Product) -> Option<Bounds>
     )
 }
 
-/// A successor of an effect.
-#[inline(always)]
-fn with_effect<'a>(
-    read: AbsRead,
-    effect: &AbsEffect,
-    target: Target,
-    next: u16,
-    relations: Relations,
-    moved: Option<Moved>,
-    before: &'a Abs,
-) -> Successor<'a>
-    ensures { result ≡ record { read = read; write = effect.now.write; target = target; next = next; state = state_behind moved effect.now.write effect.now.core relations before.now } }
-{
-    Successor {
-        read,
-        write: effect.write,
-        target,
-        next,
-        core: effect.core,
-        relations,
-        moved,
-        before,
-    }
-}
-
 /// An instruction that is taken, and the side that it is taken from, which is settled.
 #[derive(Clone, Copy)]
 struct Taken<'w, 'a> {
@@ -257,7 +232,16 @@ fn successor_by<'a>(rules: Rules, taken: &Taken<'_, 'a>, effect: &mut AbsEffect)
         effect.write,
         &mut effect.core,
     );
-    with_effect(read, effect, target, next, relations, moved, state)
+    Successor {
+        read,
+        write: effect.write,
+        target,
+        next,
+        core: effect.core,
+        relations,
+        moved,
+        before: state,
+    }
 }
 
 /// The same by the rules of versions 1 and 2.

@@ -94,7 +94,8 @@ fn put_reduced<'a>(rules: Rules, successor: Successor<'a>, way: &mut Option<Succ
 }
 
 /// The successor where the instruction is taken, from a side of it.
-fn side_successor<'a>(
+#[inline(always)]
+pub fn side_successor<'a>(
     stack: Stack,
     rom: &Rom<'_>,
     row: Row,

@@ -17,7 +17,7 @@ use gb_abs_memory::store::store_in;
 use gb_domain::relations::Relations;
 use gb_domain::types::{Abs, Cell, Core, Rules, Setting, Val};
 use gb_ops::machine::Kind;
-use gb_product::reduced::reduced;
+use gb_product::reduced::reduce;
 use std::marker::Model;
 
 /// One way on from an instruction: what it reads and writes besides its own bytes, where it goes on,
@@ -56,7 +56,6 @@ impl<'a> Model for Successor<'a> {
 }
 
 impl<'a> Successor<'a> {
-    ghost use Rattle.gb_domain.specs.declared.rules.Rules.TheVariants.{Extended};
     ghost use Rattle.gb_successors.specs.Successors.{reduced_successor, some_if};
 
     /// The core of the states behind.
@@ -85,30 +84,11 @@ impl<'a> Successor<'a> {
 
     /// The states behind are reduced in place; whether something is meant by them, so that the successor is possible.
     #[inline(always)]
-    #[tactic(auto, unfolding(crate::specs::Successors::reduced_successor, gb_product::specs::Reduced::reduced))]
+    #[tactic(auto, unfolding(crate::specs::Successors::reduced_successor))]
     pub fn reduce(&mut self, rules: Rules) -> bool
         ensures { reduced_successor rules self.old ≡ some_if result self.new }
     {
-        match rules {
-            Rules::Simple => true,
-            Rules::Extended => self.reduce_together(),
-        }
-    }
-
-    /// The same by the rules of version 3.
-    #[inline(never)]
-    #[tactic(auto, unfolding(crate::specs::Successors::reduced_successor))]
-    fn reduce_together(&mut self) -> bool
-        ensures { reduced_successor Extended self.old ≡ some_if result self.new }
-    {
-        match reduced(Rules::Extended, &self.core, &self.relations) {
-            Some(product) => {
-                self.core = product.core;
-                self.relations = product.relations;
-                true
-            }
-            None => false,
-        }
+        reduce(rules, &mut self.core, &mut self.relations)
     }
 
     /// The states behind, in the place of others.

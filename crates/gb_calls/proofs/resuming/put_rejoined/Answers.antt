@@ -1,4 +1,4 @@
-use Rattle.std.proofs.Common.{◌≡◌}
+use Rattle.std.proofs.Common.{◌≡◌, sym}
 use Rattle.gb_relations.specs.Returned.{returned}
 use Rattle.gb_calls.specs.Resuming.{kept_by, core_back}
 use Rattle.gb_calls.proofs.ResumingLaws.{too_deep}
@@ -14,4 +14,4 @@ returns-then-are_too_many-clause-exact c =
     let relations : c.returned-relations.result ≡ returned c.kept_by-kept.result s.relations x.relations =
     rw (c.relations-2.ensures, c.relations-3.ensures) at c.returned-relations.ensures.exact in
     too_deep c.args.count c.args.ranges.now s x c.kept_by-kept.result c.core_back-core.result c.returned-relations.result
-    c.in-Some.values kept core relations c.in-Some.ensures.exact (rw (c.items.ensures.items, c.items-2.ensures.items) at (c.are_too_many.ensures.many c.if-are_too_many.true))
+    _ kept core relations (sym c.if-not-reduce.ensures.exact) (rw (c.items.ensures.items, c.items-2.ensures.items) at (c.are_too_many.ensures.many c.if-are_too_many.true))

@@ -7,7 +7,6 @@ pub returns : goal.returns
 unfolding effect_in taken_parts relations_behind taken_successor
 returns c =
     rw (
-      c.with_effect.ensures,
       c.move_of-moved.ensures,
       taken_state c.args.taken.now.stack.now c.kind-kind.result c.args.taken.now.cell.now c.stack_move-stack_move.result c.refine.new.effect.write c.args.taken.now.state.now c.end_core.new.core c.relations_after-relations.result,
       c.end_core.ensures,
@@ -17,7 +16,7 @@ returns c =
       c.stack_move-stack_move.ensures,
       c.refine.ensures,
       c.known_carry-carry.ensures.exact,
-      c.transfer_in.ensures,
+      c.transfer_in.ensures.exact,
       c.requires.before,
       c.read_word.ensures,
       c.sp_halves.ensures.exact,
