@@ -2,12 +2,12 @@
 
 use crate::plan::{Edit, Plan, number_of, unless_taken_back};
 use crate::sources::{copied, high_registers, pointer_of, sources, stacked, without};
-use crate::spots::{has_entry, op_at, open_at, pointed_at};
+use crate::spots::{has_entry, is_known, op_at, open_at, pointed_at, pointed_by};
 use crate::ways::Ways;
 use gb_fixpoint::limits::SPOTS;
 use gb_fixpoint::register_set::RegisterSet;
-use gb_fixpoint::types::{Run, Spot};
-use gb_ops::op::{AluOp, Op, Operand, Register, StackPair};
+use gb_fixpoint::types::{Node, Run, Spot};
+use gb_ops::op::{AluOp, Indirect, Op, Operand, Register, StackPair};
 use std::alloc::{AllocError, Global};
 use std::collections::{BTreeMap, BTreeSet};
 
@@ -274,6 +274,62 @@ fn cells_behind(
     }
     let Search { cells, .. } = search;
     Ok(cells)
+}
+
+/// The register that a node's instruction stores, and the address where, if it is one.
+fn stored_by(run: &Run<'_>, node: &Node) -> Option<(Register, u16)> {
+    let spot = Spot {
+        procedure: node.key.procedure,
+        address: node.key.address,
+    };
+    let hl = (Register::H, Register::L);
+    match op_at(run, spot)? {
+        Op::Load(Operand::AtHl, Operand::Register(from)) => Some((from, pointed_by(node, hl)?)),
+        Op::StoreA(Indirect::Bc) => {
+            Some((Register::A, pointed_by(node, (Register::B, Register::C))?))
+        }
+        Op::StoreA(Indirect::De) => {
+            Some((Register::A, pointed_by(node, (Register::D, Register::E))?))
+        }
+        Op::StoreA(_) => Some((Register::A, pointed_by(node, hl)?)),
+        Op::StoreHigh(low) => Some((Register::A, 0xFF00 | u16::from(low))),
+        Op::StoreAbsolute(cell) => Some((Register::A, cell)),
+        _ => None,
+    }
+}
+
+/// A register that isn't known where it is stored.
+#[derive(Clone, Copy, PartialEq, Eq)]
+pub(crate) struct Stored {
+    pub spot: Spot,
+    pub register: Register,
+}
+
+/// Where what isn't known is stored in the tracked cells that registers at a spot were loaded from, once for each place.
+pub(crate) fn unknown_stores(
+    alloc: Global,
+    run: &Run<'_>,
+    spot: Spot,
+    wanted: &RegisterSet,
+) -> Result<Vec<Stored>, AllocError> {
+    let cells = cells_behind(alloc, run, spot, wanted, Sources::Unknown)?;
+    let mut stores = Vec::new(alloc);
+    for node in &run.nodes {
+        if let Some((register, cell)) = stored_by(run, node)
+            && cells.contains(&cell)
+            && !is_known(node, register)
+        {
+            let spot = Spot {
+                procedure: node.key.procedure,
+                address: node.key.address,
+            };
+            let store = Stored { spot, register };
+            if !stores.contains(&store) {
+                stores.push(store)?;
+            }
+        }
+    }
+    Ok(stores)
 }
 
 /// The tracked cells that registers at a spot were loaded from become part of every key.

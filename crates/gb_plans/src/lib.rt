@@ -2,12 +2,13 @@
 //!
 //! How data flows through the procedures of a run: `sources` (what instructions make registers from), `spots` (what a
 //! run knows at an address) and `ways` (a procedure's graph and its loops). Over them `plan_for` answers a plan for a
-//! run's failure, if anything may help: read `plans`, then `slices`, `loops` and `cells`. Nothing here is trusted: a
-//! plan that doesn't help costs time alone.
+//! run's failure, if anything may help: read `plans`, then `slices`, `loops`, `cells` and `kept`. Nothing here is
+//! trusted: a plan that doesn't help costs time alone.
 #![tactic(auto)]
 
 mod carries;
 mod cells;
+mod kept;
 mod loops;
 mod plan;
 mod plans;

@@ -1,31 +1,32 @@
 //! What to refine after a failure.
 
-use crate::cells::{key_all_cells, key_cells, pointer_cells};
-use crate::loops::{pointers_read, refine_loops};
+use crate::cells::{key_all_cells, key_cells};
+use crate::kept::{part_exits, plan_kept, plan_stored, plan_written};
+use crate::loops::refine_loops;
 use crate::plan::{Edit, Plan, parted_by, unless_taken_back};
 use crate::slices::{By, Sought, slice, slice_through_loop, slice_to_call};
 use crate::sources::high_registers;
 use crate::spots::{is_known, place_of, value_of};
 use crate::ways::Ways;
+use gb_fixpoint::Rules;
 use gb_fixpoint::cause::{Cause, Failure, StackMisuse};
 use gb_fixpoint::limits::{
     ALL_VALUES, CALL_KINDS, CALL_VALUES, CALLERS, DEAR_STEPS, FEW_VALUES, VISITS,
 };
 use gb_fixpoint::register_set::{REGISTERS, RegisterSet};
 use gb_fixpoint::types::{Procedure, Run, Spot};
-use gb_fixpoint::{Rules, cell_at};
 use gb_ops::op::Register;
 use std::alloc::{AllocError, Global};
 use std::collections::BTreeSet;
 
 /// What is too wide, and where.
 #[derive(Clone, Copy, PartialEq, Eq)]
-struct Trouble {
-    wanted: RegisterSet,
+pub(crate) struct Trouble {
+    pub(crate) wanted: RegisterSet,
     /// The failure is JP HL's: then only values from a table may be told apart.
-    is_jump: bool,
+    pub(crate) is_jump: bool,
     /// The pointer is kept in RAM: then it is followed through no loop without an end, since it would walk through all memory.
-    is_kept_in_ram: bool,
+    pub(crate) is_kept_in_ram: bool,
 }
 
 /// All registers but A: what is usually passed to a procedure in pairs.
@@ -298,7 +299,7 @@ fn try_near(
 }
 
 /// What is nearest to a spot: its calls, slices, what a jump comes from, its loops, what is called before.
-fn plan_near(
+pub(crate) fn plan_near(
     alloc: Global,
     run: &Run<'_>,
     spot: Spot,
@@ -403,7 +404,7 @@ fn plan_at(
 }
 
 /// Loops around the first of some spots that can be refined.
-fn plan_loops(
+pub(crate) fn plan_loops(
     alloc: Global,
     run: &Run<'_>,
     spots: &BTreeSet<Spot>,
@@ -519,47 +520,6 @@ fn plan_recursion(alloc: Global, run: &Run<'_>, number: usize) -> Result<Option<
     Ok(None)
 }
 
-/// Whether a procedure is entered with a cell known, and left with several values in it.
-fn joins_cell(run: &Run<'_>, procedure: &Procedure, cell: u16) -> bool {
-    let Some(exit) = &procedure.exit else {
-        return false;
-    };
-    let Some(entry) = procedure.entry else {
-        return false;
-    };
-    match run.nodes.get(entry) {
-        Some(node) => {
-            let before = cell_at(cell, node.state.cells());
-            let behind = cell_at(cell, exit.cells());
-            before.lo == before.hi && behind.lo < behind.hi
-        }
-        None => false,
-    }
-}
-
-/// A procedure that leaves by different values of a key cell, the innermost one, is followed in its callers, or where it
-/// comes in between: its exit is one state, in which they are joined.
-fn part_exits(alloc: Global, run: &Run<'_>) -> Result<Option<Plan>, AllocError> {
-    if run.rules() == Rules::Simple {
-        return Ok(None);
-    }
-    let mut target = None;
-    for cell in run.configuration.key_cells.iter() {
-        for procedure in &run.procedures {
-            if joins_cell(run, procedure, *cell) {
-                target = Some(procedure.key.target);
-            }
-        }
-    }
-    match target {
-        Some(target) if !run.configuration.inlined.contains(&target) => {
-            let plan = Plan::of(alloc, Edit::Inline(target))?;
-            Ok(unless_taken_back(run, plan))
-        }
-        _ => Ok(None),
-    }
-}
-
 /// A pointer is too wide, or one that is known ran too far.
 fn plan_pointer(
     alloc: Global,
@@ -598,9 +558,16 @@ fn plan_pointer(
     if let Some(plan) = key_cells(alloc, run, spot, &wanted)? {
         return Ok(Some(plan));
     }
-    match plan_written(alloc, run, spot, &wanted)? {
-        Some(plan) => Ok(Some(plan)),
-        None => part_exits(alloc, run),
+    if let Some(plan) = plan_written(alloc, run, spot, &wanted)? {
+        return Ok(Some(plan));
+    }
+    if let Some(plan) = part_exits(alloc, run)? {
+        return Ok(Some(plan));
+    }
+    if is_kept_in_ram {
+        plan_stored(alloc, run, spot, &wanted)
+    } else {
+        Ok(None)
     }
 }
 
@@ -641,49 +608,6 @@ fn plan_exact(
         ..few
     };
     slice(alloc, run, &ways, spot, &all)
-}
-
-/// A pointer is kept in RAM, or one by which the loop around the spot reads, as a text's up to its 0: the cells where it is kept
-/// become key cells, and what leaves with several values of them is followed where it is called. By the rules of version 3.
-fn plan_kept(
-    alloc: Global,
-    run: &Run<'_>,
-    spot: Spot,
-    wanted: &RegisterSet,
-    is_kept_in_ram: bool,
-) -> Result<Option<Plan>, AllocError> {
-    if run.rules() == Rules::Simple {
-        return Ok(None);
-    }
-    let ways = Ways::of(alloc, run, spot.procedure)?;
-    let read = pointers_read(run, &ways, spot)?;
-    let is_read_kept = !pointer_cells(alloc, run, spot, &read)?.is_empty();
-    if is_read_kept && let Some(plan) = key_cells(alloc, run, spot, &read)? {
-        return Ok(Some(plan));
-    }
-    if is_kept_in_ram && let Some(plan) = key_cells(alloc, run, spot, wanted)? {
-        return Ok(Some(plan));
-    }
-    if is_kept_in_ram || is_read_kept {
-        part_exits(alloc, run)
-    } else {
-        Ok(None)
-    }
-}
-
-/// A pointer comes from cells that a loop has written among others, as one that copies what variables begin with: the rounds
-/// of that loop are told apart.
-fn plan_written(
-    alloc: Global,
-    run: &Run<'_>,
-    spot: Spot,
-    wanted: &RegisterSet,
-) -> Result<Option<Plan>, AllocError> {
-    if run.rules() == Rules::Simple || pointer_cells(alloc, run, spot, wanted)?.is_empty() {
-        Ok(None)
-    } else {
-        plan_loops(alloc, run, &run.killers)
-    }
 }
 
 /// Whether following a procedure in its callers may help against a failure: more is known of what it is called with then.

@@ -51,10 +51,8 @@ pub fn points_to_rom(run: &Run<'_>, spot: Spot, high: Register) -> bool {
     true
 }
 
-/// The address in a pair at the first node of a spot, where it is known.
-pub fn pointed_at(run: &Run<'_>, spot: Spot, pair: (Register, Register)) -> Option<u16> {
-    let number = run.nodes_at(spot).first()?;
-    let node = run.nodes.get(*number)?;
+/// The address in a pair at a node, where it is known.
+pub fn pointed_by(node: &Node, pair: (Register, Register)) -> Option<u16> {
     let high = value_of(node, pair.0);
     let low = value_of(node, pair.1);
     if high.lo == high.hi && low.lo == low.hi {
@@ -62,6 +60,12 @@ pub fn pointed_at(run: &Run<'_>, spot: Spot, pair: (Register, Register)) -> Opti
     } else {
         None
     }
+}
+
+/// The address in a pair at the first node of a spot, where it is known.
+pub fn pointed_at(run: &Run<'_>, spot: Spot, pair: (Register, Register)) -> Option<u16> {
+    let number = run.nodes_at(spot).first()?;
+    pointed_by(run.nodes.get(*number)?, pair)
 }
 
 /// Whether a procedure begins at a spot.

@@ -118,6 +118,11 @@ pub(crate) const GATE_CLOSED: Advice = Advice {
     remedy: "Write 0A to 0000-1FFF before the access on every way that leads to it, and 00 behind it; a handler must leave the gate as it was. See that the header's type and RAM size say that there is RAM.",
 };
 
+pub(crate) const NO_CARTRIDGE_RAM: Advice = Advice {
+    rule: "Cartridge RAM may be read and written only where the cartridge has some.",
+    remedy: "The gate is open here, but the header names neither RAM nor a clock: let it name a type with RAM (0147) and the RAM's size (0149), as `rgbfix -m -r` and `makebin -yt -ya` do. If cartridge RAM isn't meant: bound the address away from A000-BFFF.",
+};
+
 pub(crate) const COPIES_CARTRIDGE_RAM: Advice = Advice {
     rule: "An OAM transfer may not copy from A000-BFFF while cartridge RAM's gate may be closed.",
     remedy: "Load A with the page's number right before it is written to FF46, or compare it first.",

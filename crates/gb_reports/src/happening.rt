@@ -29,7 +29,7 @@ impl fmt::Display for Happening<'_> {
     fn fmt<W: fmt::Write>(&self, f: &mut fmt::Formatter<W>) -> fmt::Result {
         match plain_text(self.0.cause) {
             Some(text) => write!(f, "{text}"),
-            None => fmt_detailed(self.0.cause, f),
+            None => fmt_detailed(self.0, f),
         }
     }
 }
@@ -88,8 +88,8 @@ fn plain_text(cause: Cause) -> Option<&'static str> {
 }
 
 /// A sentence with an address, a byte or a number.
-fn fmt_detailed<W: fmt::Write>(cause: Cause, f: &mut fmt::Formatter<W>) -> fmt::Result {
-    match cause {
+fn fmt_detailed<W: fmt::Write>(standing: &Standing, f: &mut fmt::Formatter<W>) -> fmt::Result {
+    match standing.cause {
         Cause::Unreadable { byte } => write!(f, "The code's byte at {byte:04X} isn't known."),
         Cause::UndefinedOpcode { opcode } => write!(f, "The opcode {opcode:02X} is undefined."),
         Cause::Recursion { target } => write!(
@@ -110,30 +110,37 @@ fn fmt_detailed<W: fmt::Write>(cause: Cause, f: &mut fmt::Formatter<W>) -> fmt::
             f,
             "It sets SP to {sp:04X}, which is no address of the stack."
         ),
-        cause => fmt_access(cause, f),
+        _ => fmt_access(standing, f),
+    }
+}
+
+/// Why cartridge RAM is closed.
+fn closed_text(standing: &Standing) -> &'static str {
+    if standing.has_open_gate() {
+        "the header names no cartridge RAM"
+    } else {
+        "the gate may be closed, or there is no cartridge RAM"
     }
 }
 
 /// What an access may reach.
-fn fmt_access<W: fmt::Write>(cause: Cause, f: &mut fmt::Formatter<W>) -> fmt::Result {
-    match cause {
+fn fmt_access<W: fmt::Write>(standing: &Standing, f: &mut fmt::Formatter<W>) -> fmt::Result {
+    let closed = closed_text(standing);
+    match standing.cause {
         Cause::Store { span } => {
             let addresses = Addresses(span);
             write!(f, "The store may reach {addresses}.")
         }
         Cause::CartridgeRam { span } => {
             let addresses = Addresses(span);
-            write!(
-                f,
-                "The access may reach {addresses}, and the gate may be closed, or there is no cartridge RAM."
-            )
+            write!(f, "The access may reach {addresses}, and {closed}.")
         }
         Cause::CopiesCartridgeRam {
             first_page,
             last_page,
         } => write!(
             f,
-            "FF46 gets {first_page:02X}..{last_page:02X}, and the gate may be closed, or there is no cartridge RAM."
+            "FF46 gets {first_page:02X}..{last_page:02X}, and {closed}."
         ),
         Cause::OamTransfer(misuse) => fmt_transfer(misuse, f),
         _ => Ok(()),

@@ -3,6 +3,7 @@
 use crate::Symbols;
 use crate::advice::Advice;
 use crate::happening::Happening;
+use crate::lines::SourceLine;
 use crate::object::{Object, pair};
 use crate::obstacle::{Obstacle, Standing};
 use crate::path::{Path, Segment, Start};
@@ -162,6 +163,14 @@ fn put_symbol(
     }
 }
 
+/// The author's line, or null.
+fn put_line(object: &mut Object, line: Option<SourceLine<'_>>) -> Result<(), AllocError> {
+    match line {
+        Some(line) => object.put_shown("line", &line),
+        None => object.put("line", Value::Null),
+    }
+}
+
 /// Where a failure stands.
 fn put_place(
     object: &mut Object,
@@ -174,10 +183,7 @@ fn put_place(
         None => object.put("bank", Value::Null)?,
     }
     put_symbol(object, symbols, standing.bank, standing.address)?;
-    match standing.line(symbols) {
-        Some(line) => object.put_shown("line", &line),
-        None => object.put("line", Value::Null),
-    }
+    put_line(object, standing.line(symbols))
 }
 
 /// What fails.
@@ -230,6 +236,7 @@ fn put_obstacle(
     if let Obstacle::Standing(standing) = obstacle {
         return put_standing(object, standing, symbols);
     }
+    put_line(object, obstacle.line(symbols))?;
     object.put_shown("problem", &Other { obstacle, symbols })?;
     put_advice(object, advice_on(obstacle))
 }

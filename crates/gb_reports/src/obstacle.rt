@@ -79,6 +79,11 @@ impl Obstacle {
 }
 
 impl Standing {
+    /// Whether cartridge RAM's gate is known to be open there.
+    pub(crate) fn has_open_gate(&self) -> bool {
+        !self.state.core().ctl.gate.clear
+    }
+
     /// The author's line: of the instruction, or else the last one on the way there.
     pub(crate) fn line<'a>(&self, symbols: &Symbols<'a>) -> Option<SourceLine<'a>> {
         let bank = self.bank.unwrap_or(0);

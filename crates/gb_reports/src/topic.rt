@@ -53,12 +53,23 @@ fn store_advice(standing: &Standing, span: Span) -> Advice {
     }
 }
 
-/// An access to cartridge RAM: by a pointer, or by an address that is named.
+/// An access to cartridge RAM: where there is none, by a pointer, or by an address that is named.
 fn cartridge_advice(standing: &Standing) -> Advice {
-    if standing.registers.is_empty() {
+    if standing.has_open_gate() {
+        advice::NO_CARTRIDGE_RAM
+    } else if standing.registers.is_empty() {
         advice::GATE_CLOSED
     } else {
         advice::POINTER_TO_CARTRIDGE_RAM
+    }
+}
+
+/// An OAM transfer from cartridge RAM.
+fn copy_advice(standing: &Standing) -> Advice {
+    if standing.has_open_gate() {
+        advice::NO_CARTRIDGE_RAM
+    } else {
+        advice::COPIES_CARTRIDGE_RAM
     }
 }
 
@@ -77,7 +88,7 @@ pub(crate) fn standing_advice(standing: &Standing) -> Advice {
         Cause::Recursion { .. } => advice::RECURSION,
         Cause::Store { span } => store_advice(standing, span),
         Cause::CartridgeRam { .. } => cartridge_advice(standing),
-        Cause::CopiesCartridgeRam { .. } => advice::COPIES_CARTRIDGE_RAM,
+        Cause::CopiesCartridgeRam { .. } => copy_advice(standing),
         Cause::OamTransfer(misuse) => transfer_advice(misuse),
         Cause::JumpHl => advice::JUMP_HL,
         Cause::ReturnInMain => advice::RETURN_IN_MAIN,
