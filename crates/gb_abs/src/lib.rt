@@ -21,11 +21,23 @@ pub mod span;
 pub mod stack;
 pub mod storage;
 
+pub use reason::Reason;
+pub use span::Span;
+pub use stack::Popped;
+
 // What lies below, for the crates above.
 pub use gb_domain::types::{
     Abs, Cell, Core, Ctl, Flg, Halves, ImeSet, May, Origin, Range, Rules, Setting, Val,
 };
-pub use gb_vals::bits::{may_enable, may_have_bit};
-pub use gb_vals::flags::known;
-pub use gb_vals::length_of;
-pub use gb_vals::vals::{any, single};
+pub use gb_vals::alu::{alu, alu_itself};
+pub use gb_vals::bits::{may_enable, may_have_bit, reset_bit, set_bit, test_bit};
+pub use gb_vals::branch::side;
+pub use gb_vals::carry::{complement_carry, set_carry};
+pub use gb_vals::daa::adjust;
+pub use gb_vals::flags::{either, flags_of_val, flags_val, greatest_flags, known, known_flags};
+pub use gb_vals::logic::complement;
+pub use gb_vals::outcome::AbsComputed;
+pub use gb_vals::shifts::{rotate_a, shift};
+pub use gb_vals::sums::{decrement, increment};
+pub use gb_vals::vals::{any, between, is_single, single};
+pub use gb_vals::{arithmetic, displaced, length_of, word};

@@ -4,7 +4,7 @@ ghost use Rattle.std.specs.Prelude.{◌≡◌};
 ghost use Rattle.gb_abs.specs.Reason.{reason_number};
 
 /// The reasons, by their numbers 1 to 17.
-#[derive(Clone, Copy, PartialEq, Eq)]
+#[derive(Clone, Copy, Debug, PartialEq, Eq)]
 pub enum Reason {
     /// Main's entry isn't at 0100 in bank 0, or doesn't cover power-up.
     Entry,

@@ -14,11 +14,11 @@ use Rattle.gb_domain.specs.declared.types.Origin.{Origin}
 use Rattle.gb_domain.specs.declared.types.Val.{Val}
 use Rattle.gb_domain.specs.declared.types.Core.{Core}
 use Rattle.gb_domain.specs.Rules.{IsVal, IsCore}
-use Rattle.gb_vals.specs.Vals.{single, is_single}
-use Rattle.gb_vals.specs.Meaning.{Gives}
-use Rattle.gb_vals.specs.Alu.{alu, alu_itself, alu_origin, itself_origin, result_with_itself}
-use Rattle.gb_vals.proofs.AluLaws.{alu_sound, alu_itself_sound, alu_inhabited, alu_itself_inhabited}
-use Rattle.gb_vals.proofs.OriginLaws.{alu_kept, alu_written, alu_itself_kept, alu_itself_written}
+use Rattle.gb_abs.specs.Below.gb_vals.Vals.{single, is_single}
+use Rattle.gb_abs.specs.Below.gb_vals.Meaning.{Gives}
+use Rattle.gb_abs.specs.Below.gb_vals.Alu.{alu, alu_itself, alu_origin, itself_origin, result_with_itself}
+use Rattle.gb_abs.proofs.Below.gb_vals_laws.AluLaws.{alu_sound, alu_itself_sound, alu_inhabited, alu_itself_inhabited}
+use Rattle.gb_abs.proofs.Below.gb_vals_laws.OriginLaws.{alu_kept, alu_written, alu_itself_kept, alu_itself_written}
 use Rattle.gb_abs.specs.Meaning.{Holds, HoldsFlags, MeansCore, origin_value}
 use Rattle.gb_abs.proofs.OperationLaws.{Holds-single}
 use Rattle.gb_abs_effects.specs.Transfer.{operand_val, update_a, apply_alu}

@@ -14,7 +14,7 @@ use Rattle.gb_domain.specs.declared.types.Flg.{Flg}
 use Rattle.gb_domain.specs.declared.types.ImeSet.{ImeSet}
 use Rattle.gb_domain.specs.declared.types.Core.{Core}
 use Rattle.gb_domain.specs.Rules.{IsVal, IsFlg, IsCore, may_be_any}
-use Rattle.gb_vals.specs.Meaning.{In, FlagsIn}
+use Rattle.gb_abs.specs.Below.gb_vals.Meaning.{In, FlagsIn}
 use Rattle.gb_abs.specs.Span.{IsIn, pair_span}
 use Rattle.gb_abs.specs.Meaning.{Holds, HoldsFlags, MeansCore, ime_may_be}
 use Rattle.gb_abs.proofs.OperationLaws.{set_both, set_one}

@@ -22,14 +22,14 @@ use Rattle.gb_domain.specs.declared.types.Flg.{Flg}
 use Rattle.gb_domain.specs.declared.types.ImeSet.{ImeSet}
 use Rattle.gb_domain.specs.declared.types.Core.{Core}
 use Rattle.gb_domain.specs.Rules.{IsVal, IsCore}
-use Rattle.gb_vals.specs.Meaning.{FlagsIn}
-use Rattle.gb_vals.specs.Sums.{increment, decrement}
-use Rattle.gb_vals.specs.Shifts.{shift_of, shift_result}
-use Rattle.gb_vals.specs.Bits.{reset_bit, set_bit}
-use Rattle.gb_vals.proofs.SumLaws.{increment_sound, decrement_sound, increment_inhabited, decrement_inhabited}
-use Rattle.gb_vals.proofs.ShiftLaws.{shift_sound, shift_inhabited}
-use Rattle.gb_vals.proofs.BitLaws.{reset_bit_sound, set_bit_sound, reset_bit_inhabited, set_bit_inhabited}
-use Rattle.gb_vals.proofs.OriginLaws.{increment_computed, decrement_computed, shift_computed, reset_bit_computed, set_bit_computed}
+use Rattle.gb_abs.specs.Below.gb_vals.Meaning.{FlagsIn}
+use Rattle.gb_abs.specs.Below.gb_vals.Sums.{increment, decrement}
+use Rattle.gb_abs.specs.Below.gb_vals.Shifts.{shift_of, shift_result}
+use Rattle.gb_abs.specs.Below.gb_vals.Bits.{reset_bit, set_bit}
+use Rattle.gb_abs.proofs.Below.gb_vals_laws.SumLaws.{increment_sound, decrement_sound, increment_inhabited, decrement_inhabited}
+use Rattle.gb_abs.proofs.Below.gb_vals_laws.ShiftLaws.{shift_sound, shift_inhabited}
+use Rattle.gb_abs.proofs.Below.gb_vals_laws.BitLaws.{reset_bit_sound, set_bit_sound, reset_bit_inhabited, set_bit_inhabited}
+use Rattle.gb_abs.proofs.Below.gb_vals_laws.OriginLaws.{increment_computed, decrement_computed, shift_computed, reset_bit_computed, set_bit_computed}
 use Rattle.gb_abs.specs.Meaning.{Holds, MeansCore, ime_may_be}
 use Rattle.gb_abs.specs.Operations.{core_set_register}
 use Rattle.gb_abs.proofs.OperationLaws.{MeansCore-set_register}

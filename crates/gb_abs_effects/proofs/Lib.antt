@@ -9,3 +9,4 @@ pub mod ReadLaws
 pub mod SideLaws
 pub mod TargetLaws
 pub mod TransferLaws
+pub mod Below

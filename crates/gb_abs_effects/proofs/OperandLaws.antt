@@ -11,8 +11,8 @@ use Rattle.gb_domain.specs.declared.types.Val.{Val}
 use Rattle.gb_domain.specs.declared.types.Flg.{Flg}
 use Rattle.gb_domain.specs.declared.types.Core.{Core}
 use Rattle.gb_domain.specs.Rules.{IsVal, IsFlg, IsCore}
-use Rattle.gb_vals.specs.declared.outcome.Outcome.{Outcome}
-use Rattle.gb_vals.specs.Meaning.{In, FlagsIn, Gives, IsSound, IsSoundOfVal, IsSoundOfFlags, IsSoundOfTest, IsOutcome, IsComputed}
+use Rattle.gb_abs.specs.Below.gb_vals.declared.outcome.AbsComputed.{AbsComputed}
+use Rattle.gb_abs.specs.Below.gb_vals.Meaning.{In, FlagsIn, Gives, IsSound, IsSoundOfVal, IsSoundOfFlags, IsSoundOfTest, IsOutcome, IsComputed}
 use Rattle.gb_abs.specs.Meaning.{Holds, HoldsFlags, MeansCore}
 use Rattle.gb_abs.proofs.OperationLaws.{MeansCore-set_register, IsCore-set_register}
 use Rattle.gb_abs_effects.specs.Transfer.{quiet, with_flags, operand_val, store_operand, update_operand, update_a}
@@ -50,7 +50,7 @@ IsAbsEffect-store_operand operand.AtHl s v h is = record { core = is; write = h;
 
 -- the operand and the flags become what was computed
 Follows-updated :
-    (which : Operand) (s : Core) (entry x : MState) (o : Outcome) (c : Computed)
+    (which : Operand) (s : Core) (entry x : MState) (o : AbsComputed) (c : Computed)
     → Gives o c → IsComputed o → IsOutcome o → MeansCore s entry x
     → Follows (update_operand which o s) entry x (Effects.update_operand x.processor which c)
 unfolding update_operand Effects.update_operand
@@ -61,7 +61,7 @@ Follows-updated which s entry x o c gives computed is m =
     record { core = stored.core; write = stored.write }
 
 pub Follows-update_operand :
-    (machine : ℕ → Flags → Computed) (which : Operand) (s : Core) (entry x : MState) (low : Val) (l : ℕ) (o : Outcome)
+    (machine : ℕ → Flags → Computed) (which : Operand) (s : Core) (entry x : MState) (low : Val) (l : ℕ) (o : AbsComputed)
     → IsSound machine (operand_val which s low) s.flags o → IsComputed o → IsOutcome o
     → Holds low entry l → MeansCore s entry x
     → Follows (update_operand which o s) entry x (Effects.update_operand x.processor which (machine (Effects.operand_value x.processor which l) x.processor.flags))
@@ -69,7 +69,7 @@ Follows-update_operand machine which s entry x low l o sound computed is h m =
     let held = Holds-operand which s entry x low l h m in
     Follows-updated which s entry x o (machine (Effects.operand_value x.processor which l) x.processor.flags) (sound.gives (Effects.operand_value x.processor which l) x.processor.flags (In-from (operand_val which s low) entry (Effects.operand_value x.processor which l) held) (FlagsIn-from s.flags entry x.processor.flags m.flags)) computed is m
 
-pub IsAbsEffect-update_operand : (which : Operand) (s : Core) (o : Outcome) → IsOutcome o → IsCore s → IsAbsEffect (update_operand which o s)
+pub IsAbsEffect-update_operand : (which : Operand) (s : Core) (o : AbsComputed) → IsOutcome o → IsCore s → IsAbsEffect (update_operand which o s)
 unfolding update_operand
 IsAbsEffect-update_operand which s o is core = IsAbsEffect-store_operand which (with_flags o.flags s) o.val is.val (IsCore-flags s o.flags is.flags core)
 
@@ -89,7 +89,7 @@ Follows-change_operand machine which s entry x low l v sound computed is h m =
 -- ---- A
 
 pub Follows-update_a :
-    (s : Core) (entry x : MState) (o : Outcome) (c : Computed)
+    (s : Core) (entry x : MState) (o : AbsComputed) (c : Computed)
     → Holds o.val entry c.value → HoldsFlags o.flags entry c.flags → MeansCore s entry x
     → Follows (update_a o s) entry x (Effects.update_a x.processor c)
 unfolding update_a Effects.update_a
@@ -98,7 +98,7 @@ Follows-update_a s entry x o c value flags m =
 
 -- A and the flags become what was computed of them
 pub Follows-change_a :
-    (machine : ℕ → Flags → Computed) (s : Core) (entry x : MState) (o : Outcome)
+    (machine : ℕ → Flags → Computed) (s : Core) (entry x : MState) (o : AbsComputed)
     → IsSound machine s.registers.a s.flags o → IsComputed o → MeansCore s entry x
     → Follows (update_a o s) entry x (Effects.update_a x.processor (machine x.processor.registers.a x.processor.flags))
 Follows-change_a machine s entry x o sound computed m =
@@ -107,7 +107,7 @@ Follows-change_a machine s entry x o sound computed m =
     let gives : Gives o (machine a g) = sound.gives a g (In-from s.registers.a entry a (m.registers A)) (FlagsIn-from s.flags entry g m.flags) in
     Follows-update_a s entry x o (machine a g) (Holds-computed o.val entry (machine a g).value gives.value computed.origin) (HoldsFlags-written o.flags entry (machine a g).flags gives.flags computed.own) m
 
-pub IsAbsEffect-update_a : (s : Core) (o : Outcome) → IsOutcome o → IsCore s → IsAbsEffect (update_a o s)
+pub IsAbsEffect-update_a : (s : Core) (o : AbsComputed) → IsOutcome o → IsCore s → IsAbsEffect (update_a o s)
 unfolding update_a
 IsAbsEffect-update_a s o is core = record { core = IsCore-a s o.val o.flags is.val is.flags core; write = tt; at = tt }
 

@@ -21,11 +21,11 @@ use Rattle.gb_domain.specs.declared.types.Val.{Val}
 use Rattle.gb_domain.specs.declared.types.Flg.{Flg}
 use Rattle.gb_domain.specs.declared.types.Core.{Core}
 use Rattle.gb_domain.specs.Rules.{IsCore}
-use Rattle.gb_vals.specs.Vals.{between, any_val, is_single}
-use Rattle.gb_vals.specs.Flags.{any_flags, with_own, known_flags, own_origin, is_own_origin, flags_val, flags_of_val}
-use Rattle.gb_vals.specs.Meaning.{In, FlagsIn}
-use Rattle.gb_vals.proofs.MeaningLaws.{single-is, In-single, In-any, known-may_be, either-may_be, FlagsIn-known, bit-weight}
-use Rattle.gb_vals.proofs.FlagLaws.{flags_val_sound, flags_of_val_sound}
+use Rattle.gb_abs.specs.Below.gb_vals.Vals.{between, any_val, is_single}
+use Rattle.gb_abs.specs.Below.gb_vals.Flags.{any_flags, with_own, known_flags, own_origin, is_own_origin, flags_val, flags_of_val}
+use Rattle.gb_abs.specs.Below.gb_vals.Meaning.{In, FlagsIn}
+use Rattle.gb_abs.proofs.Below.gb_vals_laws.MeaningLaws.{single-is, In-single, In-any, known-may_be, either-may_be, FlagsIn-known, bit-weight}
+use Rattle.gb_abs.proofs.Below.gb_vals_laws.FlagLaws.{flags_val_sound, flags_of_val_sound}
 use Rattle.gb_abs.specs.Meaning.{Holds, HoldsFlags, MeansCore, origin_value}
 use Rattle.gb_abs.specs.Operations.{core_set_register}
 use Rattle.gb_abs.proofs.OperationLaws.{MeansCore-set_register, register_set}

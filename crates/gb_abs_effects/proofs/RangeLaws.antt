@@ -16,17 +16,17 @@ use Rattle.gb_domain.specs.declared.types.Flg.{Flg}
 use Rattle.gb_domain.specs.declared.types.ImeSet.{ImeSet}
 use Rattle.gb_domain.specs.declared.types.Core.{Core}
 use Rattle.gb_domain.specs.Rules.{IsVal, IsFlg, IsCore, IsWord, may_be_any}
-use Rattle.gb_vals.specs.Vals.{single, between, any_val}
+use Rattle.gb_abs.specs.Below.gb_vals.Vals.{single, between, any_val}
 use Rattle.gb_ops.specs.Arithmetic as arithmetic
-use Rattle.gb_vals.specs.Flags.{known_flags, greatest_flags, flags_val, flags_of_val}
-use Rattle.gb_vals.proofs.MeaningLaws.{FlagsIn-known, IsFlg-from}
-use Rattle.gb_vals.proofs.FlagLaws.{flags_val_inhabited, flags_of_val_inhabited}
-use Rattle.gb_vals.proofs.SumLaws.{increment_inhabited, decrement_inhabited}
-use Rattle.gb_vals.proofs.LogicLaws.{complement_inhabited}
-use Rattle.gb_vals.proofs.ShiftLaws.{shift_inhabited, rotate_a_inhabited}
-use Rattle.gb_vals.proofs.BitLaws.{test_bit_inhabited, reset_bit_inhabited, set_bit_inhabited}
-use Rattle.gb_vals.proofs.DaaLaws.{adjust_inhabited}
-use Rattle.gb_vals.proofs.CarryLaws.{set_carry_inhabited, complement_carry_inhabited}
+use Rattle.gb_abs.specs.Below.gb_vals.Flags.{known_flags, greatest_flags, flags_val, flags_of_val}
+use Rattle.gb_abs.proofs.Below.gb_vals_laws.MeaningLaws.{FlagsIn-known, IsFlg-from}
+use Rattle.gb_abs.proofs.Below.gb_vals_laws.FlagLaws.{flags_val_inhabited, flags_of_val_inhabited}
+use Rattle.gb_abs.proofs.Below.gb_vals_laws.SumLaws.{increment_inhabited, decrement_inhabited}
+use Rattle.gb_abs.proofs.Below.gb_vals_laws.LogicLaws.{complement_inhabited}
+use Rattle.gb_abs.proofs.Below.gb_vals_laws.ShiftLaws.{shift_inhabited, rotate_a_inhabited}
+use Rattle.gb_abs.proofs.Below.gb_vals_laws.BitLaws.{test_bit_inhabited, reset_bit_inhabited, set_bit_inhabited}
+use Rattle.gb_abs.proofs.Below.gb_vals_laws.DaaLaws.{adjust_inhabited}
+use Rattle.gb_abs.proofs.Below.gb_vals_laws.CarryLaws.{set_carry_inhabited, complement_carry_inhabited}
 use Rattle.gb_abs.specs.Operations.{core_set_register}
 use Rattle.gb_domain.specs.declared.types.Halves.{Halves}
 use Rattle.gb_abs_effects.specs.declared.writes.AbsEffect.{AbsEffect}

@@ -18,7 +18,7 @@ use Rattle.gb_ops.specs.Play.{MState}
 use Rattle.gb_domain.specs.declared.types.Val.{Val}
 use Rattle.gb_domain.specs.declared.types.Core.{Core}
 use Rattle.gb_domain.specs.Rules.{IsVal, IsCore}
-use Rattle.gb_vals.specs.Vals.{single}
+use Rattle.gb_abs.specs.Below.gb_vals.Vals.{single}
 use Rattle.gb_abs.specs.Span.{IsIn, one, pair_span}
 use Rattle.gb_abs.specs.Meaning.{MeansCore}
 use Rattle.gb_abs.proofs.OperationLaws.{Holds-single}

@@ -16,8 +16,8 @@ use Rattle.gb_ops.specs.Play.{MState}
 use Rattle.gb_domain.specs.declared.types.Core.{Core}
 use Rattle.gb_domain.specs.Rules.{IsCore}
 use Rattle.gb_domain.specs.declared.types.Flg.{Flg}
-use Rattle.gb_vals.specs.Tests.{side, IsOnSide, IsKept, IsSide}
-use Rattle.gb_vals.proofs.BranchLaws.{side_sound, side_inhabited, side_kept}
+use Rattle.gb_abs.specs.Below.gb_vals.Tests.{side, IsOnSide, IsKept, IsSide}
+use Rattle.gb_abs.proofs.Below.gb_vals_laws.BranchLaws.{side_sound, side_inhabited, side_kept}
 use Rattle.gb_abs.specs.Meaning.{HoldsFlags, MeansCore}
 use Rattle.gb_abs_effects.specs.declared.sides.Sides.{Sides}
 use Rattle.gb_abs_effects.specs.Sides.{opposite, condition_of, with_flags_if, side_of, sides_by, sides_of}

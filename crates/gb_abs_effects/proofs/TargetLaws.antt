@@ -23,8 +23,8 @@ use Rattle.gb_ops.specs.Effects as Effects
 use Rattle.gb_ops.specs.Play.{MState}
 use Rattle.gb_domain.specs.declared.types.Core.{Core}
 use Rattle.gb_domain.specs.Rules.{IsVal, IsCore}
-use Rattle.gb_vals.specs.Vals.{is_single}
-use Rattle.gb_vals.proofs.MeaningLaws.{single-is}
+use Rattle.gb_abs.specs.Below.gb_vals.Vals.{is_single}
+use Rattle.gb_abs.proofs.Below.gb_vals_laws.MeaningLaws.{single-is}
 use Rattle.gb_abs.specs.Meaning.{MeansCore}
 use Rattle.gb_domain.specs.declared.types.Halves.{Halves}
 use Rattle.gb_abs_effects.specs.declared.targets.Target.{Target}

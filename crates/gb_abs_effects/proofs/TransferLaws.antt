@@ -18,18 +18,18 @@ use Rattle.gb_domain.specs.declared.types.Flg.{Flg}
 use Rattle.gb_domain.specs.declared.types.Core.{Core}
 use Rattle.gb_domain.specs.declared.types.Halves.{Halves}
 use Rattle.gb_domain.specs.Rules.{IsVal, IsCore}
-use Rattle.gb_vals.specs.Vals.{single}
-use Rattle.gb_vals.specs.Logic.{complement, complement_result}
-use Rattle.gb_vals.specs.Shifts.{rotation_of_a, rotation_result}
-use Rattle.gb_vals.specs.Bits.{test_bit}
-use Rattle.gb_vals.specs.Daa.{adjustment_of}
-use Rattle.gb_vals.specs.Carry.{set_carry, complement_carry, set_carry_result, complement_carry_result}
-use Rattle.gb_vals.proofs.LogicLaws.{complement_sound}
-use Rattle.gb_vals.proofs.ShiftLaws.{rotate_a_sound}
-use Rattle.gb_vals.proofs.BitLaws.{test_bit_sound}
-use Rattle.gb_vals.proofs.DaaLaws.{adjust_sound}
-use Rattle.gb_vals.proofs.CarryLaws.{set_carry_sound, complement_carry_sound}
-use Rattle.gb_vals.proofs.OriginLaws.{complement_computed, rotate_a_computed, adjust_computed, test_bit_written}
+use Rattle.gb_abs.specs.Below.gb_vals.Vals.{single}
+use Rattle.gb_abs.specs.Below.gb_vals.Logic.{complement, complement_result}
+use Rattle.gb_abs.specs.Below.gb_vals.Shifts.{rotation_of_a, rotation_result}
+use Rattle.gb_abs.specs.Below.gb_vals.Bits.{test_bit}
+use Rattle.gb_abs.specs.Below.gb_vals.Daa.{adjustment_of}
+use Rattle.gb_abs.specs.Below.gb_vals.Carry.{set_carry, complement_carry, set_carry_result, complement_carry_result}
+use Rattle.gb_abs.proofs.Below.gb_vals_laws.LogicLaws.{complement_sound}
+use Rattle.gb_abs.proofs.Below.gb_vals_laws.ShiftLaws.{rotate_a_sound}
+use Rattle.gb_abs.proofs.Below.gb_vals_laws.BitLaws.{test_bit_sound}
+use Rattle.gb_abs.proofs.Below.gb_vals_laws.DaaLaws.{adjust_sound}
+use Rattle.gb_abs.proofs.Below.gb_vals_laws.CarryLaws.{set_carry_sound, complement_carry_sound}
+use Rattle.gb_abs.proofs.Below.gb_vals_laws.OriginLaws.{complement_computed, rotate_a_computed, adjust_computed, test_bit_written}
 use Rattle.gb_abs.specs.Meaning.{MeansCore}
 use Rattle.gb_abs.proofs.OperationLaws.{MeansCore-set_register, Holds-single}
 use Rattle.gb_abs_effects.specs.declared.writes.AbsEffect.{AbsEffect}

@@ -7,7 +7,7 @@ use Rattle.gb_ops.specs.declared.op.Operand.TheVariants as operand
 use Rattle.gb_ops.specs.declared.op.Op.{Op}
 use Rattle.gb_ops.specs.declared.op.Op.TheVariants as op
 use Rattle.gb_domain.specs.declared.types.Core.{Core}
-use Rattle.gb_vals.specs.Vals.{single}
+use Rattle.gb_abs.specs.Below.gb_vals.Vals.{single}
 use Rattle.gb_abs.specs.declared.span.Span.{Span}
 use Rattle.gb_abs.specs.Span.{one, pair_span}
 use Rattle.gb_abs_effects.specs.declared.reads.AbsRead.{AbsRead}

@@ -4,3 +4,4 @@ pub mod Pairs
 pub mod Sides
 pub mod Targets
 pub mod Transfer
+pub mod Below

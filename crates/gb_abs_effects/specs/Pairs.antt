@@ -12,8 +12,8 @@ use Rattle.gb_ops.specs.Arithmetic as machine
 use Rattle.gb_domain.specs.declared.types.Val.{Val}
 use Rattle.gb_domain.specs.declared.types.Flg.{Flg}
 use Rattle.gb_domain.specs.declared.types.Core.{Core}
-use Rattle.gb_vals.specs.Vals.{between, single, any_val, is_single}
-use Rattle.gb_vals.specs.Flags.{known, either, known_flags, greatest_flags, flags_val, flags_of_val}
+use Rattle.gb_abs.specs.Below.gb_vals.Vals.{between, single, any_val, is_single}
+use Rattle.gb_abs.specs.Below.gb_vals.Flags.{known, either, known_flags, greatest_flags, flags_val, flags_of_val}
 use Rattle.gb_domain.specs.declared.types.Halves.{Halves}
 
 -- ---- words

@@ -6,7 +6,7 @@ use Rattle.gb_ops.specs.declared.op.Op.{Op}
 use Rattle.gb_ops.specs.declared.op.Op.TheVariants as op
 use Rattle.gb_domain.specs.declared.types.Flg.{Flg}
 use Rattle.gb_domain.specs.declared.types.Core.{Core}
-use Rattle.gb_vals.specs.Tests.{side}
+use Rattle.gb_abs.specs.Below.gb_vals.Tests.{side}
 use Rattle.gb_abs_effects.specs.declared.sides.Sides.{Sides}
 
 abbrev pub opposite : Condition → Condition

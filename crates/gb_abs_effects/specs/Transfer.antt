@@ -14,15 +14,15 @@ use Rattle.gb_domain.specs.declared.types.Val.{Val}
 use Rattle.gb_domain.specs.declared.types.Flg.{Flg}
 use Rattle.gb_domain.specs.declared.types.ImeSet.{ImeSet}
 use Rattle.gb_domain.specs.declared.types.Core.{Core}
-use Rattle.gb_vals.specs.declared.outcome.Outcome.{Outcome}
-use Rattle.gb_vals.specs.Vals.{single}
-use Rattle.gb_vals.specs.Sums.{increment, decrement}
-use Rattle.gb_vals.specs.Logic.{complement}
-use Rattle.gb_vals.specs.Alu.{alu, alu_itself}
-use Rattle.gb_vals.specs.Shifts.{shift_of, rotation_of_a}
-use Rattle.gb_vals.specs.Bits.{test_bit, reset_bit, set_bit}
-use Rattle.gb_vals.specs.Daa.{adjustment_of}
-use Rattle.gb_vals.specs.Carry.{set_carry, complement_carry}
+use Rattle.gb_abs.specs.Below.gb_vals.declared.outcome.AbsComputed.{AbsComputed}
+use Rattle.gb_abs.specs.Below.gb_vals.Vals.{single}
+use Rattle.gb_abs.specs.Below.gb_vals.Sums.{increment, decrement}
+use Rattle.gb_abs.specs.Below.gb_vals.Logic.{complement}
+use Rattle.gb_abs.specs.Below.gb_vals.Alu.{alu, alu_itself}
+use Rattle.gb_abs.specs.Below.gb_vals.Shifts.{shift_of, rotation_of_a}
+use Rattle.gb_abs.specs.Below.gb_vals.Bits.{test_bit, reset_bit, set_bit}
+use Rattle.gb_abs.specs.Below.gb_vals.Daa.{adjustment_of}
+use Rattle.gb_abs.specs.Below.gb_vals.Carry.{set_carry, complement_carry}
 use Rattle.gb_abs.specs.Span.{one}
 use Rattle.gb_abs.specs.Operations.{core_set_register}
 use Rattle.gb_domain.specs.declared.types.Halves.{Halves}
@@ -61,11 +61,11 @@ store_operand (operand.Register which) v s = quiet (core_set_register which v s)
 store_operand operand.AtHl v s = writes s (write.Byte (hl_span s) v)
 
 -- the operand and the flags become what was computed
-unfoldable pub update_operand : Operand → Outcome → Core → AbsEffect
+unfoldable pub update_operand : Operand → AbsComputed → Core → AbsEffect
 update_operand which o s = store_operand which o.val (with_flags o.flags s)
 
 -- A and the flags become what was computed
-unfoldable pub update_a : Outcome → Core → AbsEffect
+unfoldable pub update_a : AbsComputed → Core → AbsEffect
 update_a o s = quiet (record s { registers = record s.registers { a = o.val }; flags = o.flags })
 
 -- an operation of A; where the operand is A too, more is known

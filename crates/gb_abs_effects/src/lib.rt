@@ -14,3 +14,24 @@ pub mod sides;
 pub mod targets;
 pub mod transfer;
 pub mod writes;
+
+pub use reads::AbsRead;
+pub use sides::Sides;
+pub use targets::Target;
+pub use transfer::Inputs;
+pub use writes::{AbsEffect, AbsWrite};
+
+// What lies below, for the crates above.
+pub use gb_abs::bytes::{append_bytes, resize};
+pub use gb_abs::cells::with_cell;
+pub use gb_abs::covering::{
+    cell_at, covers_controller, covers_ime, covers_lists, covers_origin, covers_parts,
+};
+pub use gb_abs::located::{sp_bounds, sp_halves};
+pub use gb_abs::operations::{end, pass, settle};
+pub use gb_abs::origins::{
+    cell_without_origin, cells_without_origins, core_without_origins, is_own, own, without_origin,
+};
+pub use gb_abs::span::Span;
+pub use gb_abs::stack::push;
+pub use gb_abs::{any, known, may_enable, may_have_bit, single};

@@ -3,11 +3,12 @@
 ghost use Rattle.std.specs.Prelude.{◌≡◌};
 ghost use Rattle.gb_abs_effects.specs.Pairs as Pairs;
 
+use gb_abs::{
+    any, arithmetic, between, displaced, either, flags_of_val, flags_val, greatest_flags,
+    is_single, known, known_flags, single, word,
+};
 use gb_domain::types::{Core, Flg, Halves, Val};
 use gb_ops::op::{Indirect, Pair, StackPair};
-use gb_vals::flags::{either, flags_of_val, flags_val, greatest_flags, known, known_flags};
-use gb_vals::vals::{any, between, is_single, single};
-use gb_vals::{arithmetic, displaced, word};
 
 /// A word that is known.
 pub(crate) fn known_word(word: u16) -> Halves

@@ -5,10 +5,10 @@ ghost use Rattle.gb_abs_effects.specs.Accesses as Accesses;
 ghost use Rattle.gb_domain.specs.Rules.{IsCore};
 ghost use Rattle.gb_abs_effects.specs.Sound.{HasBytes, IsReadAt, IsSoundRead};
 
+use gb_abs::single;
 use gb_abs::span::Span;
 use gb_domain::types::Core;
 use gb_ops::op::{Indirect, Op, Operand};
-use gb_vals::vals::single;
 
 /// What an instruction may read besides its own bytes.
 #[derive(Clone, Copy, PartialEq, Eq)]

@@ -5,9 +5,9 @@ ghost use Rattle.gb_domain.specs.Rules.{IsCore};
 ghost use Rattle.gb_abs_effects.specs.Sides as Branching;
 ghost use Rattle.gb_abs_effects.specs.Sound.{AreSoundSides, AreSides};
 
+use gb_abs::side;
 use gb_domain::types::Core;
 use gb_ops::op::{Condition, Op};
-use gb_vals::branch::side;
 
 /// The core on each side of an instruction, where that side is possible.
 #[derive(Clone, Copy, PartialEq, Eq)]

@@ -6,9 +6,9 @@ ghost use Rattle.gb_domain.specs.Rules.{IsCore};
 ghost use Rattle.gb_abs_effects.specs.Sound.{HasBytes, IsSoundTarget, IsTargetAt};
 
 use crate::pairs::{is_word_known, least_word, pair_halves};
+use gb_abs::displaced;
 use gb_domain::types::{Core, Halves};
 use gb_ops::op::{Op, Pair};
-use gb_vals::displaced;
 
 /// Where an instruction goes on.
 #[derive(Clone, Copy, PartialEq, Eq)]

@@ -3,13 +3,13 @@
 ghost use Rattle.std.specs.Prelude.{◌≡◌, ◌<◌};
 ghost use Rattle.gb_domain.specs.Rules.{IsVal, IsCore, IsWord};
 ghost use Rattle.gb_ops.specs.declared.op.Pair.TheVariants.{Hl};
-ghost use Rattle.gb_vals.specs.Alu as Alu;
-ghost use Rattle.gb_vals.specs.Bits as Bits;
-ghost use Rattle.gb_vals.specs.Daa as Daa;
-ghost use Rattle.gb_vals.specs.Logic as Logic;
-ghost use Rattle.gb_vals.specs.Shifts as Shifts;
-ghost use Rattle.gb_vals.specs.Sums as Sums;
-ghost use Rattle.gb_vals.specs.Vals as Vals;
+ghost use Rattle.gb_abs.specs.Below.gb_vals.Alu as Alu;
+ghost use Rattle.gb_abs.specs.Below.gb_vals.Bits as Bits;
+ghost use Rattle.gb_abs.specs.Below.gb_vals.Daa as Daa;
+ghost use Rattle.gb_abs.specs.Below.gb_vals.Logic as Logic;
+ghost use Rattle.gb_abs.specs.Below.gb_vals.Shifts as Shifts;
+ghost use Rattle.gb_abs.specs.Below.gb_vals.Sums as Sums;
+ghost use Rattle.gb_abs.specs.Below.gb_vals.Vals as Vals;
 ghost use Rattle.gb_abs_effects.specs.Pairs as Pairs;
 ghost use Rattle.gb_abs_effects.specs.Pairs.{with_pair};
 ghost use Rattle.gb_abs_effects.specs.Transfer as Transfer;
@@ -26,16 +26,12 @@ use crate::writes::{
 };
 use gb_abs::operations::set_register;
 use gb_abs::span::Span;
+use gb_abs::{
+    adjust, alu, alu_itself, complement, complement_carry, decrement, increment, reset_bit,
+    rotate_a, set_bit, set_carry, shift, single, test_bit,
+};
 use gb_domain::types::{Core, Halves, ImeSet, Val};
 use gb_ops::op::{AluOp, Op, Operand, Pair, Register, Shift, StackPair};
-use gb_vals::alu::{alu, alu_itself};
-use gb_vals::bits::{reset_bit, set_bit, test_bit};
-use gb_vals::carry::{complement_carry, set_carry};
-use gb_vals::daa::adjust;
-use gb_vals::logic::complement;
-use gb_vals::shifts::{rotate_a, shift};
-use gb_vals::sums::{decrement, increment};
-use gb_vals::vals::single;
 
 /// IME behind EI: pending where it was off (CPU instruction set: EI).
 fn enabled(ime: ImeSet) -> ImeSet

@@ -5,11 +5,11 @@ ghost use Rattle.gb_abs_effects.specs.Transfer as Transfer;
 ghost use Rattle.gb_abs_effects.specs.declared.writes.AbsWrite.TheVariants.{Nothing};
 
 use crate::reads::hl_span;
+use gb_abs::AbsComputed;
 use gb_abs::operations::set_register;
 use gb_abs::span::Span;
 use gb_domain::types::{Core, Halves, Val};
 use gb_ops::op::Operand;
-use gb_vals::outcome::Outcome;
 
 /// What an instruction writes.
 #[derive(Clone, Copy, PartialEq, Eq)]
@@ -74,7 +74,7 @@ pub(crate) fn store_operand(operand: Operand, val: Val, effect: &mut AbsEffect)
 
 /// The operand and the flags become what was computed. Nothing was written before.
 #[tactic(auto, unfolding(crate::specs::Transfer::update_operand))]
-pub(crate) fn update_operand(operand: Operand, outcome: Outcome, effect: &mut AbsEffect)
+pub(crate) fn update_operand(operand: Operand, outcome: AbsComputed, effect: &mut AbsEffect)
     requires { effect.old.write ≡ Nothing }
     ensures { effect.new ≡ Transfer.update_operand operand outcome effect.old.core }
 {
@@ -84,7 +84,7 @@ pub(crate) fn update_operand(operand: Operand, outcome: Outcome, effect: &mut Ab
 
 /// A and the flags become what was computed. Nothing was written before.
 #[tactic(auto, unfolding(crate::specs::Transfer::update_a))]
-pub(crate) fn update_a(outcome: Outcome, effect: &mut AbsEffect)
+pub(crate) fn update_a(outcome: AbsComputed, effect: &mut AbsEffect)
     requires { effect.old.write ≡ Nothing }
     ensures { effect.new ≡ Transfer.update_a outcome effect.old.core }
 {

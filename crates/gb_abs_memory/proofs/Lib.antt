@@ -7,3 +7,4 @@ pub mod ItemLaws
 pub mod RamLaws
 pub mod LoadLaws
 pub mod StoreLaws
+pub mod Below

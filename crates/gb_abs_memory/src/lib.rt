@@ -15,7 +15,17 @@ pub mod shown;
 pub mod store;
 pub mod windows;
 
+pub use store::{Area, Stored};
+pub use windows::{ControllerRegister, Window};
+
 // What lies below, for the crates above.
-pub use gb_abs::length_of;
+pub use gb_abs::covering::{
+    cell_at, covers_controller, covers_core, covers_ime, covers_may, covers_origin, covers_val,
+};
+pub use gb_abs::operations::{settle, with_value};
+pub use gb_abs::reason::Reason;
+pub use gb_abs::span::Span;
+pub use gb_abs::storage::is_ram;
+pub use gb_abs::{Halves, any, known, length_of};
 pub use gb_domain::types::{Abs, Val};
 pub use gb_header::Rom;

@@ -139,7 +139,7 @@ pub fn fetch<B: Bus>(bus: &mut B, processor: Processor) -> Fetched
 
 /// What an instruction read, and the bytes of it that were free, in order.
 #[derive(Clone, Copy)]
-pub struct Answer {
+pub struct LoadAnswer {
     pub loaded: Loaded,
     pub free: [u8; 2],
 }
@@ -147,7 +147,7 @@ pub struct Answer {
 /// Makes the reads of an instruction.
 #[inline(always)]
 #[tactic(auto, using(crate::proofs::Fetching::nothing_is, crate::proofs::Fetching::byte_is, crate::proofs::Fetching::word_is), unfolding(gb_ops::specs::Accesses::load_log, crate::specs::Access::free_reads))]
-pub fn load<B: Bus>(bus: &mut B, read: Read) -> Answer
+pub fn load<B: Bus>(bus: &mut B, read: Read) -> LoadAnswer
     ensures view { B.shows bus.new ≡ B.shows bus.old }
     ensures values { loaded (B.shows bus.old) read result.free ≡ result.loaded }
     ensures free { result.free ≡ free_reads (B.shows bus.old) read result.loaded }
@@ -155,13 +155,13 @@ pub fn load<B: Bus>(bus: &mut B, read: Read) -> Answer
     ensures joined { Joined B.does bus.old (load_log read result.loaded) bus.new }
 {
     match read {
-        Read::Nothing => Answer {
+        Read::Nothing => LoadAnswer {
             loaded: Loaded { low: 0, high: 0 },
             free: [0, 0],
         },
         Read::Byte(address) => {
             let low = take(bus, address);
-            Answer {
+            LoadAnswer {
                 loaded: Loaded {
                     low: low.byte,
                     high: 0,
@@ -172,7 +172,7 @@ pub fn load<B: Bus>(bus: &mut B, read: Read) -> Answer
         Read::Word(address) => {
             let low = take(bus, address);
             let high = take(bus, address.wrapping_add(1));
-            Answer {
+            LoadAnswer {
                 loaded: Loaded {
                     low: low.byte,
                     high: high.byte,

@@ -2,20 +2,20 @@
 use Rattle.std.proofs.Common.{◌≡◌, ℕ, ◌<◌, ◌≤◌, Bool, true, false, ◌&&◌, ◌||◌, ◌==◌, ◌⊎◌, inl, inr, List, [], ◌∷◌, ◌++◌, length, Result, Ok, Err, refl, sym, ◌∙◌, ap, arith, append-nil}
 use Rattle.std.specs.List.{flat_map}
 use Rattle.gb_ops.specs.declared.machine.Region.{Region}
-use Rattle.gb_fields.specs.declared.fault.CertFault.{CertFault}
-use Rattle.gb_fields.specs.declared.fault.CertFault.TheVariants as fault
-use Rattle.gb_fields.specs.declared.head.Head.{Head}
-use Rattle.gb_fields.specs.Limits.{procedure_limit, node_limit}
+use Rattle.gb_states.specs.Below.gb_fields.declared.fault.CertFault.{CertFault}
+use Rattle.gb_states.specs.Below.gb_fields.declared.fault.CertFault.TheVariants as fault
+use Rattle.gb_states.specs.Below.gb_fields.declared.head.Head.{Head}
+use Rattle.gb_states.specs.Below.gb_fields.Limits.{procedure_limit, node_limit}
 use Rattle.gb_domain.specs.Types.{ProcedureParts, Node}
 use Rattle.gb_domain.specs.Certificate.{Certificate}
-use Rattle.gb_fields.specs.Format.{Read, go_on, both, checked, followed, ended, byte}
+use Rattle.gb_states.specs.Below.gb_fields.Format.{Read, go_on, both, checked, followed, ended, byte}
 use Rattle.gb_domain.specs.declared.rules.Rules.{Rules}
 use Rattle.gb_domain.specs.declared.rules.Rules.TheVariants.{Simple, Extended}
 use Rattle.gb_domain.specs.Areas.{is_area}
 use Rattle.gb_domain.specs.Limits.{rules_of}
-use Rattle.gb_fields.specs.Rules.{size, is_whole, is_version_of}
+use Rattle.gb_states.specs.Below.gb_fields.Rules.{size, is_whole, is_version_of}
 use Rattle.gb_states.specs.Rules.{IsProcedure, IsNode, IsCertificate, is_after, is_version, key}
-use Rattle.gb_fields.specs.Reading.{word, is_between, node_number, count_within, Letters, is_magic, kind_by, kind_of, magic_at, version_at, is_region, to_region, region_at, is_any, to_head, node_count_at, head_at}
+use Rattle.gb_states.specs.Below.gb_fields.Reading.{word, is_between, node_number, count_within, Letters, is_magic, kind_by, kind_of, magic_at, version_at, is_region, to_region, region_at, is_any, to_head, node_count_at, head_at}
 use Rattle.gb_states.specs.Reading.{procedure_at, node_at, procedures_at, nodes_at, have_entries_in, to_certificate, certificate_at, read_certificate}
 use Rattle.gb_states.specs.Spelling as spelled
 use Rattle.gb_states.specs.Spelling.{Spells}

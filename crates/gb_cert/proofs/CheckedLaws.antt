@@ -15,7 +15,7 @@ use Rattle.gb_domain.specs.declared.types.Core.{Core}
 use Rattle.gb_domain.specs.declared.types.Cell.{Cell}
 use Rattle.gb_states.specs.declared.role.Role.{Role}
 use Rattle.gb_domain.specs.Types.{AbsState, state_of}
-use Rattle.gb_fields.specs.Reading.{word_of, is_one}
+use Rattle.gb_states.specs.Below.gb_fields.Reading.{word_of, is_one}
 use Rattle.gb_states.specs.Reading.{origin_of, to_may, to_flg}
 use Rattle.gb_states.specs.Spelling as spelled
 use Rattle.gb_cert.specs.Borrowed.{StateStands}
@@ -23,7 +23,7 @@ use Rattle.gb_domain.specs.declared.rules.Rules.{Rules}
 use Rattle.gb_domain.specs.declared.rules.Rules.TheVariants.{Simple, Extended}
 use Rattle.gb_domain.specs.declared.relations.Relations.{Relations}
 use Rattle.gb_domain.specs.RelationRules.{has_place, compared, test_alone, IsRelations}
-use Rattle.gb_fields.specs.Limits.{unit}
+use Rattle.gb_states.specs.Below.gb_fields.Limits.{unit}
 use Rattle.gb_states.specs.Rules.{is_whole, may_be_known}
 use Rattle.gb_states.specs.RelationSpelling as told
 use Rattle.gb_states.specs.Checked.{flg_in, core_in, test_in, begins_with_zero, begins_with_zeros, are_none, listed_items, listed_cells}

@@ -4,11 +4,11 @@ use Rattle.std.specs.Prelude.{slice_get}
 use Rattle.std.specs.List.{flat_map, AllByRecursion}
 use Rattle.std.proofs.lemmas.List.{drop_all}
 use Rattle.std.proofs.lemmas.List.Concat.{flat_map-cons}
-use Rattle.gb_fields.specs.Format.{byte}
-use Rattle.gb_fields.specs.Limits.{node_limit}
+use Rattle.gb_states.specs.Below.gb_fields.Format.{byte}
+use Rattle.gb_states.specs.Below.gb_fields.Limits.{node_limit}
 use Rattle.gb_domain.specs.Types.{ProcedureParts, Node}
 use Rattle.gb_states.specs.Rules.{have_entries, is_of}
-use Rattle.gb_fields.specs.Reading.{node_number}
+use Rattle.gb_states.specs.Below.gb_fields.Reading.{node_number}
 use Rattle.gb_domain.specs.declared.rules.Rules.{Rules}
 use Rattle.gb_domain.specs.Limits.{rules_of}
 use Rattle.gb_states.specs.Spelling as spelled

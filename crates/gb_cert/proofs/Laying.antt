@@ -3,18 +3,18 @@ use Rattle.std.proofs.Common.{◌≡◌, ℕ, suc, ◌<◌, ◌≤◌, Bool, tru
 use Rattle.std.specs.List.{flat_map, AllByRecursion}
 use Rattle.std.proofs.lemmas.Bool.Decides.{nat_tests}
 use Rattle.gb_ops.specs.declared.machine.Region.{Region}
-use Rattle.gb_fields.specs.declared.fault.CertFault.{CertFault}
-use Rattle.gb_fields.specs.declared.fault.CertFault.TheVariants as fault
-use Rattle.gb_fields.specs.declared.head.Head.{Head}
-use Rattle.gb_fields.specs.Limits.{node_limit}
+use Rattle.gb_states.specs.Below.gb_fields.declared.fault.CertFault.{CertFault}
+use Rattle.gb_states.specs.Below.gb_fields.declared.fault.CertFault.TheVariants as fault
+use Rattle.gb_states.specs.Below.gb_fields.declared.head.Head.{Head}
+use Rattle.gb_states.specs.Below.gb_fields.Limits.{node_limit}
 use Rattle.gb_domain.specs.Types.{ProcedureParts, Node}
 use Rattle.gb_domain.specs.Certificate.{Certificate}
 use Rattle.gb_domain.specs.declared.rules.Rules.{Rules}
 use Rattle.gb_domain.specs.Limits.{rules_of}
-use Rattle.gb_fields.specs.Format.{go_on, if_passes, ended}
+use Rattle.gb_states.specs.Below.gb_fields.Format.{go_on, if_passes, ended}
 use Rattle.gb_domain.specs.Rules.{IsChain}
 use Rattle.gb_states.specs.Rules.{IsProcedure, is_after, have_entries}
-use Rattle.gb_fields.specs.Reading.{head_at}
+use Rattle.gb_states.specs.Below.gb_fields.Reading.{head_at}
 use Rattle.gb_states.specs.Reading.{procedures_at, nodes_at, to_certificate, certificate_at, read_certificate}
 use Rattle.gb_states.specs.Spelling as spelled
 use Rattle.gb_cert.specs.Places.{IsLeft, AreAt, ArePlaced, have_entries_at, ok_or, no_certificate, certificate_in, IsLaid}

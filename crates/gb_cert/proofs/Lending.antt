@@ -6,7 +6,7 @@ use Rattle.std.proofs.lemmas.Bool.Decides.{nat_tests}
 use Rattle.std.proofs.lemmas.List.Concat.{flat_map-cons}
 use Rattle.std.proofs.Math.Seq.{take-append_seam, drop-append_seam}
 use Rattle.gb_ops.specs.declared.machine.Region.{Region}
-use Rattle.gb_fields.specs.declared.fault.CertFault.{CertFault}
+use Rattle.gb_states.specs.Below.gb_fields.declared.fault.CertFault.{CertFault}
 use Rattle.gb_domain.specs.declared.types.Val.{Val}
 use Rattle.gb_domain.specs.declared.types.Core.{Core}
 use Rattle.gb_domain.specs.declared.types.Cell.{Cell}
@@ -14,9 +14,9 @@ use Rattle.gb_states.specs.declared.role.Role.{Role}
 use Rattle.gb_states.specs.declared.role.Role.TheVariants as role
 use Rattle.gb_domain.specs.Types.{AbsState, ProcedureParts, Node, state_of}
 use Rattle.gb_domain.specs.Certificate.{Certificate}
-use Rattle.gb_fields.specs.declared.fault.CertFault.TheVariants as fault
-use Rattle.gb_fields.specs.Format.{Read, go_on, both, byte, optional}
-use Rattle.gb_fields.specs.Limits.{node_limit, unit}
+use Rattle.gb_states.specs.Below.gb_fields.declared.fault.CertFault.TheVariants as fault
+use Rattle.gb_states.specs.Below.gb_fields.Format.{Read, go_on, both, byte, optional}
+use Rattle.gb_states.specs.Below.gb_fields.Limits.{node_limit, unit}
 use Rattle.gb_domain.specs.Rules.{IsChain}
 use Rattle.gb_states.specs.Rules.{IsState, IsProcedure, IsNode, IsCertificate, is_version, is_whole, is_after, is_from, key, role_of}
 use Rattle.gb_rows.specs.Rows.{is_before, AreInOrder}
@@ -25,8 +25,8 @@ use Rattle.gb_domain.specs.declared.rules.Rules.TheVariants.{Simple, Extended}
 use Rattle.gb_domain.specs.declared.relations.Relations.{Relations}
 use Rattle.gb_domain.specs.Limits.{rules_of, item_room, cell_room}
 use Rattle.gb_domain.specs.RelationRules.{compared}
-use Rattle.gb_fields.specs.Rules.{usual_base}
-use Rattle.gb_fields.specs.Reading.{word, base_at, need_at, node_number, may_return, returns_at, yes_no}
+use Rattle.gb_states.specs.Below.gb_fields.Rules.{usual_base}
+use Rattle.gb_states.specs.Below.gb_fields.Reading.{word, base_at, need_at, node_number, may_return, returns_at, yes_no}
 use Rattle.gb_states.specs.Reading.{state_at, ranges_at, exit_at, Body, needed_at, body_at, to_procedure}
 use Rattle.gb_states.specs.RelationReading.{relations_by}
 use Rattle.gb_states.specs.RelationSpelling as told

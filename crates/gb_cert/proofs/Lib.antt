@@ -8,3 +8,4 @@ pub mod Placing
 pub mod Refusing
 pub mod Skipping
 pub mod Written
+pub mod Below

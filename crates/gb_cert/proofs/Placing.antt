@@ -4,8 +4,8 @@ use Rattle.std.specs.Prelude.{slice_get}
 use Rattle.std.specs.List.{flat_map}
 use Rattle.std.proofs.lemmas.List.Concat.{flat_map-cons}
 use Rattle.std.proofs.Math.Seq.{drop-append_seam}
-use Rattle.gb_fields.specs.declared.fault.CertFault.{CertFault}
-use Rattle.gb_fields.specs.Format.{Read, go_on, mapped, several}
+use Rattle.gb_states.specs.Below.gb_fields.declared.fault.CertFault.{CertFault}
+use Rattle.gb_states.specs.Below.gb_fields.Format.{Read, go_on, mapped, several}
 use Rattle.gb_cert.specs.Places.{IsLeft, AreAt, StandsAt, ArePlaced}
 use Rattle.gb_cert.specs.Skipping.{skipped}
 use Rattle.gb_states.proofs.Formats.{IsBytes, IsFormat, went_on, same_pair}

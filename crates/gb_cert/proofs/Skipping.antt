@@ -1,7 +1,7 @@
 -- Walking over fields is reading them, and forgetting their values.
 use Rattle.std.proofs.Common.{◌≡◌, ℕ, suc, ◌-◌, ◌+◌, ◌≤◌, ◌<◌, Bool, true, false, List, ◌∷◌, Option, Some, Result, Ok, Err, refl, sym, ◌∙◌, subst, arith}
 use Rattle.gb_ops.specs.declared.machine.Region.{Region}
-use Rattle.gb_fields.specs.declared.fault.CertFault.{CertFault}
+use Rattle.gb_states.specs.Below.gb_fields.declared.fault.CertFault.{CertFault}
 use Rattle.gb_domain.specs.declared.types.Val.{Val}
 use Rattle.gb_domain.specs.declared.types.Cell.{Cell}
 use Rattle.gb_domain.specs.declared.rules.Rules.{Rules}
@@ -10,11 +10,11 @@ use Rattle.gb_domain.specs.Limits.{rules_of}
 use Rattle.gb_states.specs.declared.role.Role.{Role}
 use Rattle.gb_states.specs.declared.role.Role.TheVariants as role
 use Rattle.gb_domain.specs.Types.{AbsState, Node}
-use Rattle.gb_fields.specs.Format.{Read, go_on, followed, both, mapped, optional, several}
+use Rattle.gb_states.specs.Below.gb_fields.Format.{Read, go_on, followed, both, mapped, optional, several}
 use Rattle.gb_cert.specs.Skipping.{skipped, past}
 use Rattle.gb_cert.proofs.Placing.{mapped_wrong}
 use Rattle.gb_states.specs.Rules.{role_of, key}
-use Rattle.gb_fields.specs.Reading.{word_between, returns_at, entry_at, base_at, need_at, key_at}
+use Rattle.gb_states.specs.Below.gb_fields.Reading.{word_between, returns_at, entry_at, base_at, need_at, key_at}
 use Rattle.gb_states.specs.RelationReading.{relations_by}
 use Rattle.gb_states.proofs.Formats.{went_on, same_pair}
 use Rattle.gb_states.specs.Reading.{Tested, passed, core_at, items_at, cells_at, to_state, state_at, ranges_at, exit_at, needed_at, body_at, to_procedure, procedure_at, to_node, node_at}

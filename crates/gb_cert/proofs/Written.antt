@@ -4,8 +4,8 @@ use Rattle.std.proofs.lemmas.Bool.Decides.{nat_tests}
 use Rattle.std.specs.List.{flat_map, list_any}
 use Rattle.std.proofs.lemmas.List.{length-map}
 use Rattle.gb_ops.specs.declared.machine.Region.{Region}
-use Rattle.gb_fields.specs.Limits.{node_limit, range_limit, range_room}
-use Rattle.gb_fields.specs.Rules.{usual_base}
+use Rattle.gb_states.specs.Below.gb_fields.Limits.{node_limit, range_limit, range_room}
+use Rattle.gb_states.specs.Below.gb_fields.Rules.{usual_base}
 use Rattle.gb_domain.specs.declared.rules.Rules.{Rules}
 use Rattle.gb_domain.specs.declared.rules.Rules.TheVariants.{Simple, Extended}
 use Rattle.gb_states.specs.declared.role.Role.{Role}

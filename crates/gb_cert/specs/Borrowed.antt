@@ -1,12 +1,12 @@
 -- What contracts see of bytes that a certificate lends.
 use Rattle.std.specs.Prelude.{◌≡◌, ℕ, ◌*◌, ◌<◌, Bool, true, false, List, [], ◌++◌, Option, None, Result, Ok, Err}
 use Rattle.gb_ops.specs.declared.machine.Region.{Region}
-use Rattle.gb_fields.specs.declared.fault.CertFault.{CertFault}
+use Rattle.gb_states.specs.Below.gb_fields.declared.fault.CertFault.{CertFault}
 use Rattle.gb_domain.specs.declared.types.Core.{Core}
 use Rattle.gb_domain.specs.declared.rules.Rules.{Rules}
 use Rattle.gb_states.specs.declared.role.Role.{Role}
 use Rattle.gb_domain.specs.Types.{AbsState, ProcedureParts, any_val, state_of}
-use Rattle.gb_fields.specs.Limits.{unit}
+use Rattle.gb_states.specs.Below.gb_fields.Limits.{unit}
 use Rattle.gb_states.specs.Rules.{IsState}
 use Rattle.gb_states.specs.Reading.{state_at, exit_at, Body, body_at, to_procedure}
 use Rattle.gb_states.specs.Spelling as spelled

@@ -3,3 +3,4 @@ pub mod Places
 pub mod Skipping
 pub mod Written
 pub mod Below
+pub mod Opened

@@ -1,7 +1,7 @@
 -- Reading that keeps no value.
 use Rattle.std.specs.Prelude.{ℕ, List, Result, Ok, Err}
-use Rattle.gb_fields.specs.declared.fault.CertFault.{CertFault}
-use Rattle.gb_fields.specs.Format.{Read, go_on}
+use Rattle.gb_states.specs.Below.gb_fields.declared.fault.CertFault.{CertFault}
+use Rattle.gb_states.specs.Below.gb_fields.Format.{Read, go_on}
 
 -- the bytes behind a field
 abbrev pub skipped : {X : Type 0} → Read X → List ℕ → Result (List ℕ) CertFault

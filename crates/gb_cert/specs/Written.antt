@@ -6,8 +6,8 @@ use Rattle.gb_ops.specs.declared.machine.Region.{Region}
 use Rattle.gb_domain.specs.declared.rules.Rules.{Rules}
 use Rattle.gb_domain.specs.declared.rules.Rules.TheVariants.{Simple, Extended}
 use Rattle.gb_domain.specs.Limits.{rules_of, item_room, cell_room}
-use Rattle.gb_fields.specs.Limits.{procedure_limit, node_limit, range_limit, unit}
-use Rattle.gb_fields.specs.Rules.{usual_base}
+use Rattle.gb_states.specs.Below.gb_fields.Limits.{procedure_limit, node_limit, range_limit, unit}
+use Rattle.gb_states.specs.Below.gb_fields.Rules.{usual_base}
 use Rattle.gb_states.specs.Rules.{is_whole, may_be_known, is_state_traced}
 use Rattle.gb_domain.specs.Types.{AbsState, ProcedureParts, Node}
 use Rattle.gb_domain.specs.Certificate.{Certificate}

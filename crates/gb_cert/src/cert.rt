@@ -11,9 +11,8 @@ use crate::node::NodeRef;
 use crate::procedure::ProcedureRef;
 use crate::walk::skip_body;
 use gb_domain::types::Rules;
-use gb_fields::numbers::{from_place, node_number};
-use gb_fields::parts::front_at;
 use gb_ops::machine::Region;
+use gb_states::{from_place, front_at, node_number};
 use std::alloc::{AllocError, Global};
 use std::marker::Model;
 

@@ -23,10 +23,14 @@ mod writer;
 
 pub use cert::{Cert, encode};
 pub use find::{First, Search};
-pub use gb_fields::CertFault;
 pub use gb_rows::Found;
+pub use gb_states::CertFault;
 pub use node::NodeRef;
 pub use parse::one_spelling;
 pub use procedure::ProcedureRef;
 pub use state::StateRef;
 pub use writer::{NodePlan, ProcedurePlan, Version, WriteFault, write_certificate};
+
+// What lies below, for the crates above.
+pub use gb_states::fields::{ctl_in, ime_in, origin_of};
+pub use gb_states::relations::test_alone;

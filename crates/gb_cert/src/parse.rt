@@ -3,8 +3,8 @@
 ghost use Rattle.std.specs.Prelude.{◌≡◌, ◌≤◌, ◌<◌, ℕ, List, IfOk, Ok};
 ghost use Rattle.gb_domain.specs.Certificate.{Certificate};
 ghost use Rattle.gb_domain.specs.Limits.{rules_of};
-ghost use Rattle.gb_fields.specs.Format.{GivesUnlessMemory};
-ghost use Rattle.gb_fields.specs.Limits.{node_limit};
+ghost use Rattle.gb_states.specs.Below.gb_fields.Format.{GivesUnlessMemory};
+ghost use Rattle.gb_states.specs.Below.gb_fields.Limits.{node_limit};
 ghost use Rattle.gb_cert.specs.Places.{IsLeft, ArePlaced, FindsUnlessMemory, has_entry_at, have_entries_at};
 ghost use Rattle.gb_states.specs.Reading.{procedures_at, nodes_at, read_certificate};
 ghost use Rattle.gb_states.specs.Spelling as spelled;
@@ -13,9 +13,7 @@ ghost use Rattle.gb_states.specs.Spelling.{Spells};
 use crate::cert::Cert;
 use crate::walk::{skip_node, skip_procedure};
 use gb_domain::types::Rules;
-use gb_fields::CertFault;
-use gb_fields::head::{Head, head_at};
-use gb_fields::numbers::{byte, from_place, node_number};
+use gb_states::{CertFault, Head, byte, from_place, head_at, node_number};
 use std::alloc::Global;
 
 /// The least bytes of a node.

@@ -2,18 +2,17 @@
 
 ghost use Rattle.std.specs.Prelude.{◌≡◌, ◌<◌, true, is_ok};
 ghost use Rattle.gb_cert.specs.Borrowed.{exit_in};
-ghost use Rattle.gb_fields.specs.Rules.{usual_base};
+ghost use Rattle.gb_states.specs.Below.gb_fields.Rules.{usual_base};
 ghost use Rattle.gb_states.specs.Reading.{exit_at};
 
 use crate::state::StateRef;
 use crate::walk::{skip_base, skip_ranges};
 use arrayvec::ArrayVec;
 use gb_domain::types::{Abs, Range, Rules};
-use gb_fields::CertFault;
-use gb_fields::parts::{base_at, need_at, returns_at};
 use gb_ops::machine::Region;
 use gb_states::role::Role;
 use gb_states::states::ranges_at;
+use gb_states::{CertFault, base_at, need_at, returns_at};
 use std::marker::Model;
 
 /// A procedure: where it begins, above which address its items end, how many bytes of stack it needs, what it may write,

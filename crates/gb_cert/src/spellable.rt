@@ -3,7 +3,7 @@
 ghost use Rattle.std.specs.Prelude.{◌≡◌, ◌||◌, ◌&&◌, true, false, not, nat_lt, OnOk, IfErr};
 ghost use Rattle.std.specs.List.{list_any, list_all};
 ghost use Rattle.gb_domain.specs.RelationRules.{is_a_alone, is_test_byte, is_known, are_unknown, is_test_alone};
-ghost use Rattle.gb_fields.specs.Rules.{usual_base, is_whole};
+ghost use Rattle.gb_states.specs.Below.gb_fields.Rules.{usual_base, is_whole};
 ghost use Rattle.gb_states.specs.Rules.{is_traced, are_traced, is_core_traced, is_cell_traced, is_state_traced, may_be_known};
 ghost use Rattle.gb_cert.specs.Written.{exit_of, is_odd, is_half, has_many_items, has_many_cells, is_related, has_return, is_unspellable, state_has, exit_has, returns_with, stands_with, has_half_need, says_base, say_base, rules_in, AreSpellable, IsWriteFault};
 
@@ -129,7 +129,7 @@ fn is_state_traced(rules: Rules, state: &Abs) -> bool
 // ---- states
 
 /// Whether so many bytes can't be counted.
-#[tactic(auto, unfolding(gb_fields::specs::Limits::unit))]
+#[tactic(auto, unfolding(crate::specs::Opened::unit))]
 fn is_odd(rules: Rules, bytes: usize) -> bool
     ensures { result ≡ is_odd rules bytes }
 {

@@ -160,7 +160,7 @@ fn put_core(core: &Core, tested: Option<u8>, out: &mut Vec<u8>) -> Result<(), Al
 }
 
 /// How many words, or in version 3 bytes, so many bytes are.
-#[tactic(auto, unfolding(gb_fields::specs::Limits::unit))]
+#[tactic(auto, unfolding(crate::specs::Opened::unit))]
 pub(crate) fn units(rules: Rules, bytes: u16) -> u16
     ensures exact { result ≡ units rules bytes }
     ensures few { result ≤ bytes }

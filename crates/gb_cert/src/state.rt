@@ -9,12 +9,12 @@ ghost use Rattle.gb_cert.specs.Borrowed.{item_width};
 
 use gb_domain::relations::Relations;
 use gb_domain::types::{Abs, Core, Rules};
-use gb_fields::numbers::{counted, from_place};
 use gb_ops::machine::Region;
 use gb_states::fields::{are_none, core_in, put_core, test_in};
 use gb_states::listed::{append_cells, append_items};
 use gb_states::relations::relations_by;
 use gb_states::role::Role;
+use gb_states::{counted, from_place};
 use std::marker::Model;
 
 /// The bytes of a state before its items.
@@ -29,7 +29,7 @@ const CELL: usize = 5;
 /// The bytes of one of what items are counted in: of a word in versions 1 and 2, three for each of its bytes; of a byte in
 /// version 3.
 #[inline(always)]
-#[tactic(auto, unfolding(gb_fields::specs::Limits::unit))]
+#[tactic(auto, unfolding(crate::specs::Opened::unit))]
 fn item_width(rules: Rules) -> usize
     ensures exact { result ≡ item_width rules }
     ensures few { result ≤ 6 }

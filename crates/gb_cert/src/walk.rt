@@ -1,8 +1,8 @@
 //! Walking over the parts of a certificate, each checked, and none kept.
 
 ghost use Rattle.std.specs.Prelude.{◌≡◌, ◌≤◌};
-ghost use Rattle.gb_fields.specs.Format.{Gives, both, mapped, several};
-ghost use Rattle.gb_fields.specs.Reading.{base_at};
+ghost use Rattle.gb_states.specs.Below.gb_fields.Format.{Gives, both, mapped, several};
+ghost use Rattle.gb_states.specs.Below.gb_fields.Reading.{base_at};
 ghost use Rattle.gb_cert.specs.Skipping.{skipped};
 ghost use Rattle.gb_domain.specs.Rules.{after_cell};
 ghost use Rattle.gb_states.specs.Rules.{after_range, role_of, key};
@@ -10,15 +10,15 @@ ghost use Rattle.gb_states.specs.RelationReading.{relations_by};
 ghost use Rattle.gb_states.specs.Reading.{vals_of, items_at, cell_at, cells_at, state_at, range_at, ranges_at, exit_at, needed_at, body_at, procedure_at, node_at};
 
 use gb_domain::types::Rules;
-use gb_fields::CertFault;
-use gb_fields::limits::{cell_limit, item_bytes, range_room};
-use gb_fields::numbers::{count_within, word_between};
-use gb_fields::parts::{base_at, entry_at, key_at, need_at, returns_at};
 use gb_ops::machine::Region;
 use gb_states::fields::{pass_core, val_at};
 use gb_states::relations::relations_by;
 use gb_states::role::Role;
 use gb_states::states::{cell_at, item_count_at, range_at};
+use gb_states::{
+    CertFault, base_at, cell_limit, count_within, entry_at, item_bytes, key_at, need_at,
+    range_room, returns_at, word_between,
+};
 
 /// Passes over so many bytes of the stack.
 #[inline(always)]
@@ -140,7 +140,7 @@ pub fn skip_exit(
 }
 
 /// Passes over a base, where there is one.
-#[tactic(auto, unfolding(gb_fields::specs::Reading::base_at))]
+#[tactic(auto, unfolding(crate::specs::Opened::base_at))]
 pub fn skip_base(
     rules: Rules,
     is_main: bool,

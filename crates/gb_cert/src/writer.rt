@@ -2,7 +2,7 @@
 
 ghost use Rattle.std.specs.Prelude.{◌≡◌, ◌≤◌, ◌<◌, ◌++◌, true, false, length, map, OnOk, IfOk, IfErr};
 ghost use Rattle.std.specs.List.{flat_map, list_any};
-ghost use Rattle.gb_fields.specs.Limits.{node_limit};
+ghost use Rattle.gb_states.specs.Below.gb_fields.Limits.{node_limit};
 ghost use Rattle.gb_states.specs.Rules.{IsCertificate};
 ghost use Rattle.gb_states.specs.Spelling as spelled;
 ghost use Rattle.gb_states.specs.Spelling.{Spells};
@@ -12,9 +12,8 @@ ghost use Rattle.gb_cert.specs.Written.{number_of, rules_in, exit_of, procedure_
 use crate::spellable::check;
 use crate::spelled::{put, put_state, units, word};
 use gb_domain::types::{Abs, Range, Rules};
-use gb_fields::limits;
-use gb_fields::limits::{NEED_LIMIT, PROCEDURE_LIMIT, RANGE_LIMIT};
 use gb_ops::machine::Region;
+use gb_states::{NEED_LIMIT, PROCEDURE_LIMIT, RANGE_LIMIT, limits};
 use std::alloc::{AllocError, AllocFailed, Global};
 
 /// The version of a certificate's format.
@@ -123,7 +122,7 @@ impl<T: Drop> From<AllocFailed<T>> for WriteFault {
 }
 
 /// Adds the number of a node, or of all nodes: two bytes in version 1, else four.
-#[tactic(auto, unfolding(gb_states::specs::Spelling::node_number, gb_fields::specs::Limits::node_limit))]
+#[tactic(auto, unfolding(gb_states::specs::Spelling::node_number, crate::specs::Opened::node_limit))]
 fn put_node_number(version: Version, number: u32, out: &mut Vec<u8>) -> Result<(), AllocError>
     requires { number ≤ node_limit (number_of version) }
     ensures { OnOk result (out.new.items ≡ out.old.items ++ spelled.node_number (number_of version) number) }
@@ -294,7 +293,7 @@ fn put_procedures(
 }
 
 /// Adds a certificate, where its procedures keep their limits.
-#[tactic(auto, using(crate::proofs::Written::certificate_written), unfolding(gb_fields::specs::Limits::node_limit))]
+#[tactic(auto, using(crate::proofs::Written::certificate_written), unfolding(crate::specs::Opened::node_limit))]
 fn put_certificate(
     version: Version,
     region: Region,

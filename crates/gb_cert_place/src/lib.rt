@@ -13,6 +13,10 @@ pub mod place;
 mod text;
 mod walk;
 
+pub use block::{Block, Part, Stop};
+pub use field::{Field, Owner};
+pub use place::{FaultPlace, Sought};
+
 // What lies below, for the crates above.
 pub use gb_cert::Cert;
 pub use gb_fields::CertFault;

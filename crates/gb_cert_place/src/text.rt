@@ -97,7 +97,7 @@ impl fmt::Display for FaultPlace {
         let offset = self.offset;
         let part = self.part;
         let field = self.field;
-        let fault = self.fault;
+        let fault = self.fault.meaning();
         write!(
             f,
             "C{number} at byte {offset} ({offset:#x}), {part}, {field}: {fault}"

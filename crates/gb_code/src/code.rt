@@ -107,7 +107,7 @@ pub fn known_bytes_from(
     Some([opcode, second, third])
 }
 
-/// The same, with the opcode looked up.
+/// The bytes of the instruction at an address, as far as they are known: its opcode is looked up first.
 pub fn known_bytes(rom: &Rom<'_>, state: &Abs, address: u16) -> Option<[u8; 3]>
     ensures { result ≡ known_bytes rom.now state.now address }
 {

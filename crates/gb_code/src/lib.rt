@@ -8,7 +8,9 @@
 pub mod code;
 
 // What lies below, for the crates above.
-pub use gb_abs_memory::Rom;
 pub use gb_abs_memory::load::holds_bytes;
 pub use gb_abs_memory::refusals::{is_limited, meets_closed_ram};
 pub use gb_abs_memory::shown::known_bank;
+pub use gb_abs_memory::{
+    Halves, Rom, covers_controller, covers_core, covers_ime, covers_may, covers_origin, covers_val,
+};

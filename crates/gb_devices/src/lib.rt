@@ -54,6 +54,18 @@ fn quiet_of(timer: &Timer, ppu: &Ppu) -> u8
 }
 
 impl Devices {
+    /// Devices like these, for a second console.
+    pub fn copied(&self) -> Devices
+        ensures { result ≡ self.now }
+    {
+        Devices {
+            timer: self.timer,
+            ppu: self.ppu,
+            owed: self.owed,
+            quiet: self.quiet,
+        }
+    }
+
     /// A timer and a picture.
     #[tactic(auto, using(crate::proofs::Stillness::after_none))]
     pub fn of(timer: Timer, ppu: Ppu) -> Devices
@@ -108,13 +120,15 @@ impl Devices {
     }
 
     /// Lets timer and picture see what is owed, where the picture changes in it more than its place: whoever asks for it
-    /// again and again then goes through a change once.
-    pub fn settle(&mut self)
+    /// again and again then goes through a change once. Answers whether they saw it, for whoever counts that.
+    pub fn settle(&mut self) -> bool
         ensures { self.new ≡ self.old }
     {
-        if u16::from(self.owed) > self.ppu.quiet() {
+        let is_due = u16::from(self.owed) > self.ppu.quiet();
+        if is_due {
             *self = Devices::of(self.timer(), self.ppu());
         }
+        is_due
     }
 
     /// Lets M-cycles pass in which nothing is requested and no line is drawn: so many at most. Answers how many.

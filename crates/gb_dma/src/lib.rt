@@ -11,7 +11,7 @@ use std::marker::Model;
 const STARTED: u8 = 161;
 
 /// The M-cycles that an OAM transfer still limits the processor (Pan Docs: OAM DMA Transfer; the count itself is this project's own).
-#[derive(Drop)]
+#[derive(Clone, Copy)]
 pub struct Transfer {
     left: u8,
 }
@@ -23,6 +23,8 @@ impl Model for Transfer {
     ghost Value = { ℕ };
 
     ghost view = { λ t. t.left };
+
+    ghost inverse = { λ n. record { left = n } };
 
     ghost invariant = { λ t. t.left ≤ started };
 }

@@ -11,3 +11,8 @@ pub mod relations;
 mod rules;
 mod setting;
 pub mod types;
+
+pub use pairs::{Bounds, Link, Other, PairFacts, Pairs, WordPair};
+pub use places::{OneByte, Place, Test};
+pub use relations::Relations;
+pub use types::{Cell, Core, Ctl, Flg, Halves, ImeSet, May, Origin, Range, Val};

@@ -95,33 +95,33 @@ pub fn read_of(op: Op, processor: Processor) -> Read
 
 /// What an instruction leaves to be done, as it has changed the processor.
 #[derive(Clone, Copy, PartialEq, Eq)]
-pub struct Outcome {
+pub struct Performed {
     pub write: Write,
     /// Whether its condition is met; an instruction without one is taken.
     pub is_taken: bool,
 }
 
 /// Nothing is written.
-fn quiet() -> Outcome
+fn quiet() -> Performed
     ensures { result ≡ record { write = write.Nothing; is_taken = true } }
 {
     writes(Write::Nothing)
 }
 
-fn writes(write: Write) -> Outcome
+fn writes(write: Write) -> Performed
     ensures { result ≡ record { write = write; is_taken = true } }
 {
-    Outcome {
+    Performed {
         write,
         is_taken: true,
     }
 }
 
 /// The condition is not met.
-fn not_taken() -> Outcome
+fn not_taken() -> Performed
     ensures { result ≡ record { write = write.Nothing; is_taken = false } }
 {
-    Outcome {
+    Performed {
         write: Write::Nothing,
         is_taken: false,
     }
@@ -153,7 +153,7 @@ fn operand_value(processor: Processor, operand: Operand, low: u8) -> u8
 }
 
 #[tactic(auto, unfolding(gb_ops::specs::Effects::store_operand))]
-fn store_operand(processor: &mut Processor, operand: Operand, value: u8) -> Outcome
+fn store_operand(processor: &mut Processor, operand: Operand, value: u8) -> Performed
     ensures { effect processor.new result ≡ Effects.store_operand processor.old operand value }
 {
     match operand {
@@ -167,7 +167,7 @@ fn store_operand(processor: &mut Processor, operand: Operand, value: u8) -> Outc
 
 /// The operand and the flags become what was computed.
 #[tactic(auto, unfolding(gb_ops::specs::Effects::update_operand))]
-fn update_operand(processor: &mut Processor, operand: Operand, computed: Computed) -> Outcome
+fn update_operand(processor: &mut Processor, operand: Operand, computed: Computed) -> Performed
     ensures { effect processor.new result ≡ Effects.update_operand processor.old operand computed }
 {
     processor.flags = computed.flags;
@@ -175,7 +175,7 @@ fn update_operand(processor: &mut Processor, operand: Operand, computed: Compute
 }
 
 #[tactic(auto, unfolding(gb_ops::specs::Effects::update_a))]
-fn update_a(processor: &mut Processor, computed: Computed) -> Outcome
+fn update_a(processor: &mut Processor, computed: Computed) -> Performed
     ensures { effect processor.new result ≡ Effects.update_a processor.old computed }
 {
     processor.flags = computed.flags;
@@ -192,7 +192,7 @@ fn without_zero(computed: Computed) -> Computed
 }
 
 #[tactic(auto, unfolding(gb_ops::specs::Effects::jump))]
-fn jump(processor: &mut Processor, to: u16) -> Outcome
+fn jump(processor: &mut Processor, to: u16) -> Performed
     ensures { effect processor.new result ≡ Effects.jump processor.old to }
 {
     processor.pc = to;
@@ -201,7 +201,7 @@ fn jump(processor: &mut Processor, to: u16) -> Outcome
 
 /// The word goes on the stack.
 #[tactic(auto, unfolding(gb_ops::specs::Effects::push))]
-fn push(processor: &mut Processor, word: u16) -> Outcome
+fn push(processor: &mut Processor, word: u16) -> Performed
     ensures { effect processor.new result ≡ Effects.push processor.old word }
 {
     let sp = processor.sp;
@@ -211,7 +211,7 @@ fn push(processor: &mut Processor, word: u16) -> Outcome
 
 /// The address of the next instruction goes on the stack.
 #[tactic(auto, unfolding(gb_ops::specs::Effects::call))]
-fn call(processor: &mut Processor, to: u16) -> Outcome
+fn call(processor: &mut Processor, to: u16) -> Performed
     ensures { effect processor.new result ≡ Effects.call processor.old to }
 {
     let sp = processor.sp;
@@ -222,7 +222,7 @@ fn call(processor: &mut Processor, to: u16) -> Outcome
 }
 
 #[tactic(auto, unfolding(gb_ops::specs::Effects::return_to))]
-fn return_to(processor: &mut Processor, low: u8, high: u8) -> Outcome
+fn return_to(processor: &mut Processor, low: u8, high: u8) -> Performed
     ensures { effect processor.new result ≡ Effects.return_to processor.old low high }
 {
     processor.sp = processor.sp.wrapping_add(2);
@@ -264,7 +264,7 @@ fn carry_flags(flags: Flags, carry: bool) -> Flags
 }
 
 /// ADD HL.
-fn add_to_hl(processor: &mut Processor, value: u16) -> Outcome
+fn add_to_hl(processor: &mut Processor, value: u16) -> Performed
     ensures { effect processor.new result ≡ Effects.quiet (Effects.with_flags (with_pair processor.old pair.Hl ((Effects.hl processor.old + value) % 65536)) (word_sum_flags (Effects.hl processor.old) value processor.old.flags)) }
 {
     let before = hl(*processor);
@@ -277,7 +277,7 @@ fn add_to_hl(processor: &mut Processor, value: u16) -> Outcome
 /// What an instruction does, once its bytes are fetched and its reads gave low and high.
 #[tactic(auto, unfolding(gb_ops::specs::Effects::effect_of, gb_ops::specs::Effects::only_if))]
 #[inline(always)]
-pub fn perform(op: Op, processor: &mut Processor, low: u8, high: u8) -> Outcome
+pub fn perform(op: Op, processor: &mut Processor, low: u8, high: u8) -> Performed
     ensures { effect processor.new result ≡ Effects.effect_of op processor.old low high }
 {
     let p = processor;

@@ -10,3 +10,5 @@ pub mod arithmetic;
 pub mod effect;
 pub mod flags;
 pub mod pairs;
+
+pub use effect::Performed;

@@ -8,35 +8,27 @@ use std::alloc::{AllocError, AllocFailed};
 use thiserror::Error;
 
 /// What is wrong with the bytes of a certificate: the first fault, from left to right, and of one
-/// field the one with the lowest number.
+/// field the one with the lowest number. It prints as C1 to C9, as in the program's line.
 #[derive(Clone, Copy, Debug, PartialEq, Eq, Error)]
 pub enum CertFault {
-    /// C1.
-    #[error("the bytes end within a field")]
+    #[error("C1")]
     CutShort,
-    /// C2.
-    #[error("the first four bytes are neither GBBC nor GBBX")]
+    #[error("C2")]
     Magic,
-    /// C3.
-    #[error("the letters are not those of this version")]
+    #[error("C3")]
     Version,
-    /// C4.
-    #[error("a count is over its limit")]
+    #[error("C4")]
     Count,
-    /// C5.
-    #[error("a field is out of its range")]
+    #[error("C5")]
     Field,
-    /// C6.
-    #[error("nodes, cells or ranges are out of order")]
+    #[error("C6")]
     Order,
-    /// C7.
-    #[error("the stack region is none, or too small for main")]
+    #[error("C7")]
     Region,
-    /// C8.
-    #[error("bytes are left over")]
+    #[error("C8")]
     LeftOver,
-    /// C9: nothing is said of the bytes.
-    #[error("memory ran out")]
+    /// Nothing is said of the bytes.
+    #[error("C9")]
     Memory,
 }
 
@@ -55,6 +47,21 @@ impl CertFault {
             CertFault::Region => 7,
             CertFault::LeftOver => 8,
             CertFault::Memory => 9,
+        }
+    }
+
+    /// What is wrong, as a clause without a full stop.
+    pub fn meaning(self) -> &'static str {
+        match self {
+            CertFault::CutShort => "the bytes end within a field",
+            CertFault::Magic => "the first four bytes are neither GBBC nor GBBX",
+            CertFault::Version => "the letters are not those of this version",
+            CertFault::Count => "a count is over its limit",
+            CertFault::Field => "a field is out of its range",
+            CertFault::Order => "nodes, cells or ranges are out of order",
+            CertFault::Region => "the stack region is not valid, or too small for main",
+            CertFault::LeftOver => "bytes are left over",
+            CertFault::Memory => "memory ran out",
         }
     }
 }

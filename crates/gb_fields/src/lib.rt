@@ -12,3 +12,4 @@ pub mod numbers;
 pub mod parts;
 
 pub use fault::CertFault;
+pub use head::Head;

@@ -22,7 +22,7 @@ pub fn is_input(name: &str) -> bool
     name == "-"
 }
 
-/// How a person is told of a file with this name.
+/// A file's name in messages.
 pub fn shown_name<'a>(name: &'a str) -> &'a str {
     if is_input(name) {
         "standard input"
@@ -38,8 +38,10 @@ fn tell<R: Eprint>(rt: &R, program: &str, name: &str, error: &io::Error) {
         io::ErrorKind::PermissionDenied => eprintln!(rt;
             "{program}: {name}: no permission to read it"
         ),
-        io::ErrorKind::IsADirectory => eprintln!(rt; "{program}: {name}: it is a folder"),
-        io::ErrorKind::OutOfMemory => eprintln!(rt; "{program}: {name}: memory ran out"),
+        io::ErrorKind::IsADirectory => eprintln!(rt; "{program}: {name}: is a folder"),
+        io::ErrorKind::OutOfMemory => eprintln!(rt;
+            "{program}: {name}: not enough memory to read it"
+        ),
         _ => eprintln!(rt; "{program}: {name}: {error}"),
     };
 }
@@ -60,8 +62,7 @@ fn read_named<R: Files + AllocGlobal>(rt: &R, name: &str, limit: u64) -> io::Res
 ///
 /// # Errors
 ///
-/// Trouble where memory ran out or the file can't be opened or read; standard error then names the program and the file and
-/// says why.
+/// Trouble where memory ran out or the file can't be opened or read; a line on standard error then names the file and says why.
 pub fn read_file<R: Eprint + Input + Files + AllocGlobal>(
     rt: &R,
     program: &str,
@@ -82,7 +83,7 @@ pub fn read_file<R: Eprint + Input + Files + AllocGlobal>(
     }
 }
 
-/// Reads a cartridge's file, or what of it can tell that it is none.
+/// Reads a cartridge's file, or as much of it as shows that it isn't one.
 ///
 /// # Errors
 ///
@@ -95,7 +96,7 @@ pub fn read_cartridge<R: Eprint + Input + Files + AllocGlobal>(
     read_file(rt, program, name, CARTRIDGE_LIMIT)
 }
 
-/// Reads a certificate's file, or what of it can tell that it is none.
+/// Reads a certificate's file, or as much of it as shows that it isn't one.
 ///
 /// # Errors
 ///

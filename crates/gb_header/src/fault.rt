@@ -6,22 +6,22 @@ ghost use Rattle.gb_header.specs.Header;
 use thiserror::Error;
 
 /// What is wrong with a file that is no cartridge. Where several faults meet, the first in this
-/// order counts.
+/// order counts. It prints as H1 to H7, as in the program's line.
 #[derive(Clone, Copy, Debug, PartialEq, Eq, Error)]
 pub enum HeaderFault {
-    #[error("the file is shorter than the smallest cartridge")]
+    #[error("H1")]
     TooShort,
-    #[error("the cartridge's type is not supported")]
+    #[error("H2")]
     Type,
-    #[error("the ROM size is unknown")]
+    #[error("H3")]
     RomSize,
-    #[error("the file's length is not the ROM size")]
+    #[error("H4")]
     Length,
-    #[error("the RAM size is unknown")]
+    #[error("H5")]
     RamSize,
-    #[error("the ROM or the RAM is too large for the cartridge's type")]
+    #[error("H6")]
     TooLarge,
-    #[error("the header's checksum is wrong")]
+    #[error("H7")]
     Checksum,
 }
 
@@ -38,6 +38,19 @@ impl HeaderFault {
             HeaderFault::RamSize => 5,
             HeaderFault::TooLarge => 6,
             HeaderFault::Checksum => 7,
+        }
+    }
+
+    /// What is wrong, as a clause without a full stop.
+    pub fn meaning(self) -> &'static str {
+        match self {
+            HeaderFault::TooShort => "the file is shorter than the smallest cartridge, 32 KiB",
+            HeaderFault::Type => "the cartridge type (0147) is not supported",
+            HeaderFault::RomSize => "the ROM size (0148) is unknown",
+            HeaderFault::Length => "the file's length is not the ROM size (0148)",
+            HeaderFault::RamSize => "the RAM size (0149) is unknown",
+            HeaderFault::TooLarge => "the ROM or the RAM is too large for the cartridge type",
+            HeaderFault::Checksum => "the header's checksum (014D) is wrong",
         }
     }
 }

@@ -144,7 +144,7 @@ fn with_field(register: ClockRegister, value: u8, time: Time) -> Time
 
 /// The clock of a cartridge: it runs by the seconds that are handed in, and what is read is what was
 /// latched last.
-#[derive(Drop)]
+#[derive(Clone, Copy)]
 pub struct Clock {
     running: Time,
     latched: Time,
@@ -158,6 +158,8 @@ impl Model for Clock {
     ghost Value = { ClockState };
 
     ghost view = { λ s. record { running = s.running; latched = s.latched; is_armed = s.is_armed } };
+
+    ghost inverse = { λ s. record { running = s.running; latched = s.latched; is_armed = s.is_armed } };
 
     ghost invariant = { λ s. IsTime s.running × IsTime s.latched };
 }

@@ -13,7 +13,7 @@ mod mbc1;
 mod mbc3;
 mod mbc5;
 
-pub use clock::{Clock, ClockRegister};
+pub use clock::{Clock, ClockRegister, Time};
 pub use controller::Controller;
 pub use flat::Flat;
 pub use mapper::Mapper;

@@ -4,8 +4,8 @@ use Rattle.std.specs.Prelude.{ℕ, ◌+◌, ◌-◌, ◌*◌, ◌/◌, ◌%◌, 
 use Rattle.gb_ops.specs.declared.machine.Banks.{Banks}
 use Rattle.gb_ops.specs.declared.machine.Mapped.{Mapped}
 use Rattle.gb_ops.specs.declared.machine.Mapped.TheVariants as mapped
-use Rattle.gb_ops.specs.declared.machine.Place.{Place}
-use Rattle.gb_ops.specs.declared.machine.Place.TheVariants as place
+use Rattle.gb_ops.specs.declared.machine.ReadSource.{ReadSource}
+use Rattle.gb_ops.specs.declared.machine.ReadSource.TheVariants as place
 use Rattle.gb_ops.specs.declared.machine.Write.{Write}
 use Rattle.gb_ops.specs.declared.machine.Write.TheVariants as write
 use Rattle.gb_ops.specs.Cartridge.{shown_bank, banks_after}
@@ -55,7 +55,7 @@ is_high _ = false
 unfoldable pub is_closed : Storage → ℕ → Bool
 is_closed s address = not (s.count == 0) && not (is_high (mapped_at address))
 
-abbrev pub place_by : Mapped → View → ℕ → Place
+abbrev pub place_by : Mapped → View → ℕ → ReadSource
 place_by mapped.Rom m address = place.Rom (shown_bank m.rom m.storage.banks address)
 place_by (mapped.WorkRam i) m address = place.Plain
 place_by (mapped.HighRam i) m address = place.Plain
@@ -63,10 +63,10 @@ place_by mapped.InterruptEnable m address = place.Plain
 place_by _ m address = place.Free
 
 -- what answers a read
-unfoldable pub place_of : View → ℕ → Place
+unfoldable pub place_of : View → ℕ → ReadSource
 place_of m address = if is_closed m.storage address then place.Free else place_by (mapped_at address) m address
 
-abbrev pub is_free_place : Place → Bool
+abbrev pub is_free_place : ReadSource → Bool
 is_free_place (place.Rom bank) = false
 is_free_place place.Plain = false
 is_free_place place.Free = true

@@ -10,3 +10,10 @@ pub mod machine;
 pub mod map;
 pub mod op;
 pub mod registers;
+
+pub use machine::{
+    Banks, CodePlace, Computed, Effect, Event, Faults, Kind, Loaded, Mapped, Read, ReadSource,
+    Region, Write,
+};
+pub use op::{AluOp, Condition, Indirect, Op, Operand, Pair, Register, Row, Shift, StackPair};
+pub use registers::{Flags, Ime, Processor, Registers};

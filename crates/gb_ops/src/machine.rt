@@ -46,7 +46,7 @@ pub struct Effect {
 }
 
 /// One atomic action of the machine, at an instruction boundary.
-#[derive(Clone, Copy, PartialEq, Eq)]
+#[derive(Clone, Copy, Debug, PartialEq, Eq)]
 pub enum Event {
     /// One instruction, with the bytes that free reads give: of its own bytes, and of its data.
     Run { fetch: [u8; 3], reads: [u8; 2] },
@@ -78,7 +78,7 @@ pub enum Mapped {
 
 /// What answers a read at an address.
 #[derive(Clone, Copy, PartialEq, Eq)]
-pub enum Place {
+pub enum ReadSource {
     /// A ROM bank.
     Rom(u16),
     /// Plain storage: what is read is what was written.

@@ -174,7 +174,7 @@ pub enum Op {
 }
 
 /// A row of the opcode table: an instruction, its length in bytes and its M-cycles.
-#[derive(Clone, Copy)]
+#[derive(Clone, Copy, PartialEq, Eq)]
 pub struct Row {
     pub op: Op,
     pub length: u8,

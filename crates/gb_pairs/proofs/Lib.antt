@@ -10,3 +10,4 @@ pub mod RegisterLaws
 pub mod StepLaws
 pub mod SumLaws
 pub mod WrittenLaws
+pub mod Below

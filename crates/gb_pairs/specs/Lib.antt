@@ -6,3 +6,4 @@ pub mod Written
 pub mod Moved
 pub mod Covering
 pub mod Sound
+pub mod Below

@@ -13,3 +13,9 @@ mod plain;
 pub mod reduced;
 pub mod values;
 pub mod written;
+
+pub use moved::HlSum;
+pub use values::Values;
+
+// What lies below, for the crates above.
+pub use gb_vals::vals::is_single;

@@ -20,7 +20,7 @@ use Rattle.gb_vals.specs.Meaning.{In}
 use Rattle.gb_vals.specs.Tests.{meet, without, narrowed_by}
 use Rattle.gb_vals.proofs.MeaningLaws.{In-any}
 use Rattle.gb_vals.proofs.BranchLaws.{IsHeld, IsHeld-narrowed_by}
-use Rattle.gb_places.specs.declared.sides.Contents.{Contents}
+use Rattle.gb_places.specs.declared.sides.PlaceContents.{PlaceContents}
 use Rattle.gb_places.specs.Meaning.{IsTested, HoldOneByte}
 use Rattle.gb_places.specs.Places.{has_address}
 use Rattle.gb_places.specs.Sides.{cut, cut_if, shared, has_bits, least_from, greatest_from, with_ends, with_bits, side_of, is_asked, given, with_byte, with_byte_if, narrowed_by_test, narrowed}
@@ -54,28 +54,28 @@ Within-place : (is : Bool) (w v : Val) → is ≡ true → Within w (cut_if is w
 Within-place true w v h = record { least = grind (arith, nat_tests); most = grind (arith, nat_tests) }
 Within-place false w v h = cc
 
-abbrev cut_memory : OneByte → Contents → Val
+abbrev cut_memory : OneByte → PlaceContents → Val
 cut_memory b c = cut_if (has_address b) c.memory any_val
 
-abbrev cut_l : OneByte → Contents → Val
+abbrev cut_l : OneByte → PlaceContents → Val
 cut_l b c = cut_if b.registers.l c.registers.l (cut_memory b c)
 
-abbrev cut_h : OneByte → Contents → Val
+abbrev cut_h : OneByte → PlaceContents → Val
 cut_h b c = cut_if b.registers.h c.registers.h (cut_l b c)
 
-abbrev cut_e : OneByte → Contents → Val
+abbrev cut_e : OneByte → PlaceContents → Val
 cut_e b c = cut_if b.registers.e c.registers.e (cut_h b c)
 
-abbrev cut_d : OneByte → Contents → Val
+abbrev cut_d : OneByte → PlaceContents → Val
 cut_d b c = cut_if b.registers.d c.registers.d (cut_e b c)
 
-abbrev cut_c : OneByte → Contents → Val
+abbrev cut_c : OneByte → PlaceContents → Val
 cut_c b c = cut_if b.registers.c c.registers.c (cut_d b c)
 
-abbrev cut_b : OneByte → Contents → Val
+abbrev cut_b : OneByte → PlaceContents → Val
 cut_b b c = cut_if b.registers.b c.registers.b (cut_c b c)
 
-shared-byte : (b : OneByte) (c : Contents) → (shared b c).hi < 256
+shared-byte : (b : OneByte) (c : PlaceContents) → (shared b c).hi < 256
 unfolding shared
 shared-byte b c =
     cut_if-byte b.registers.a c.registers.a (cut_b b c) (cut_if-byte b.registers.b c.registers.b (cut_c b c)
@@ -91,7 +91,7 @@ In-memory None v memory y m e is = cc
 In-memory (Some a) v memory y m e is = subst (λ z. In v z) (e a refl) (m a refl)
 
 In-shared :
-    (b : OneByte) (c : Contents) (x : Registers ℕ) (memory : ℕ → ℕ) (f : Flags)
+    (b : OneByte) (c : PlaceContents) (x : Registers ℕ) (memory : ℕ → ℕ) (f : Flags)
     → HoldContents b c x memory → (h : HoldOneByte b x memory f) → In (shared b c) h.byte
 unfolding shared
 In-shared b c x memory f m h =
@@ -109,7 +109,7 @@ In-shared b c x memory f m h =
     at r is = subst (λ y. In (get r c.registers) y) (h.registers r is) (m.0 r)
 
 -- the shared bounds lie within each place's
-Within-shared : (r : Register) (b : OneByte) (c : Contents) → get r b.registers ≡ true → Within (get r c.registers) (shared b c)
+Within-shared : (r : Register) (b : OneByte) (c : PlaceContents) → get r b.registers ≡ true → Within (get r c.registers) (shared b c)
 unfolding shared
 Within-shared A b c is = Within-place b.registers.a c.registers.a (cut_b b c) is
 Within-shared B b c is =
@@ -140,7 +140,7 @@ Within-shared L b c is =
     (Within-deeper b.registers.e c.registers.e (cut_h b c) c.registers.l
     (Within-deeper b.registers.h c.registers.h (cut_l b c) c.registers.l (Within-place b.registers.l c.registers.l (cut_memory b c) is))))))
 
-Within-shared_memory : (b : OneByte) (c : Contents) → has_address b ≡ true → Within c.memory (shared b c)
+Within-shared_memory : (b : OneByte) (c : PlaceContents) → has_address b ≡ true → Within c.memory (shared b c)
 unfolding shared
 Within-shared_memory b c is =
     Within-deeper b.registers.a c.registers.a (cut_b b c) c.memory
@@ -252,7 +252,7 @@ In-given true v w x n m = let k = n refl in record { least = k.least; most = k.m
 In-given false v w x n m = m
 
 with_byte-register :
-    (r : Register) (b : OneByte) (v : Val) (c : Contents)
+    (r : Register) (b : OneByte) (v : Val) (c : PlaceContents)
     → given (get r b.registers) v (get r c.registers) ≡ get r (with_byte b v c).registers
 unfolding with_byte
 with_byte-register A b v c = refl
@@ -264,7 +264,7 @@ with_byte-register H b v c = refl
 with_byte-register L b v c = refl
 
 HoldContents-with_byte :
-    (b : OneByte) (v : Val) (c : Contents) (x : Registers ℕ) (memory : ℕ → ℕ) (f : Flags)
+    (b : OneByte) (v : Val) (c : PlaceContents) (x : Registers ℕ) (memory : ℕ → ℕ) (f : Flags)
     → HoldContents b c x memory → (h : HoldOneByte b x memory f) → In v h.byte → HoldContents b (with_byte b v c) x memory
 unfolding with_byte
 HoldContents-with_byte b v c x memory f m h k = (
@@ -275,7 +275,7 @@ HoldContents-with_byte b v c x memory f m h k = (
 )
 
 HoldContentsIn-with_byte_if :
-    (b : OneByte) (o : Option Val) (c : Contents) (x : Registers ℕ) (memory : ℕ → ℕ) (f : Flags)
+    (b : OneByte) (o : Option Val) (c : PlaceContents) (x : Registers ℕ) (memory : ℕ → ℕ) (f : Flags)
     → HoldContents b c x memory → (h : HoldOneByte b x memory f) → IsHeld o h.byte → HoldContentsIn b (with_byte_if b o c) x memory
 unfolding IsHeld
 HoldContentsIn-with_byte_if b None c x memory f m h k = k
@@ -285,7 +285,7 @@ not_empty : (v : Val) (x : ℕ) → In v x → nat_lt v.hi v.lo ≡ false
 not_empty v x m = grind (arith, nat_tests)
 
 HoldContentsIn-narrowed_by_test :
-    (b : OneByte) (t : Option Test) (k : Condition) (c : Contents) (x : Registers ℕ) (memory : ℕ → ℕ) (f : Flags)
+    (b : OneByte) (t : Option Test) (k : Condition) (c : PlaceContents) (x : Registers ℕ) (memory : ℕ → ℕ) (f : Flags)
     → HoldContents b c x memory → (h : HoldOneByte b x memory f) → IsTested t h.byte f → is_met k f ≡ true
     → HoldContentsIn b (narrowed_by_test b t k c) x memory
 HoldContentsIn-narrowed_by_test b None k c x memory f m h says met = m
@@ -304,7 +304,7 @@ HoldContentsIn-narrowed_by_test b (Some t) k c x memory f m h says met =
         HoldContentsIn-with_byte_if b (side_of t k (shared b c)) c x memory f m h
         (IsHeld-side_of t k (shared b c) h.byte f (shared-byte b c) says met within)
 
-pub narrowed_sound : (b : OneByte) (k : Condition) (c : Contents) (o : Option Contents) → o ≡ narrowed b k c → IsSoundNarrowing b k c o
+pub narrowed_sound : (b : OneByte) (k : Condition) (c : PlaceContents) (o : Option PlaceContents) → o ≡ narrowed b k c → IsSoundNarrowing b k c o
 unfolding narrowed
 narrowed_sound b k c o e =
     subst (λ r. IsSoundNarrowing b k c r) (sym e)
@@ -323,7 +323,7 @@ given-other : (is : Bool) (v w : Val) → is ≡ false → given is v w ≡ w
 given-other true v w h = cc
 given-other false v w h = refl
 
-IsCut-same : (b : OneByte) (c : Contents) → IsCut b c c
+IsCut-same : (b : OneByte) (c : PlaceContents) → IsCut b c c
 IsCut-same b c =
     record {
       registers = λ r. IsCutVal-same (get r c.registers);
@@ -335,7 +335,7 @@ IsCut-same b c =
 Within-piece : (u v w : Val) → Within u v → IsPiece v w → Within u w
 Within-piece u v w h k = record { least = omega arith; most = omega arith }
 
-IsCut-with_byte : (b : OneByte) (v : Val) (c : Contents) → IsPiece (shared b c) v → IsCut b c (with_byte b v c)
+IsCut-with_byte : (b : OneByte) (v : Val) (c : PlaceContents) → IsPiece (shared b c) v → IsCut b c (with_byte b v c)
 unfolding with_byte
 IsCut-with_byte b v c h =
     record {
@@ -349,12 +349,12 @@ IsCut-with_byte b v c h =
       other_memory = λ is. given-other (has_address b) v c.memory (ap is_some is);
     }
 
-IsCut-with_byte_if : (b : OneByte) (o : Option Val) (c : Contents) → IsPieceIn (shared b c) o → IfSome (with_byte_if b o c) (IsCut b c)
+IsCut-with_byte_if : (b : OneByte) (o : Option Val) (c : PlaceContents) → IsPieceIn (shared b c) o → IfSome (with_byte_if b o c) (IsCut b c)
 IsCut-with_byte_if b None c h = tt
 IsCut-with_byte_if b (Some v) c h = IsCut-with_byte b v c h
 
 IsCut-narrowed_by_test :
-    (b : OneByte) (t : Option Test) (k : Condition) (c : Contents) → IfSome (narrowed_by_test b t k c) (IsCut b c)
+    (b : OneByte) (t : Option Test) (k : Condition) (c : PlaceContents) → IfSome (narrowed_by_test b t k c) (IsCut b c)
 IsCut-narrowed_by_test b None k c = IsCut-same b c
 IsCut-narrowed_by_test b (Some t) k c = choose (is_asked t k) (nat_lt (shared b c).hi (shared b c).lo) refl
   where
@@ -369,6 +369,6 @@ IsCut-narrowed_by_test b (Some t) k c = choose (is_asked t k) (nat_lt (shared b 
     choose true false e =
         IsCut-with_byte_if b (side_of t k (shared b c)) c (IsPieceIn-side_of t k (shared b c) (ordered (shared b c) e))
 
-pub narrowed_cuts : (b : OneByte) (k : Condition) (c : Contents) (o : Option Contents) → o ≡ narrowed b k c → IfSome o (IsCut b c)
+pub narrowed_cuts : (b : OneByte) (k : Condition) (c : PlaceContents) (o : Option PlaceContents) → o ≡ narrowed b k c → IfSome o (IsCut b c)
 unfolding narrowed
 narrowed_cuts b k c o e = subst (λ r. IfSome r (IsCut b c)) (sym e) (IsCut-narrowed_by_test b b.test k c)

@@ -9,7 +9,7 @@ use Rattle.gb_domain.specs.declared.places.OneByte.{OneByte}
 use Rattle.gb_vals.specs.Vals.{any_val}
 use Rattle.gb_vals.specs.Logic.{smaller, larger}
 use Rattle.gb_vals.specs.Tests.{narrowed_by}
-use Rattle.gb_places.specs.declared.sides.Contents.{Contents}
+use Rattle.gb_places.specs.declared.sides.PlaceContents.{PlaceContents}
 use Rattle.gb_places.specs.Places.{has_address}
 
 -- ---- the byte's bounds
@@ -23,7 +23,7 @@ cut_if true x v = cut v x
 cut_if false x v = v
 
 -- the bounds that all places share
-unfoldable pub shared : OneByte → Contents → Val
+unfoldable pub shared : OneByte → PlaceContents → Val
 shared b c =
     cut_if b.registers.a c.registers.a (cut_if b.registers.b c.registers.b (cut_if b.registers.c c.registers.c
     (cut_if b.registers.d c.registers.d (cut_if b.registers.e c.registers.e (cut_if b.registers.h c.registers.h
@@ -76,7 +76,7 @@ abbrev pub given : Bool → Val → Val → Val
 given true v x = record x { lo = v.lo; hi = v.hi }
 given false v x = x
 
-unfoldable pub with_byte : OneByte → Val → Contents → Contents
+unfoldable pub with_byte : OneByte → Val → PlaceContents → PlaceContents
 with_byte b v c =
     record {
       registers = record {
@@ -91,16 +91,16 @@ with_byte b v c =
       memory = given (has_address b) v c.memory;
     }
 
-abbrev pub with_byte_if : OneByte → Option Val → Contents → Option Contents
+abbrev pub with_byte_if : OneByte → Option Val → PlaceContents → Option PlaceContents
 with_byte_if b None c = None
 with_byte_if b (Some v) c = Some (with_byte b v c)
 
-abbrev pub narrowed_by_test : OneByte → Option Test → Condition → Contents → Option Contents
+abbrev pub narrowed_by_test : OneByte → Option Test → Condition → PlaceContents → Option PlaceContents
 narrowed_by_test b None k c = Some c
 narrowed_by_test b (Some t) k c =
     let v = shared b c in
     if is_asked t k then (if nat_lt v.hi v.lo then None else with_byte_if b (side_of t k v) c) else Some c
 
 -- what registers and the byte's address hold where a condition is met: none where that can't be
-unfoldable pub narrowed : OneByte → Condition → Contents → Option Contents
+unfoldable pub narrowed : OneByte → Condition → PlaceContents → Option PlaceContents
 narrowed b k c = narrowed_by_test b b.test k c

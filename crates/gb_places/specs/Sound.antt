@@ -12,7 +12,7 @@ use Rattle.gb_domain.specs.declared.places.Place.{Place}
 use Rattle.gb_domain.specs.declared.places.Test.{Test}
 use Rattle.gb_domain.specs.declared.places.OneByte.{OneByte}
 use Rattle.gb_vals.specs.Meaning.{In}
-use Rattle.gb_places.specs.declared.sides.Contents.{Contents}
+use Rattle.gb_places.specs.declared.sides.PlaceContents.{PlaceContents}
 use Rattle.gb_places.specs.Meaning.{IsTested, HoldOneByte, held_at}
 
 -- ---- forgetting
@@ -81,16 +81,16 @@ pub record IsSoundStoreOf (a : ℕ) (r : Register) (s after : OneByte) : Type 0 
 
 -- ---- sides
 
-abbrev pub HoldContents : OneByte → Contents → Registers ℕ → (ℕ → ℕ) → Type 0
+abbrev pub HoldContents : OneByte → PlaceContents → Registers ℕ → (ℕ → ℕ) → Type 0
 HoldContents b c x memory =
     ((r : Register) → In (get r c.registers) (get r x)) × ((a : ℕ) → b.address ≡ Some a → In c.memory (memory a))
 
-abbrev pub HoldContentsIn : OneByte → Option Contents → Registers ℕ → (ℕ → ℕ) → Type 0
+abbrev pub HoldContentsIn : OneByte → Option PlaceContents → Registers ℕ → (ℕ → ℕ) → Type 0
 HoldContentsIn b None x memory = ⊥
 HoldContentsIn b (Some c) x memory = HoldContents b c x memory
 
 -- where the condition is met, no registers and no memory are lost
-pub record IsSoundNarrowing (b : OneByte) (k : Condition) (c : Contents) (o : Option Contents) : Type 0 where
+pub record IsSoundNarrowing (b : OneByte) (k : Condition) (c : PlaceContents) (o : Option PlaceContents) : Type 0 where
   pub gives :
       (x : Registers ℕ) (memory : ℕ → ℕ) (f : Flags)
       → HoldContents b c x memory → HoldOneByte b x memory f → is_met k f ≡ true → HoldContentsIn b o x memory
@@ -103,7 +103,7 @@ pub record IsCutVal (old new : Val) : Type 0 where
   pub origin : new.origin ≡ old.origin
 
 -- contents are cut, and only at places of the byte
-pub record IsCut (b : OneByte) (old new : Contents) : Type 0 where
+pub record IsCut (b : OneByte) (old new : PlaceContents) : Type 0 where
   pub registers : (r : Register) → IsCutVal (get r old.registers) (get r new.registers)
   pub memory : IsCutVal old.memory new.memory
   pub other_registers : (r : Register) → get r b.registers ≡ false → get r new.registers ≡ get r old.registers

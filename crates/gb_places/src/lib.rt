@@ -10,3 +10,5 @@ pub mod copies;
 pub mod covering;
 pub mod places;
 pub mod sides;
+
+pub use sides::PlaceContents;

@@ -13,7 +13,7 @@ use gb_vals::vals::any;
 
 /// What is known of the registers, and of the byte at the address that is among the places (any value where none is).
 #[derive(Clone, Copy)]
-pub struct Contents {
+pub struct PlaceContents {
     pub registers: Registers<Val>,
     pub memory: Val,
 }
@@ -37,7 +37,7 @@ fn cut_if(is_place: bool, at_place: Val, val: Val) -> Val
 
 /// The bounds that all places share.
 #[tactic(auto, unfolding(crate::specs::Sides::shared))]
-fn shared(byte: &OneByte, contents: &Contents) -> Val
+fn shared(byte: &OneByte, contents: &PlaceContents) -> Val
     ensures { result ≡ Sides.shared byte.now contents.now }
 {
     let places = byte.registers;
@@ -144,12 +144,12 @@ fn given(is_place: bool, byte: Val, at_place: Val) -> Val
 
 /// Each place gets the byte's bounds.
 #[tactic(auto, unfolding(crate::specs::Sides::with_byte))]
-fn with_byte(byte: &OneByte, bounds: Val, contents: &Contents) -> Contents
+fn with_byte(byte: &OneByte, bounds: Val, contents: &PlaceContents) -> PlaceContents
     ensures { result ≡ Sides.with_byte byte.now bounds contents.now }
 {
     let places = byte.registers;
     let vals = contents.registers;
-    Contents {
+    PlaceContents {
         registers: Registers {
             a: given(places.a, bounds, vals.a),
             b: given(places.b, bounds, vals.b),
@@ -164,7 +164,11 @@ fn with_byte(byte: &OneByte, bounds: Val, contents: &Contents) -> Contents
 }
 
 #[tactic(auto, unfolding(crate::specs::Sides::narrowed))]
-fn after_test(byte: &OneByte, condition: Condition, contents: &Contents) -> Option<Contents>
+fn after_test(
+    byte: &OneByte,
+    condition: Condition,
+    contents: &PlaceContents,
+) -> Option<PlaceContents>
     ensures { result ≡ Sides.narrowed byte.now condition contents.now }
 {
     let Some(test) = byte.test else {
@@ -184,7 +188,11 @@ fn after_test(byte: &OneByte, condition: Condition, contents: &Contents) -> Opti
 /// What registers and memory hold on the side of a conditional instruction where its condition is met: where the flag was tested
 /// of the byte, each of its places gets the bounds that all share and the side leaves. `None` where no value is left.
 #[tactic(auto, using(crate::proofs::SideLaws::narrowed_sound, crate::proofs::SideLaws::narrowed_cuts))]
-pub fn narrowed(byte: &OneByte, condition: Condition, contents: &Contents) -> Option<Contents>
+pub fn narrowed(
+    byte: &OneByte,
+    condition: Condition,
+    contents: &PlaceContents,
+) -> Option<PlaceContents>
     ensures exact { result ≡ Sides.narrowed byte.now condition contents.now }
     ensures sound { IsSoundNarrowing byte.now condition contents.now result }
     ensures cuts { IfSome result (IsCut byte.now contents.now) }

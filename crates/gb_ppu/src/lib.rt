@@ -27,6 +27,13 @@ pub mod registers;
 pub mod scene;
 mod silence;
 
+pub use mode::Mode;
+pub use objects::Object;
+pub use picture::{Picture, Requests};
+pub use ppu::Ppu;
+pub use registers::LcdRegister;
+pub use scene::Scene;
+
 // What lies below, for the crates above.
 pub use gb_timer::irqs::{Irqs, Keys, next_irq};
 pub use gb_timer::joypad::Joypad;

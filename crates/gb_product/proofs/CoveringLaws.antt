@@ -10,8 +10,8 @@ use Rattle.gb_domain.specs.declared.pairs.WordPair.{WordPair}
 use Rattle.gb_domain.specs.declared.relations.Relations.{Relations}
 use Rattle.gb_domain.specs.declared.types.Val.{Val}
 use Rattle.gb_domain.specs.Types.{AbsState}
-use Rattle.gb_abs.specs.Below.gb_vals.Meaning.{In}
-use Rattle.gb_abs.proofs.CoveringLaws.{MeansParts-covered}
+use Rattle.gb_abs_effects.specs.Below.gb_vals.Meaning.{In}
+use Rattle.gb_abs_effects.proofs.Below.gb_abs_laws.CoveringLaws.{MeansParts-covered}
 use Rattle.gb_abs_effects.proofs.CoreLaws.{In-from}
 use Rattle.gb_relations.proofs.Below.gb_pairs_laws.RegisterLaws.{same_pair}
 use Rattle.gb_relations.proofs.Below.gb_pairs_laws.CoveringLaws.{covers_pairs_sound}

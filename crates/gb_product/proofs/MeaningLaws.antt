@@ -14,8 +14,8 @@ use Rattle.gb_domain.specs.declared.types.Core.{Core}
 use Rattle.gb_domain.specs.Pairs.{facts_of, ArePairs}
 use Rattle.gb_domain.specs.Relations.{no_relations}
 use Rattle.gb_domain.specs.Rules.{IsCore}
-use Rattle.gb_abs.specs.Below.gb_vals.Meaning.{In}
-use Rattle.gb_abs.specs.Meaning.{Holds, MeansCore}
+use Rattle.gb_abs_effects.specs.Below.gb_vals.Meaning.{In}
+use Rattle.gb_abs_effects.specs.Below.gb_abs.Meaning.{Holds, MeansCore}
 use Rattle.gb_abs_effects.proofs.CoreLaws.{MeansCore-changed}
 use Rattle.gb_relations.specs.Below.gb_pairs.Meaning.{AreBytes, HoldPairs}
 use Rattle.gb_relations.specs.Meaning.{HoldRelations}

@@ -11,7 +11,7 @@ use Rattle.gb_domain.specs.declared.types.Core.{Core}
 use Rattle.gb_domain.specs.declared.types.Val.{Val}
 use Rattle.gb_domain.specs.declared.pairs.Pairs.{Pairs}
 use Rattle.gb_domain.specs.Pairs.{ArePairs}
-use Rattle.gb_abs.specs.Meaning.{MeansCore}
+use Rattle.gb_abs_effects.specs.Below.gb_abs.Meaning.{MeansCore}
 use Rattle.gb_abs_effects.proofs.CoreLaws.{In-from}
 use Rattle.gb_relations.specs.Below.gb_pairs.declared.values.Values.{Values}
 use Rattle.gb_relations.specs.Below.gb_pairs.Meaning.{Holds}

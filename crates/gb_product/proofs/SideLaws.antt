@@ -23,14 +23,14 @@ use Rattle.gb_domain.specs.declared.types.Core.{Core}
 use Rattle.gb_domain.specs.declared.types.Cell.{Cell}
 use Rattle.gb_domain.specs.Pairs.{ArePairs}
 use Rattle.gb_domain.specs.Rules.{IsVal, IsCore}
-use Rattle.gb_abs.specs.Below.gb_vals.Meaning.{In}
-use Rattle.gb_abs.specs.Below.gb_vals.Tests.{side, IsKept}
-use Rattle.gb_abs.proofs.Below.gb_vals_laws.BranchLaws.{side_kept}
+use Rattle.gb_abs_effects.specs.Below.gb_vals.Meaning.{In}
+use Rattle.gb_abs_effects.specs.Below.gb_vals.Tests.{side, IsKept}
+use Rattle.gb_abs_effects.proofs.Below.gb_vals_laws.BranchLaws.{side_kept}
 use Rattle.gb_product.specs.Meaning.{AreRelated}
-use Rattle.gb_abs.specs.Meaning.{Holds, MeansCore, IsMemory}
-use Rattle.gb_abs.specs.Covering.{cell_at}
-use Rattle.gb_abs.specs.Storage.{peek}
-use Rattle.gb_abs.proofs.CoveringLaws.{Holds-cell}
+use Rattle.gb_abs_effects.specs.Below.gb_abs.Meaning.{Holds, MeansCore, IsMemory}
+use Rattle.gb_abs_effects.specs.Below.gb_abs.Covering.{cell_at}
+use Rattle.gb_abs_effects.specs.Below.gb_abs.Storage.{peek}
+use Rattle.gb_abs_effects.proofs.Below.gb_abs_laws.CoveringLaws.{Holds-cell}
 use Rattle.gb_abs_effects.specs.Sides as Flags
 use Rattle.gb_abs_effects.specs.Sound.{side_by, IsMeant}
 use Rattle.gb_abs_effects.proofs.CoreLaws.{some-is, In-from}
@@ -44,13 +44,13 @@ use Rattle.gb_relations.specs.Below.gb_pairs.Sound as pair_sound
 use Rattle.gb_relations.proofs.Below.gb_pairs_laws.CutLaws.{restricted_cuts, IsCut-itself}
 use Rattle.gb_relations.proofs.Below.gb_pairs_laws.KeptLaws.{ArePairs-cut}
 use Rattle.gb_relations.proofs.Below.gb_pairs_laws.ReducedLaws.{restricted_sound}
-use Rattle.gb_relations.specs.Below.gb_places.declared.sides.Contents.{Contents}
+use Rattle.gb_relations.specs.Below.gb_places.declared.sides.PlaceContents.{PlaceContents}
 use Rattle.gb_relations.specs.Below.gb_places.Sound.{HoldContents, HoldContentsIn, IsCutVal, IsCut}
 use Rattle.gb_relations.proofs.Below.gb_places_laws.SideLaws.{narrowed_sound, narrowed_cuts}
 use Rattle.gb_relations.specs.Meaning.{IsZero}
 use Rattle.gb_relations.specs.Places.{is_ram, is_free}
 use Rattle.gb_relations.specs.Sound.{IsByteFree}
-use Rattle.gb_abs.specs.Cells.{IsPlaced}
+use Rattle.gb_abs_effects.specs.Below.gb_abs.Cells.{IsPlaced}
 use Rattle.gb_relations.specs.Transfer.{values_of}
 use Rattle.gb_product.specs.declared.parts.Branch.{Branch}
 use Rattle.gb_product.specs.declared.parts.Branches.{Branches}
@@ -157,7 +157,7 @@ IsVal-cut old new cut is =
 
 -- ---- a side where a condition is met
 
-AreCut-contents : (b : OneByte) (c left : Contents) → IsCut b c left → AreCut c.registers left.registers
+AreCut-contents : (b : OneByte) (c left : PlaceContents) → IsCut b c left → AreCut c.registers left.registers
 AreCut-contents b c left h =
     record {
       least = λ r. (h.registers r).least;
@@ -180,7 +180,7 @@ IsMeantBranch-with_values core r vals cell (Some v) entry x holds byte cut m n h
     }
 
 IsMeantBranch-with_contents :
-    (k : Condition) (cells : List Cell) (core : Core) (r : Relations) (o : Option Contents) (entry x : MState)
+    (k : Condition) (cells : List Cell) (core : Core) (r : Relations) (o : Option PlaceContents) (entry x : MState)
     → AreWords r.pairs → is_met k x.processor.flags ≡ true → IsKnown cells r entry x → MeansCore core entry x
     → HoldContentsIn r.byte o x.processor.registers (peek x.storage) → IfSome o (IsCut r.byte (contents_of r.byte core cells))
     → IsMeantBranch (with_contents_if k core r o) entry x
@@ -325,7 +325,7 @@ sides_of_sound_of_words o cells core r sides e bc de hl =
 -- ---- what is cut
 
 IsSideOf-with_values :
-    (cells : List Cell) (core : Core) (r : Relations) (left : Contents) (o : Option Values)
+    (cells : List Cell) (core : Core) (r : Relations) (left : PlaceContents) (o : Option Values)
     → IsCut r.byte (contents_of r.byte core cells) left → IfSome o (pair_sound.IsCut (values_of left.registers r.pairs))
     → IfSome (with_values_if core r (known_cell r.byte.address left.memory) o) (IsSideOf cells core r)
 IsSideOf-with_values cells core r left None byte cut = tt
@@ -342,7 +342,7 @@ IsSideOf-with_values cells core r left (Some v) byte cut =
     }
 
 IsSideOf-with_contents :
-    (k : Condition) (cells : List Cell) (core : Core) (r : Relations) (o : Option Contents)
+    (k : Condition) (cells : List Cell) (core : Core) (r : Relations) (o : Option PlaceContents)
     → IfSome o (IsCut r.byte (contents_of r.byte core cells)) → IfSome (with_contents_if k core r o) (IsSideOf cells core r)
 IsSideOf-with_contents k cells core r None cut = tt
 IsSideOf-with_contents k cells core r (Some left) cut =

@@ -6,7 +6,7 @@ use Rattle.gb_domain.specs.declared.relations.Relations.{Relations}
 use Rattle.gb_domain.specs.declared.types.Val.{Val}
 use Rattle.gb_domain.specs.RelationRules.{has_place, are_unknown}
 use Rattle.gb_domain.specs.Types.{AbsState}
-use Rattle.gb_abs.specs.Covering.{covers_parts}
+use Rattle.gb_abs_effects.specs.Below.gb_abs.Covering.{covers_parts}
 use Rattle.gb_relations.specs.Below.gb_pairs.Covering.{covers_pairs}
 use Rattle.gb_relations.specs.Below.gb_pairs.Written.{is_same_pair}
 use Rattle.gb_relations.specs.Below.gb_places.Covering.{covers_byte}

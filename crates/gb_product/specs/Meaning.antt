@@ -4,9 +4,9 @@ use Rattle.gb_ops.specs.declared.machine.Region.{Region}
 use Rattle.gb_ops.specs.Play.{MState}
 use Rattle.gb_domain.specs.declared.relations.Relations.{Relations}
 use Rattle.gb_domain.specs.Types.{AbsState}
-use Rattle.gb_abs.specs.Cells.{ArePlaced}
-use Rattle.gb_abs.specs.Meaning.{MeansParts}
-use Rattle.gb_abs.specs.Storage.{peek}
+use Rattle.gb_abs_effects.specs.Below.gb_abs.Cells.{ArePlaced}
+use Rattle.gb_abs_effects.specs.Below.gb_abs.Meaning.{MeansParts}
+use Rattle.gb_abs_effects.specs.Below.gb_abs.Storage.{peek}
 use Rattle.gb_relations.specs.Meaning.{HoldRelations}
 use Rattle.gb_relations.specs.Sound.{IsByteFree}
 

@@ -11,11 +11,11 @@ use Rattle.gb_domain.specs.declared.types.Val.{Val}
 use Rattle.gb_domain.specs.declared.types.Core.{Core}
 use Rattle.gb_domain.specs.declared.types.Cell.{Cell}
 use Rattle.gb_domain.specs.Types.{any_val}
-use Rattle.gb_abs.specs.Covering.{cell_at}
+use Rattle.gb_abs_effects.specs.Below.gb_abs.Covering.{cell_at}
 use Rattle.gb_abs_effects.specs.Sides as Flags
 use Rattle.gb_relations.specs.Below.gb_pairs.declared.values.Values.{Values}
 use Rattle.gb_relations.specs.Below.gb_pairs.Reduced.{restricted}
-use Rattle.gb_relations.specs.Below.gb_places.declared.sides.Contents.{Contents}
+use Rattle.gb_relations.specs.Below.gb_places.declared.sides.PlaceContents.{PlaceContents}
 use Rattle.gb_relations.specs.Below.gb_places.Sides.{narrowed}
 use Rattle.gb_relations.specs.Transfer.{values_of}
 use Rattle.gb_product.specs.declared.parts.Branch.{Branch}
@@ -28,7 +28,7 @@ abbrev pub memory_of : Option ℕ → List Cell → Val
 memory_of None cells = any_val
 memory_of (Some a) cells = cell_at a cells
 
-abbrev pub contents_of : OneByte → Core → List Cell → Contents
+abbrev pub contents_of : OneByte → Core → List Cell → PlaceContents
 contents_of b core cells = record { registers = core.registers; memory = memory_of b.address cells }
 
 -- each byte lies in the bounds
@@ -56,7 +56,7 @@ with_values_if core r cell None = None
 with_values_if core r cell (Some v) =
     Some (record { core = record core { registers = v.registers }; relations = record r { pairs = v.pairs }; cell = cell })
 
-abbrev pub with_contents_if : Condition → Core → Relations → Option Contents → Option Branch
+abbrev pub with_contents_if : Condition → Core → Relations → Option PlaceContents → Option Branch
 with_contents_if k core r None = None
 with_contents_if k core r (Some c) =
     with_values_if core r (known_cell r.byte.address c.memory) (without_others r.zero k (values_of c.registers r.pairs))

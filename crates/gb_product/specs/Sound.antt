@@ -12,8 +12,8 @@ use Rattle.gb_domain.specs.declared.types.Core.{Core}
 use Rattle.gb_domain.specs.Pairs.{ArePairs}
 use Rattle.gb_domain.specs.Rules.{IsVal, IsCore}
 use Rattle.gb_domain.specs.Types.{AbsState}
-use Rattle.gb_abs.specs.Meaning.{Holds, MeansCore, IsMemory}
-use Rattle.gb_abs.specs.Storage.{peek}
+use Rattle.gb_abs_effects.specs.Below.gb_abs.Meaning.{Holds, MeansCore, IsMemory}
+use Rattle.gb_abs_effects.specs.Below.gb_abs.Storage.{peek}
 use Rattle.gb_relations.specs.Below.gb_pairs.Meaning.{AreBytes}
 use Rattle.gb_product.specs.declared.parts.Branch.{Branch}
 use Rattle.gb_product.specs.declared.parts.Branches.{Branches}

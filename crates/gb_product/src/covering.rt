@@ -6,7 +6,7 @@ ghost use Rattle.gb_product.specs.Covering as Covering;
 ghost use Rattle.gb_product.specs.Sound.{IsPartOf};
 
 use crate::parts::holds_words;
-use gb_abs::covering::covers_parts;
+use gb_abs_effects::covers_parts;
 use gb_domain::pairs::{PairFacts, Pairs, WordPair};
 use gb_domain::relations::Relations;
 use gb_domain::types::{Abs, Val};

@@ -11,7 +11,23 @@ pub mod parts;
 pub mod reduced;
 pub mod sides;
 
+pub use parts::{Branch, Branches, Product};
+
 // What lies below, for the crates above.
+pub use gb_abs_effects::pairs::{any_word, is_word_known, least_word, pair_halves};
+pub use gb_abs_effects::reads::{AbsRead, read_of};
+pub use gb_abs_effects::sides::condition_of;
+pub use gb_abs_effects::targets::{Target, target_of};
+pub use gb_abs_effects::transfer::{Inputs, transfer_in};
+pub use gb_abs_effects::writes::{AbsEffect, AbsWrite, quiet};
+pub use gb_abs_effects::{
+    Span, any, append_bytes, cell_without_origin, cells_without_origins, core_without_origins,
+    covers_controller, covers_ime, covers_lists, covers_origin, end, is_own, known, may_enable,
+    may_have_bit, own, pass, push, resize, settle, single, sp_bounds, sp_halves, with_cell,
+    without_origin,
+};
 pub use gb_relations::compared::only_of_a;
 pub use gb_relations::pointers::{known_carry, pointer_bounds};
+pub use gb_relations::reduce;
+pub use gb_relations::returned::{Kept, returned};
 pub use gb_relations::transfer::relations_after;

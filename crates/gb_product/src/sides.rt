@@ -6,14 +6,13 @@ ghost use Rattle.gb_product.specs.Sides as Branching;
 ghost use Rattle.gb_product.specs.Sound.{IsSoundSide, IsSideOf, AreSoundSides, AreSidesOf};
 
 use crate::parts::{Branch, Branches, holds_words};
-use gb_abs::any;
-use gb_abs::covering::cell_at;
 use gb_abs_effects::sides::{condition_of, opposite, side_of};
+use gb_abs_effects::{any, cell_at};
 use gb_domain::pairs::{Bounds, WordPair};
 use gb_domain::relations::Relations;
 use gb_domain::types::{Cell, Core, Val};
 use gb_ops::op::{Condition, Op};
-use gb_relations::{Contents, Values, narrowed, restricted};
+use gb_relations::{PlaceContents, Values, narrowed, restricted};
 
 /// What is known of the byte at the address among the places, if there is one.
 fn memory_of(address: Option<u16>, cells: &[Cell]) -> Val
@@ -68,7 +67,7 @@ fn narrowed_side(
     ensures { result ≡ Branching.narrowed_side condition cells.now relations.now core }
 {
     let byte = &relations.byte;
-    let contents = Contents {
+    let contents = PlaceContents {
         registers: core.registers,
         memory: memory_of(byte.address, cells),
     };

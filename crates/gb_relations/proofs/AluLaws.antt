@@ -17,9 +17,9 @@ use Rattle.gb_domain.specs.declared.types.Val.{Val}
 use Rattle.gb_domain.specs.declared.places.Place.TheVariants as place
 use Rattle.gb_domain.specs.declared.places.Test.TheVariants as test
 use Rattle.gb_domain.specs.declared.places.OneByte.{OneByte}
-use Rattle.gb_vals.specs.Vals.{is_single}
-use Rattle.gb_vals.specs.Meaning.{In}
-use Rattle.gb_vals.proofs.MeaningLaws.{single-is}
+use Rattle.gb_pairs.specs.Below.gb_vals.Vals.{is_single}
+use Rattle.gb_pairs.specs.Below.gb_vals.Meaning.{In}
+use Rattle.gb_pairs.proofs.Below.gb_vals_laws.MeaningLaws.{single-is}
 use Rattle.gb_pairs.specs.declared.values.Values.{Values}
 use Rattle.gb_pairs.specs.Meaning.{AreBytes}
 use Rattle.gb_places.specs.Meaning.{HoldOneByte}

@@ -24,7 +24,7 @@ use Rattle.gb_domain.specs.declared.pairs.Bounds.{Bounds}
 use Rattle.gb_domain.specs.declared.pairs.WordPair.TheVariants as words
 use Rattle.gb_domain.specs.declared.places.OneByte.{OneByte}
 use Rattle.gb_domain.specs.declared.relations.Relations.{Relations}
-use Rattle.gb_vals.specs.Meaning.{In}
+use Rattle.gb_pairs.specs.Below.gb_vals.Meaning.{In}
 use Rattle.gb_pairs.specs.declared.values.Values.{Values}
 use Rattle.gb_pairs.specs.Meaning.{AreBytes, Holds}
 use Rattle.gb_pairs.specs.Sound.{Within}

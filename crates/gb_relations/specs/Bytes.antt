@@ -21,7 +21,7 @@ use Rattle.gb_domain.specs.declared.places.Place.TheVariants as place
 use Rattle.gb_domain.specs.declared.places.Test.{Test}
 use Rattle.gb_domain.specs.declared.places.Test.TheVariants as test
 use Rattle.gb_domain.specs.declared.places.OneByte.{OneByte}
-use Rattle.gb_vals.specs.Vals.{is_single}
+use Rattle.gb_pairs.specs.Below.gb_vals.Vals.{is_single}
 use Rattle.gb_domain.specs.declared.pairs.Bounds.{Bounds}
 use Rattle.gb_pairs.specs.declared.values.Values.{Values}
 use Rattle.gb_pairs.specs.Bounds.{bounds_of}

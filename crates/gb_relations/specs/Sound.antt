@@ -15,7 +15,7 @@ use Rattle.gb_ops.specs.Effects as Effects
 use Rattle.gb_domain.specs.declared.types.Val.{Val}
 use Rattle.gb_domain.specs.declared.pairs.Bounds.{Bounds}
 use Rattle.gb_domain.specs.declared.relations.Relations.{Relations}
-use Rattle.gb_vals.specs.Meaning.{In}
+use Rattle.gb_pairs.specs.Below.gb_vals.Meaning.{In}
 use Rattle.gb_pairs.specs.Meaning.{AreBytes}
 use Rattle.gb_relations.specs.Meaning.{HoldRelations}
 use Rattle.gb_relations.specs.Places.{is_ram, is_free, behind_echo}

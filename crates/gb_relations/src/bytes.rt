@@ -12,12 +12,12 @@ use gb_domain::types::Val;
 use gb_ops::machine::Region;
 use gb_ops::op::{AluOp, Indirect, Op, Operand, Register};
 use gb_pairs::bounds::bounds_of;
+use gb_pairs::is_single;
 use gb_pairs::values::Values;
 use gb_places::copies::copied;
 use gb_places::places::{
     only_tested, tested, tested_before_a, without_addresses, without_register, without_test,
 };
-use gb_vals::vals::is_single;
 
 const A: Place = Place::Register(Register::A);
 

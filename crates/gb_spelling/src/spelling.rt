@@ -1,7 +1,7 @@
 //! The spelling of an instruction.
 
 use crate::names;
-use Part::{
+use SpelledPart::{
     Added, Bit, By, Byte, Condition, Indirect, Operand, Operation, Pair, Shift, StackPair, Text,
     Word,
 };
@@ -40,7 +40,7 @@ impl fmt::Display for Spelling {
 
 /// A part of a spelling.
 #[derive(Clone, Copy)]
-enum Part {
+enum SpelledPart {
     Text(&'static str),
     Operand(op::Operand),
     Pair(op::Pair),
@@ -59,7 +59,7 @@ enum Part {
     Added(u8),
 }
 
-impl Part {
+impl SpelledPart {
     /// The text of a part that isn't a number.
     fn text(self) -> &'static str {
         match self {
@@ -76,7 +76,7 @@ impl Part {
     }
 }
 
-impl fmt::Display for Part {
+impl fmt::Display for SpelledPart {
     fn fmt<W: fmt::Write>(&self, f: &mut fmt::Formatter<W>) -> fmt::Result {
         match *self {
             Byte(byte) => write!(f, "${byte:02X}"),
@@ -90,21 +90,21 @@ impl fmt::Display for Part {
 }
 
 /// The parts of a spelling; behind the last they are empty.
-type Parts = [Part; 4];
+type Parts = [SpelledPart; 4];
 
-fn one(part: Part) -> Parts {
+fn one(part: SpelledPart) -> Parts {
     two(part, Text(""))
 }
 
-fn two(first: Part, second: Part) -> Parts {
+fn two(first: SpelledPart, second: SpelledPart) -> Parts {
     three(first, second, Text(""))
 }
 
-fn three(first: Part, second: Part, third: Part) -> Parts {
+fn three(first: SpelledPart, second: SpelledPart, third: SpelledPart) -> Parts {
     four(first, second, third, Text(""))
 }
 
-fn four(first: Part, second: Part, third: Part, fourth: Part) -> Parts {
+fn four(first: SpelledPart, second: SpelledPart, third: SpelledPart, fourth: SpelledPart) -> Parts {
     [first, second, third, fourth]
 }
 

@@ -16,5 +16,14 @@ pub mod relations;
 pub mod role;
 pub mod states;
 
+pub use relations::Present;
+pub use role::Role;
+
 // What lies below, for the crates above.
-pub use gb_fields::CertFault;
+pub use gb_fields::head::{Head, head_at};
+pub use gb_fields::limits::{
+    NEED_LIMIT, PROCEDURE_LIMIT, RANGE_LIMIT, cell_limit, item_bytes, range_room,
+};
+pub use gb_fields::numbers::{byte, count_within, counted, from_place, node_number, word_between};
+pub use gb_fields::parts::{base_at, entry_at, front_at, key_at, need_at, returns_at};
+pub use gb_fields::{CertFault, limits};

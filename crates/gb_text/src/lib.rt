@@ -10,5 +10,9 @@ pub mod line;
 pub mod put;
 pub mod sink;
 
+pub use kept_bytes::KeptBytes;
+pub use line::Line;
+pub use sink::{OutFault, Plain, PutFault, Sink};
+
 // What lies below, for the crates above.
 pub use gb_header::{HeaderFault, Rom};

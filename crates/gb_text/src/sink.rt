@@ -4,13 +4,16 @@ ghost use Rattle.std.specs.Prelude.{◌≡◌, ◌<◌, ◌≤◌, ℕ, Bool, fa
 ghost use Rattle.gb_text.specs.Sink.{Gains};
 
 use std::io::Write;
+use thiserror::Error;
 
 /// A sink took nothing of what it was given.
-#[derive(Clone, Copy, PartialEq, Eq)]
+#[derive(Clone, Copy, Debug, PartialEq, Eq, Error)]
+#[error("the sink took nothing")]
 pub struct PutFault;
 
 /// A sink failed during the call; what went out is a beginning of the call's text.
-#[derive(Clone, Copy, PartialEq, Eq)]
+#[derive(Clone, Copy, Debug, PartialEq, Eq, Error)]
+#[error("the output could not be written")]
 pub struct OutFault;
 
 /// Takes bytes in order.
@@ -48,16 +51,24 @@ pub struct Plain<W: Write> {
 }
 
 impl<W: Write> Plain<W> {
-    ghost use Rattle.gb_text.specs.Plain.{has_failed};
+    ghost use Rattle.gb_text.specs.Plain.{has_failed, writer_of};
 
     /// A sink that hasn't failed.
     pub fn new(writer: W) -> Plain<W>
-        ensures { has_failed result ≡ false }
+        ensures works { has_failed result ≡ false }
+        ensures writer { writer_of result ≡ writer }
     {
         Plain {
             writer,
             has_failed: false,
         }
+    }
+
+    /// The writer, with whatever it took.
+    pub fn into_inner(self) -> W
+        ensures { result ≡ writer_of self }
+    {
+        self.writer
     }
 }
 

@@ -9,7 +9,7 @@ use bitflags::{Flag, Flags, bitflag_items};
 /// A set of interrupts, by the bits that they have in IE and IF (Pan Docs: Interrupts).
 ///
 /// `from_bits_retain` keeps bits above 4, and the operators of `bitflags` carry them on: whoever reads a set takes bits 0 to 4 alone, as `next_irq` does.
-#[derive(Clone, Copy, PartialEq, Eq)]
+#[derive(Clone, Copy, Debug, PartialEq, Eq)]
 pub struct Irqs(u8);
 
 bitflag_items! {
@@ -45,7 +45,7 @@ impl Flags for Irqs {
 }
 
 /// A set of keys (the order of the bits is this project's own: one byte holds all keys of the joypad).
-#[derive(Clone, Copy, PartialEq, Eq)]
+#[derive(Clone, Copy, Debug, PartialEq, Eq)]
 pub struct Keys(u8);
 
 bitflag_items! {

@@ -9,3 +9,7 @@ mod bits;
 pub mod irqs;
 pub mod joypad;
 pub mod timer;
+
+pub use irqs::{Irqs, Keys};
+pub use joypad::Joypad;
+pub use timer::Timer;

@@ -10,7 +10,7 @@ use Rattle.gb_ops.specs.Arithmetic.{alu_result, subtracted, logical}
 use Rattle.gb_domain.specs.declared.types.Val.{Val}
 use Rattle.gb_domain.specs.declared.types.Flg.{Flg}
 use Rattle.gb_domain.specs.Rules.{IsVal, IsFlg}
-use Rattle.gb_vals.specs.declared.outcome.Outcome.{Outcome}
+use Rattle.gb_vals.specs.declared.outcome.AbsComputed.{AbsComputed}
 use Rattle.gb_vals.specs.Vals.{single}
 use Rattle.gb_vals.specs.Flags.{known}
 use Rattle.gb_vals.specs.Meaning.{In, FlagsIn, Gives, IsSound, IsSoundOfTwo, IsOutcome}
@@ -34,7 +34,7 @@ Gives-alu op.Cp a v f x y g p q m n h =
     record { value = m; flags = (Gives-difference a v (known false) x y false m n refl).flags }
 
 pub alu_sound :
-    (how : AluOp) (a v : Val) (f : Flg) (o : Outcome)
+    (how : AluOp) (a v : Val) (f : Flg) (o : AbsComputed)
     → o ≡ alu how a v f → a.hi < 256 → v.hi < 256 → IsSoundOfTwo (alu_result how) a v f o
 alu_sound how a v f o e p q =
     subst (λ r. IsSoundOfTwo (alu_result how) a v f r) (sym e) (record { gives = λ x y g. Gives-alu how a v f x y g p q })
@@ -71,7 +71,7 @@ Gives-alu_itself op.Or a f x g m h = rw (or_self x) (Gives-of_itself a x false m
 Gives-alu_itself op.Cp a f x g m h = record { value = m; flags = (Gives-difference_with_itself x true a m).flags }
 
 pub alu_itself_sound :
-    (how : AluOp) (a : Val) (f : Flg) (o : Outcome) → o ≡ alu_itself how a f → IsSound (result_with_itself how) a f o
+    (how : AluOp) (a : Val) (f : Flg) (o : AbsComputed) → o ≡ alu_itself how a f → IsSound (result_with_itself how) a f o
 alu_itself_sound how a f o e =
     subst (λ r. IsSound (result_with_itself how) a f r) (sym e) (record { gives = Gives-alu_itself how a f })
 
@@ -100,11 +100,11 @@ alu_itself-byte op.Or a f p = of_itself-byte a false (omega arith) p.hi
 alu_itself-byte op.Cp a f p = p.hi
 
 pub alu_inhabited :
-    (how : AluOp) (a v : Val) (f : Flg) (o : Outcome) → o ≡ alu how a v f → IsVal a → IsVal v → IsFlg f → IsOutcome o
+    (how : AluOp) (a v : Val) (f : Flg) (o : AbsComputed) → o ≡ alu how a v f → IsVal a → IsVal v → IsFlg f → IsOutcome o
 alu_inhabited how a v f o e p q flags =
     IsOutcome-sound_of_two (alu_result how) a v f o (alu_sound how a v f o e p.hi q.hi) p q flags (subst (λ r. r.val.hi < 256) (sym e) (alu-byte how a v f p q))
 
 pub alu_itself_inhabited :
-    (how : AluOp) (a : Val) (f : Flg) (o : Outcome) → o ≡ alu_itself how a f → IsVal a → IsFlg f → IsOutcome o
+    (how : AluOp) (a : Val) (f : Flg) (o : AbsComputed) → o ≡ alu_itself how a f → IsVal a → IsFlg f → IsOutcome o
 alu_itself_inhabited how a f o e p flags =
     IsOutcome-sound (result_with_itself how) a f o (alu_itself_sound how a f o e) p flags (subst (λ r. r.val.hi < 256) (sym e) (alu_itself-byte how a f p))

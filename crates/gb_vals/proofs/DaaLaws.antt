@@ -6,7 +6,7 @@ use Rattle.gb_ops.specs.Arithmetic.{adjusted}
 use Rattle.gb_domain.specs.declared.types.Val.{Val}
 use Rattle.gb_domain.specs.declared.types.Flg.{Flg}
 use Rattle.gb_domain.specs.Rules.{IsVal, IsFlg}
-use Rattle.gb_vals.specs.declared.outcome.Outcome.{Outcome}
+use Rattle.gb_vals.specs.declared.outcome.AbsComputed.{AbsComputed}
 use Rattle.gb_vals.specs.Vals.{is_single}
 use Rattle.gb_vals.specs.Flags.{is_known, greatest_flags}
 use Rattle.gb_vals.specs.Outcomes.{exact}
@@ -57,7 +57,7 @@ Gives-adjustment_of a f x g m h = choose (is_single a && (is_known f.subtract &&
         (same_adjusted x a.lo g.zero f.zero.set g.subtract f.subtract.set g.half_carry f.half_carry.set g.carry f.carry.set (single-is a x both.0 m) (known-is f.subtract g.subtract first.0 h.subtract) (known-is f.half_carry g.half_carry first.1 h.half_carry) (known-is f.carry g.carry read.1 h.carry))
     choose false e = Gives-adjusted_any f x g h
 
-pub adjust_sound : (a : Val) (f : Flg) (o : Outcome) → o ≡ adjustment_of a f → IsSound adjusted a f o
+pub adjust_sound : (a : Val) (f : Flg) (o : AbsComputed) → o ≡ adjustment_of a f → IsSound adjusted a f o
 adjust_sound a f o e = subst (λ r. IsSound adjusted a f r) (sym e) (record { gives = Gives-adjustment_of a f })
 
 adjustment_of-byte : (a : Val) (f : Flg) → (adjustment_of a f).val.hi < 256
@@ -69,6 +69,6 @@ adjustment_of-byte a f = choose (is_single a && (is_known f.subtract && is_known
     choose true = adjusted-byte a.lo (greatest_flags f)
     choose false = omega arith
 
-pub adjust_inhabited : (a : Val) (f : Flg) (o : Outcome) → o ≡ adjustment_of a f → IsVal a → IsFlg f → IsOutcome o
+pub adjust_inhabited : (a : Val) (f : Flg) (o : AbsComputed) → o ≡ adjustment_of a f → IsVal a → IsFlg f → IsOutcome o
 adjust_inhabited a f o e val flags =
     IsOutcome-sound adjusted a f o (adjust_sound a f o e) val flags (subst (λ r. r.val.hi < 256) (sym e) (adjustment_of-byte a f))

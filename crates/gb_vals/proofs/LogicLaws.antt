@@ -10,7 +10,7 @@ use Rattle.gb_ops.specs.Arithmetic as machine
 use Rattle.gb_domain.specs.declared.types.Val.{Val}
 use Rattle.gb_domain.specs.declared.types.Flg.{Flg}
 use Rattle.gb_domain.specs.Rules.{IsVal, IsFlg}
-use Rattle.gb_vals.specs.declared.outcome.Outcome.{Outcome}
+use Rattle.gb_vals.specs.declared.outcome.AbsComputed.{AbsComputed}
 use Rattle.gb_vals.specs.Vals.{between, any_val, is_single}
 use Rattle.gb_vals.specs.Outcomes.{exact}
 use Rattle.gb_vals.specs.Meaning.{In, FlagsIn, Gives, IsSound, IsOutcome}
@@ -130,14 +130,14 @@ Gives-complement a f x g m h =
       flags = record { zero = h.zero; subtract = refl; half_carry = refl; carry = h.carry };
     }
 
-pub complement_sound : (a : Val) (f : Flg) (o : Outcome) → o ≡ complement a f → IsSound complement_result a f o
+pub complement_sound : (a : Val) (f : Flg) (o : AbsComputed) → o ≡ complement a f → IsSound complement_result a f o
 complement_sound a f o e = subst (λ r. IsSound complement_result a f r) (sym e) (record { gives = Gives-complement a f })
 
 complement-byte : (a : Val) (f : Flg) → (complement a f).val.hi < 256
 unfolding complement
 complement-byte a f = omega arith
 
-pub complement_inhabited : (a : Val) (f : Flg) (o : Outcome) → o ≡ complement a f → IsVal a → IsFlg f → IsOutcome o
+pub complement_inhabited : (a : Val) (f : Flg) (o : AbsComputed) → o ≡ complement a f → IsVal a → IsFlg f → IsOutcome o
 complement_inhabited a f o e val flags =
     IsOutcome-sound complement_result a f o (complement_sound a f o e) val flags (subst (λ r. r.val.hi < 256) (sym e) (complement-byte a f))
 

@@ -9,7 +9,7 @@ use Rattle.gb_domain.specs.declared.types.May.{May}
 use Rattle.gb_domain.specs.declared.types.Flg.{Flg}
 use Rattle.gb_domain.specs.Rules.{IsVal, IsFlg, has_value}
 use Rattle.gb_ops.specs.Flags.{bit_of}
-use Rattle.gb_vals.specs.declared.outcome.Outcome.{Outcome}
+use Rattle.gb_vals.specs.declared.outcome.AbsComputed.{AbsComputed}
 use Rattle.gb_vals.specs.Vals.{single, any_val, is_single}
 use Rattle.gb_vals.specs.Flags.{known, either, is_known, zero_by, known_flags, greatest_flags}
 use Rattle.gb_vals.specs.Outcomes.{exact}
@@ -122,19 +122,19 @@ IsVal-from v x m byte = record { order = omega arith; hi = byte }
 pub In-least : (v : Val) → IsVal v → In v v.lo
 In-least v h = record { least = omega arith; most = h.order }
 
-IsOutcome-from : (o : Outcome) (c : Computed) → Gives o c → o.val.hi < 256 → IsOutcome o
+IsOutcome-from : (o : AbsComputed) (c : Computed) → Gives o c → o.val.hi < 256 → IsOutcome o
 IsOutcome-from o c h byte =
     record { val = IsVal-from o.val c.value h.value byte; flags = IsFlg-from o.flags c.flags h.flags }
 
 -- what is sound has a value, where the operands have one
 pub IsOutcome-sound :
-    (machine : ℕ → Flags → Computed) (v : Val) (f : Flg) (o : Outcome)
+    (machine : ℕ → Flags → Computed) (v : Val) (f : Flg) (o : AbsComputed)
     → IsSound machine v f o → IsVal v → IsFlg f → o.val.hi < 256 → IsOutcome o
 IsOutcome-sound machine v f o sound val flags byte =
     IsOutcome-from o _ (sound.gives v.lo (greatest_flags f) (In-least v val) (FlagsIn-greatest f flags)) byte
 
 pub IsOutcome-sound_of_two :
-    (machine : ℕ → ℕ → Flags → Computed) (a v : Val) (f : Flg) (o : Outcome)
+    (machine : ℕ → ℕ → Flags → Computed) (a v : Val) (f : Flg) (o : AbsComputed)
     → IsSoundOfTwo machine a v f o → IsVal a → IsVal v → IsFlg f → o.val.hi < 256 → IsOutcome o
 IsOutcome-sound_of_two machine a v f o sound val other flags byte =
     IsOutcome-from o _ (sound.gives a.lo v.lo (greatest_flags f) (In-least a val) (In-least v other) (FlagsIn-greatest f flags)) byte

@@ -10,7 +10,7 @@ use Rattle.gb_ops.specs.Arithmetic as machine
 use Rattle.gb_domain.specs.declared.types.Val.{Val}
 use Rattle.gb_domain.specs.declared.types.May.{May}
 use Rattle.gb_domain.specs.declared.types.Flg.{Flg}
-use Rattle.gb_vals.specs.declared.outcome.Outcome.{Outcome}
+use Rattle.gb_vals.specs.declared.outcome.AbsComputed.{AbsComputed}
 use Rattle.gb_vals.specs.Vals.{between, single, any_val, is_single}
 use Rattle.gb_vals.specs.Flags.{known, greatest_flags}
 use Rattle.gb_vals.specs.Outcomes.{exact}
@@ -23,7 +23,7 @@ use Rattle.gb_vals.specs.Bits.{tested, tested_any, test_bit, reset_bit, set_bit}
 use Rattle.gb_vals.specs.Daa.{are_read_known, adjusted_any, adjustment_of}
 
 -- a choice of two computed outcomes
-IsComputed-either : (b : Bool) (o p : Outcome) → IsComputed o → IsComputed p → IsComputed (cond b o p)
+IsComputed-either : (b : Bool) (o p : AbsComputed) → IsComputed o → IsComputed p → IsComputed (cond b o p)
 IsComputed-either true o p h k = h
 IsComputed-either false o p h k = k
 
@@ -63,13 +63,13 @@ IsComputed-difference a v borrow =
     let known_difference = machine.subtracted a.lo v.lo (greatest_bit borrow) in
     IsComputed-either (are_known a v borrow) (exact known_difference) (difference_of least most) (IsComputed-exact known_difference) (IsComputed-difference_of least most)
 
-pub increment_computed : (v : Val) (f : Flg) (o : Outcome) → o ≡ increment v f → IsComputed o
+pub increment_computed : (v : Val) (f : Flg) (o : AbsComputed) → o ≡ increment v f → IsComputed o
 unfolding increment
 increment_computed v f o e =
     let next = either-origin (nat_lt v.hi 255) (between ((v.lo + 1) % 256) (v.hi + 1)) any_val refl refl in
     subst (λ r. IsComputed r) (sym e) (IsComputed-either (is_single v) (keeping_carry f.carry (exact (machine.incremented v.lo (greatest_flags f)))) (counted (next_val v) false f.carry) (record { origin = refl; own = refl }) (record { origin = next; own = refl }))
 
-pub decrement_computed : (v : Val) (f : Flg) (o : Outcome) → o ≡ decrement v f → IsComputed o
+pub decrement_computed : (v : Val) (f : Flg) (o : AbsComputed) → o ≡ decrement v f → IsComputed o
 unfolding decrement
 decrement_computed v f o e =
     let previous = either-origin (nat_lt 0 v.lo) (between (v.lo - 1) (v.hi - 1)) any_val refl refl in
@@ -108,7 +108,7 @@ of_itself-own a half = choose (is_single a)
     choose true = refl
     choose false = refl
 
-pub complement_computed : (a : Val) (f : Flg) (o : Outcome) → o ≡ complement a f → IsComputed o
+pub complement_computed : (a : Val) (f : Flg) (o : AbsComputed) → o ≡ complement a f → IsComputed o
 unfolding complement
 complement_computed a f o e = subst (λ r. IsComputed r) (sym e) (record { origin = refl; own = refl })
 
@@ -158,16 +158,16 @@ alu_itself-own op.Xor a f = refl
 alu_itself-own op.Or a f = of_itself-own a false
 alu_itself-own op.Cp a f = refl
 
-pub alu_kept : (how : AluOp) (a v : Val) (f : Flg) (o : Outcome) → o ≡ alu how a v f → o.val.origin ≡ alu_origin how a
+pub alu_kept : (how : AluOp) (a v : Val) (f : Flg) (o : AbsComputed) → o ≡ alu how a v f → o.val.origin ≡ alu_origin how a
 alu_kept how a v f o e = subst (λ r. r.val.origin ≡ alu_origin how a) (sym e) (alu-origin how a v f)
 
-pub alu_written : (how : AluOp) (a v : Val) (f : Flg) (o : Outcome) → o ≡ alu how a v f → o.flags.is_own ≡ false
+pub alu_written : (how : AluOp) (a v : Val) (f : Flg) (o : AbsComputed) → o ≡ alu how a v f → o.flags.is_own ≡ false
 alu_written how a v f o e = subst (λ r. r.flags.is_own ≡ false) (sym e) (alu-own how a v f)
 
-pub alu_itself_kept : (how : AluOp) (a : Val) (f : Flg) (o : Outcome) → o ≡ alu_itself how a f → o.val.origin ≡ itself_origin how a
+pub alu_itself_kept : (how : AluOp) (a : Val) (f : Flg) (o : AbsComputed) → o ≡ alu_itself how a f → o.val.origin ≡ itself_origin how a
 alu_itself_kept how a f o e = subst (λ r. r.val.origin ≡ itself_origin how a) (sym e) (alu_itself-origin how a f)
 
-pub alu_itself_written : (how : AluOp) (a : Val) (f : Flg) (o : Outcome) → o ≡ alu_itself how a f → o.flags.is_own ≡ false
+pub alu_itself_written : (how : AluOp) (a : Val) (f : Flg) (o : AbsComputed) → o ≡ alu_itself how a f → o.flags.is_own ≡ false
 alu_itself_written how a f o e = subst (λ r. r.flags.is_own ≡ false) (sym e) (alu_itself-own how a f)
 
 -- ---- shifts, DAA and single bits
@@ -187,16 +187,16 @@ unfolding shift_of
 IsComputed-shift how v f =
     IsComputed-either (is_single v && is_carry_known how f.carry) (exact (machine.shifted how v.lo f.carry.set)) (shifted_any how v) (IsComputed-exact _) (record { origin = shifted_val-origin how v; own = refl })
 
-pub shift_computed : (how : Shift) (v : Val) (f : Flg) (o : Outcome) → o ≡ shift_of how v f → IsComputed o
+pub shift_computed : (how : Shift) (v : Val) (f : Flg) (o : AbsComputed) → o ≡ shift_of how v f → IsComputed o
 shift_computed how v f o e = subst (λ r. IsComputed r) (sym e) (IsComputed-shift how v f)
 
-pub rotate_a_computed : (how : Shift) (a : Val) (f : Flg) (o : Outcome) → o ≡ rotation_of_a how a f → IsComputed o
+pub rotate_a_computed : (how : Shift) (a : Val) (f : Flg) (o : AbsComputed) → o ≡ rotation_of_a how a f → IsComputed o
 unfolding rotation_of_a
 rotate_a_computed how a f o e =
     let k : IsComputed (shift_of how a f) = IsComputed-shift how a f in
     subst (λ r. IsComputed r) (sym e) (record { origin = k.origin; own = k.own })
 
-pub adjust_computed : (a : Val) (f : Flg) (o : Outcome) → o ≡ adjustment_of a f → IsComputed o
+pub adjust_computed : (a : Val) (f : Flg) (o : AbsComputed) → o ≡ adjustment_of a f → IsComputed o
 unfolding adjustment_of
 adjust_computed a f o e =
     subst (λ r. IsComputed r) (sym e) (IsComputed-either (is_single a && are_read_known f) (exact (machine.adjusted a.lo (greatest_flags f))) (adjusted_any f) (IsComputed-exact _) (record { origin = refl; own = refl }))

@@ -10,7 +10,7 @@ use Rattle.gb_domain.specs.declared.types.Val.{Val}
 use Rattle.gb_domain.specs.declared.types.May.{May}
 use Rattle.gb_domain.specs.declared.types.Flg.{Flg}
 use Rattle.gb_domain.specs.Rules.{IsVal, IsFlg}
-use Rattle.gb_vals.specs.declared.outcome.Outcome.{Outcome}
+use Rattle.gb_vals.specs.declared.outcome.AbsComputed.{AbsComputed}
 use Rattle.gb_vals.specs.Vals.{is_single}
 use Rattle.gb_vals.specs.Outcomes.{exact}
 use Rattle.gb_vals.specs.Meaning.{In, FlagsIn, may_be, Gives, IsSound, IsOutcome}
@@ -98,11 +98,11 @@ Gives-rotation_of_a how a f x g byte m h =
       flags = record { zero = refl; subtract = k.flags.subtract; half_carry = k.flags.half_carry; carry = k.flags.carry };
     }
 
-pub shift_sound : (how : Shift) (v : Val) (f : Flg) (o : Outcome) → o ≡ shift_of how v f → v.hi < 256 → IsSound (shift_result how) v f o
+pub shift_sound : (how : Shift) (v : Val) (f : Flg) (o : AbsComputed) → o ≡ shift_of how v f → v.hi < 256 → IsSound (shift_result how) v f o
 shift_sound how v f o e byte =
     subst (λ r. IsSound (shift_result how) v f r) (sym e) (record { gives = λ x g. Gives-shift_of how v f x g byte })
 
-pub rotate_a_sound : (how : Shift) (a : Val) (f : Flg) (o : Outcome) → o ≡ rotation_of_a how a f → a.hi < 256 → IsSound (rotation_result how) a f o
+pub rotate_a_sound : (how : Shift) (a : Val) (f : Flg) (o : AbsComputed) → o ≡ rotation_of_a how a f → a.hi < 256 → IsSound (rotation_result how) a f o
 rotate_a_sound how a f o e byte =
     subst (λ r. IsSound (rotation_result how) a f r) (sym e) (record { gives = λ x g. Gives-rotation_of_a how a f x g byte })
 
@@ -126,7 +126,7 @@ shift-byte how v f h = choose (is_single v && is_carry_known how f.carry)
     choose true = shifted-byte how v.lo f.carry.set (omega arith)
     choose false = shifted_val-byte how v h.hi
 
-pub shift_inhabited : (how : Shift) (v : Val) (f : Flg) (o : Outcome) → o ≡ shift_of how v f → IsVal v → IsFlg f → IsOutcome o
+pub shift_inhabited : (how : Shift) (v : Val) (f : Flg) (o : AbsComputed) → o ≡ shift_of how v f → IsVal v → IsFlg f → IsOutcome o
 shift_inhabited how v f o e val flags =
     IsOutcome-sound (shift_result how) v f o (shift_sound how v f o e val.hi) val flags (subst (λ r. r.val.hi < 256) (sym e) (shift-byte how v f val))
 
@@ -134,6 +134,6 @@ rotation-byte : (how : Shift) (a : Val) (f : Flg) → IsVal a → (rotation_of_a
 unfolding rotation_of_a
 rotation-byte how a f h = shift-byte how a f h
 
-pub rotate_a_inhabited : (how : Shift) (a : Val) (f : Flg) (o : Outcome) → o ≡ rotation_of_a how a f → IsVal a → IsFlg f → IsOutcome o
+pub rotate_a_inhabited : (how : Shift) (a : Val) (f : Flg) (o : AbsComputed) → o ≡ rotation_of_a how a f → IsVal a → IsFlg f → IsOutcome o
 rotate_a_inhabited how a f o e val flags =
     IsOutcome-sound (rotation_result how) a f o (rotate_a_sound how a f o e val.hi) val flags (subst (λ r. r.val.hi < 256) (sym e) (rotation-byte how a f val))

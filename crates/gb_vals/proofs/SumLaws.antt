@@ -8,7 +8,7 @@ use Rattle.gb_domain.specs.declared.types.May.{May}
 use Rattle.gb_domain.specs.declared.types.Flg.{Flg}
 use Rattle.gb_ops.specs.Flags.{bit_of}
 use Rattle.gb_ops.specs.Arithmetic.{added, subtracted, incremented, decremented}
-use Rattle.gb_vals.specs.declared.outcome.Outcome.{Outcome}
+use Rattle.gb_vals.specs.declared.outcome.AbsComputed.{AbsComputed}
 use Rattle.gb_vals.specs.Vals.{between, any_val, is_single}
 use Rattle.gb_vals.specs.Flags.{is_known, greatest_flags}
 use Rattle.gb_vals.specs.Outcomes.{exact}
@@ -162,10 +162,10 @@ Gives-decrement v f x g byte m h = choose (is_single v) refl
         (kept ((x + 255) % 256) ((x + 255) % 256 == 0) true ((x + 255) % 16 == 15) f.carry g.carry f.carry.set h.carry)
     choose false e = unsure (previous_val v) ((x + 255) % 256) true ((x + 255) % 16 == 15) f.carry g.carry (In-previous v x (omega arith) m) h.carry
 
-pub increment_sound : (v : Val) (f : Flg) (o : Outcome) → o ≡ increment v f → IsSound incremented v f o
+pub increment_sound : (v : Val) (f : Flg) (o : AbsComputed) → o ≡ increment v f → IsSound incremented v f o
 increment_sound v f o e = subst (λ r. IsSound incremented v f r) (sym e) (record { gives = Gives-increment v f })
 
-pub decrement_sound : (v : Val) (f : Flg) (o : Outcome) → o ≡ decrement v f → v.hi < 256 → IsSound decremented v f o
+pub decrement_sound : (v : Val) (f : Flg) (o : AbsComputed) → o ≡ decrement v f → v.hi < 256 → IsSound decremented v f o
 decrement_sound v f o e byte =
     subst (λ r. IsSound decremented v f r) (sym e) (record { gives = λ x g. Gives-decrement v f x g byte })
 
@@ -224,10 +224,10 @@ decrement-byte v f byte = choose (is_single v)
     choose true = omega arith
     choose false = previous-byte v byte
 
-pub increment_inhabited : (v : Val) (f : Flg) (o : Outcome) → o ≡ increment v f → IsVal v → IsFlg f → IsOutcome o
+pub increment_inhabited : (v : Val) (f : Flg) (o : AbsComputed) → o ≡ increment v f → IsVal v → IsFlg f → IsOutcome o
 increment_inhabited v f o e val flags =
     IsOutcome-sound incremented v f o (increment_sound v f o e) val flags (subst (λ r. r.val.hi < 256) (sym e) (increment-byte v f))
 
-pub decrement_inhabited : (v : Val) (f : Flg) (o : Outcome) → o ≡ decrement v f → IsVal v → IsFlg f → IsOutcome o
+pub decrement_inhabited : (v : Val) (f : Flg) (o : AbsComputed) → o ≡ decrement v f → IsVal v → IsFlg f → IsOutcome o
 decrement_inhabited v f o e val flags =
     IsOutcome-sound decremented v f o (decrement_sound v f o e val.hi) val flags (subst (λ r. r.val.hi < 256) (sym e) (decrement-byte v f val.hi))

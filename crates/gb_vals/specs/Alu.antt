@@ -8,18 +8,18 @@ use Rattle.gb_ops.specs.Arithmetic.{alu_result}
 use Rattle.gb_domain.specs.declared.types.Origin.{Origin}
 use Rattle.gb_domain.specs.declared.types.Val.{Val}
 use Rattle.gb_domain.specs.declared.types.Flg.{Flg}
-use Rattle.gb_vals.specs.declared.outcome.Outcome.{Outcome}
+use Rattle.gb_vals.specs.declared.outcome.AbsComputed.{AbsComputed}
 use Rattle.gb_vals.specs.Vals.{single, is_single}
 use Rattle.gb_vals.specs.Flags.{known}
 use Rattle.gb_vals.specs.Sums.{sum, difference}
 use Rattle.gb_vals.specs.Logic.{conjunction, disjunction, exclusion, of_itself}
 
 -- the outcome, with another value
-abbrev pub with_val : Val → Outcome → Outcome
+abbrev pub with_val : Val → AbsComputed → AbsComputed
 with_val v o = record o { val = v }
 
 -- an operation of A with another operand; CP leaves A
-unfoldable pub alu : AluOp → Val → Val → Flg → Outcome
+unfoldable pub alu : AluOp → Val → Val → Flg → AbsComputed
 alu op.Add a v f = sum a v (known false)
 alu op.Adc a v f = sum a v f.carry
 alu op.Sub a v f = difference a v (known false)
@@ -41,7 +41,7 @@ nothing_left subtract =
     }
 
 -- an operation of A with A
-unfoldable pub alu_itself : AluOp → Val → Flg → Outcome
+unfoldable pub alu_itself : AluOp → Val → Flg → AbsComputed
 alu_itself op.Add a f = sum a a (known false)
 alu_itself op.Adc a f = sum a a f.carry
 alu_itself op.Sub a f = record { val = single 0; flags = nothing_left true }

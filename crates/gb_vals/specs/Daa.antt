@@ -3,7 +3,7 @@ use Rattle.std.specs.Prelude.{Bool, false, ◌&&◌, if◌then◌else◌}
 use Rattle.gb_domain.specs.declared.types.Val.{Val}
 use Rattle.gb_domain.specs.declared.types.Flg.{Flg}
 use Rattle.gb_ops.specs.Arithmetic as machine
-use Rattle.gb_vals.specs.declared.outcome.Outcome.{Outcome}
+use Rattle.gb_vals.specs.declared.outcome.AbsComputed.{AbsComputed}
 use Rattle.gb_vals.specs.Vals.{any_val, is_single}
 use Rattle.gb_vals.specs.Flags.{known, either, is_known, greatest_flags}
 use Rattle.gb_vals.specs.Outcomes.{exact}
@@ -12,7 +12,7 @@ use Rattle.gb_vals.specs.Outcomes.{exact}
 abbrev pub are_read_known : Flg → Bool
 are_read_known f = is_known f.subtract && is_known f.half_carry && is_known f.carry
 
-abbrev pub adjusted_any : Flg → Outcome
+abbrev pub adjusted_any : Flg → AbsComputed
 adjusted_any f =
     record {
       val = any_val;
@@ -25,5 +25,5 @@ adjusted_any f =
       };
     }
 
-unfoldable pub adjustment_of : Val → Flg → Outcome
+unfoldable pub adjustment_of : Val → Flg → AbsComputed
 adjustment_of a f = if is_single a && are_read_known f then exact (machine.adjusted a.lo (greatest_flags f)) else adjusted_any f

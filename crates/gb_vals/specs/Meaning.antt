@@ -6,7 +6,7 @@ use Rattle.gb_domain.specs.declared.types.Val.{Val}
 use Rattle.gb_domain.specs.declared.types.May.{May}
 use Rattle.gb_domain.specs.declared.types.Flg.{Flg}
 use Rattle.gb_domain.specs.Rules.{IsVal, IsFlg}
-use Rattle.gb_vals.specs.declared.outcome.Outcome.{Outcome}
+use Rattle.gb_vals.specs.declared.outcome.AbsComputed.{AbsComputed}
 
 -- v stands for x
 pub record In (v : Val) (x : ℕ) : Type 0 where
@@ -26,16 +26,16 @@ pub record FlagsIn (f : Flg) (x : Flags) : Type 0 where
   pub carry : may_be f.carry x.carry ≡ true
 
 -- an outcome stands for what the machine computes
-pub record Gives (o : Outcome) (c : Computed) : Type 0 where
+pub record Gives (o : AbsComputed) (c : Computed) : Type 0 where
   pub value : In o.val c.value
   pub flags : FlagsIn o.flags c.flags
 
 -- an outcome stands for what the machine computes of each value and flags that v and f stand for
-pub record IsSound (machine : ℕ → Flags → Computed) (v : Val) (f : Flg) (o : Outcome) : Type 0 where
+pub record IsSound (machine : ℕ → Flags → Computed) (v : Val) (f : Flg) (o : AbsComputed) : Type 0 where
   pub gives : (x : ℕ) (g : Flags) → In v x → FlagsIn f g → Gives o (machine x g)
 
 -- an outcome stands for what the machine computes of each two values and flags that a, v and f stand for
-pub record IsSoundOfTwo (machine : ℕ → ℕ → Flags → Computed) (a v : Val) (f : Flg) (o : Outcome) : Type 0 where
+pub record IsSoundOfTwo (machine : ℕ → ℕ → Flags → Computed) (a v : Val) (f : Flg) (o : AbsComputed) : Type 0 where
   pub gives : (x y : ℕ) (g : Flags) → In a x → In v y → FlagsIn f g → Gives o (machine x y g)
 
 -- a value stands for what the machine computes of each value that v stands for, by an operation that leaves the flags
@@ -61,11 +61,11 @@ pub record HasOne (property : ℕ → Bool) (v : Val) : Type 0 where
   pub holds : property value ≡ true
 
 -- an outcome has a value, and each flag has one
-pub record IsOutcome (o : Outcome) : Type 0 where
+pub record IsOutcome (o : AbsComputed) : Type 0 where
   pub val : IsVal o.val
   pub flags : IsFlg o.flags
 
 -- an outcome is computed: no copy of anything
-pub record IsComputed (o : Outcome) : Type 0 where
+pub record IsComputed (o : AbsComputed) : Type 0 where
   pub origin : o.val.origin ≡ None
   pub own : o.flags.is_own ≡ false

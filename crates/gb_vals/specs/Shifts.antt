@@ -9,7 +9,7 @@ use Rattle.gb_domain.specs.declared.types.May.{May}
 use Rattle.gb_domain.specs.declared.types.Flg.{Flg}
 use Rattle.gb_ops.specs.Effects.{without_zero}
 use Rattle.gb_ops.specs.Arithmetic as machine
-use Rattle.gb_vals.specs.declared.outcome.Outcome.{Outcome}
+use Rattle.gb_vals.specs.declared.outcome.AbsComputed.{AbsComputed}
 use Rattle.gb_vals.specs.Vals.{between, any_val, is_single}
 use Rattle.gb_vals.specs.Flags.{known, either, is_known}
 use Rattle.gb_vals.specs.Outcomes.{exact}
@@ -30,7 +30,7 @@ abbrev pub carry_out : Shift → May
 carry_out shift.Swap = known false
 carry_out _ = either
 
-abbrev pub shifted_any : Shift → Val → Outcome
+abbrev pub shifted_any : Shift → Val → AbsComputed
 shifted_any how v =
     record {
       val = shifted_val how v;
@@ -43,7 +43,7 @@ shifted_any how v =
       };
     }
 
-unfoldable pub shift_of : Shift → Val → Flg → Outcome
+unfoldable pub shift_of : Shift → Val → Flg → AbsComputed
 shift_of how v f =
     if is_single v && is_carry_known how f.carry then exact (machine.shifted how v.lo f.carry.set) else shifted_any how v
 
@@ -52,11 +52,11 @@ abbrev pub shift_result : Shift → ℕ → Flags → Computed
 shift_result how v f = machine.shifted how v f.carry
 
 -- the outcome, with Z clear
-abbrev pub clearing_zero : Outcome → Outcome
+abbrev pub clearing_zero : AbsComputed → AbsComputed
 clearing_zero o = record o { flags = record o.flags { zero = known false } }
 
 -- RLCA, RRCA, RLA and RRA
-unfoldable pub rotation_of_a : Shift → Val → Flg → Outcome
+unfoldable pub rotation_of_a : Shift → Val → Flg → AbsComputed
 rotation_of_a how a f = clearing_zero (shift_of how a f)
 
 -- what the machine makes of A and the flags

@@ -5,7 +5,7 @@ use Rattle.gb_domain.specs.declared.types.May.{May}
 use Rattle.gb_domain.specs.declared.types.Flg.{Flg}
 use Rattle.gb_ops.specs.Flags.{bit_of}
 use Rattle.gb_ops.specs.Arithmetic as machine
-use Rattle.gb_vals.specs.declared.outcome.Outcome.{Outcome}
+use Rattle.gb_vals.specs.declared.outcome.AbsComputed.{AbsComputed}
 use Rattle.gb_vals.specs.Vals.{between, any_val, is_single}
 use Rattle.gb_vals.specs.Flags.{known, either, is_known, zero_by, greatest_flags}
 use Rattle.gb_vals.specs.Outcomes.{exact}
@@ -26,7 +26,7 @@ abbrev pub zero_of : ℕ → ℕ → May
 zero_of least most = record { clear = has_other least most; set = has_multiple_of_256 least most }
 
 -- the byte and the flags of sums from least to most: C where they exceed FF
-unfoldable pub sum_of : ℕ → ℕ → Outcome
+unfoldable pub sum_of : ℕ → ℕ → AbsComputed
 sum_of least most =
     record {
       val = cut least most;
@@ -40,7 +40,7 @@ sum_of least most =
     }
 
 -- the byte and the flags of differences, each 256 more than it is, from least to most: C where they are below 0
-unfoldable pub difference_of : ℕ → ℕ → Outcome
+unfoldable pub difference_of : ℕ → ℕ → AbsComputed
 difference_of least most =
     record {
       val = cut least most;
@@ -66,21 +66,21 @@ unfoldable pub are_known : Val → Val → May → Bool
 are_known a v carry = is_single a && is_single v && is_known carry
 
 -- ADD (the carry known to be clear) and ADC
-unfoldable pub sum : Val → Val → May → Outcome
+unfoldable pub sum : Val → Val → May → AbsComputed
 sum a v carry =
     if are_known a v carry
     then exact (machine.added a.lo v.lo (greatest_bit carry))
     else sum_of (a.lo + v.lo + least_bit carry) (a.hi + v.hi + greatest_bit carry)
 
 -- SUB (the borrow known to be clear) and SBC
-unfoldable pub difference : Val → Val → May → Outcome
+unfoldable pub difference : Val → Val → May → AbsComputed
 difference a v borrow =
     if are_known a v borrow
     then exact (machine.subtracted a.lo v.lo (greatest_bit borrow))
     else difference_of (a.lo + 256 - (v.hi + greatest_bit borrow)) (a.hi + 256 - (v.lo + least_bit borrow))
 
 -- the value and the flags of INC and DEC: Z by the bounds, H either, C as it was
-abbrev pub counted : Val → Bool → May → Outcome
+abbrev pub counted : Val → Bool → May → AbsComputed
 counted v subtract carry =
     record {
       val = v;
@@ -94,7 +94,7 @@ counted v subtract carry =
     }
 
 -- the outcome, with C as it was
-abbrev pub keeping_carry : May → Outcome → Outcome
+abbrev pub keeping_carry : May → AbsComputed → AbsComputed
 keeping_carry carry o = record o { flags = record o.flags { carry = carry } }
 
 -- one more, where that is a byte (the remainder is for empty intervals alone)
@@ -105,13 +105,13 @@ next_val v = if nat_lt v.hi 255 then between ((v.lo + 1) % 256) (v.hi + 1) else 
 abbrev pub previous_val : Val → Val
 previous_val v = if nat_lt 0 v.lo then between (v.lo - 1) (v.hi - 1) else any_val
 
-unfoldable pub increment : Val → Flg → Outcome
+unfoldable pub increment : Val → Flg → AbsComputed
 increment v f =
     if is_single v
     then keeping_carry f.carry (exact (machine.incremented v.lo (greatest_flags f)))
     else counted (next_val v) false f.carry
 
-unfoldable pub decrement : Val → Flg → Outcome
+unfoldable pub decrement : Val → Flg → AbsComputed
 decrement v f =
     if is_single v
     then keeping_carry f.carry (exact (machine.decremented v.lo (greatest_flags f)))

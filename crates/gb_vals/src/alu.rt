@@ -8,7 +8,7 @@ ghost use Rattle.gb_vals.specs.Alu as Alu;
 
 use crate::flags::known;
 use crate::logic::{conjunction, disjunction, exclusion, of_itself};
-use crate::outcome::Outcome;
+use crate::outcome::AbsComputed;
 use crate::sums::{difference, sum};
 use crate::vals::single;
 use gb_domain::types::{Flg, Val};
@@ -19,7 +19,7 @@ use gb_ops::op::AluOp;
 /// these lie in one block of 256, AND goes up to the smaller greatest value, OR from the larger
 /// least one, and all others are any byte; H is either after sums and differences. CP leaves A.
 #[tactic(auto, using(crate::proofs::AluLaws::alu_sound, crate::proofs::OriginLaws::alu_written))]
-pub fn alu(op: AluOp, a: Val, operand: Val, flags: Flg) -> Outcome
+pub fn alu(op: AluOp, a: Val, operand: Val, flags: Flg) -> AbsComputed
     ensures exact { result ≡ Alu.alu op a operand flags }
     ensures sound { IsSoundOfTwo (alu_result op) a operand flags result }
     ensures inhabited { IsVal a → IsVal operand → IsFlg flags → IsOutcome result }
@@ -30,7 +30,7 @@ pub fn alu(op: AluOp, a: Val, operand: Val, flags: Flg) -> Outcome
 }
 
 #[tactic(auto, unfolding(crate::specs::Alu::alu))]
-fn outcome_of(op: AluOp, a: Val, operand: Val, flags: Flg) -> Outcome
+fn outcome_of(op: AluOp, a: Val, operand: Val, flags: Flg) -> AbsComputed
     ensures { result ≡ Alu.alu op a operand flags }
 {
     match op {
@@ -41,7 +41,7 @@ fn outcome_of(op: AluOp, a: Val, operand: Val, flags: Flg) -> Outcome
         AluOp::And => conjunction(a, operand),
         AluOp::Xor => exclusion(a, operand),
         AluOp::Or => disjunction(a, operand),
-        AluOp::Cp => Outcome {
+        AluOp::Cp => AbsComputed {
             val: a,
             flags: difference(a, operand, known(false)).flags,
         },
@@ -64,7 +64,7 @@ fn nothing_left(subtract: bool) -> Flg
 /// An operation of A with A: SUB and XOR give 0, and Z is known after SUB, XOR and CP. AND and OR
 /// leave an A that isn't known, with its origin; a known one has none afterwards.
 #[tactic(auto, using(crate::proofs::AluLaws::alu_itself_sound, crate::proofs::OriginLaws::alu_itself_written))]
-pub fn alu_itself(op: AluOp, a: Val, flags: Flg) -> Outcome
+pub fn alu_itself(op: AluOp, a: Val, flags: Flg) -> AbsComputed
     ensures exact { result ≡ Alu.alu_itself op a flags }
     ensures sound { IsSound (Alu.result_with_itself op) a flags result }
     ensures inhabited { IsVal a → IsFlg flags → IsOutcome result }
@@ -75,24 +75,24 @@ pub fn alu_itself(op: AluOp, a: Val, flags: Flg) -> Outcome
 }
 
 #[tactic(auto, unfolding(crate::specs::Alu::alu_itself))]
-fn outcome_of_itself(op: AluOp, a: Val, flags: Flg) -> Outcome
+fn outcome_of_itself(op: AluOp, a: Val, flags: Flg) -> AbsComputed
     ensures { result ≡ Alu.alu_itself op a flags }
 {
     match op {
         AluOp::Add => sum(a, a, known(false)),
         AluOp::Adc => sum(a, a, flags.carry),
-        AluOp::Sub => Outcome {
+        AluOp::Sub => AbsComputed {
             val: single(0),
             flags: nothing_left(true),
         },
         AluOp::Sbc => difference(a, a, flags.carry),
         AluOp::And => of_itself(a, true),
-        AluOp::Xor => Outcome {
+        AluOp::Xor => AbsComputed {
             val: single(0),
             flags: nothing_left(false),
         },
         AluOp::Or => of_itself(a, false),
-        AluOp::Cp => Outcome {
+        AluOp::Cp => AbsComputed {
             val: a,
             flags: nothing_left(true),
         },

@@ -7,7 +7,7 @@ ghost use Rattle.gb_vals.specs.Meaning.{IsSound, IsOutcome, IsComputed};
 ghost use Rattle.gb_vals.specs.Daa as Daa;
 
 use crate::flags::{either, greatest_flags, is_known, known};
-use crate::outcome::{Outcome, exact};
+use crate::outcome::{AbsComputed, exact};
 use crate::vals::{any, is_single};
 use gb_domain::types::{Flg, Val};
 use gb_effects::arithmetic::adjusted;
@@ -20,10 +20,10 @@ fn are_read_known(flags: Flg) -> bool
 }
 
 /// DAA where A or a flag that it reads isn't known.
-fn adjusted_any(flags: Flg) -> Outcome
+fn adjusted_any(flags: Flg) -> AbsComputed
     ensures { result ≡ Daa.adjusted_any flags }
 {
-    Outcome {
+    AbsComputed {
         val: any(),
         flags: Flg {
             zero: either(),
@@ -37,7 +37,7 @@ fn adjusted_any(flags: Flg) -> Outcome
 
 /// DAA: any byte, Z and carry, unless A, N, H and the carry are known. N stays.
 #[tactic(auto, using(crate::proofs::DaaLaws::adjust_sound, crate::proofs::DaaLaws::adjust_inhabited, crate::proofs::OriginLaws::adjust_computed), unfolding(crate::specs::Daa::adjustment_of))]
-pub fn adjust(a: Val, flags: Flg) -> Outcome
+pub fn adjust(a: Val, flags: Flg) -> AbsComputed
     ensures exact { result ≡ Daa.adjustment_of a flags }
     ensures sound { IsSound machine.adjusted a flags result }
     ensures inhabited { IsVal a → IsFlg flags → IsOutcome result }

@@ -21,6 +21,8 @@ pub mod shifts;
 pub mod sums;
 pub mod vals;
 
+pub use outcome::AbsComputed;
+
 // What lies below, for the crates above.
 pub use gb_effects::advance::length_of;
 pub use gb_effects::arithmetic;

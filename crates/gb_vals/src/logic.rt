@@ -6,16 +6,16 @@ ghost use Rattle.gb_vals.specs.Meaning.{IsSound, IsOutcome, IsComputed};
 ghost use Rattle.gb_vals.specs.Logic as Logic;
 
 use crate::flags::{known, zero_by};
-use crate::outcome::{Outcome, exact};
+use crate::outcome::{AbsComputed, exact};
 use crate::vals::{any, between, is_single};
 use gb_domain::types::{Flg, Val};
 use gb_effects::arithmetic;
 
 /// A value with the flags of AND, XOR and OR.
-fn logical(val: Val, half_carry: bool) -> Outcome
+fn logical(val: Val, half_carry: bool) -> AbsComputed
     ensures { result ≡ Logic.logical val half_carry }
 {
-    Outcome {
+    AbsComputed {
         val,
         flags: Flg {
             zero: zero_by(val),
@@ -34,7 +34,7 @@ fn are_single(a: Val, operand: Val) -> bool
 }
 
 #[tactic(auto, unfolding(crate::specs::Logic::conjunction))]
-pub(crate) fn conjunction(a: Val, operand: Val) -> Outcome
+pub(crate) fn conjunction(a: Val, operand: Val) -> AbsComputed
     ensures { result ≡ Logic.conjunction a operand }
 {
     if are_single(a, operand) {
@@ -45,7 +45,7 @@ pub(crate) fn conjunction(a: Val, operand: Val) -> Outcome
 }
 
 #[tactic(auto, unfolding(crate::specs::Logic::disjunction))]
-pub(crate) fn disjunction(a: Val, operand: Val) -> Outcome
+pub(crate) fn disjunction(a: Val, operand: Val) -> AbsComputed
     ensures { result ≡ Logic.disjunction a operand }
 {
     if are_single(a, operand) {
@@ -56,7 +56,7 @@ pub(crate) fn disjunction(a: Val, operand: Val) -> Outcome
 }
 
 #[tactic(auto, unfolding(crate::specs::Logic::exclusion))]
-pub(crate) fn exclusion(a: Val, operand: Val) -> Outcome
+pub(crate) fn exclusion(a: Val, operand: Val) -> AbsComputed
     ensures { result ≡ Logic.exclusion a operand }
 {
     if are_single(a, operand) {
@@ -68,7 +68,7 @@ pub(crate) fn exclusion(a: Val, operand: Val) -> Outcome
 
 /// AND A and OR A.
 #[tactic(auto, unfolding(crate::specs::Logic::of_itself))]
-pub(crate) fn of_itself(a: Val, half_carry: bool) -> Outcome
+pub(crate) fn of_itself(a: Val, half_carry: bool) -> AbsComputed
     ensures { result ≡ Logic.of_itself a half_carry }
 {
     if is_single(a) {
@@ -80,13 +80,13 @@ pub(crate) fn of_itself(a: Val, half_carry: bool) -> Outcome
 
 /// CPL: each bit turned over, so the bounds change places; N and H are set.
 #[tactic(auto, using(crate::proofs::LogicLaws::complement_sound, crate::proofs::LogicLaws::complement_inhabited, crate::proofs::OriginLaws::complement_computed), unfolding(crate::specs::Logic::complement))]
-pub fn complement(a: Val, flags: Flg) -> Outcome
+pub fn complement(a: Val, flags: Flg) -> AbsComputed
     ensures exact { result ≡ Logic.complement a flags }
     ensures sound { IsSound Logic.complement_result a flags result }
     ensures inhabited { IsVal a → IsFlg flags → IsOutcome result }
     ensures computed { IsComputed result }
 {
-    Outcome {
+    AbsComputed {
         val: between(255 - a.hi, 255 - a.lo),
         flags: Flg {
             subtract: known(true),

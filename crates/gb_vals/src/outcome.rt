@@ -10,16 +10,16 @@ use gb_ops::machine::Computed;
 
 /// What an operation may give: an interval of values, and the flags after it.
 #[derive(Clone, Copy, PartialEq, Eq)]
-pub struct Outcome {
+pub struct AbsComputed {
     pub val: Val,
     pub flags: Flg,
 }
 
 /// What the machine computes, and nothing else.
-pub(crate) fn exact(computed: Computed) -> Outcome
+pub(crate) fn exact(computed: Computed) -> AbsComputed
     ensures { result ≡ exact computed }
 {
-    Outcome {
+    AbsComputed {
         val: single(computed.value),
         flags: known_flags(computed.flags),
     }

@@ -6,7 +6,7 @@ ghost use Rattle.gb_vals.specs.Meaning.{IsSound, IsOutcome, IsComputed};
 ghost use Rattle.gb_vals.specs.Shifts as Shifts;
 
 use crate::flags::{either, is_known, known};
-use crate::outcome::{Outcome, exact};
+use crate::outcome::{AbsComputed, exact};
 use crate::vals::{any, between, is_single};
 use gb_domain::types::{Flg, May, Val};
 use gb_effects::arithmetic::shifted;
@@ -40,10 +40,10 @@ fn carry_out(how: Shift) -> May
 }
 
 /// A rotation or shift where the byte or a carry that it reads isn't known.
-fn shifted_any(how: Shift, val: Val) -> Outcome
+fn shifted_any(how: Shift, val: Val) -> AbsComputed
     ensures { result ≡ Shifts.shifted_any how val }
 {
-    Outcome {
+    AbsComputed {
         val: shifted_val(how, val),
         flags: Flg {
             zero: either(),
@@ -58,7 +58,7 @@ fn shifted_any(how: Shift, val: Val) -> Outcome
 /// A rotation or shift, or SWAP. A byte that isn't known, or a carry that isn't where RL and RR
 /// read it, gives any byte and either carry; but SRL halves the bounds, and SWAP clears the carry.
 #[tactic(auto, using(crate::proofs::ShiftLaws::shift_sound, crate::proofs::ShiftLaws::shift_inhabited, crate::proofs::OriginLaws::shift_computed), unfolding(crate::specs::Shifts::shift_of))]
-pub fn shift(how: Shift, val: Val, flags: Flg) -> Outcome
+pub fn shift(how: Shift, val: Val, flags: Flg) -> AbsComputed
     ensures exact { result ≡ Shifts.shift_of how val flags }
     ensures sound { IsSound (Shifts.shift_result how) val flags result }
     ensures inhabited { IsVal val → IsFlg flags → IsOutcome result }
@@ -73,14 +73,14 @@ pub fn shift(how: Shift, val: Val, flags: Flg) -> Outcome
 
 /// RLCA, RRCA, RLA and RRA: as the rotation, with Z clear.
 #[tactic(auto, using(crate::proofs::ShiftLaws::rotate_a_sound, crate::proofs::ShiftLaws::rotate_a_inhabited, crate::proofs::OriginLaws::rotate_a_computed), unfolding(crate::specs::Shifts::rotation_of_a))]
-pub fn rotate_a(how: Shift, a: Val, flags: Flg) -> Outcome
+pub fn rotate_a(how: Shift, a: Val, flags: Flg) -> AbsComputed
     ensures exact { result ≡ Shifts.rotation_of_a how a flags }
     ensures sound { IsSound (Shifts.rotation_result how) a flags result }
     ensures inhabited { IsVal a → IsFlg flags → IsOutcome result }
     ensures computed { IsComputed result }
 {
     let shifted = shift(how, a, flags);
-    Outcome {
+    AbsComputed {
         val: shifted.val,
         flags: Flg {
             zero: known(false),

@@ -7,7 +7,7 @@ ghost use Rattle.gb_vals.specs.Meaning.{IsSound, IsOutcome, IsComputed};
 ghost use Rattle.gb_vals.specs.Sums as Sums;
 
 use crate::flags::{either, greatest_flags, is_known, known, zero_by};
-use crate::outcome::{Outcome, exact};
+use crate::outcome::{AbsComputed, exact};
 use crate::vals::{any, between, is_single};
 use gb_domain::types::{Flg, May, Val};
 use gb_effects::arithmetic::{added, decremented, incremented, subtracted};
@@ -35,10 +35,10 @@ fn zero_of(least: u16, most: u16) -> May
 }
 
 #[tactic(auto, unfolding(crate::specs::Sums::sum_of))]
-fn sum_of(least: u16, most: u16) -> Outcome
+fn sum_of(least: u16, most: u16) -> AbsComputed
     ensures { result ≡ Sums.sum_of least most }
 {
-    Outcome {
+    AbsComputed {
         val: cut(least, most),
         flags: Flg {
             zero: zero_of(least, most),
@@ -54,10 +54,10 @@ fn sum_of(least: u16, most: u16) -> Outcome
 }
 
 #[tactic(auto, unfolding(crate::specs::Sums::difference_of))]
-fn difference_of(least: u16, most: u16) -> Outcome
+fn difference_of(least: u16, most: u16) -> AbsComputed
     ensures { result ≡ Sums.difference_of least most }
 {
-    Outcome {
+    AbsComputed {
         val: cut(least, most),
         flags: Flg {
             zero: zero_of(least, most),
@@ -97,7 +97,7 @@ fn are_known(a: Val, operand: Val, carry: May) -> bool
 
 /// ADD and ADC, with the carry that comes in.
 #[tactic(auto, unfolding(crate::specs::Sums::sum))]
-pub(crate) fn sum(a: Val, operand: Val, carry: May) -> Outcome
+pub(crate) fn sum(a: Val, operand: Val, carry: May) -> AbsComputed
     ensures { result ≡ Sums.sum a operand carry }
 {
     if are_known(a, operand, carry) {
@@ -112,7 +112,7 @@ pub(crate) fn sum(a: Val, operand: Val, carry: May) -> Outcome
 
 /// SUB, SBC and CP, with the borrow that comes in.
 #[tactic(auto, unfolding(crate::specs::Sums::difference))]
-pub(crate) fn difference(a: Val, operand: Val, borrow: May) -> Outcome
+pub(crate) fn difference(a: Val, operand: Val, borrow: May) -> AbsComputed
     ensures { result ≡ Sums.difference a operand borrow }
 {
     if are_known(a, operand, borrow) {
@@ -128,10 +128,10 @@ pub(crate) fn difference(a: Val, operand: Val, borrow: May) -> Outcome
 }
 
 /// The value and the flags of INC and DEC.
-fn counted(val: Val, subtract: bool, carry: May) -> Outcome
+fn counted(val: Val, subtract: bool, carry: May) -> AbsComputed
     ensures { result ≡ Sums.counted val subtract carry }
 {
-    Outcome {
+    AbsComputed {
         val,
         flags: Flg {
             zero: zero_by(val),
@@ -143,10 +143,10 @@ fn counted(val: Val, subtract: bool, carry: May) -> Outcome
     }
 }
 
-fn keeping_carry(carry: May, outcome: Outcome) -> Outcome
+fn keeping_carry(carry: May, outcome: AbsComputed) -> AbsComputed
     ensures { result ≡ Sums.keeping_carry carry outcome }
 {
-    Outcome {
+    AbsComputed {
         val: outcome.val,
         flags: Flg {
             carry,
@@ -177,7 +177,7 @@ fn previous_val(val: Val) -> Val
 
 /// INC: any byte where the greatest value is FF; H is known of a known byte alone. The carry stays.
 #[tactic(auto, using(crate::proofs::SumLaws::increment_sound, crate::proofs::SumLaws::increment_inhabited, crate::proofs::OriginLaws::increment_computed), unfolding(crate::specs::Sums::increment))]
-pub fn increment(val: Val, flags: Flg) -> Outcome
+pub fn increment(val: Val, flags: Flg) -> AbsComputed
     ensures exact { result ≡ Sums.increment val flags }
     ensures sound { IsSound machine.incremented val flags result }
     ensures inhabited { IsVal val → IsFlg flags → IsOutcome result }
@@ -195,7 +195,7 @@ pub fn increment(val: Val, flags: Flg) -> Outcome
 
 /// DEC: any byte where the least value is 0; H is known of a known byte alone. The carry stays.
 #[tactic(auto, using(crate::proofs::SumLaws::decrement_sound, crate::proofs::SumLaws::decrement_inhabited, crate::proofs::OriginLaws::decrement_computed), unfolding(crate::specs::Sums::decrement))]
-pub fn decrement(val: Val, flags: Flg) -> Outcome
+pub fn decrement(val: Val, flags: Flg) -> AbsComputed
     ensures exact { result ≡ Sums.decrement val flags }
     ensures sound { IsSound machine.decremented val flags result }
     ensures inhabited { IsVal val → IsFlg flags → IsOutcome result }

@@ -1,6 +1,6 @@
 use Rattle.std.proofs.Common.{◌≡◌, Ok, Err, subst, arith}
 use Rattle.gb_domain.specs.declared.rules.Rules.{Rules}
-use Rattle.gb_fields.specs.Format.{mapped}
+use Rattle.gb_states.specs.Below.gb_fields.Format.{mapped}
 use Rattle.std.proofs.lemmas.Result.{err_from_is_err_and}
 use Rattle.gb_states.specs.Rules.{IsNode, key}
 use Rattle.gb_states.specs.Reading.{node_at, nodes_at}

@@ -1,6 +1,6 @@
 use Rattle.std.proofs.Common.{subst}
 use Rattle.gb_domain.specs.declared.rules.Rules.{Rules}
-use Rattle.gb_fields.specs.Format.{Gives}
+use Rattle.gb_states.specs.Below.gb_fields.Format.{Gives}
 use Rattle.gb_states.specs.Reading.{body_at}
 use Rattle.gb_cert.specs.Skipping.{skipped}
 use Rattle.gb_cert.proofs.Skipping.{entry_then}

@@ -1,5 +1,5 @@
 use Rattle.std.proofs.lemmas.Result.{err_from_is_err_and}
-use Rattle.gb_fields.specs.Format.{several}
+use Rattle.gb_states.specs.Below.gb_fields.Format.{several}
 use Rattle.gb_cert.specs.Skipping.{skipped}
 use Rattle.gb_states.specs.Reading.{val_at}
 use Rattle.gb_cert.proofs.Skipping.{skips_on, skip_ends, skip_done}

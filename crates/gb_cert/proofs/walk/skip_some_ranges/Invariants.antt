@@ -1,5 +1,5 @@
 use Rattle.std.proofs.Common.{◌≡◌, ◌-◌}
-use Rattle.gb_fields.specs.Format.{several}
+use Rattle.gb_states.specs.Below.gb_fields.Format.{several}
 use Rattle.gb_cert.specs.Skipping.{skipped}
 use Rattle.gb_states.specs.Rules.{after_range}
 use Rattle.gb_states.specs.Reading.{range_at}

@@ -1,7 +1,7 @@
 use Rattle.std.proofs.Common.{◌∙◌, ap}
 use Rattle.std.proofs.lemmas.Result.{err_from_is_err_and}
 use Rattle.gb_cert.specs.Skipping.{skipped, past}
-use Rattle.gb_fields.specs.Format.{both}
+use Rattle.gb_states.specs.Below.gb_fields.Format.{both}
 use Rattle.gb_states.specs.RelationReading.{relations_by}
 use Rattle.gb_states.specs.Reading.{cells_at}
 use Rattle.gb_cert.proofs.Skipping.{pass_then}

@@ -1,7 +1,7 @@
 use Rattle.std.proofs.Common.{◌≡◌, ◌<◌, ℕ, length, get_or, drop, Ok, sym, ap, ◌∙◌, arith}
 use Rattle.std.proofs.lemmas.Grind.{get_or_default_zero}
-use Rattle.gb_fields.specs.Format.{both, byte}
-use Rattle.gb_fields.specs.Reading.{word}
+use Rattle.gb_states.specs.Below.gb_fields.Format.{both, byte}
+use Rattle.gb_states.specs.Below.gb_fields.Reading.{word}
 use Rattle.gb_cert.specs.Places.{certificate_in}
 use Rattle.gb_cert.proofs.Placing.{at-length}
 use Rattle.gb_cert.proofs.Lending.{node-lent, node-front}

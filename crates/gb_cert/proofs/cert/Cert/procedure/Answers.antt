@@ -1,6 +1,6 @@
 use Rattle.std.proofs.Common.{◌≡◌, ◌<◌, ℕ, length, get_or, drop, Ok, sym, ap, ◌∙◌, arith}
 use Rattle.std.proofs.lemmas.Grind.{get_or_default_zero}
-use Rattle.gb_fields.specs.Reading.{node_number}
+use Rattle.gb_states.specs.Below.gb_fields.Reading.{node_number}
 use Rattle.gb_cert.specs.Places.{certificate_in}
 use Rattle.gb_cert.proofs.Placing.{at-length}
 use Rattle.gb_cert.proofs.Lending.{procedure-lent, procedure-entry}

@@ -2,7 +2,7 @@ use Rattle.std.proofs.Common.{◌≡◌, ◌<◌, ℕ, length, get_or, drop, Ok,
 use Rattle.std.specs.Prelude.{◌==◌}
 use Rattle.std.proofs.lemmas.Grind.{get_or_default_zero}
 use Rattle.gb_domain.specs.declared.rules.Rules.{Rules}
-use Rattle.gb_fields.specs.Reading.{node_number}
+use Rattle.gb_states.specs.Below.gb_fields.Reading.{node_number}
 use Rattle.gb_states.specs.Reading.{body_at}
 use Rattle.gb_cert.specs.Skipping.{skipped}
 use Rattle.gb_cert.specs.Places.{certificate_in}
