@@ -3,7 +3,7 @@ use Rattle.std.proofs.Common.{◌≡◌, ℕ, zero, suc, ◌+◌, ◌≤◌, ◌
 use Rattle.std.proofs.lemmas.List.{take-take, take_all, at_drop_more}
 use Rattle.std.specs.List.{AllByRecursion, filter}
 use Rattle.gb_domain.specs.declared.types.Cell.{Cell}
-use Rattle.gb_abs.specs.Origins.{cell_without_origin}
+use Rattle.gb_product.specs.Below.gb_abs.Origins.{cell_without_origin}
 use Rattle.gb_calls.specs.Resuming.{inserted, merged}
 
 -- ---- what holds of each

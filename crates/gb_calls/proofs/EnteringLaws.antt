@@ -11,9 +11,9 @@ use Rattle.gb_domain.specs.declared.types.Origin.TheVariants as origin
 use Rattle.gb_domain.specs.declared.types.Val.{Val}
 use Rattle.gb_domain.specs.declared.types.Core.{Core}
 use Rattle.gb_domain.specs.Types.{AbsState, origin_of_register}
-use Rattle.gb_abs.specs.Meaning.{Holds, MeansCore}
-use Rattle.gb_abs.specs.Origins.{own}
-use Rattle.gb_abs.proofs.OriginLaws.{origin_value-of_register, Holds-own, AreCells-without_origins}
+use Rattle.gb_product.specs.Below.gb_abs.Meaning.{Holds, MeansCore}
+use Rattle.gb_product.specs.Below.gb_abs.Origins.{own}
+use Rattle.gb_product.proofs.Below.gb_abs_laws.OriginLaws.{origin_value-of_register, Holds-own, AreCells-without_origins}
 use Rattle.gb_product.specs.Meaning.{Means}
 use Rattle.gb_calls.specs.Calls.{own_registers, entered_core, entered_by}
 use Rattle.gb_calls.specs.Sound.{without_word, IsCalled, Begins, callee_base, IsSoundEntering}

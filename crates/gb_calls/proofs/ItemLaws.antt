@@ -5,13 +5,13 @@ use Rattle.std.proofs.lemmas.Bool.{eqb-true}
 use Rattle.std.proofs.lemmas.List.{take_all}
 use Rattle.gb_domain.specs.declared.types.Cell.{Cell}
 use Rattle.gb_domain.specs.declared.types.Val.{Val}
-use Rattle.gb_states.specs.Reading.{origin_of}
-use Rattle.gb_states.specs.Checked.{listed_items}
-use Rattle.gb_states.specs.Spelling as spelled
-use Rattle.gb_states.proofs.ListedLaws.{no_items, items_front}
+use Rattle.gb_cert.specs.Below.gb_states.Reading.{origin_of}
+use Rattle.gb_cert.specs.Below.gb_states.Checked.{listed_items}
+use Rattle.gb_cert.specs.Below.gb_states.Spelling as spelled
+use Rattle.gb_cert.proofs.Below.gb_states_laws.ListedLaws.{no_items, items_front}
 use Rattle.gb_cert.proofs.CheckedLaws.{items_listed, cells_long}
-use Rattle.gb_abs.specs.Covering.{covers_val, covers_items, covers_cells}
-use Rattle.gb_abs.specs.Origins.{without_origin}
+use Rattle.gb_product.specs.Below.gb_abs.Covering.{covers_val, covers_items, covers_cells}
+use Rattle.gb_product.specs.Below.gb_abs.Origins.{without_origin}
 use Rattle.gb_calls.specs.TakenOver.{returning}
 
 -- of three items and more the first is no copy

@@ -6,7 +6,7 @@ use Rattle.std.specs.List.{list_any, list_all}
 use Rattle.gb_ops.specs.declared.machine.Region.{Region}
 use Rattle.gb_domain.specs.declared.setting.Setting.{Setting}
 use Rattle.gb_domain.specs.declared.types.Range.{Range}
-use Rattle.gb_abs.specs.Span.{one}
+use Rattle.gb_product.specs.Below.gb_abs.Span.{one}
 use Rattle.gb_abs_memory.specs.Access.{is_range}
 use Rattle.gb_abs_memory.specs.Kept.{keeps, IsKept}
 use Rattle.gb_calls.specs.Calls.{is_in_one, are_ranges_inside}

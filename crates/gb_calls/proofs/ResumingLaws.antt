@@ -35,37 +35,37 @@ use Rattle.gb_domain.specs.Types.{AbsState, origin_of_register}
 use Rattle.gb_domain.specs.Limits.{cell_room, item_room}
 use Rattle.gb_domain.specs.Places.{no_byte}
 use Rattle.gb_domain.specs.Rules.{IsCore}
-use Rattle.gb_pairs.specs.declared.values.Values.{Values}
-use Rattle.gb_pairs.specs.Meaning.{AreBytes, Holds as HoldsValues}
-use Rattle.gb_pairs.specs.Reduced.{reduced}
-use Rattle.gb_pairs.specs.Sound.{HoldsIn, IsCut}
-use Rattle.gb_pairs.proofs.CutLaws.{reduced_cuts}
-use Rattle.gb_pairs.proofs.ReducedLaws.{reduced_sound}
-use Rattle.gb_relations.specs.Places.{is_free}
-use Rattle.gb_relations.specs.declared.returned.Kept.{Kept}
-use Rattle.gb_relations.specs.Returned as Returned
-use Rattle.gb_relations.specs.Returned.{is_pair_kept, is_other_kept, link_if_kept, link_returned, facts_returned, returned}
-use Rattle.gb_relations.specs.Sound.{IsByteFree}
-use Rattle.gb_relations.specs.Transfer.{values_of}
-use Rattle.gb_relations.proofs.ReturnLaws.{returned_sound}
+use Rattle.gb_product.specs.Below.gb_pairs.declared.values.Values.{Values}
+use Rattle.gb_product.specs.Below.gb_pairs.Meaning.{AreBytes, Holds as HoldsValues}
+use Rattle.gb_product.specs.Below.gb_pairs.Reduced.{reduced}
+use Rattle.gb_product.specs.Below.gb_pairs.Sound.{HoldsIn, IsCut}
+use Rattle.gb_product.proofs.Below.gb_pairs_laws.CutLaws.{reduced_cuts}
+use Rattle.gb_product.proofs.Below.gb_pairs_laws.ReducedLaws.{reduced_sound}
+use Rattle.gb_product.specs.Below.gb_relations.Places.{is_free}
+use Rattle.gb_product.specs.Below.gb_relations.declared.returned.Kept.{Kept}
+use Rattle.gb_product.specs.Below.gb_relations.Returned as Returned
+use Rattle.gb_product.specs.Below.gb_relations.Returned.{is_pair_kept, is_other_kept, link_if_kept, link_returned, facts_returned, returned}
+use Rattle.gb_product.specs.Below.gb_relations.Sound.{IsByteFree}
+use Rattle.gb_product.specs.Below.gb_relations.Transfer.{values_of}
+use Rattle.gb_product.proofs.Below.gb_relations_laws.ReturnLaws.{returned_sound}
 use Rattle.gb_product.specs.Below.gb_places.Meaning.{HoldOneByte}
-use Rattle.gb_relations.specs.Compared.{only_of_a}
+use Rattle.gb_product.specs.Below.gb_relations.Compared.{only_of_a}
 use Rattle.gb_product.proofs.Below.gb_relations_laws.ComparedLaws.{HoldOneByte-nothing, HoldOneByte-only_of_a}
 use Rattle.gb_product.proofs.Below.gb_relations_laws.TransferLaws.{HoldPairs-nothing}
 use Rattle.gb_domain.specs.Areas.{IsRegion, meets}
-use Rattle.gb_abs.specs.Span.{one}
-use Rattle.gb_abs.specs.Covering.{covers_origin}
-use Rattle.gb_abs.specs.Cells.{IsPlaced, ArePlaced}
-use Rattle.gb_abs.specs.Meaning.{origin_value, Holds, HoldsFlags, HoldsController, MeansCore}
+use Rattle.gb_product.specs.Below.gb_abs.Span.{one}
+use Rattle.gb_product.specs.Below.gb_abs.Covering.{covers_origin}
+use Rattle.gb_product.specs.Below.gb_abs.Cells.{IsPlaced, ArePlaced}
+use Rattle.gb_product.specs.Below.gb_abs.Meaning.{origin_value, Holds, HoldsFlags, HoldsController, MeansCore}
 use Rattle.gb_product.specs.Meaning.{Means}
-use Rattle.gb_abs.specs.Storage.{peek, is_ram}
-use Rattle.gb_abs.proofs.CellLaws.{AllByRecursion-where}
-use Rattle.gb_abs.proofs.CoveringLaws.{same_origin, AreCells}
-use Rattle.gb_abs.proofs.StorageLaws.{region_in_ram, placed_in_ram, AreItems-same}
+use Rattle.gb_product.specs.Below.gb_abs.Storage.{peek, is_ram}
+use Rattle.gb_product.proofs.Below.gb_abs_laws.CellLaws.{AllByRecursion-where}
+use Rattle.gb_product.proofs.Below.gb_abs_laws.CoveringLaws.{same_origin, AreCells}
+use Rattle.gb_product.proofs.Below.gb_abs_laws.StorageLaws.{region_in_ram, placed_in_ram, AreItems-same}
 use Rattle.gb_abs_memory.specs.Access.{is_range}
 use Rattle.gb_abs_memory.specs.Kept.{keeps, IsKept}
-use Rattle.gb_abs.specs.Origins.{is_own, without_origin, cell_without_origin}
-use Rattle.gb_abs.proofs.OriginLaws.{origin_value-of_register, Holds-without_origin, AreCells-without_origins}
+use Rattle.gb_product.specs.Below.gb_abs.Origins.{is_own, without_origin, cell_without_origin}
+use Rattle.gb_product.proofs.Below.gb_abs_laws.OriginLaws.{origin_value-of_register, Holds-without_origin, AreCells-without_origins}
 use Rattle.gb_calls.specs.declared.resuming.Resumed.{Resumed}
 use Rattle.gb_calls.specs.declared.resuming.Resumed.TheVariants.{Nothing, States, TooDeep}
 use Rattle.gb_calls.specs.Resuming.{given_back, registers_back, core_back, is_address_in, is_in_ranges, is_out_of_ranges, merged, byte_back, cells_back, resumed_alone, is_address_kept, own_by_register, kept_by, rejoined, with_values, with_values_if, reduced_state, resumed, IsTooDeep, IsResumed}

@@ -6,11 +6,11 @@ use Rattle.gb_ops.specs.Play.{MState}
 use Rattle.gb_domain.specs.declared.types.Origin.TheVariants.{ReturnHigh, ReturnLow}
 use Rattle.gb_domain.specs.declared.types.Val.{Val}
 use Rattle.gb_domain.specs.Types.{AbsState}
-use Rattle.gb_abs.specs.Meaning.{AreItems, MeansParts}
-use Rattle.gb_abs.specs.Storage.{peek}
-use Rattle.gb_abs.proofs.StorageLaws.{AreItems-same}
-use Rattle.gb_abs.specs.Origins.{without_origin}
-use Rattle.gb_abs.proofs.OriginLaws.{Holds-own, Holds-without_origin, AreItems-without_origins}
+use Rattle.gb_product.specs.Below.gb_abs.Meaning.{AreItems, MeansParts}
+use Rattle.gb_product.specs.Below.gb_abs.Storage.{peek}
+use Rattle.gb_product.proofs.Below.gb_abs_laws.StorageLaws.{AreItems-same}
+use Rattle.gb_product.specs.Below.gb_abs.Origins.{without_origin}
+use Rattle.gb_product.proofs.Below.gb_abs_laws.OriginLaws.{Holds-own, Holds-without_origin, AreItems-without_origins}
 use Rattle.gb_calls.specs.TakenOver.{newest, waiting, returning, taken_over, base_below, given_back_items}
 
 -- ---- two lists end to end

@@ -12,7 +12,7 @@ use Rattle.gb_domain.specs.declared.setting.Setting.{Setting}
 use Rattle.gb_domain.specs.Settings.{known_base}
 use Rattle.gb_domain.specs.Types.{AbsState, ProcedureParts, Node}
 use Rattle.gb_domain.specs.Certificate.{Certificate}
-use Rattle.gb_abs.specs.Origins.{own, cell_without_origin}
+use Rattle.gb_product.specs.Below.gb_abs.Origins.{own, cell_without_origin}
 use Rattle.gb_abs_memory.specs.Access.{is_range}
 use Rattle.gb_product.specs.Covering.{covers}
 use Rattle.gb_calls.specs.TakenOver.{taken_over}

@@ -10,10 +10,10 @@ use Rattle.gb_domain.specs.declared.setting.Setting.{Setting}
 use Rattle.gb_domain.specs.Limits.{item_room}
 use Rattle.gb_domain.specs.Types.{AbsState}
 use Rattle.gb_domain.specs.Certificate.{Certificate}
-use Rattle.gb_abs.specs.Below.gb_vals.Bits.{may_have_bit}
-use Rattle.gb_abs.specs.Below.gb_vals.Vals.{single}
-use Rattle.gb_abs.specs.Operations.{core_end, with_core}
-use Rattle.gb_abs.specs.Stack.{pushed}
+use Rattle.gb_product.specs.Below.gb_vals.Bits.{may_have_bit}
+use Rattle.gb_product.specs.Below.gb_vals.Vals.{single}
+use Rattle.gb_product.specs.Below.gb_abs.Operations.{core_end, with_core}
+use Rattle.gb_product.specs.Below.gb_abs.Stack.{pushed}
 use Rattle.gb_calls.specs.Calls.{callee_of}
 
 -- interrupts are off
@@ -32,7 +32,7 @@ abbrev pub address_word : ℕ → Halves
 address_word a = record { high = single (a / 256); low = single (a % 256) }
 
 -- the address a is pushed: by the rules of versions 1 and 2 it is no item of the procedure's; by those of version 3 it is, where
--- there is room for it. Where there is none, a dispatch is refused for its depth, whatever is said here.
+-- there is room for it. Where there is none, the rules refuse the dispatch, whatever is said here.
 abbrev pub with_address : Rules → ℕ → AbsState → AbsState
 with_address Simple a s = s
 with_address Extended a s = if nat_lt (item_room Extended) (length s.items + 2) then s else pushed (address_word a) s

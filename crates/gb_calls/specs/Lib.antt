@@ -5,3 +5,4 @@ pub mod Resuming
 pub mod Interrupts
 pub mod Sound
 pub mod Below
+pub mod Opened

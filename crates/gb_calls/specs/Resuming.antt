@@ -15,14 +15,14 @@ use Rattle.gb_domain.specs.Limits.{cell_room, item_room}
 use Rattle.gb_domain.specs.Places.{no_byte}
 use Rattle.gb_domain.specs.Relations.{no_relations}
 use Rattle.gb_domain.specs.Types.{AbsState}
-use Rattle.gb_pairs.specs.declared.values.Values.{Values}
-use Rattle.gb_pairs.specs.Reduced.{reduced}
-use Rattle.gb_relations.specs.declared.returned.Kept.{Kept}
-use Rattle.gb_relations.specs.Compared.{only_of_a}
-use Rattle.gb_relations.specs.Returned.{returned}
-use Rattle.gb_relations.specs.Transfer.{values_of}
-use Rattle.gb_abs.specs.Origins.{without_origin, is_own, cell_without_origin}
-use Rattle.gb_abs.specs.Span.{one}
+use Rattle.gb_product.specs.Below.gb_pairs.declared.values.Values.{Values}
+use Rattle.gb_product.specs.Below.gb_pairs.Reduced.{reduced}
+use Rattle.gb_product.specs.Below.gb_relations.declared.returned.Kept.{Kept}
+use Rattle.gb_product.specs.Below.gb_relations.Compared.{only_of_a}
+use Rattle.gb_product.specs.Below.gb_relations.Returned.{returned}
+use Rattle.gb_product.specs.Below.gb_relations.Transfer.{values_of}
+use Rattle.gb_product.specs.Below.gb_abs.Origins.{without_origin, is_own, cell_without_origin}
+use Rattle.gb_product.specs.Below.gb_abs.Span.{one}
 use Rattle.gb_abs_memory.specs.Access.{is_range}
 use Rattle.gb_calls.specs.declared.resuming.Resumed.{Resumed}
 use Rattle.gb_calls.specs.declared.resuming.Resumed.TheVariants.{Nothing, States, TooDeep}

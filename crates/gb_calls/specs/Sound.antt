@@ -13,13 +13,13 @@ use Rattle.gb_domain.specs.Settings.{IsBase}
 use Rattle.gb_domain.specs.Types.{AbsState}
 use Rattle.gb_domain.specs.Areas.{IsRegion, meets}
 use Rattle.gb_domain.specs.Rules.{IsCore}
-use Rattle.gb_pairs.specs.Reduced.{reduced}
-use Rattle.gb_pairs.specs.Sound.{IsSoundReducing}
-use Rattle.gb_relations.specs.Transfer.{values_of}
-use Rattle.gb_abs.specs.Cells.{ArePlaced}
+use Rattle.gb_product.specs.Below.gb_pairs.Reduced.{reduced}
+use Rattle.gb_product.specs.Below.gb_pairs.Sound.{IsSoundReducing}
+use Rattle.gb_product.specs.Below.gb_relations.Transfer.{values_of}
+use Rattle.gb_product.specs.Below.gb_abs.Cells.{ArePlaced}
 use Rattle.gb_product.specs.Meaning.{Means, IsApart}
-use Rattle.gb_abs.specs.Stack.{AreInRegion}
-use Rattle.gb_abs.specs.Storage.{peek}
+use Rattle.gb_product.specs.Below.gb_abs.Stack.{AreInRegion}
+use Rattle.gb_product.specs.Below.gb_abs.Storage.{peek}
 use Rattle.gb_abs_memory.specs.Kept.{keeps, IsKept}
 use Rattle.gb_calls.specs.declared.resuming.Resumed.{Resumed}
 use Rattle.gb_calls.specs.declared.resuming.Resumed.TheVariants.{Nothing, States, TooDeep}

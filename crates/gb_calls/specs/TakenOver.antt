@@ -2,7 +2,7 @@
 use Rattle.std.specs.Prelude.{ℕ, ◌-◌, List, [], ◌∷◌, ◌++◌, length, map, take, drop}
 use Rattle.gb_domain.specs.declared.types.Origin.TheVariants.{ReturnHigh, ReturnLow}
 use Rattle.gb_domain.specs.declared.types.Val.{Val}
-use Rattle.gb_abs.specs.Origins.{own, without_origin}
+use Rattle.gb_product.specs.Below.gb_abs.Origins.{own, without_origin}
 
 -- a caller's newest k items
 abbrev pub newest : ℕ → List Val → List Val

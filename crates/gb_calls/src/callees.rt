@@ -103,7 +103,7 @@ pub fn callee_in(
     None
 }
 
-/// The same, with room of its own.
+/// The first procedure that may be called at the address in this state, as `callee_in` finds it, with room of its own.
 pub fn callee(cert: &Cert<'_>, setting: Setting, address: u16, state: &Abs) -> Option<u8>
     ensures exact { result ≡ Calls.callee_of cert.now setting address state.now }
 {

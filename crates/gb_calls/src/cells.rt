@@ -6,9 +6,8 @@ ghost use Rattle.gb_domain.specs.Limits.{cell_room};
 ghost use Rattle.gb_calls.specs.Resuming as Resuming;
 
 use arrayvec::ArrayVec;
-use gb_abs::origins::cell_without_origin;
-use gb_abs::span::Span;
 use gb_domain::types::{Cell, Range, Rules};
+use gb_product::{Span, cell_without_origin};
 
 /// The most cells that a state holds by any rules.
 const CELLS: usize = 64;
@@ -82,7 +81,7 @@ fn most_cells_back(ranges: &[Range], caller: &[Cell], exit: &[Cell]) -> ArrayVec
     cells
 }
 
-/// The same, as many as there is room for. There must be room for the caller's by any rules.
+/// The cells after a return, as many as there is room for. There must be room for the caller's by any rules.
 #[tactic(auto, using(crate::proofs::CellLaws::take_fewer), unfolding(crate::specs::Resuming::cells_back))]
 pub(crate) fn cells_back(
     rules: Rules,

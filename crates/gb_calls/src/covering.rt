@@ -3,19 +3,18 @@
 ghost use Rattle.std.specs.Prelude.{◌≡◌, ◌<◌, ◌&&◌};
 ghost use Rattle.std.specs.List.{flat_map};
 ghost use Rattle.gb_domain.specs.RelationRules.{test_alone};
-ghost use Rattle.gb_states.specs.Spelling as spelled;
-ghost use Rattle.gb_abs.specs.Covering.{covers_items, covers_cells};
+ghost use Rattle.gb_cert.specs.Below.gb_states.Spelling as spelled;
+ghost use Rattle.gb_product.specs.Below.gb_abs.Covering.{covers_items, covers_cells};
 ghost use Rattle.gb_product.specs.Covering.{covers, covers_relations};
 ghost use Rattle.gb_calls.specs.Parts.{with_parts};
 
 use crate::in_bytes::{covers_core_in, covers_items_in};
-use gb_abs::covering::covers_lists;
-use gb_cert::StateRef;
+use gb_cert::{StateRef, test_alone};
 use gb_domain::pairs::Pairs;
 use gb_domain::relations::Relations;
 use gb_domain::types::{Abs, Core};
 use gb_product::covering::covers_relations;
-use gb_states::relations::test_alone;
+use gb_product::covers_lists;
 
 /// States with this core, of which this is known together, and the items and cells of others.
 #[derive(Clone, Copy)]
@@ -58,28 +57,6 @@ fn covers_listed(s: &Abs, claimed: &StateRef<'_>, cells: &[u8]) -> bool
         covers_items_in(s.items(), claimed.items())
     } else {
         covers_decoded(s, claimed)
-    }
-}
-
-/// Whether the items and the cells of a state stand for what these do.
-pub fn covers_held(s: &Abs, claimed: &StateRef<'_>) -> bool
-    ensures { result ≡ (covers_items s.now.items claimed.now.items && covers_cells s.now.cells claimed.now.cells) }
-{
-    if claimed.has_lists() {
-        covers_listed(s, claimed, claimed.cells())
-    } else {
-        s.items().is_empty()
-    }
-}
-
-/// What is known together of a state.
-pub fn relations_of(claimed: &StateRef<'_>) -> Relations
-    ensures { result ≡ claimed.now.relations }
-{
-    if claimed.has_lists() {
-        claimed.relations()
-    } else {
-        test_alone(claimed.test())
     }
 }
 
@@ -126,7 +103,7 @@ fn covers_rest(states: &States<'_>, claimed: &StateRef<'_>) -> bool
 
 /// Whether a state stands for each machine state that these stand for. Only its core is read where that doesn't, and where
 /// nothing but a core is in it.
-#[tactic(auto, unfolding(gb_product::specs::Covering::covers, gb_abs::specs::Covering::covers_parts))]
+#[tactic(auto, unfolding(gb_product::specs::Covering::covers, crate::specs::Opened::covers_parts))]
 pub fn covers_states(states: &States<'_>, claimed: &StateRef<'_>) -> bool
     ensures { result ≡ covers (with_parts states.now.core.now states.now.relations.now states.now.lists.now) claimed.now }
 {

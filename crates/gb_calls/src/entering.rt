@@ -1,14 +1,14 @@
 //! What a procedure begins with.
 
 ghost use Rattle.std.specs.Prelude.{◌≡◌, ◌≤◌, ◌+◌, ◌++◌, length, map};
-ghost use Rattle.gb_abs.specs.Origins as Origins;
+ghost use Rattle.gb_product.specs.Below.gb_abs.Origins as Origins;
 ghost use Rattle.gb_calls.specs.Calls as Calls;
 ghost use Rattle.gb_calls.specs.Sound.{IsSoundEntering};
 ghost use Rattle.gb_calls.specs.TakenOver as TakenOver;
 
-use gb_abs::origins::{cell_without_origin, own, without_origin};
 use gb_domain::types::{Abs, Cell, Core, Ctl, Flg, Origin, Rules, Val};
 use gb_ops::registers::Registers;
+use gb_product::{cell_without_origin, own, without_origin};
 
 /// Each register is a copy of what it held at entry.
 fn own_registers(registers: &Registers<Val>) -> Registers<Val>
@@ -105,7 +105,7 @@ fn put_entered(rules: Rules, count: u8, state: &Abs, entered: &mut Abs)
     append_cells(state.cells(), entered);
 }
 
-/// The same as `enter`, in the place of other states.
+/// Does what `enter` does, in the place of other states.
 #[tactic(auto, using(crate::proofs::EnteringLaws::enter_sound))]
 pub fn enter_in(rules: Rules, count: u8, state: &Abs, entered: &mut Abs)
     ensures exact { entered.new ≡ Calls.entered_by rules count state.now }

@@ -1,21 +1,21 @@
 //! Covering by the core of a node's states, part by part in the certificate's bytes.
 
 ghost use Rattle.std.specs.Prelude.{◌≡◌, ◌+◌, ◌≤◌, ◌<◌, ◌==◌, [], length};
-ghost use Rattle.gb_abs.specs.Covering as Covering;
-ghost use Rattle.gb_states.specs.Checked.{core_in, flg_in, val_in, vals_in, listed_items};
-ghost use Rattle.gb_states.specs.Reading.{origin_of};
+ghost use Rattle.gb_product.specs.Below.gb_abs.Covering as Covering;
+ghost use Rattle.gb_cert.specs.Below.gb_states.Checked.{core_in, flg_in, val_in, vals_in, listed_items};
+ghost use Rattle.gb_cert.specs.Below.gb_states.Reading.{origin_of};
 
-use gb_abs::covering::{covers_controller, covers_ime, covers_origin};
+use gb_cert::{ctl_in, ime_in, origin_of};
 use gb_domain::types::{Core, Flg, Val};
 use gb_ops::registers::Registers;
-use gb_states::fields::{ctl_in, ime_in, origin_of};
+use gb_product::{covers_controller, covers_ime, covers_origin};
 
 /// The bytes of a core.
 const CORE: usize = 40;
 
 /// Whether the value at a place stands for this one.
 #[inline(always)]
-#[tactic(auto, unfolding(gb_abs::specs::Covering::covers_val))]
+#[tactic(auto, unfolding(crate::specs::Opened::covers_val))]
 fn covers_val_in(s: &Val, bytes: &[u8], place: usize) -> bool
     requires { place + 3 ≤ length bytes.now }
     ensures { result ≡ Covering.covers_val s.now (val_in bytes.now place) }
@@ -26,7 +26,7 @@ fn covers_val_in(s: &Val, bytes: &[u8], place: usize) -> bool
 }
 
 #[inline(always)]
-#[tactic(auto, unfolding(gb_abs::specs::Covering::covers_registers))]
+#[tactic(auto, unfolding(crate::specs::Opened::covers_registers))]
 fn covers_registers_in(s: &Registers<Val>, bytes: &[u8]) -> bool
     requires { 40 ≤ length bytes.now }
     ensures { result ≡ Covering.covers_registers s.now (vals_in bytes.now) }
@@ -42,7 +42,7 @@ fn covers_registers_in(s: &Registers<Val>, bytes: &[u8]) -> bool
 
 /// Whether the value of these bytes stands for this one.
 #[inline(always)]
-#[tactic(auto, unfolding(gb_abs::specs::Covering::covers_val))]
+#[tactic(auto, unfolding(crate::specs::Opened::covers_val))]
 fn covers_val_of(s: &Val, lo: u8, hi: u8, number: u8) -> bool
     ensures { result ≡ Covering.covers_val s.now (record { lo = lo; hi = hi; origin = origin_of number }) }
 {
@@ -82,7 +82,7 @@ fn is_allowed(may: bool, bit: u8) -> bool
 
 /// Whether flags that two bytes say stand for these.
 #[inline(always)]
-#[tactic(auto, unfolding(gb_abs::specs::Covering::covers_flags))]
+#[tactic(auto, unfolding(crate::specs::Opened::covers_flags))]
 fn covers_flags_in(s: &Flg, bits: u8, own: u8) -> bool
     ensures { result ≡ Covering.covers_flags s.now (flg_in bits own) }
 {
@@ -98,7 +98,7 @@ fn covers_flags_in(s: &Flg, bits: u8, own: u8) -> bool
 }
 
 /// Whether the core at the front of bytes that have been checked stands for what this one does.
-#[tactic(auto, unfolding(gb_abs::specs::Covering::covers_core))]
+#[tactic(auto, unfolding(crate::specs::Opened::covers_core))]
 pub(crate) fn covers_core_in(s: &Core, bytes: &[u8]) -> bool
     requires { 40 ≤ length bytes.now }
     ensures { result ≡ Covering.covers_core s.now (core_in bytes.now) }

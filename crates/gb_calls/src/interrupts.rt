@@ -5,11 +5,9 @@ ghost use Rattle.gb_domain.specs.declared.rules.Rules.TheVariants.{Extended};
 ghost use Rattle.gb_calls.specs.Interrupts as Interrupts;
 
 use crate::callees::callee;
-use gb_abs::operations::end;
-use gb_abs::stack::push;
-use gb_abs::{may_have_bit, single};
 use gb_cert::Cert;
 use gb_domain::types::{Abs, Core, Halves, ImeSet, Rules, Setting};
+use gb_product::{end, may_have_bit, push, single};
 
 /// The M-cycles of a dispatch (Interrupts: interrupt handling).
 const DISPATCH: u8 = 5;
@@ -49,7 +47,7 @@ fn address_word(address: u16) -> Halves
 }
 
 /// What a dispatch leaves by the rules of version 3: the address is pushed, where there is room for it.
-#[tactic(auto, unfolding(crate::specs::Interrupts::dispatched, crate::specs::Interrupts::left_by_dispatch, gb_abs::specs::Stack::pushed))]
+#[tactic(auto, unfolding(crate::specs::Interrupts::dispatched, crate::specs::Interrupts::left_by_dispatch, crate::specs::Opened::pushed))]
 fn dispatched_with(address: u16, state: &Abs) -> Abs
     ensures { result ≡ Interrupts.left_by_dispatch Extended address state.now }
 {

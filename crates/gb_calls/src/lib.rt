@@ -22,5 +22,9 @@ pub mod interrupts;
 pub mod ranges;
 pub mod resuming;
 
+pub use covering::States;
+pub use resuming::{Resumed, Return};
+
 // What lies below, for the crates above.
-pub use gb_cert::{Cert, Found, NodeRef, ProcedureRef, StateRef};
+pub use gb_cert::{Cert, CertFault, Found, NodeRef, ProcedureRef, StateRef, test_alone};
+pub use gb_product::covering::covers_relations;

@@ -3,8 +3,8 @@
 ghost use Rattle.std.specs.Prelude.{◌≡◌};
 ghost use Rattle.gb_calls.specs.Calls as Calls;
 
-use gb_abs::span::Span;
 use gb_domain::types::Range;
+use gb_product::Span;
 
 /// Whether a range lies in one of the others.
 fn is_in_one(outer: &[Range], inner: &Range) -> bool

@@ -2,20 +2,17 @@
 
 ghost use Rattle.std.specs.Prelude.{◌≡◌, ◌+◌, ◌≤◌, ◌<◌, ◌++◌, true, false, length, map};
 ghost use Rattle.gb_domain.specs.declared.rules.Rules.TheVariants.{Extended};
-ghost use Rattle.gb_abs.specs.Origins as Origins;
+ghost use Rattle.gb_product.specs.Below.gb_abs.Origins as Origins;
 ghost use Rattle.gb_calls.specs.Resuming as Resuming;
 ghost use Rattle.gb_calls.specs.Sound.{IsSoundResuming, ReducesSoundly};
 ghost use Rattle.gb_calls.specs.TakenOver as TakenOver;
 
 use crate::cells::{cells_back, is_address_in};
-use gb_abs::origins::{is_own, without_origin};
 use gb_domain::places::OneByte;
 use gb_domain::relations::Relations;
 use gb_domain::types::{Abs, Core, Origin, Range, Rules, Val};
 use gb_ops::registers::Registers;
-use gb_pairs::reduced::reduce;
-use gb_product::only_of_a;
-use gb_relations::returned::{Kept, returned};
+use gb_product::{Kept, is_own, only_of_a, reduce, returned, without_origin};
 
 /// The most items that a state holds by any rules.
 const ITEMS: usize = 255;
@@ -220,7 +217,7 @@ fn put_rejoined(count: u8, ranges: &[Range], state: &Abs, exit: &Abs, resumed: &
     Return::States
 }
 
-/// The same, as it follows what the machine does.
+/// Rejoins the caller's state with the callee's exit, and follows what the machine does.
 #[tactic(auto, using(crate::proofs::ResumingLaws::rejoined_sound))]
 fn rejoin(count: u8, ranges: &[Range], state: &Abs, exit: &Abs, resumed: &mut Abs) -> Return
     ensures exact { Resuming.IsResumed (Resuming.resumed_to result resumed.new) (Resuming.reduced_state (Resuming.rejoined count ranges.now state.now exit.now)) }
@@ -231,7 +228,7 @@ fn rejoin(count: u8, ranges: &[Range], state: &Abs, exit: &Abs, resumed: &mut Ab
 
 // ---- by either
 
-/// The same as `resume`, in the place of other states: what they are says `Return`.
+/// Does what `resume` does, in the place of other states; `Return` says what they are.
 #[tactic(auto, using(crate::proofs::ResumingLaws::resumed_alone_sound), unfolding(crate::specs::Resuming::resumed))]
 pub fn resume_in(
     rules: Rules,

@@ -5,15 +5,15 @@ use Rattle.gb_ops.specs.declared.machine.Region.{Region}
 use Rattle.gb_ops.specs.Memory.{Storage}
 use Rattle.gb_ops.specs.Pairs.{word}
 use Rattle.gb_ops.specs.Play.{MState}
-use Rattle.gb_domain.specs.declared.types.Core.{Core}
-use Rattle.gb_domain.specs.declared.types.Val.{Val}
-use Rattle.gb_domain.specs.declared.types.Halves.{Halves}
-use Rattle.gb_domain.specs.Types.{AbsState}
-use Rattle.gb_domain.specs.Areas.{IsRegion}
-use Rattle.gb_product.specs.Meaning.{Means}
-use Rattle.gb_abs.specs.Meaning.{Holds, MeansCore, AreItems, MeansParts}
-use Rattle.gb_abs.specs.Stack.{pushed}
-use Rattle.gb_abs.specs.Storage.{peek}
+use Rattle.gb_successors.specs.Below.gb_domain.declared.types.Core.{Core}
+use Rattle.gb_successors.specs.Below.gb_domain.declared.types.Val.{Val}
+use Rattle.gb_successors.specs.Below.gb_domain.declared.types.Halves.{Halves}
+use Rattle.gb_successors.specs.Below.gb_domain.Types.{AbsState}
+use Rattle.gb_successors.specs.Below.gb_domain.Areas.{IsRegion}
+use Rattle.gb_successors.specs.Below.gb_product.Meaning.{Means}
+use Rattle.gb_successors.specs.Below.gb_abs.Meaning.{Holds, MeansCore, AreItems, MeansParts}
+use Rattle.gb_successors.specs.Below.gb_abs.Stack.{pushed}
+use Rattle.gb_successors.specs.Below.gb_abs.Storage.{peek}
 use Rattle.gb_calls.specs.Sound.{without_word}
 use Rattle.gb_successors.specs.Below.gb_abs_effects.Pairs.{known_word}
 

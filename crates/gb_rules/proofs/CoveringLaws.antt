@@ -6,26 +6,26 @@ use Rattle.std.proofs.lemmas.List.Folds.{Any-from_list_any}
 use Rattle.gb_ops.specs.declared.op.Register.{Register}
 use Rattle.gb_ops.specs.Registers.{get}
 use Rattle.gb_ops.specs.Play.{MState}
-use Rattle.gb_domain.specs.declared.rules.Rules.{Rules}
-use Rattle.gb_domain.specs.declared.rules.Rules.TheVariants.{Simple}
-use Rattle.gb_domain.specs.declared.types.Val.{Val}
-use Rattle.gb_domain.specs.Types.{AbsState, Node}
-use Rattle.gb_domain.specs.Certificate.{Certificate}
+use Rattle.gb_successors.specs.Below.gb_domain.declared.rules.Rules.{Rules}
+use Rattle.gb_successors.specs.Below.gb_domain.declared.rules.Rules.TheVariants.{Simple}
+use Rattle.gb_successors.specs.Below.gb_domain.declared.types.Val.{Val}
+use Rattle.gb_successors.specs.Below.gb_domain.Types.{AbsState, Node}
+use Rattle.gb_successors.specs.Below.gb_domain.Certificate.{Certificate}
 use Rattle.std.specs.Prelude.{Option, Some, None, option_map, IfSome}
-use Rattle.gb_domain.specs.Pairs.{ArePairs}
-use Rattle.gb_abs.specs.Covering.{covers_items, covers_parts}
-use Rattle.gb_abs.specs.Operations.{core_with_value, with_core}
-use Rattle.gb_abs.proofs.StackLaws.{MeansParts-with_core}
-use Rattle.gb_product.specs.Below.gb_pairs.Meaning.{AreBytes}
-use Rattle.gb_product.specs.declared.parts.Product.{Product}
-use Rattle.gb_product.specs.Sound.{IsReduced, MeansProduct, IsMeantProduct}
-use Rattle.gb_product.proofs.ReducedLaws.{reduced_cuts, reduced_sound}
-use Rattle.gb_product.specs.Covering.{covers}
-use Rattle.gb_product.specs.Meaning.{AreRelated, Means}
-use Rattle.gb_product.specs.Reduced.{reduced}
-use Rattle.gb_abs.specs.Meaning.{Holds, MeansParts}
-use Rattle.gb_product.proofs.CoveringLaws.{Means-covered}
-use Rattle.gb_abs.proofs.OperationLaws.{MeansParts-with_value}
+use Rattle.gb_successors.specs.Below.gb_domain.Pairs.{ArePairs}
+use Rattle.gb_successors.specs.Below.gb_abs.Covering.{covers_items, covers_parts}
+use Rattle.gb_successors.specs.Below.gb_abs.Operations.{core_with_value, with_core}
+use Rattle.gb_successors.proofs.Below.gb_abs_laws.StackLaws.{MeansParts-with_core}
+use Rattle.gb_successors.specs.Below.gb_pairs.Meaning.{AreBytes}
+use Rattle.gb_successors.specs.Below.gb_product.declared.parts.Product.{Product}
+use Rattle.gb_successors.specs.Below.gb_product.Sound.{IsReduced, MeansProduct, IsMeantProduct}
+use Rattle.gb_successors.proofs.Below.gb_product_laws.ReducedLaws.{reduced_cuts, reduced_sound}
+use Rattle.gb_successors.specs.Below.gb_product.Covering.{covers}
+use Rattle.gb_successors.specs.Below.gb_product.Meaning.{AreRelated, Means}
+use Rattle.gb_successors.specs.Below.gb_product.Reduced.{reduced}
+use Rattle.gb_successors.specs.Below.gb_abs.Meaning.{Holds, MeansParts}
+use Rattle.gb_successors.proofs.Below.gb_product_laws.CoveringLaws.{Means-covered}
+use Rattle.gb_successors.proofs.Below.gb_abs_laws.OperationLaws.{MeansParts-with_value}
 use Rattle.gb_rules.specs.Covered.{is_cover, is_covered_by_one, is_covered_if, with_product, is_value_covered, is_covered_by_values, reduced_state, with_value, all_from, count_of, registers, covered_at}
 
 items_counted : (s t : List Val) → covers_items s t ≡ true → length t ≡ length s

@@ -20,29 +20,29 @@ use Rattle.gb_ops.specs.Faults.{no_faults, store_faults, event_faults, event_pla
 use Rattle.gb_ops.specs.Play.{MState, within, outside}
 use Rattle.gb_ops.specs.declared.registers.Registers.{Registers}
 use Rattle.gb_ops.specs.declared.registers.Flags.{Flags}
-use Rattle.gb_domain.specs.declared.relations.Relations.{Relations}
-use Rattle.gb_domain.specs.declared.rules.Rules.TheVariants.{Simple}
-use Rattle.gb_domain.specs.declared.types.Core.{Core}
-use Rattle.gb_domain.specs.Areas.{is_free_byte}
-use Rattle.gb_domain.specs.Limits.{rules_of}
-use Rattle.gb_domain.specs.Types.{any_val}
-use Rattle.gb_abs.specs.Cells.{IsPlaced}
-use Rattle.gb_abs.proofs.StorageLaws.{placed_in_ram}
-use Rattle.gb_product.specs.Below.gb_relations.Meaning.{HoldRelations}
-use Rattle.gb_domain.specs.Types.{AbsState, Node}
-use Rattle.gb_domain.specs.Certificate.{Certificate}
-use Rattle.gb_states.specs.Rules.{IsCertificate}
-use Rattle.gb_abs.specs.Below.gb_vals.Bits.{has_bit, may_have_bit}
-use Rattle.gb_abs.proofs.Below.gb_vals_laws.BitLaws.{may_have_bit_sound}
-use Rattle.gb_abs.specs.Cells.{ArePlaced}
-use Rattle.gb_abs.specs.Mark.{IsMarkHarmless}
-use Rattle.gb_product.specs.Meaning.{AreRelated, Means}
-use Rattle.gb_abs.specs.Meaning.{MeansCore, MeansParts, ime_may_be}
-use Rattle.gb_abs.specs.Operations.{core_end, with_core}
-use Rattle.gb_abs.specs.Stack.{pushed}
-use Rattle.gb_abs.specs.Storage.{peek}
-use Rattle.gb_abs.proofs.OperationLaws.{Holds-single}
-use Rattle.gb_abs.proofs.StackLaws.{IsRegionOpen-bound, MeansParts-pushed, MeansParts-with_core}
+use Rattle.gb_successors.specs.Below.gb_domain.declared.relations.Relations.{Relations}
+use Rattle.gb_successors.specs.Below.gb_domain.declared.rules.Rules.TheVariants.{Simple}
+use Rattle.gb_successors.specs.Below.gb_domain.declared.types.Core.{Core}
+use Rattle.gb_successors.specs.Below.gb_domain.Areas.{is_free_byte}
+use Rattle.gb_successors.specs.Below.gb_domain.Limits.{rules_of}
+use Rattle.gb_successors.specs.Below.gb_domain.Types.{any_val}
+use Rattle.gb_successors.specs.Below.gb_abs.Cells.{IsPlaced}
+use Rattle.gb_successors.proofs.Below.gb_abs_laws.StorageLaws.{placed_in_ram}
+use Rattle.gb_successors.specs.Below.gb_relations.Meaning.{HoldRelations}
+use Rattle.gb_successors.specs.Below.gb_domain.Types.{AbsState, Node}
+use Rattle.gb_successors.specs.Below.gb_domain.Certificate.{Certificate}
+use Rattle.gb_calls.specs.Below.gb_states.Rules.{IsCertificate}
+use Rattle.gb_successors.specs.Below.gb_vals.Bits.{has_bit, may_have_bit}
+use Rattle.gb_successors.proofs.Below.gb_vals_laws.BitLaws.{may_have_bit_sound}
+use Rattle.gb_successors.specs.Below.gb_abs.Cells.{ArePlaced}
+use Rattle.gb_successors.specs.Below.gb_abs.Mark.{IsMarkHarmless}
+use Rattle.gb_successors.specs.Below.gb_product.Meaning.{AreRelated, Means}
+use Rattle.gb_successors.specs.Below.gb_abs.Meaning.{MeansCore, MeansParts, ime_may_be}
+use Rattle.gb_successors.specs.Below.gb_abs.Operations.{core_end, with_core}
+use Rattle.gb_successors.specs.Below.gb_abs.Stack.{pushed}
+use Rattle.gb_successors.specs.Below.gb_abs.Storage.{peek}
+use Rattle.gb_successors.proofs.Below.gb_abs_laws.OperationLaws.{Holds-single}
+use Rattle.gb_successors.proofs.Below.gb_abs_laws.StackLaws.{IsRegionOpen-bound, MeansParts-pushed, MeansParts-with_core}
 use Rattle.gb_code.specs.Below.gb_abs_memory.Kept.{IsKept}
 use Rattle.gb_code.specs.Below.gb_abs_memory.Sound.{view}
 use Rattle.gb_calls.specs.Calls.{callee_of, are_ranges_inside}

@@ -25,20 +25,20 @@ use Rattle.gb_ops.specs.Machine as Machine
 use Rattle.gb_ops.specs.Machine.{BusState, fetched, length_of, mark_of, run, executed, happened, is_possible, only, has_halt, is_ime, is_running, is_bytes, halt_stay, halt_bug}
 use Rattle.gb_ops.specs.Faults.{no_faults, either_faults, fetch_faults, all_fetch_faults, fetch_addresses, row_faults, run_faults, event_faults, event_places, code_place}
 use Rattle.gb_ops.specs.Play.{MState, within, outside, next, faults, places, faults_where, places_where}
-use Rattle.gb_domain.specs.Types.{AbsState, Node}
-use Rattle.gb_domain.specs.Certificate.{Certificate}
-use Rattle.gb_states.specs.Rules.{IsCertificate}
-use Rattle.gb_abs.specs.Mark.{IsMarkHarmless}
+use Rattle.gb_successors.specs.Below.gb_domain.Types.{AbsState, Node}
+use Rattle.gb_successors.specs.Below.gb_domain.Certificate.{Certificate}
+use Rattle.gb_calls.specs.Below.gb_states.Rules.{IsCertificate}
+use Rattle.gb_successors.specs.Below.gb_abs.Mark.{IsMarkHarmless}
 use Rattle.gb_ops.specs.declared.machine.Mapped.{Mapped}
 use Rattle.gb_ops.specs.declared.machine.Mapped.TheVariants as mapped
 use Rattle.gb_ops.specs.Registers.{get}
-use Rattle.gb_product.specs.Meaning.{Means}
-use Rattle.gb_abs.specs.Meaning.{Holds, HoldsFlags, HoldsController, ime_may_be, MeansParts}
-use Rattle.gb_product.specs.Below.gb_relations.Meaning.{HoldRelations}
+use Rattle.gb_successors.specs.Below.gb_product.Meaning.{Means}
+use Rattle.gb_successors.specs.Below.gb_abs.Meaning.{Holds, HoldsFlags, HoldsController, ime_may_be, MeansParts}
+use Rattle.gb_successors.specs.Below.gb_relations.Meaning.{HoldRelations}
 use Rattle.gb_successors.proofs.RelatedLaws.{HoldRelations-same}
-use Rattle.gb_abs.specs.Storage.{peek}
-use Rattle.gb_abs.proofs.OperationLaws.{counted}
-use Rattle.gb_abs.proofs.StackLaws.{MeansParts-with_core}
+use Rattle.gb_successors.specs.Below.gb_abs.Storage.{peek}
+use Rattle.gb_successors.proofs.Below.gb_abs_laws.OperationLaws.{counted}
+use Rattle.gb_successors.proofs.Below.gb_abs_laws.StackLaws.{MeansParts-with_core}
 use Rattle.gb_code.specs.Below.gb_abs_memory.Sound.{IsRom}
 use Rattle.gb_code.specs.Places.{IsCertified, IsCertifiedBy}
 use Rattle.gb_code.specs.Code.{area_end, known_byte}

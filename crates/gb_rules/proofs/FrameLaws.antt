@@ -2,19 +2,19 @@
 use Rattle.std.proofs.Common.{◌≡◌, ℕ, ◌+◌, ◌≤◌, ◌<◌, true, inl, List, ◌∷◌, length, Some, refl, sym, ◌∙◌, ap, subst, arith}
 use Rattle.gb_ops.specs.Pairs.{word}
 use Rattle.gb_ops.specs.Play.{MState}
-use Rattle.gb_domain.specs.Types.{AbsState, Node}
-use Rattle.gb_domain.specs.Certificate.{Certificate}
-use Rattle.gb_states.specs.declared.role.Role.TheVariants as role
-use Rattle.gb_domain.specs.Limits.{rules_of}
-use Rattle.gb_domain.specs.declared.rules.Rules.{Rules}
-use Rattle.gb_domain.specs.declared.rules.Rules.TheVariants.{Simple}
-use Rattle.gb_states.specs.Rules.{IsState, IsCertificate}
-use Rattle.gb_product.specs.Covering.{covers}
-use Rattle.gb_product.specs.Meaning.{Means}
-use Rattle.gb_abs.specs.Stack.{AreInRegion}
-use Rattle.gb_abs.specs.Storage.{peek}
-use Rattle.gb_product.proofs.CoveringLaws.{Means-covered}
-use Rattle.gb_abs.proofs.StorageLaws.{region_in_ram}
+use Rattle.gb_successors.specs.Below.gb_domain.Types.{AbsState, Node}
+use Rattle.gb_successors.specs.Below.gb_domain.Certificate.{Certificate}
+use Rattle.gb_calls.specs.Below.gb_states.declared.role.Role.TheVariants as role
+use Rattle.gb_successors.specs.Below.gb_domain.Limits.{rules_of}
+use Rattle.gb_successors.specs.Below.gb_domain.declared.rules.Rules.{Rules}
+use Rattle.gb_successors.specs.Below.gb_domain.declared.rules.Rules.TheVariants.{Simple}
+use Rattle.gb_calls.specs.Below.gb_states.Rules.{IsState, IsCertificate}
+use Rattle.gb_successors.specs.Below.gb_product.Covering.{covers}
+use Rattle.gb_successors.specs.Below.gb_product.Meaning.{Means}
+use Rattle.gb_successors.specs.Below.gb_abs.Stack.{AreInRegion}
+use Rattle.gb_successors.specs.Below.gb_abs.Storage.{peek}
+use Rattle.gb_successors.proofs.Below.gb_product_laws.CoveringLaws.{Means-covered}
+use Rattle.gb_successors.proofs.Below.gb_abs_laws.StorageLaws.{region_in_ram}
 use Rattle.gb_code.specs.Below.gb_abs_memory.Kept.{keeps, keeps_by, IsKept}
 use Rattle.gb_calls.specs.Calls.{entered_by, are_ranges_inside}
 use Rattle.gb_calls.specs.Resuming.{resumed_alone, resumed}

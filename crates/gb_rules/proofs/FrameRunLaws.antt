@@ -5,8 +5,8 @@ use Rattle.std.proofs.lemmas.List.Elements.{All-append, All-nil}
 use Rattle.gb_ops.specs.declared.machine.Event.{Event}
 use Rattle.gb_ops.specs.Faults.{no_faults, either_faults}
 use Rattle.gb_ops.specs.Play.{MState, next, play}
-use Rattle.gb_domain.specs.Certificate.{Certificate}
-use Rattle.gb_states.specs.Rules.{IsCertificate}
+use Rattle.gb_successors.specs.Below.gb_domain.Certificate.{Certificate}
+use Rattle.gb_calls.specs.Below.gb_states.Rules.{IsCertificate}
 use Rattle.gb_code.specs.Places.{IsCertified}
 use Rattle.gb_rules.specs.Safety.{IsMeant, IsSafeEvent}
 use Rattle.gb_rules.specs.Frames.{IsStanding}

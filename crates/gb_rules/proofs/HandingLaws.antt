@@ -4,20 +4,20 @@ use Rattle.std.proofs.Common.{◌≡◌, ℕ, ◌+◌, ◌-◌, ◌≤◌, ◌<�
 use Rattle.std.specs.Prelude.{IfSome}
 use Rattle.std.proofs.lemmas.Bool.Decides.{nat_tests}
 use Rattle.gb_ops.specs.Play.{MState}
-use Rattle.gb_domain.specs.declared.rules.Rules.{Rules}
-use Rattle.gb_domain.specs.declared.rules.Rules.TheVariants.{Extended}
-use Rattle.gb_domain.specs.declared.types.Val.{Val}
-use Rattle.gb_domain.specs.Types.{AbsState}
-use Rattle.gb_domain.specs.Certificate.{Certificate}
-use Rattle.gb_domain.specs.Limits.{rules_of}
-use Rattle.gb_domain.specs.Settings.{IsBase}
-use Rattle.gb_states.specs.declared.role.Role.TheVariants as role
-use Rattle.gb_states.specs.Rules.{IsState, IsCertificate}
-use Rattle.gb_abs.specs.Stack.{AreInRegion}
-use Rattle.gb_product.specs.Covering.{covers}
-use Rattle.gb_product.specs.Meaning.{Means}
-use Rattle.gb_product.proofs.CoveringLaws.{Means-covered}
-use Rattle.gb_product.proofs.MeaningLaws.{AreBytes-core}
+use Rattle.gb_successors.specs.Below.gb_domain.declared.rules.Rules.{Rules}
+use Rattle.gb_successors.specs.Below.gb_domain.declared.rules.Rules.TheVariants.{Extended}
+use Rattle.gb_successors.specs.Below.gb_domain.declared.types.Val.{Val}
+use Rattle.gb_successors.specs.Below.gb_domain.Types.{AbsState}
+use Rattle.gb_successors.specs.Below.gb_domain.Certificate.{Certificate}
+use Rattle.gb_successors.specs.Below.gb_domain.Limits.{rules_of}
+use Rattle.gb_successors.specs.Below.gb_domain.Settings.{IsBase}
+use Rattle.gb_calls.specs.Below.gb_states.declared.role.Role.TheVariants as role
+use Rattle.gb_calls.specs.Below.gb_states.Rules.{IsState, IsCertificate}
+use Rattle.gb_successors.specs.Below.gb_abs.Stack.{AreInRegion}
+use Rattle.gb_successors.specs.Below.gb_product.Covering.{covers}
+use Rattle.gb_successors.specs.Below.gb_product.Meaning.{Means}
+use Rattle.gb_successors.proofs.Below.gb_product_laws.CoveringLaws.{Means-covered}
+use Rattle.gb_successors.proofs.Below.gb_product_laws.MeaningLaws.{AreBytes-core}
 use Rattle.gb_code.specs.Below.gb_abs_memory.Kept.{keeps, keeps_by, IsKept}
 use Rattle.gb_calls.specs.Calls.{entered_by, are_ranges_inside}
 use Rattle.gb_calls.specs.Resuming.{resumed}

@@ -6,28 +6,28 @@ use Rattle.std.specs.List.{Contains}
 use Rattle.gb_ops.specs.declared.machine.Event.TheVariants as event
 use Rattle.gb_ops.specs.Machine.{is_possible, happened, vector}
 use Rattle.gb_ops.specs.Play.{MState, within, outside}
-use Rattle.gb_domain.specs.declared.rules.Rules.{Rules}
-use Rattle.gb_domain.specs.declared.rules.Rules.TheVariants.{Extended}
-use Rattle.gb_domain.specs.declared.setting.Setting.{Setting}
-use Rattle.gb_domain.specs.Limits.{rules_of, item_room}
-use Rattle.gb_domain.specs.Pairs.{ArePairs}
-use Rattle.gb_domain.specs.Types.{AbsState, Node}
-use Rattle.gb_domain.specs.Certificate.{Certificate}
-use Rattle.gb_states.specs.Rules.{IsCertificate}
-use Rattle.gb_abs.specs.Cells.{ArePlaced}
-use Rattle.gb_abs.specs.Operations.{core_settle}
-use Rattle.gb_abs.proofs.OperationLaws.{MeansCore-settle, moved}
-use Rattle.gb_abs.specs.Stack.{AreInRegion, pushed}
-use Rattle.gb_abs.specs.Storage.{peek}
-use Rattle.gb_product.specs.Below.gb_relations.Sound.{IsByteFree}
-use Rattle.gb_product.specs.Meaning.{Means}
-use Rattle.gb_product.specs.declared.parts.Product.{Product}
-use Rattle.gb_product.specs.Reduced.{reduced}
-use Rattle.gb_product.specs.Sound.{IsMeantProduct}
-use Rattle.gb_product.proofs.ReducedLaws.{reduced_sound}
+use Rattle.gb_successors.specs.Below.gb_domain.declared.rules.Rules.{Rules}
+use Rattle.gb_successors.specs.Below.gb_domain.declared.rules.Rules.TheVariants.{Extended}
+use Rattle.gb_successors.specs.Below.gb_domain.declared.setting.Setting.{Setting}
+use Rattle.gb_successors.specs.Below.gb_domain.Limits.{rules_of, item_room}
+use Rattle.gb_successors.specs.Below.gb_domain.Pairs.{ArePairs}
+use Rattle.gb_successors.specs.Below.gb_domain.Types.{AbsState, Node}
+use Rattle.gb_successors.specs.Below.gb_domain.Certificate.{Certificate}
+use Rattle.gb_calls.specs.Below.gb_states.Rules.{IsCertificate}
+use Rattle.gb_successors.specs.Below.gb_abs.Cells.{ArePlaced}
+use Rattle.gb_successors.specs.Below.gb_abs.Operations.{core_settle}
+use Rattle.gb_successors.proofs.Below.gb_abs_laws.OperationLaws.{MeansCore-settle, moved}
+use Rattle.gb_successors.specs.Below.gb_abs.Stack.{AreInRegion, pushed}
+use Rattle.gb_successors.specs.Below.gb_abs.Storage.{peek}
+use Rattle.gb_successors.specs.Below.gb_relations.Sound.{IsByteFree}
+use Rattle.gb_successors.specs.Below.gb_product.Meaning.{Means}
+use Rattle.gb_successors.specs.Below.gb_product.declared.parts.Product.{Product}
+use Rattle.gb_successors.specs.Below.gb_product.Reduced.{reduced}
+use Rattle.gb_successors.specs.Below.gb_product.Sound.{IsMeantProduct}
+use Rattle.gb_successors.proofs.Below.gb_product_laws.ReducedLaws.{reduced_sound}
 use Rattle.gb_successors.specs.Successors.{product_before}
 use Rattle.std.specs.Option.{is_some}
-use Rattle.gb_product.proofs.MeaningLaws.{AreBytes-core}
+use Rattle.gb_successors.proofs.Below.gb_product_laws.MeaningLaws.{AreBytes-core}
 use Rattle.gb_calls.specs.Calls.{callee_of}
 use Rattle.gb_calls.specs.Interrupts.{dispatched, left_by_dispatch, handler_of}
 use Rattle.gb_successors.specs.Below.gb_abs_effects.Pairs.{known_word}
@@ -118,7 +118,7 @@ is_ready cert n i o handled deep =
       few = room.1;
       inside = q.1;
       depth = shallow.1;
-      covered = p.1;
+      covered = (or_parts _ _ p.1).1;
     }
   where
     where_set : (set deep : Bool) → set ≡ true → (set && deep) ≡ false → deep ≡ false

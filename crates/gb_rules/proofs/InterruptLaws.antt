@@ -7,14 +7,14 @@ use Rattle.gb_ops.specs.declared.machine.Event.{Event}
 use Rattle.gb_ops.specs.declared.machine.Event.TheVariants as event
 use Rattle.gb_ops.specs.Machine.{is_possible}
 use Rattle.gb_ops.specs.Play.{MState, within}
-use Rattle.gb_domain.specs.declared.rules.Rules.{Rules}
-use Rattle.gb_domain.specs.declared.rules.Rules.TheVariants.{Simple, Extended}
-use Rattle.gb_domain.specs.Limits.{rules_of}
-use Rattle.gb_domain.specs.Types.{Node}
-use Rattle.gb_domain.specs.Certificate.{Certificate}
-use Rattle.gb_states.specs.Rules.{IsCertificate}
-use Rattle.gb_abs.specs.declared.reason.Reason.{Reason}
-use Rattle.gb_abs.specs.declared.reason.Reason.TheVariants as reasons
+use Rattle.gb_successors.specs.Below.gb_domain.declared.rules.Rules.{Rules}
+use Rattle.gb_successors.specs.Below.gb_domain.declared.rules.Rules.TheVariants.{Simple, Extended}
+use Rattle.gb_successors.specs.Below.gb_domain.Limits.{rules_of}
+use Rattle.gb_successors.specs.Below.gb_domain.Types.{Node}
+use Rattle.gb_successors.specs.Below.gb_domain.Certificate.{Certificate}
+use Rattle.gb_calls.specs.Below.gb_states.Rules.{IsCertificate}
+use Rattle.gb_successors.specs.Below.gb_abs.declared.reason.Reason.{Reason}
+use Rattle.gb_successors.specs.Below.gb_abs.declared.reason.Reason.TheVariants as reasons
 use Rattle.gb_code.specs.Below.gb_abs_memory.Sound.{IsRom}
 use Rattle.gb_successors.proofs.AccessLaws.{clear_stack}
 use Rattle.gb_rules.specs.Rules.{reason_of, reason_at, lacks_handler, lacks_in, lacks_handler_at}

@@ -1,7 +1,5 @@
 pub mod SearchLaws
 pub mod CoveredLaws
-pub mod ValueLaws
-pub mod ReducedValueLaws
 pub mod CoveringLaws
 pub mod ProcedureLaws
 pub mod CallLaws

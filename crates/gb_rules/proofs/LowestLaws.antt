@@ -4,23 +4,23 @@ use Rattle.std.specs.Prelude.{⊤, nat_le, is_some, option_and_then}
 use Rattle.std.specs.List.{AllByRecursion, find}
 use Rattle.gb_ops.specs.declared.op.Op.{Op}
 use Rattle.gb_ops.specs.declared.op.Row.{Row}
-use Rattle.gb_domain.specs.declared.rules.Rules.{Rules}
-use Rattle.gb_domain.specs.declared.rules.Rules.TheVariants.{Simple, Extended}
-use Rattle.gb_domain.specs.Limits.{rules_of}
-use Rattle.gb_domain.specs.declared.relations.Relations.{Relations}
-use Rattle.gb_domain.specs.declared.types.Cell.{Cell}
-use Rattle.gb_domain.specs.declared.types.Core.{Core}
-use Rattle.gb_domain.specs.declared.types.ImeSet.{ImeSet}
-use Rattle.gb_domain.specs.Types.{AbsState, Node}
-use Rattle.gb_domain.specs.Certificate.{Certificate}
-use Rattle.gb_abs.specs.declared.reason.Reason.{Reason}
-use Rattle.gb_abs.specs.declared.reason.Reason.TheVariants as reason
-use Rattle.gb_abs.specs.Reason.{reason_number}
-use Rattle.gb_abs.specs.Operations.{ime_set_after, core_settle}
-use Rattle.gb_product.specs.declared.parts.Product.{Product}
-use Rattle.gb_product.specs.declared.parts.Branch.{Branch}
-use Rattle.gb_product.specs.Reduced.{product_of, reduced}
-use Rattle.gb_product.specs.Sides.{taken_side}
+use Rattle.gb_successors.specs.Below.gb_domain.declared.rules.Rules.{Rules}
+use Rattle.gb_successors.specs.Below.gb_domain.declared.rules.Rules.TheVariants.{Simple, Extended}
+use Rattle.gb_successors.specs.Below.gb_domain.Limits.{rules_of}
+use Rattle.gb_successors.specs.Below.gb_domain.declared.relations.Relations.{Relations}
+use Rattle.gb_successors.specs.Below.gb_domain.declared.types.Cell.{Cell}
+use Rattle.gb_successors.specs.Below.gb_domain.declared.types.Core.{Core}
+use Rattle.gb_successors.specs.Below.gb_domain.declared.types.ImeSet.{ImeSet}
+use Rattle.gb_successors.specs.Below.gb_domain.Types.{AbsState, Node}
+use Rattle.gb_successors.specs.Below.gb_domain.Certificate.{Certificate}
+use Rattle.gb_successors.specs.Below.gb_abs.declared.reason.Reason.{Reason}
+use Rattle.gb_successors.specs.Below.gb_abs.declared.reason.Reason.TheVariants as reason
+use Rattle.gb_successors.specs.Below.gb_abs.Reason.{reason_number}
+use Rattle.gb_successors.specs.Below.gb_abs.Operations.{ime_set_after, core_settle}
+use Rattle.gb_successors.specs.Below.gb_product.declared.parts.Product.{Product}
+use Rattle.gb_successors.specs.Below.gb_product.declared.parts.Branch.{Branch}
+use Rattle.gb_successors.specs.Below.gb_product.Reduced.{product_of, reduced}
+use Rattle.gb_successors.specs.Below.gb_product.Sides.{taken_side}
 use Rattle.gb_successors.specs.Way.{Successor}
 use Rattle.gb_successors.specs.declared.stacks.Stack.{Stack}
 use Rattle.gb_successors.specs.declared.successors.Successors.{Successors}

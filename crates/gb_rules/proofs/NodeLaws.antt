@@ -1,7 +1,7 @@
 -- What is known of a node of a certificate that no reason applies to.
 use Rattle.std.proofs.Common.{◌≡◌, ℕ, zero, suc, ◌+◌, ◌≤◌, ◌<◌, Bool, true, false, cond, not, ◌&&◌, ◌||◌, ◌==◌, nat_le, nat_lt, ◌⊎◌, inl, inr, List, [], ◌∷◌, length, slice_index, slice_get, get_or, Option, Some, None, is_none, refl, sym, ◌∙◌, ap, subst, arith}
 use Rattle.std.proofs.lemmas.Bool.{or_parts, not-false, eqb-true}
-use Rattle.gb_states.specs.declared.role.Role.TheVariants as role
+use Rattle.gb_calls.specs.Below.gb_states.declared.role.Role.TheVariants as role
 use Rattle.std.proofs.lemmas.Bool.Decides.{nat_tests}
 use Rattle.std.proofs.lemmas.Option.{same_Some}
 use Rattle.std.specs.List.{AllByRecursion, Contains, find, list_any}
@@ -14,22 +14,22 @@ use Rattle.gb_ops.specs.declared.op.Row.{Row}
 use Rattle.gb_ops.specs.Cartridge.{kind_of}
 use Rattle.gb_ops.specs.Table.{decoded}
 use Rattle.gb_ops.specs.Machine.{length_of}
-use Rattle.gb_domain.specs.declared.types.Cell.{Cell}
-use Rattle.gb_domain.specs.declared.types.Val.{Val}
-use Rattle.gb_domain.specs.declared.rules.Rules.{Rules}
-use Rattle.gb_domain.specs.declared.rules.Rules.TheVariants.{Simple, Extended}
-use Rattle.gb_domain.specs.declared.setting.Setting.{Setting}
-use Rattle.gb_domain.specs.Areas.{are_in_ram, is_free_byte}
-use Rattle.gb_domain.specs.Limits.{rules_of, item_room}
-use Rattle.gb_domain.specs.Types.{AbsState, Node}
-use Rattle.gb_domain.specs.Certificate.{Certificate}
-use Rattle.gb_domain.specs.Areas.{IsRegion, meets}
-use Rattle.gb_domain.specs.Pairs.{ArePairs}
-use Rattle.gb_domain.specs.Settings.{IsBase}
-use Rattle.gb_domain.specs.Rules.{IsVal, IsCell, IsChain, IsCore, after_cell}
-use Rattle.gb_states.specs.Rules.{IsNode, IsState, IsCertificate, key, role_of, needs_stack}
-use Rattle.gb_abs.specs.Cells.{ArePlaced}
-use Rattle.gb_abs.specs.Stack.{AreInRegion}
+use Rattle.gb_successors.specs.Below.gb_domain.declared.types.Cell.{Cell}
+use Rattle.gb_successors.specs.Below.gb_domain.declared.types.Val.{Val}
+use Rattle.gb_successors.specs.Below.gb_domain.declared.rules.Rules.{Rules}
+use Rattle.gb_successors.specs.Below.gb_domain.declared.rules.Rules.TheVariants.{Simple, Extended}
+use Rattle.gb_successors.specs.Below.gb_domain.declared.setting.Setting.{Setting}
+use Rattle.gb_successors.specs.Below.gb_domain.Areas.{are_in_ram, is_free_byte}
+use Rattle.gb_successors.specs.Below.gb_domain.Limits.{rules_of, item_room}
+use Rattle.gb_successors.specs.Below.gb_domain.Types.{AbsState, Node}
+use Rattle.gb_successors.specs.Below.gb_domain.Certificate.{Certificate}
+use Rattle.gb_successors.specs.Below.gb_domain.Areas.{IsRegion, meets}
+use Rattle.gb_successors.specs.Below.gb_domain.Pairs.{ArePairs}
+use Rattle.gb_successors.specs.Below.gb_domain.Settings.{IsBase}
+use Rattle.gb_successors.specs.Below.gb_domain.Rules.{IsVal, IsCell, IsChain, IsCore, after_cell}
+use Rattle.gb_calls.specs.Below.gb_states.Rules.{IsNode, IsState, IsCertificate, key, role_of, needs_stack}
+use Rattle.gb_successors.specs.Below.gb_abs.Cells.{ArePlaced}
+use Rattle.gb_successors.specs.Below.gb_abs.Stack.{AreInRegion}
 use Rattle.gb_successors.specs.Below.gb_abs_effects.declared.targets.Target.{Target}
 use Rattle.gb_successors.specs.Below.gb_abs_effects.declared.targets.Target.TheVariants as target
 use Rattle.gb_successors.proofs.Below.gb_abs_effects_laws.DecodingLaws.{HasBytes-decoded, length-decoded}
@@ -43,8 +43,8 @@ use Rattle.gb_code.proofs.CodeLaws.{KnownBytes, KnownBytes-known_bytes, IsKnown,
 use Rattle.gb_successors.specs.Way.{Successor}
 use Rattle.gb_successors.specs.declared.successors.Successors.{Successors}
 use Rattle.gb_successors.specs.Successors.{has, any_successor, product_before}
-use Rattle.gb_product.specs.Reduced.{reduced}
-use Rattle.gb_product.specs.Below.gb_relations.Sound.{IsByteFree}
+use Rattle.gb_successors.specs.Below.gb_product.Reduced.{reduced}
+use Rattle.gb_successors.specs.Below.gb_relations.Sound.{IsByteFree}
 use Rattle.gb_successors.specs.Refused.{is_unstorable, meets_closed, is_stack_limited, meets_oam_transfer, is_unknown}
 use Rattle.gb_successors.specs.Sound.{IsOneOf, is_followed, IsAllowed, IsFound, IsStackKnown, IsStackRuled, IsStackFree, IsStackFit, IsPushable, IsPoppable, IsReturnable, IsRuled}
 use Rattle.gb_calls.specs.Calls.{callee_of, are_ranges_inside}

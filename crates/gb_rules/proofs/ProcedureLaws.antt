@@ -6,20 +6,20 @@ use Rattle.std.proofs.lemmas.Option.{same_Some}
 use Rattle.std.specs.Prelude.{IfSome}
 use Rattle.std.specs.List.{AllByRecursion, list_any}
 use Rattle.gb_ops.specs.declared.machine.Region.{Region}
-use Rattle.gb_domain.specs.declared.types.Range.{Range}
-use Rattle.gb_domain.specs.declared.types.Val.{Val}
-use Rattle.gb_states.specs.declared.role.Role.TheVariants as role
-use Rattle.gb_domain.specs.Types.{AbsState, ProcedureParts}
-use Rattle.gb_domain.specs.Certificate.{Certificate}
-use Rattle.gb_domain.specs.Areas.{IsRegion, meets}
-use Rattle.gb_domain.specs.Rules.{IsChain}
-use Rattle.gb_domain.specs.declared.rules.Rules.{Rules}
-use Rattle.gb_domain.specs.declared.rules.Rules.TheVariants.{Simple, Extended}
-use Rattle.gb_domain.specs.Limits.{rules_of}
-use Rattle.gb_domain.specs.Settings.{known_base, IsBase}
-use Rattle.gb_states.specs.Rules.{is_base_of, IsRange, IsProcedure, IsState, IsCertificate, after_range, is_after, size}
-use Rattle.gb_abs.specs.Span.{one}
-use Rattle.gb_abs.specs.Stack.{AreInRegion}
+use Rattle.gb_successors.specs.Below.gb_domain.declared.types.Range.{Range}
+use Rattle.gb_successors.specs.Below.gb_domain.declared.types.Val.{Val}
+use Rattle.gb_calls.specs.Below.gb_states.declared.role.Role.TheVariants as role
+use Rattle.gb_successors.specs.Below.gb_domain.Types.{AbsState, ProcedureParts}
+use Rattle.gb_successors.specs.Below.gb_domain.Certificate.{Certificate}
+use Rattle.gb_successors.specs.Below.gb_domain.Areas.{IsRegion, meets}
+use Rattle.gb_successors.specs.Below.gb_domain.Rules.{IsChain}
+use Rattle.gb_successors.specs.Below.gb_domain.declared.rules.Rules.{Rules}
+use Rattle.gb_successors.specs.Below.gb_domain.declared.rules.Rules.TheVariants.{Simple, Extended}
+use Rattle.gb_successors.specs.Below.gb_domain.Limits.{rules_of}
+use Rattle.gb_successors.specs.Below.gb_domain.Settings.{known_base, IsBase}
+use Rattle.gb_calls.specs.Below.gb_states.Rules.{is_base_of, IsRange, IsProcedure, IsState, IsCertificate, after_range, is_after, size}
+use Rattle.gb_successors.specs.Below.gb_abs.Span.{one}
+use Rattle.gb_successors.specs.Below.gb_abs.Stack.{AreInRegion}
 use Rattle.gb_code.specs.Below.gb_abs_memory.Access.{is_range}
 use Rattle.gb_rules.specs.Safety.{HasReturnWord}
 use Rattle.gb_rules.specs.Procedures.{ranges_in, need_in, base_in, exit_in, ranges_of, need_of, setting_of, exit_of}

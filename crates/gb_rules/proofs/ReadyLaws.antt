@@ -9,14 +9,14 @@ use Rattle.gb_ops.specs.declared.op.Pair.TheVariants as pair
 use Rattle.gb_ops.specs.declared.op.Op.{Op}
 use Rattle.gb_ops.specs.declared.op.Op.TheVariants as op
 use Rattle.gb_ops.specs.declared.op.Row.{Row}
-use Rattle.gb_domain.specs.declared.pairs.Bounds.{Bounds}
-use Rattle.gb_domain.specs.declared.rules.Rules.{Rules}
-use Rattle.gb_domain.specs.declared.rules.Rules.TheVariants.{Extended}
-use Rattle.gb_domain.specs.Limits.{item_room}
-use Rattle.gb_domain.specs.Settings.{known_base, IsBase}
-use Rattle.gb_domain.specs.Types.{AbsState, Node}
-use Rattle.gb_abs.specs.Stack.{AreInRegion}
-use Rattle.gb_product.specs.declared.parts.Product.{Product}
+use Rattle.gb_successors.specs.Below.gb_domain.declared.pairs.Bounds.{Bounds}
+use Rattle.gb_successors.specs.Below.gb_domain.declared.rules.Rules.{Rules}
+use Rattle.gb_successors.specs.Below.gb_domain.declared.rules.Rules.TheVariants.{Extended}
+use Rattle.gb_successors.specs.Below.gb_domain.Limits.{item_room}
+use Rattle.gb_successors.specs.Below.gb_domain.Settings.{known_base, IsBase}
+use Rattle.gb_successors.specs.Below.gb_domain.Types.{AbsState, Node}
+use Rattle.gb_successors.specs.Below.gb_abs.Stack.{AreInRegion}
+use Rattle.gb_successors.specs.Below.gb_product.declared.parts.Product.{Product}
 use Rattle.gb_successors.specs.Below.gb_abs_effects.declared.writes.AbsWrite.{AbsWrite}
 use Rattle.gb_successors.specs.Below.gb_abs_effects.declared.writes.AbsWrite.TheVariants as write
 use Rattle.gb_successors.specs.declared.stacks.Stack.{Stack}

@@ -1,7 +1,7 @@
 -- Bytes that lie in the stack region.
 use Rattle.std.proofs.Common.{ℕ, ◌≤◌, arith}
 use Rattle.gb_ops.specs.declared.machine.Region.{Region}
-use Rattle.gb_abs.specs.Stack.{AreInRegion}
+use Rattle.gb_successors.specs.Below.gb_abs.Stack.{AreInRegion}
 
 -- fewer bytes than the need have room
 pub fewer_bytes : (region : Region) (base need bytes : ℕ) → AreInRegion region base need → bytes ≤ need → AreInRegion region base bytes

@@ -2,14 +2,14 @@
 -- exit's behind them.
 use Rattle.std.proofs.Common.{◌≡◌, ℕ, List, Option, Some, None, refl}
 use Rattle.std.specs.Prelude.{IfSome}
-use Rattle.gb_domain.specs.declared.rules.Rules.TheVariants.{Extended}
-use Rattle.gb_domain.specs.declared.types.Range.{Range}
-use Rattle.gb_domain.specs.Pairs.{ArePairs}
-use Rattle.gb_domain.specs.Types.{AbsState}
-use Rattle.gb_product.specs.Below.gb_pairs.declared.values.Values.{Values}
-use Rattle.gb_product.specs.Below.gb_pairs.Reduced.{reduced}
-use Rattle.gb_product.proofs.Below.gb_relations_laws.Below.gb_pairs_laws.KeptLaws.{reduced_kept}
-use Rattle.gb_product.specs.Below.gb_relations.Transfer.{values_of}
+use Rattle.gb_successors.specs.Below.gb_domain.declared.rules.Rules.TheVariants.{Extended}
+use Rattle.gb_successors.specs.Below.gb_domain.declared.types.Range.{Range}
+use Rattle.gb_successors.specs.Below.gb_domain.Pairs.{ArePairs}
+use Rattle.gb_successors.specs.Below.gb_domain.Types.{AbsState}
+use Rattle.gb_successors.specs.Below.gb_pairs.declared.values.Values.{Values}
+use Rattle.gb_successors.specs.Below.gb_pairs.Reduced.{reduced}
+use Rattle.gb_successors.proofs.Below.gb_relations_laws.Below.gb_pairs_laws.KeptLaws.{reduced_kept}
+use Rattle.gb_successors.specs.Below.gb_relations.Transfer.{values_of}
 use Rattle.gb_calls.specs.Resuming.{kept_by, rejoined, with_values_if, reduced_state, resumed}
 use Rattle.gb_calls.specs.TakenOver.{given_back_items}
 use Rattle.gb_calls.proofs.ResumingLaws.{ArePairs-returned}

@@ -1,15 +1,15 @@
 -- A node that covers lies among those with its key.
-use Rattle.std.proofs.Common.{◌≡◌, ℕ, zero, suc, ◌+◌, ◌≤◌, ◌<◌, Bool, true, false, ◌&&◌, ◌==◌, List, [], ◌∷◌, map, slice_get, ◌⊎◌, inl, inr, Option, Some, refl, sym, ◌∙◌, ap, subst, arith}
+use Rattle.std.proofs.Common.{◌≡◌, ℕ, zero, suc, ◌+◌, ◌≤◌, ◌<◌, Bool, true, false, ◌&&◌, ◌==◌, List, [], ◌∷◌, map, slice_get, ◌⊎◌, inl, inr, Option, Some, None, refl, sym, ◌∙◌, ap, subst, arith}
 use Rattle.std.proofs.lemmas.Bool.{or_right, and_parts, eqb-true}
 use Rattle.std.proofs.lemmas.Bool.Decides.{nat_tests}
 use Rattle.std.proofs.lemmas.Option.{slice_get_within, get_or_from_slice_get, slice_get-map}
-use Rattle.std.specs.Prelude.{◌||◌, option_map, IfSome}
+use Rattle.std.specs.Prelude.{◌||◌, option_map, is_some, IfSome, IfNone}
 use Rattle.std.specs.List.{Contains, list_any}
 use Rattle.gb_calls.specs.Below.gb_rows.Rows.{IsFound}
-use Rattle.gb_domain.specs.declared.rules.Rules.{Rules}
-use Rattle.gb_domain.specs.Types.{AbsState, Node}
-use Rattle.gb_states.specs.Rules.{key}
-use Rattle.gb_product.specs.Covering.{covers}
+use Rattle.gb_successors.specs.Below.gb_domain.declared.rules.Rules.{Rules}
+use Rattle.gb_successors.specs.Below.gb_domain.Types.{AbsState, Node}
+use Rattle.gb_calls.specs.Below.gb_states.Rules.{key}
+use Rattle.gb_successors.specs.Below.gb_product.Covering.{covers}
 use Rattle.gb_rules.specs.Covered.{is_cover, is_covered_by_one, covered_at}
 
 -- one that passes
@@ -19,7 +19,7 @@ found_at test (y ∷ ys) zero x at passes = let e : y ≡ x = cc in rw (e, passe
 found_at test (y ∷ ys) (suc i) x at passes = rw (found_at test ys i x at passes) (or_right (test y) true refl)
 
 -- none of the elements before a number passes
-abbrev pub NoneBefore : {X : Type 0} → (X → Bool) → List X → ℕ → Type 0
+abbrev NoneBefore : {X : Type 0} → (X → Bool) → List X → ℕ → Type 0
 NoneBefore {X} test xs i = (j : ℕ) (x : X) → j < i → slice_get xs j ≡ Some x → test x ≡ false
 
 -- none passes
@@ -43,36 +43,39 @@ keyed : (nodes : List Node) (i : ℕ) (n : Node) (k : ℕ × ℕ) → slice_get 
 keyed nodes i n k at e = slice_get-map key nodes i ∙ (ap (option_map key) at ∙ ap Some e)
 
 -- before the nodes with the key none covers
-pub none_before : (nodes : List Node) (procedure a : ℕ) (s : AbsState) (first after : ℕ) → IsFound (map key nodes) (procedure, a) first after
+none_before : (nodes : List Node) (procedure a : ℕ) (s : AbsState) (first after : ℕ) → IsFound (map key nodes) (procedure, a) first after
     → NoneBefore (is_cover procedure a s) nodes first
 none_before nodes procedure a s first after found = λ j n lt at.
     from_true (is_cover procedure a s n) (λ h. let p = found.all j (keyed nodes j n (procedure, a) at (has_key procedure a s n h)) in let least : first ≤ j = p.0 in absurd (omega arith))
 
+-- none of the nodes from one number to below another covers
+abbrev pub NoneBetween : List Node → AbsState → ℕ → ℕ → Type 0
+NoneBetween nodes s from i = (j : ℕ) (n : Node) → from ≤ j → j < i → slice_get nodes j ≡ Some n → covers s n.state ≡ false
+
 -- the node at hand doesn't cover either
-pub none_yet : (nodes : List Node) (procedure a : ℕ) (s : AbsState) (i : ℕ) (n : Node) → slice_get nodes i ≡ Some n → covers s n.state ≡ false
-    → NoneBefore (is_cover procedure a s) nodes i → NoneBefore (is_cover procedure a s) nodes (i + 1)
-none_yet nodes procedure a s i n at apart before = λ j m lt there.
-    elim (split j i lt) [ inl less ↦ before j m less there | inr e ↦ from_true (is_cover procedure a s m) (λ h. not_both j m e there (and_parts _ _ h).1) ]
+pub none_yet : (nodes : List Node) (s : AbsState) (from i : ℕ) (n : Node) → slice_get nodes i ≡ Some n → covers s n.state ≡ false → NoneBetween nodes s from i
+    → NoneBetween nodes s from (i + 1)
+none_yet nodes s from i n at apart before = λ j m least lt there.
+    elim (split j i lt) [ inl less ↦ before j m least less there | inr e ↦ told j m e there ]
   where
     split : (j i : ℕ) → j < i + 1 → (j < i) ⊎ (j ≡ i)
     split j i lt = grind arith
 
-    not_both : (j : ℕ) (m : Node) → j ≡ i → slice_get nodes j ≡ Some m → covers s m.state ≡ true → ⊥
-    not_both j m e there h =
+    told : (j : ℕ) (m : Node) → j ≡ i → slice_get nodes j ≡ Some m → covers s m.state ≡ false
+    told j m e there =
         let here : Some m ≡ Some n = sym there ∙ (ap (slice_get nodes) e ∙ at) in
         let same : m ≡ n = cc in
-        let told : covers s m.state ≡ covers s n.state = ap (λ (k : Node). covers s k.state) same in
-        cc
+        ap (λ (k : Node). covers s k.state) same ∙ apart
 
 -- behind the nodes with the key none covers
-pub none_covers : (nodes : List Node) (procedure a : ℕ) (s : AbsState) (first after i : ℕ) → IsFound (map key nodes) (procedure, a) first after → after ≤ i
+none_covers : (nodes : List Node) (procedure a : ℕ) (s : AbsState) (first after i : ℕ) → IsFound (map key nodes) (procedure, a) first after → after ≤ i
     → NoneBefore (is_cover procedure a s) nodes i → false ≡ is_covered_by_one nodes procedure a s
 unfolding is_covered_by_one
 none_covers nodes procedure a s first after i found le before = sym (none_at (is_cover procedure a s) nodes (λ j n at.
     from_true (is_cover procedure a s n) (λ h. let p = found.all j (keyed nodes j n (procedure, a) at (has_key procedure a s n h)) in let most : j < after = p.1 in let no : is_cover procedure a s n ≡ false = before j n (omega arith) at in cc)))
 
 -- a node among those with the key covers
-pub one_covers : (nodes : List Node) (procedure a : ℕ) (s : AbsState) (first after i : ℕ) (n : Node) → IsFound (map key nodes) (procedure, a) first after → first ≤ i → i < after
+one_covers : (nodes : List Node) (procedure a : ℕ) (s : AbsState) (first after i : ℕ) (n : Node) → IsFound (map key nodes) (procedure, a) first after → first ≤ i → i < after
     → slice_get nodes i ≡ Some n → covers s n.state ≡ true → true ≡ is_covered_by_one nodes procedure a s
 unfolding is_covered_by_one
 one_covers nodes procedure a s first after i n found least most at h =
@@ -85,6 +88,45 @@ one_covers nodes procedure a s first after i n found least most at h =
   where
     covering : (m procedure b a : ℕ) (c : Bool) → m ≡ procedure → b ≡ a → c ≡ true → ((m == procedure) && (b == a) && c) ≡ true
     covering m procedure b a c e f h = grind (arith, nat_tests)
+
+-- the node with a number among them covers
+pub found_covers : (nodes : List Node) (procedure a : ℕ) (s : AbsState) (first after i : ℕ) → IsFound (map key nodes) (procedure, a) first after → first ≤ i → i < after
+    → IfSome (slice_get nodes i) (λ n. covers s n.state ≡ true) → true ≡ is_covered_by_one nodes procedure a s
+found_covers nodes procedure a s first after i found least most h = by (slice_get nodes i) refl h
+  where
+    by : (o : Option Node) → slice_get nodes i ≡ o → IfSome o (λ n. covers s n.state ≡ true) → true ≡ is_covered_by_one nodes procedure a s
+    by None e h =
+        let missing : slice_get (map key nodes) i ≡ None = slice_get-map key nodes i ∙ ap (option_map key) e in
+        let there : slice_get (map key nodes) i ≡ Some (procedure, a) = found.each i least most in
+        cc
+    by (Some n) e h = one_covers nodes procedure a s first after i n found least most e h
+
+-- none of them covers, from one number on and before it
+none_around : (nodes : List Node) (procedure a : ℕ) (s : AbsState) (first near after : ℕ) → IsFound (map key nodes) (procedure, a) first after → NoneBetween nodes s near after
+    → NoneBetween nodes s first near → false ≡ is_covered_by_one nodes procedure a s
+none_around nodes procedure a s first near after found behind before = none_covers nodes procedure a s first after after found (omega arith) each
+  where
+    uncovered : (b c : Bool) → c ≡ false → (b && c) ≡ false
+    uncovered true c e = e
+    uncovered false c e = refl
+
+    side : (i j : ℕ) → (i ≤ j) ⊎ (j < i)
+    side i j = grind arith
+
+    each : NoneBefore (is_cover procedure a s) nodes after
+    each j n lt at = elim (side first j) [
+      | inl least ↦ uncovered ((n.procedure == procedure) && (n.address == a)) (covers s n.state) (elim (side near j) [ inl high ↦ behind j n high lt at | inr low ↦ before j n least low at ])
+      | inr less ↦ none_before nodes procedure a s first after found j n less at
+    ]
+
+-- none of them covers from one number on: one does where one is found before it
+pub found_around : (nodes : List Node) (procedure a : ℕ) (s : AbsState) (first near after : ℕ) (o : Option ℕ) → IsFound (map key nodes) (procedure, a) first after → near ≤ after
+    → NoneBetween nodes s near after → IfSome o (λ i. (first ≤ i) × (i < near)) → IfSome o (λ i. IfSome (slice_get nodes i) (λ n. covers s n.state ≡ true))
+    → IfNone o (NoneBetween nodes s first near) → is_some o ≡ is_covered_by_one nodes procedure a s
+found_around nodes procedure a s first near after None found le behind inside covering before = none_around nodes procedure a s first near after found behind before
+found_around nodes procedure a s first near after (Some i) found le behind inside covering before =
+    let most : i < near = inside.1 in
+    found_covers nodes procedure a s first after i found inside.0 (omega arith) covering
 
 -- the node with a number covers
 pub covered_by : (rules : Rules) (nodes : List Node) (procedure a : ℕ) (s : AbsState) (i : ℕ) (n : Node) (has covering : Bool) → IfSome (slice_get nodes i) (λ m. has ≡ ((m.procedure == procedure) && (m.address == a)))

@@ -2,12 +2,12 @@
 use Rattle.std.proofs.Common.{◌≡◌, ℕ, ◌+◌, false, List, [], length, refl, arith}
 use Rattle.std.specs.List.{Contains}
 use Rattle.gb_ops.specs.Play.{MState}
-use Rattle.gb_domain.specs.Types.{Node}
-use Rattle.gb_domain.specs.Certificate.{Certificate}
-use Rattle.gb_domain.specs.Limits.{rules_of}
-use Rattle.gb_domain.specs.Settings.{IsBase}
-use Rattle.gb_product.specs.Meaning.{Means}
-use Rattle.gb_abs.specs.Stack.{AreInRegion}
+use Rattle.gb_successors.specs.Below.gb_domain.Types.{Node}
+use Rattle.gb_successors.specs.Below.gb_domain.Certificate.{Certificate}
+use Rattle.gb_successors.specs.Below.gb_domain.Limits.{rules_of}
+use Rattle.gb_successors.specs.Below.gb_domain.Settings.{IsBase}
+use Rattle.gb_successors.specs.Below.gb_product.Meaning.{Means}
+use Rattle.gb_successors.specs.Below.gb_abs.Stack.{AreInRegion}
 use Rattle.gb_code.specs.Below.gb_abs_memory.Sound.{IsRom}
 use Rattle.gb_code.proofs.CodeLaws.{IsKnown, IsAt as IsAtCode}
 use Rattle.gb_successors.specs.Way.{Successor}
@@ -15,7 +15,7 @@ use Rattle.gb_successors.specs.declared.stacks.Stack.{Stack}
 use Rattle.gb_successors.specs.Sound.{IsOneOf, Stands, IsRuled, AreSoundSuccessors}
 use Rattle.gb_successors.proofs.FormedLaws.{IsFormed, IsFormed-successor}
 use Rattle.gb_successors.proofs.WayLaws.{successors_of_sound}
-use Rattle.gb_states.specs.Rules.{IsCertificate}
+use Rattle.gb_calls.specs.Below.gb_states.Rules.{IsCertificate}
 use Rattle.gb_rules.specs.Procedures.{ranges_of, need_of, setting_of, stack_of}
 use Rattle.gb_rules.specs.Rules.{ways_of}
 use Rattle.gb_rules.specs.Safety.{HasReturnWord}

@@ -2,11 +2,11 @@
 use Rattle.std.proofs.Common.{◌≡◌, ℕ, ◌+◌, ◌<◌, inl, inr, List, [], ◌∷◌, refl, arith}
 use Rattle.gb_ops.specs.declared.machine.Event.{Event}
 use Rattle.gb_ops.specs.Play.{MState, next}
-use Rattle.gb_domain.specs.declared.rules.Rules.{Rules}
-use Rattle.gb_domain.specs.declared.rules.Rules.TheVariants.{Simple, Extended}
-use Rattle.gb_domain.specs.Certificate.{Certificate}
-use Rattle.gb_domain.specs.Limits.{rules_of}
-use Rattle.gb_states.specs.Rules.{IsCertificate}
+use Rattle.gb_successors.specs.Below.gb_domain.declared.rules.Rules.{Rules}
+use Rattle.gb_successors.specs.Below.gb_domain.declared.rules.Rules.TheVariants.{Simple, Extended}
+use Rattle.gb_successors.specs.Below.gb_domain.Certificate.{Certificate}
+use Rattle.gb_successors.specs.Below.gb_domain.Limits.{rules_of}
+use Rattle.gb_calls.specs.Below.gb_states.Rules.{IsCertificate}
 use Rattle.gb_calls.specs.TakenOver.{base_below}
 use Rattle.gb_rules.specs.Procedures.{taken_by}
 use Rattle.gb_rules.specs.Safety.{IsMeant, CallsBy, ReturnsBy, RestartsBy, LeadsBy, IsSafeEvent}

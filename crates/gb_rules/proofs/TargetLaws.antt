@@ -6,17 +6,17 @@ use Rattle.gb_ops.specs.declared.op.Pair.TheVariants as pair
 use Rattle.gb_ops.specs.declared.op.Op.{Op}
 use Rattle.gb_ops.specs.declared.op.Op.TheVariants as op
 use Rattle.gb_ops.specs.declared.op.Row.{Row}
-use Rattle.gb_domain.specs.declared.pairs.Bounds.{Bounds}
-use Rattle.gb_domain.specs.declared.rules.Rules.{Rules}
-use Rattle.gb_domain.specs.declared.rules.Rules.TheVariants.{Simple, Extended}
-use Rattle.gb_domain.specs.declared.setting.Setting.{Setting}
-use Rattle.gb_domain.specs.declared.types.Core.{Core}
-use Rattle.gb_domain.specs.declared.types.Halves.{Halves}
-use Rattle.gb_domain.specs.Types.{AbsState}
-use Rattle.gb_product.specs.declared.parts.Branch.{Branch}
-use Rattle.gb_product.specs.declared.parts.Product.{Product}
-use Rattle.gb_product.specs.Reduced.{product_of, reduced}
-use Rattle.gb_product.specs.Sides.{taken_side, not_taken_side}
+use Rattle.gb_successors.specs.Below.gb_domain.declared.pairs.Bounds.{Bounds}
+use Rattle.gb_successors.specs.Below.gb_domain.declared.rules.Rules.{Rules}
+use Rattle.gb_successors.specs.Below.gb_domain.declared.rules.Rules.TheVariants.{Simple, Extended}
+use Rattle.gb_successors.specs.Below.gb_domain.declared.setting.Setting.{Setting}
+use Rattle.gb_successors.specs.Below.gb_domain.declared.types.Core.{Core}
+use Rattle.gb_successors.specs.Below.gb_domain.declared.types.Halves.{Halves}
+use Rattle.gb_successors.specs.Below.gb_domain.Types.{AbsState}
+use Rattle.gb_successors.specs.Below.gb_product.declared.parts.Branch.{Branch}
+use Rattle.gb_successors.specs.Below.gb_product.declared.parts.Product.{Product}
+use Rattle.gb_successors.specs.Below.gb_product.Reduced.{product_of, reduced}
+use Rattle.gb_successors.specs.Below.gb_product.Sides.{taken_side, not_taken_side}
 use Rattle.gb_successors.specs.Below.gb_abs_effects.declared.writes.AbsWrite.{AbsWrite}
 use Rattle.gb_successors.specs.Below.gb_abs_effects.declared.targets.Target.{Target}
 use Rattle.gb_successors.specs.Below.gb_abs_effects.declared.targets.Target.TheVariants as target

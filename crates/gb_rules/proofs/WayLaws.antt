@@ -6,19 +6,19 @@ use Rattle.std.proofs.lemmas.Bool.{not-false, and_parts, or_parts, eqb-true}
 use Rattle.std.proofs.lemmas.Bool.Decides.{nat_tests}
 use Rattle.std.proofs.lemmas.Option.{same_Some}
 use Rattle.gb_ops.specs.Play.{MState}
-use Rattle.gb_domain.specs.Types.{AbsState, ProcedureParts, Node}
-use Rattle.gb_domain.specs.Certificate.{Certificate}
-use Rattle.gb_states.specs.Rules.{IsCertificate, is_of, have_entries}
-use Rattle.gb_abs.specs.Mark.{IsMarkHarmless}
-use Rattle.gb_product.specs.Meaning.{AreRelated, Means}
-use Rattle.gb_abs.specs.Stack.{AreInRegion, pushed}
-use Rattle.gb_abs.specs.Meaning.{MeansParts}
-use Rattle.gb_domain.specs.declared.types.Halves.{Halves}
-use Rattle.gb_domain.specs.declared.rules.Rules.TheVariants.{Simple}
-use Rattle.gb_domain.specs.Limits.{rules_of}
-use Rattle.gb_domain.specs.Settings.{IsBase}
+use Rattle.gb_successors.specs.Below.gb_domain.Types.{AbsState, ProcedureParts, Node}
+use Rattle.gb_successors.specs.Below.gb_domain.Certificate.{Certificate}
+use Rattle.gb_calls.specs.Below.gb_states.Rules.{IsCertificate, is_of, have_entries}
+use Rattle.gb_successors.specs.Below.gb_abs.Mark.{IsMarkHarmless}
+use Rattle.gb_successors.specs.Below.gb_product.Meaning.{AreRelated, Means}
+use Rattle.gb_successors.specs.Below.gb_abs.Stack.{AreInRegion, pushed}
+use Rattle.gb_successors.specs.Below.gb_abs.Meaning.{MeansParts}
+use Rattle.gb_successors.specs.Below.gb_domain.declared.types.Halves.{Halves}
+use Rattle.gb_successors.specs.Below.gb_domain.declared.rules.Rules.TheVariants.{Simple}
+use Rattle.gb_successors.specs.Below.gb_domain.Limits.{rules_of}
+use Rattle.gb_successors.specs.Below.gb_domain.Settings.{IsBase}
 use Rattle.gb_successors.specs.Below.gb_abs_effects.Pairs.{known_word}
-use Rattle.gb_product.proofs.CoveringLaws.{Means-covered}
+use Rattle.gb_successors.proofs.Below.gb_product_laws.CoveringLaws.{Means-covered}
 use Rattle.gb_successors.specs.Below.gb_abs_effects.declared.targets.Target.{Target}
 use Rattle.gb_successors.specs.Below.gb_abs_effects.declared.targets.Target.TheVariants as target
 use Rattle.gb_calls.specs.Calls.{callee_of, are_ranges_inside}

@@ -4,16 +4,16 @@ use Rattle.std.proofs.Common.{◌≡◌, ℕ, ◌<◌, true, false, ◌==◌, in
 use Rattle.std.proofs.lemmas.Bool.{not-false, or_parts}
 use Rattle.std.proofs.lemmas.Bool.Decides.{nat_tests}
 use Rattle.gb_ops.specs.Play.{MState}
-use Rattle.gb_domain.specs.declared.rules.Rules.{Rules}
-use Rattle.gb_domain.specs.declared.rules.Rules.TheVariants.{Simple, Extended}
-use Rattle.gb_domain.specs.declared.setting.Setting.{Setting}
-use Rattle.gb_domain.specs.Limits.{rules_of}
-use Rattle.gb_domain.specs.Types.{Node}
-use Rattle.gb_domain.specs.Certificate.{Certificate}
-use Rattle.gb_abs.specs.Meaning.{MeansParts}
-use Rattle.gb_abs.specs.Stack.{AreInRegion}
-use Rattle.gb_product.specs.Meaning.{AreRelated}
-use Rattle.gb_product.proofs.MeaningLaws.{AreBytes-core}
+use Rattle.gb_successors.specs.Below.gb_domain.declared.rules.Rules.{Rules}
+use Rattle.gb_successors.specs.Below.gb_domain.declared.rules.Rules.TheVariants.{Simple, Extended}
+use Rattle.gb_successors.specs.Below.gb_domain.declared.setting.Setting.{Setting}
+use Rattle.gb_successors.specs.Below.gb_domain.Limits.{rules_of}
+use Rattle.gb_successors.specs.Below.gb_domain.Types.{Node}
+use Rattle.gb_successors.specs.Below.gb_domain.Certificate.{Certificate}
+use Rattle.gb_successors.specs.Below.gb_abs.Meaning.{MeansParts}
+use Rattle.gb_successors.specs.Below.gb_abs.Stack.{AreInRegion}
+use Rattle.gb_successors.specs.Below.gb_product.Meaning.{AreRelated}
+use Rattle.gb_successors.proofs.Below.gb_product_laws.MeaningLaws.{AreBytes-core}
 use Rattle.gb_calls.specs.Calls.{callee_of}
 use Rattle.gb_successors.specs.Below.gb_abs_effects.declared.targets.Target.{Target}
 use Rattle.gb_successors.specs.Below.gb_abs_effects.declared.targets.Target.TheVariants as target

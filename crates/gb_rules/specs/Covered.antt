@@ -5,15 +5,15 @@ use Rattle.std.specs.List.{list_any}
 use Rattle.gb_ops.specs.declared.op.Register.{Register}
 use Rattle.gb_ops.specs.declared.op.Register.TheVariants.{A, B, C, D, E, H, L}
 use Rattle.gb_ops.specs.Registers.{get}
-use Rattle.gb_domain.specs.declared.relations.Relations.{Relations}
-use Rattle.gb_domain.specs.declared.rules.Rules.{Rules}
-use Rattle.gb_domain.specs.declared.types.Core.{Core}
-use Rattle.gb_domain.specs.declared.types.Val.{Val}
-use Rattle.gb_domain.specs.Types.{AbsState, Node}
-use Rattle.gb_product.specs.declared.parts.Product.{Product}
-use Rattle.gb_product.specs.Covering.{covers}
-use Rattle.gb_product.specs.Reduced.{reduced}
-use Rattle.gb_abs.specs.Operations.{core_with_value, with_core}
+use Rattle.gb_successors.specs.Below.gb_domain.declared.relations.Relations.{Relations}
+use Rattle.gb_successors.specs.Below.gb_domain.declared.rules.Rules.{Rules}
+use Rattle.gb_successors.specs.Below.gb_domain.declared.types.Core.{Core}
+use Rattle.gb_successors.specs.Below.gb_domain.declared.types.Val.{Val}
+use Rattle.gb_successors.specs.Below.gb_domain.Types.{AbsState, Node}
+use Rattle.gb_successors.specs.Below.gb_product.declared.parts.Product.{Product}
+use Rattle.gb_successors.specs.Below.gb_product.Covering.{covers}
+use Rattle.gb_successors.specs.Below.gb_product.Reduced.{reduced}
+use Rattle.gb_successors.specs.Below.gb_abs.Operations.{core_with_value, with_core}
 use Rattle.gb_successors.specs.Behind.{with_relations}
 
 -- a node stands for these states, in a procedure at an address

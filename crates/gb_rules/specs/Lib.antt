@@ -5,3 +5,4 @@ pub mod Lowest
 pub mod Safety
 pub mod Frames
 pub mod Below
+pub mod Opened

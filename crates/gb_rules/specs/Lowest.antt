@@ -2,12 +2,12 @@
 use Rattle.std.specs.Prelude.{ℕ, ◌+◌, ◌%◌, Bool, false, ◌&&◌, ◌||◌, if◌then◌else◌, nat_le, List, find, Option, Some, None}
 use Rattle.gb_ops.specs.declared.op.Row.{Row}
 use Rattle.gb_ops.specs.Cartridge.{kind_of}
-use Rattle.gb_domain.specs.Limits.{rules_of}
-use Rattle.gb_domain.specs.Types.{Node}
-use Rattle.gb_domain.specs.Certificate.{Certificate}
-use Rattle.gb_abs.specs.declared.reason.Reason.{Reason}
-use Rattle.gb_abs.specs.declared.reason.Reason.TheVariants as reason
-use Rattle.gb_abs.specs.Reason.{reason_number}
+use Rattle.gb_successors.specs.Below.gb_domain.Limits.{rules_of}
+use Rattle.gb_successors.specs.Below.gb_domain.Types.{Node}
+use Rattle.gb_successors.specs.Below.gb_domain.Certificate.{Certificate}
+use Rattle.gb_successors.specs.Below.gb_abs.declared.reason.Reason.{Reason}
+use Rattle.gb_successors.specs.Below.gb_abs.declared.reason.Reason.TheVariants as reason
+use Rattle.gb_successors.specs.Below.gb_abs.Reason.{reason_number}
 use Rattle.gb_successors.specs.Way.{Successor}
 use Rattle.gb_successors.specs.Refused.{is_unstorable, meets_closed, meets_oam_transfer, is_unknown}
 use Rattle.gb_rules.specs.Procedures.{ranges_of, need_of}

@@ -1,10 +1,10 @@
 -- What a certificate claims of its procedures (own format).
 use Rattle.std.specs.Prelude.{ℕ, ◌==◌, List, [], length, slice_get, Option, Some, None}
-use Rattle.gb_domain.specs.declared.setting.Setting.{Setting}
-use Rattle.gb_domain.specs.declared.types.Range.{Range}
-use Rattle.gb_domain.specs.Limits.{rules_of}
-use Rattle.gb_domain.specs.Types.{AbsState, ProcedureParts, Node}
-use Rattle.gb_domain.specs.Certificate.{Certificate}
+use Rattle.gb_successors.specs.Below.gb_domain.declared.setting.Setting.{Setting}
+use Rattle.gb_successors.specs.Below.gb_domain.declared.types.Range.{Range}
+use Rattle.gb_successors.specs.Below.gb_domain.Limits.{rules_of}
+use Rattle.gb_successors.specs.Below.gb_domain.Types.{AbsState, ProcedureParts, Node}
+use Rattle.gb_successors.specs.Below.gb_domain.Certificate.{Certificate}
 use Rattle.gb_successors.specs.declared.stacks.Stack.{Stack}
 
 abbrev pub ranges_in : Option ProcedureParts → List Range

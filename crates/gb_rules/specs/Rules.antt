@@ -8,18 +8,18 @@ use Rattle.gb_ops.specs.declared.op.Row.{Row}
 use Rattle.gb_ops.specs.Cartridge.{kind_of}
 use Rattle.gb_ops.specs.Machine.{vector}
 use Rattle.gb_ops.specs.Table.{decoded}
-use Rattle.gb_domain.specs.declared.types.Core.{Core}
-use Rattle.gb_domain.specs.declared.rules.Rules.{Rules}
-use Rattle.gb_domain.specs.declared.rules.Rules.TheVariants.{Simple, Extended}
-use Rattle.gb_domain.specs.declared.pairs.Bounds.{Bounds}
-use Rattle.gb_domain.specs.declared.setting.Setting.{Setting}
-use Rattle.gb_domain.specs.Limits.{rules_of, item_room}
-use Rattle.gb_domain.specs.Types.{AbsState, Node}
-use Rattle.gb_domain.specs.Certificate.{Certificate}
-use Rattle.gb_abs.specs.declared.reason.Reason.{Reason}
-use Rattle.gb_abs.specs.declared.reason.Reason.TheVariants as reason
-use Rattle.gb_product.specs.declared.parts.Product.{Product}
-use Rattle.gb_product.specs.Covering.{covers}
+use Rattle.gb_successors.specs.Below.gb_domain.declared.types.Core.{Core}
+use Rattle.gb_successors.specs.Below.gb_domain.declared.rules.Rules.{Rules}
+use Rattle.gb_successors.specs.Below.gb_domain.declared.rules.Rules.TheVariants.{Simple, Extended}
+use Rattle.gb_successors.specs.Below.gb_domain.declared.pairs.Bounds.{Bounds}
+use Rattle.gb_successors.specs.Below.gb_domain.declared.setting.Setting.{Setting}
+use Rattle.gb_successors.specs.Below.gb_domain.Limits.{rules_of, item_room}
+use Rattle.gb_successors.specs.Below.gb_domain.Types.{AbsState, Node}
+use Rattle.gb_successors.specs.Below.gb_domain.Certificate.{Certificate}
+use Rattle.gb_successors.specs.Below.gb_abs.declared.reason.Reason.{Reason}
+use Rattle.gb_successors.specs.Below.gb_abs.declared.reason.Reason.TheVariants as reason
+use Rattle.gb_successors.specs.Below.gb_product.declared.parts.Product.{Product}
+use Rattle.gb_successors.specs.Below.gb_product.Covering.{covers}
 use Rattle.gb_successors.specs.Below.gb_abs_effects.declared.writes.AbsWrite.TheVariants as write
 use Rattle.gb_successors.specs.Below.gb_abs_effects.declared.targets.Target.{Target}
 use Rattle.gb_successors.specs.Below.gb_abs_effects.declared.targets.Target.TheVariants as target
@@ -315,9 +315,15 @@ handles_too_deep cert n =
 unfoldable pub is_dispatch_limited : Region → Node → Bool
 is_dispatch_limited region n = any_interrupt (λ i. is_stack_limited region n.state.core) n
 
+-- by the rules of version 3 a dispatch pushes the address, and no node stands for more bytes than a state can hold
+abbrev pub is_dispatch_overfull : Rules → AbsState → Bool
+is_dispatch_overfull Simple s = false
+is_dispatch_overfull Extended s = nat_lt (item_room Extended) (length s.items + 2)
+
 -- what a dispatch leaves isn't covered: at the vector, where it is inlined, or at the node, where its handler returns to
 abbrev pub is_dispatch_uncovered : Rules → Certificate → Node → ℕ → AbsState → Option ℕ → Bool
-is_dispatch_uncovered rules cert n i s handler = is_call_uncovered rules cert n.procedure (vector i) n.address s handler
+is_dispatch_uncovered rules cert n i s handler =
+    is_dispatch_overfull rules n.state || is_call_uncovered rules cert n.procedure (vector i) n.address s handler
 
 -- no handler is there, or one that may write where the procedure may not; or what the procedure goes on with behind it
 -- isn't covered where it was left

@@ -6,23 +6,23 @@ use Rattle.gb_ops.specs.declared.machine.Event.TheVariants as event
 use Rattle.gb_ops.specs.Pairs.{word}
 use Rattle.gb_ops.specs.Faults.{no_faults}
 use Rattle.gb_ops.specs.Play.{MState, next, faults, places}
-use Rattle.gb_domain.specs.Types.{AbsState, Node}
-use Rattle.gb_domain.specs.declared.rules.Rules.{Rules}
-use Rattle.gb_domain.specs.declared.rules.Rules.TheVariants.{Simple, Extended}
-use Rattle.gb_domain.specs.declared.types.Origin.TheVariants.{ReturnHigh, ReturnLow}
-use Rattle.gb_domain.specs.Pairs.{ArePairs}
-use Rattle.gb_domain.specs.Settings.{IsBase}
+use Rattle.gb_successors.specs.Below.gb_domain.Types.{AbsState, Node}
+use Rattle.gb_successors.specs.Below.gb_domain.declared.rules.Rules.{Rules}
+use Rattle.gb_successors.specs.Below.gb_domain.declared.rules.Rules.TheVariants.{Simple, Extended}
+use Rattle.gb_successors.specs.Below.gb_domain.declared.types.Origin.TheVariants.{ReturnHigh, ReturnLow}
+use Rattle.gb_successors.specs.Below.gb_domain.Pairs.{ArePairs}
+use Rattle.gb_successors.specs.Below.gb_domain.Settings.{IsBase}
 use Rattle.gb_ops.specs.declared.machine.Region.{Region}
-use Rattle.gb_abs.specs.Meaning.{origin_value}
+use Rattle.gb_successors.specs.Below.gb_abs.Meaning.{origin_value}
 use Rattle.gb_calls.specs.TakenOver.{base_below}
-use Rattle.gb_domain.specs.Certificate.{Certificate}
-use Rattle.gb_domain.specs.Limits.{rules_of}
-use Rattle.gb_abs.specs.Cells.{ArePlaced}
-use Rattle.gb_product.specs.Covering.{covers}
-use Rattle.gb_abs.specs.Mark.{IsMarkHarmless}
-use Rattle.gb_product.specs.Meaning.{Means, IsApart}
-use Rattle.gb_abs.specs.Stack.{AreInRegion, pushed}
-use Rattle.gb_abs.specs.Storage.{peek}
+use Rattle.gb_successors.specs.Below.gb_domain.Certificate.{Certificate}
+use Rattle.gb_successors.specs.Below.gb_domain.Limits.{rules_of}
+use Rattle.gb_successors.specs.Below.gb_abs.Cells.{ArePlaced}
+use Rattle.gb_successors.specs.Below.gb_product.Covering.{covers}
+use Rattle.gb_successors.specs.Below.gb_abs.Mark.{IsMarkHarmless}
+use Rattle.gb_successors.specs.Below.gb_product.Meaning.{Means, IsApart}
+use Rattle.gb_successors.specs.Below.gb_abs.Stack.{AreInRegion, pushed}
+use Rattle.gb_successors.specs.Below.gb_abs.Storage.{peek}
 use Rattle.gb_code.specs.Below.gb_abs_memory.Kept.{IsKept}
 use Rattle.gb_calls.specs.Calls.{entered_by, are_ranges_inside}
 use Rattle.gb_calls.specs.Resuming.{resumed}

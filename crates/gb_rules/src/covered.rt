@@ -1,38 +1,62 @@
 //! Covering at an address.
 
-ghost use Rattle.std.specs.Prelude.{◌≡◌, ◌==◌, ◌<◌, ◌&&◌, ◌||◌, ℕ, true, false, nat_le, slice_get, slice_index_or, length, IfSome, IfNone, map};
+ghost use Rattle.std.specs.Prelude.{◌≡◌, ◌==◌, ◌<◌, ◌≤◌, ◌&&◌, ◌||◌, ℕ, true, false, Some, slice_get, length, is_some, IfSome, IfNone, map, option_map};
 ghost use Rattle.gb_calls.specs.Below.gb_rows.Rows.{IsFound};
-ghost use Rattle.gb_domain.specs.declared.rules.Rules.TheVariants.{Simple, Extended};
-ghost use Rattle.gb_states.specs.Rules.{key};
-ghost use Rattle.gb_abs.specs.Covering.{covers_items, covers_cells, covers_parts};
-ghost use Rattle.gb_abs.specs.Operations.{core_with_value};
-ghost use Rattle.gb_product.specs.Covering.{covers, covers_relations};
-ghost use Rattle.gb_product.specs.Reduced.{reduced};
+ghost use Rattle.gb_successors.specs.Below.gb_domain.Types.{Node};
+ghost use Rattle.gb_calls.specs.Below.gb_states.Rules.{key};
+ghost use Rattle.gb_successors.specs.Below.gb_abs.Operations.{core_with_value};
+ghost use Rattle.gb_successors.specs.Below.gb_product.Covering.{covers};
+ghost use Rattle.gb_successors.specs.Below.gb_product.Reduced.{reduced};
 ghost use Rattle.gb_rules.specs.Covered as Covered;
 
-use gb_abs::covering::{covers_core, covers_lists};
-use gb_abs::operations::with_value;
-use gb_calls::covering::{self, States, covers_held};
+use gb_calls::covering::{self, States};
 use gb_calls::{Cert, Found, NodeRef};
-use gb_domain::relations::Relations;
-use gb_domain::types::{Abs, Core, Rules, Val};
 use gb_ops::op::Register;
-use gb_product::covering::covers_relations;
-use gb_product::parts::Product;
-use gb_product::reduced::reduced;
-
-/// What is known together of a node's states.
-fn relations_of(node: &NodeRef<'_>) -> Relations
-    ensures { result ≡ node.now.state.relations }
-{
-    covering::relations_of(&node.lent())
-}
+use gb_successors::{Abs, Product, Rules, reduced, with_value};
 
 /// Whether the state of a node stands for each machine state that these stand for.
 fn covers_states(states: &States<'_>, node: &NodeRef<'_>) -> bool
     ensures { result ≡ covers (Covered.with_parts states.now.core.now states.now.relations.now states.now.lists.now) node.now.state }
 {
     covering::covers_states(states, &node.lent())
+}
+
+/// The first node that covers these states, among those from one number to below another.
+fn first_covering(cert: &Cert<'_>, from: u32, after: u32, states: &States<'_>) -> Option<u32>
+    requires { after ≤ length cert.now.nodes }
+    ensures inside { IfSome result (λ i. (from ≤ i) × (i < after)) }
+    ensures some { IfSome result (λ i. IfSome (slice_get cert.now.nodes i) (λ n. covers (Covered.with_parts states.now.core.now states.now.relations.now states.now.lists.now) n.state ≡ true)) }
+    ensures none { IfNone result ((i : ℕ) (n : Node) → from ≤ i → i < after → slice_get cert.now.nodes i ≡ Some n → covers (Covered.with_parts states.now.core.now states.now.relations.now states.now.lists.now) n.state ≡ false) }
+{
+    for number in from..after {
+        let node = cert.node(number);
+        if covers_states(states, &node) {
+            return Some(number);
+        }
+    }
+    None
+}
+
+/// The number of a found node that covers these states. The search begins at `near` and then turns to the nodes before it:
+/// the node that covers a register's next value often comes right after the one for this value.
+fn covering_near(
+    cert: &Cert<'_>,
+    found: &Found,
+    procedure: u8,
+    address: u16,
+    near: u32,
+    states: &States<'_>,
+) -> Option<u32>
+    requires found { IsFound (map key cert.now.nodes) (procedure, address) found.now.first found.now.after }
+    requires least { found.now.first ≤ near }
+    requires most { near ≤ found.now.after }
+    ensures covered { is_some result ≡ Covered.is_covered_by_one cert.now.nodes procedure address (Covered.with_parts states.now.core.now states.now.relations.now states.now.lists.now) }
+    ensures inside { IfSome result (λ i. (found.now.first ≤ i) × (i < found.now.after)) }
+{
+    match first_covering(cert, near, found.after, states) {
+        Some(number) => Some(number),
+        None => first_covering(cert, found.first, near, states),
+    }
 }
 
 /// Whether one of the nodes that were found stands for these states.
@@ -46,207 +70,53 @@ fn is_covered_by_one(
     requires { IsFound (map key cert.now.nodes) (procedure, address) found.now.first found.now.after }
     ensures { result ≡ Covered.is_covered_by_one cert.now.nodes procedure address (Covered.with_parts states.now.core.now states.now.relations.now states.now.lists.now) }
 {
-    for i in found.first..found.after {
-        let node = cert.node(i);
-        if covers_states(states, &node) {
-            return true;
-        }
-    }
-    false
+    covering_near(cert, found, procedure, address, found.first, states).is_some()
 }
 
-/// Whether each part of a node's states, the core of which is given, stands by itself for that of those of these states that
-/// have a value in a register.
-#[tactic(auto, unfolding(crate::specs::Covered::with_value, gb_abs::specs::Covering::covers_parts))]
-fn covers_value(
+/// These states with one value in a register, reduced; none where that is impossible.
+fn with_value_reduced(
+    rules: Rules,
     register: Register,
     value: u8,
     states: &States<'_>,
-    node: &NodeRef<'_>,
-    claimed: &Core,
-) -> bool
-    requires { claimed.now ≡ node.now.state.core }
-    ensures { result ≡ covers_parts (Covered.with_value register (Covered.with_parts states.now.core.now states.now.relations.now states.now.lists.now) value) node.now.state }
+) -> Option<Product>
+    ensures { result ≡ reduced rules (core_with_value register value states.now.core.now) states.now.relations.now }
 {
-    covers_core(&with_value(register, value, states.core), claimed)
-        && covers_held(states.lists, &node.lent())
+    let core = with_value(register, value, states.core);
+    reduced(rules, &core, states.relations)
 }
 
-/// The values of a register with which each part of a node's states stands for that of these states: those of its
-/// interval there, or none.
-fn covered_interval(register: Register, states: &States<'_>, node: &NodeRef<'_>) -> Option<Val>
-    ensures some { IfSome result (λ val. (v : ℕ) → covers_parts (Covered.with_value register (Covered.with_parts states.now.core.now states.now.relations.now states.now.lists.now) v) node.now.state ≡ (nat_le val.lo v && nat_le v val.hi)) }
-    ensures none { IfNone result ((v : ℕ) → covers_parts (Covered.with_value register (Covered.with_parts states.now.core.now states.now.relations.now states.now.lists.now) v) node.now.state ≡ false) }
-{
-    let claimed = node.core();
-    let val = claimed.registers.get(register);
-    if covers_value(register, val.lo, states, node, &claimed) {
-        Some(val)
-    } else {
-        None
-    }
-}
-
-/// Marks the values of an interval with which all is known together that is claimed.
-fn mark(
-    marks: &mut [bool; 256],
-    val: &Val,
-    register: Register,
-    states: &States<'_>,
-    claimed: &Relations,
-)
-    ensures { (v : ℕ) → slice_index_or marks.new v false ≡ (slice_index_or marks.old v false || ((nat_le val.now.lo v && nat_le v val.now.hi) && covers_relations (core_with_value register v states.now.core.now).registers states.now.relations.now claimed.now)) }
-{
-    let after = u16::from(val.hi) + 1;
-    for value in u16::from(val.lo)..after {
-        let core = with_value(register, value as u8, states.core);
-        if covers_relations(&core.registers, states.relations, claimed) {
-            marks[usize::from(value)] = true;
-        }
-    }
-}
-
-/// For each value of a register, whether one of the nodes that were found stands for those of these
-/// states that have it. Each node is read once.
-fn covered_values(
+/// The number of a found node that covers what reducing left, with these items and cells. Where nothing is left no node is
+/// needed, and the next search begins at `near` again.
+fn covering_left(
     cert: &Cert<'_>,
     found: &Found,
     procedure: u8,
     address: u16,
-    states: &States<'_>,
-    register: Register,
-) -> [bool; 256]
-    requires { IsFound (map key cert.now.nodes) (procedure, address) found.now.first found.now.after }
-    ensures { (v : ℕ) → v < 256 → slice_index_or result v false ≡ Covered.is_covered_by_one cert.now.nodes procedure address (Covered.with_value register (Covered.with_parts states.now.core.now states.now.relations.now states.now.lists.now) v) }
+    near: u32,
+    left: Option<Product>,
+    lists: &Abs,
+) -> Option<u32>
+    requires found { IsFound (map key cert.now.nodes) (procedure, address) found.now.first found.now.after }
+    requires least { found.now.first ≤ near }
+    requires most { near ≤ found.now.after }
+    ensures covered { is_some result ≡ Covered.is_covered_if cert.now.nodes procedure address (option_map (Covered.with_product lists.now) left) }
+    ensures inside { IfSome result (λ i. (found.now.first ≤ i) × (i ≤ found.now.after)) }
 {
-    let mut marks = [false; 256];
-    for number in found.first..found.after {
-        let node = cert.node(number);
-        if let Some(val) = covered_interval(register, states, &node) {
-            mark(&mut marks, &val, register, states, &relations_of(&node));
-        }
-    }
-    marks
+    let Some(product) = left else {
+        return Some(near);
+    };
+    let states = States {
+        core: &product.core,
+        relations: &product.relations,
+        lists,
+    };
+    covering_near(cert, found, procedure, address, near, &states)
 }
 
-/// Those of these states with a value in a register, reduced; none where nothing is meant.
-fn with_value_reduced(register: Register, value: u8, states: &States<'_>) -> Option<Product>
-    ensures { result ≡ reduced Extended (core_with_value register value states.now.core.now) states.now.relations.now }
-{
-    reduced(
-        Rules::Extended,
-        &with_value(register, value, states.core),
-        states.relations,
-    )
-}
-
-/// Whether states that are claimed stand for those of these states with a value in a register, reduced, or nothing is meant by
-/// them.
-#[tactic(auto, unfolding(crate::specs::Covered::reduced_state, crate::specs::Covered::with_value, gb_product::specs::Covering::covers, gb_abs::specs::Covering::covers_parts))]
-fn covers_reduced(register: Register, value: u8, states: &States<'_>, claimed: &Abs) -> bool
-    ensures { IfSome (Covered.reduced_state Extended (Covered.with_value register (Covered.with_parts states.now.core.now states.now.relations.now states.now.lists.now) value)) (λ s. result ≡ covers s claimed.now) }
-{
-    match with_value_reduced(register, value, states) {
-        None => true,
-        Some(product) => {
-            covers_core(&product.core, claimed.core())
-                && covers_lists(states.lists, claimed)
-                && covers_relations(
-                    &product.core.registers,
-                    &product.relations,
-                    claimed.relations(),
-                )
-        }
-    }
-}
-
-/// Marks the values with which states that are claimed stand for these states, reduced: since that only cuts, the values lie in
-/// the interval that is claimed of the register.
-fn mark_reduced(marks: &mut [bool; 256], register: Register, states: &States<'_>, claimed: &Abs)
-    ensures { (v : ℕ) → IfSome (Covered.reduced_state Extended (Covered.with_value register (Covered.with_parts states.now.core.now states.now.relations.now states.now.lists.now) v)) (λ s. slice_index_or marks.new v false ≡ (slice_index_or marks.old v false || covers s claimed.now)) }
-{
-    let val = claimed.core().registers.get(register);
-    let after = u16::from(val.hi) + 1;
-    for value in u16::from(val.lo)..after {
-        if !marks[usize::from(value)] && covers_reduced(register, value as u8, states, claimed) {
-            marks[usize::from(value)] = true;
-        }
-    }
-}
-
-/// For each value of a register, whether one of the nodes that were found stands for those of these states that have it,
-/// reduced. Each node is read once.
-fn covered_values_reduced(
-    cert: &Cert<'_>,
-    found: &Found,
-    procedure: u8,
-    address: u16,
-    states: &States<'_>,
-    register: Register,
-) -> [bool; 256]
-    requires { IsFound (map key cert.now.nodes) (procedure, address) found.now.first found.now.after }
-    ensures { (v : ℕ) → v < 256 → IfSome (Covered.reduced_state Extended (Covered.with_value register (Covered.with_parts states.now.core.now states.now.relations.now states.now.lists.now) v)) (λ s. slice_index_or result v false ≡ Covered.is_covered_by_one cert.now.nodes procedure address s) }
-{
-    let mut marks = [false; 256];
-    for number in found.first..found.after {
-        let node = cert.node(number);
-        mark_reduced(&mut marks, register, states, &node.state());
-    }
-    marks
-}
-
-/// Whether for each value of a register one node stands for the states with it, by the rules of versions 1 and 2.
+/// Whether for each value of a register one node covers the states with that value. They are reduced once for each value, and
+/// not for each node, and the first value that no node covers ends it: for most registers that is their lowest one.
 #[tactic(auto, unfolding(crate::specs::Covered::is_covered_by_values))]
-fn is_covered_simply(
-    cert: &Cert<'_>,
-    found: &Found,
-    procedure: u8,
-    address: u16,
-    states: &States<'_>,
-    register: Register,
-) -> bool
-    requires { IsFound (map key cert.now.nodes) (procedure, address) found.now.first found.now.after }
-    ensures { result ≡ Covered.is_covered_by_values Simple cert.now.nodes procedure address (Covered.with_parts states.now.core.now states.now.relations.now states.now.lists.now) register }
-{
-    let val = states.core.registers.get(register);
-    let marks = covered_values(cert, found, procedure, address, states, register);
-    let after = u16::from(val.hi) + 1;
-    for value in u16::from(val.lo)..after {
-        if !marks[usize::from(value)] {
-            return false;
-        }
-    }
-    true
-}
-
-/// The same by the rules of version 3: the states with a value are reduced first, and where nothing is meant no node is asked
-/// for.
-#[tactic(auto, unfolding(crate::specs::Covered::is_covered_by_values))]
-fn is_covered_reduced(
-    cert: &Cert<'_>,
-    found: &Found,
-    procedure: u8,
-    address: u16,
-    states: &States<'_>,
-    register: Register,
-) -> bool
-    requires { IsFound (map key cert.now.nodes) (procedure, address) found.now.first found.now.after }
-    ensures { result ≡ Covered.is_covered_by_values Extended cert.now.nodes procedure address (Covered.with_parts states.now.core.now states.now.relations.now states.now.lists.now) register }
-{
-    let val = states.core.registers.get(register);
-    let marks = covered_values_reduced(cert, found, procedure, address, states, register);
-    let after = u16::from(val.hi) + 1;
-    for value in u16::from(val.lo)..after {
-        if !marks[usize::from(value)]
-            && with_value_reduced(register, value as u8, states).is_some()
-        {
-            return false;
-        }
-    }
-    true
-}
-
-/// Whether for each value of a register one node stands for the states with it.
 fn is_covered_by_values(
     rules: Rules,
     cert: &Cert<'_>,
@@ -259,10 +129,17 @@ fn is_covered_by_values(
     requires { IsFound (map key cert.now.nodes) (procedure, address) found.now.first found.now.after }
     ensures { result ≡ Covered.is_covered_by_values rules cert.now.nodes procedure address (Covered.with_parts states.now.core.now states.now.relations.now states.now.lists.now) register }
 {
-    match rules {
-        Rules::Simple => is_covered_simply(cert, found, procedure, address, states, register),
-        Rules::Extended => is_covered_reduced(cert, found, procedure, address, states, register),
+    let val = states.core.registers.get(register);
+    let after = u16::from(val.hi) + 1;
+    let mut near = found.first;
+    for value in u16::from(val.lo)..after {
+        let left = with_value_reduced(rules, register, value as u8, states);
+        match covering_left(cert, found, procedure, address, near, left, states.lists) {
+            Some(number) => near = number,
+            None => return false,
+        }
     }
+    true
 }
 
 /// Whether one of the nodes that were found stands for these states, or for one register value by value some do.
@@ -339,7 +216,7 @@ pub fn covered_at(rules: Rules, cert: &Cert<'_>, procedure: u8, address: u16, st
     is_state_covered(rules, cert, 0, procedure, address, state)
 }
 
-/// The same, where nodes are looked for from the one with the number `near` on.
+/// Whether a state is covered at the address, as `covered_at` says; the search starts at the node with the number `near`.
 pub(crate) fn is_state_covered(
     rules: Rules,
     cert: &Cert<'_>,

@@ -5,11 +5,11 @@ ghost use Rattle.gb_successors.specs.Below.gb_abs_effects.Targets as Targets;
 ghost use Rattle.gb_rules.specs.Rules as Ruled;
 
 use gb_calls::NodeRef;
-use gb_domain::types::{Abs, Rules};
 use gb_ops::op::{Op, Pair};
+use gb_successors::{Abs, Rules};
 
 /// Whether so many bytes are more than the need, or than a state can hold.
-#[tactic(auto, unfolding(gb_domain::specs::Limits::item_room))]
+#[tactic(auto, unfolding(crate::specs::Opened::item_room))]
 pub(crate) fn is_deep(rules: Rules, need: u16, bytes: usize) -> bool
     ensures { result ≡ Ruled.is_deep rules need bytes }
 {

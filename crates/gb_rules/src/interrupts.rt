@@ -1,7 +1,7 @@
 //! What a node asks where interrupts may come.
 
 ghost use Rattle.std.specs.Prelude.{◌≡◌, ◌<◌, ◌&&◌, true, false, length, Option, None, MatchResult, OnOk};
-ghost use Rattle.gb_abs.specs.declared.reason.Reason.TheVariants.{Interrupt};
+ghost use Rattle.gb_successors.specs.Below.gb_abs.declared.reason.Reason.TheVariants.{Interrupt};
 ghost use Rattle.gb_calls.specs.Interrupts.{may_come, handler_of};
 ghost use Rattle.gb_successors.specs.Refused as Refused;
 ghost use Rattle.gb_rules.specs.Procedures.{stack_of};
@@ -11,14 +11,13 @@ ghost use Rattle.gb_rules.specs.Safety.{IsWhollySafeAt};
 use crate::depth::is_deep;
 use crate::procedures::{Call, is_call_uncovered, is_outside_of, is_over, stack_of};
 use crate::room::Room;
-use gb_abs::reason::Reason;
 use gb_calls::interrupts::{handler, left_by_dispatch, may_come};
 use gb_calls::{Cert, NodeRef};
 use gb_code::{Rom, holds_bytes};
-use gb_domain::types::{Abs, Core, Rules, Setting};
 use gb_ops::machine::Region;
 use gb_successors::refused::is_stack_limited;
 use gb_successors::stacks::Stack;
+use gb_successors::{Abs, Core, Reason, Rules, Setting};
 
 /// Whether the bytes that a dispatch leaves are too many, or those that wait and the handler's need are.
 fn is_dispatch_deep(
@@ -114,6 +113,17 @@ pub(crate) fn is_dispatch_limited(region: Region, node: &NodeRef<'_>, core: &Cor
 /// The vector of interrupt 0; those of the others follow it, 8 bytes apart (Memory map: jump vectors).
 const FIRST_VECTOR: u16 = 0x40;
 
+/// Whether a dispatch from these states would leave more bytes on the stack than a state can hold, so that no node stands
+/// for them. That is asked where nothing is meant too, as for each interrupt that may come.
+fn is_dispatch_overfull(rules: Rules, state: &Abs) -> bool
+    ensures { result ≡ Ruled.is_dispatch_overfull rules state.now }
+{
+    match rules {
+        Rules::Simple => false,
+        Rules::Extended => state.items().len() + 2 > rules.item_room(),
+    }
+}
+
 /// Whether a handler can't be entered from a node, or what its procedure goes on with behind it isn't covered there; where an
 /// interrupt is handled in the procedure itself, whether that isn't covered at its vector.
 fn is_unhandled(
@@ -137,17 +147,18 @@ fn is_unhandled(
     };
     !state.core().stack_set
         || is_outside_of(cert, setting, procedure, handler)
-        || is_call_uncovered(
-            setting.rules,
-            cert,
-            near,
-            procedure,
-            call,
-            &left_by_dispatch(setting.rules, node.address(), state),
-            handler,
-            &mut room.exit,
-            &mut room.other,
-        )
+        || (is_dispatch_overfull(setting.rules, state)
+            || is_call_uncovered(
+                setting.rules,
+                cert,
+                near,
+                procedure,
+                call,
+                &left_by_dispatch(setting.rules, node.address(), state),
+                handler,
+                &mut room.exit,
+                &mut room.other,
+            ))
 }
 
 /// Whether interrupt `i`, 0 to 4, may come at a node and isn't provided for.

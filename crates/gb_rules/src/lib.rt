@@ -19,24 +19,29 @@ pub mod rules;
 mod stacks;
 mod ways;
 
+pub use room::Room;
+
 // What lies below, for the crates above.
-pub use gb_abs::covering::cell_at;
-pub use gb_abs::operations::with_value;
-pub use gb_abs::reason::Reason;
-pub use gb_abs::span::Span;
-pub use gb_abs::storage::is_ram;
-pub use gb_abs::{any, known, length_of};
+pub use gb_calls::callees::callee;
 pub use gb_calls::entering::enter;
-pub use gb_calls::interrupts::{left_by_dispatch, may_come};
+pub use gb_calls::interrupts::{handler, left_by_dispatch, may_come};
 pub use gb_calls::ranges::are_ranges_inside;
 pub use gb_calls::resuming::{Resumed, resume};
-pub use gb_calls::{Cert, NodeRef, ProcedureRef, StateRef};
+pub use gb_calls::{
+    Cert, CertFault, NodeRef, ProcedureRef, StateRef, covers_relations, test_alone,
+};
 pub use gb_code::code::{area_end, known_byte, known_bytes, leaves_area, lies_in_high_ram};
-pub use gb_code::{holds_bytes, is_limited, known_bank, meets_closed_ram};
-pub use gb_product::covering::covers;
-pub use gb_states::CertFault;
+pub use gb_code::{
+    Halves, covers_controller, covers_core, covers_ime, covers_may, covers_origin, covers_val,
+    holds_bytes, is_limited, known_bank, meets_closed_ram,
+};
 pub use gb_successors::refused::is_stack_limited;
 pub use gb_successors::stacks::Stack;
 pub use gb_successors::successor::Successor;
 pub use gb_successors::successors::{Successors, successors_of};
-pub use gb_successors::{AbsRead, AbsWrite, Target};
+pub use gb_successors::{
+    ANY_BOUNDS, Abs, AbsRead, AbsWrite, Bounds, Cell, Core, Ctl, Flg, ImeSet, Link, May,
+    NO_REGISTER, NOTHING_KNOWN, OneByte, Origin, Other, PairFacts, Pairs, RANGES, Range, Reason,
+    Relations, Rules, Setting, Span, Target, Test, Val, WordPair, any, cell_at, covers, is_ram,
+    known, length_of, reduced, with_value,
+};

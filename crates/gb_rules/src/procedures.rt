@@ -2,7 +2,7 @@
 //! and whether they may return.
 
 ghost use Rattle.std.specs.Prelude.{◌≡◌, ◌<◌, length, slice_get, Option, Some};
-ghost use Rattle.gb_domain.specs.Limits as Limits;
+ghost use Rattle.gb_successors.specs.Below.gb_domain.Limits as Limits;
 ghost use Rattle.gb_calls.specs.Calls.{callee_of};
 ghost use Rattle.gb_rules.specs.Covered as Covered;
 ghost use Rattle.gb_rules.specs.Procedures as Procedures;
@@ -16,10 +16,9 @@ use gb_calls::covering::{States, covers_states};
 use gb_calls::ranges::are_ranges_inside;
 use gb_calls::resuming::{Return, resume_in};
 use gb_calls::{Cert, StateRef};
-use gb_domain::types::{Abs, Range, Rules, Setting};
-use gb_successors::Target;
 use gb_successors::stacks::Stack;
 use gb_successors::successor::Successor;
+use gb_successors::{Abs, Range, Rules, Setting, Target};
 
 /// What a procedure may write; nothing where there is none with the number.
 #[tactic(auto, unfolding(crate::specs::Procedures::ranges_of))]
@@ -195,7 +194,7 @@ pub(crate) fn is_over(
 // ---- covering
 
 /// Whether more bytes are on the stack than a state can hold.
-#[tactic(auto, unfolding(gb_domain::specs::Limits::item_room))]
+#[tactic(auto, unfolding(crate::specs::Opened::item_room))]
 fn is_overfull(state: &Abs) -> bool
     ensures { result ≡ Ruled.is_overfull state.now }
 {
@@ -228,7 +227,7 @@ fn is_return_uncovered(
     }
 }
 
-/// The same, by its exit, if it has one.
+/// Whether no node covers what the caller continues with, by the callee's exit, if it has one.
 pub(crate) fn is_back_uncovered(
     rules: Rules,
     cert: &Cert<'_>,

@@ -1,6 +1,6 @@
 //! Room for states that are made anew for each instruction.
 
-use gb_domain::types::{Abs, Core};
+use gb_successors::{Abs, Core};
 
 /// States in whose place others are written, so that no room for them has to be cleared each time. What is in them means
 /// nothing.

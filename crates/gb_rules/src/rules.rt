@@ -10,14 +10,13 @@ use crate::procedures::stack_of;
 use crate::room::Room;
 use crate::stacks::breaks_stack;
 use crate::ways::{Site, reason_of_ways};
-use gb_abs::reason::Reason;
 use gb_calls::{Cert, NodeRef};
 use gb_code::code::{area_end, is_other_bank, known_byte, known_bytes_from, leaves_area};
 use gb_code::{Rom, holds_bytes, known_bank};
-use gb_domain::types::Abs;
 use gb_ops::decode::decode;
 use gb_ops::op::{Op, Row};
 use gb_successors::stacks::Stack;
+use gb_successors::{Abs, Reason};
 
 fn is_stop(op: Op) -> bool
     ensures { result ≡ Ruled.is_stop op }
@@ -127,7 +126,7 @@ pub fn reason_near(
     }
 }
 
-/// The same, with no node to look from.
+/// The lowest reason against a node, as `reason_near` finds it, searched from the first node on.
 pub fn reason_of(rom: &Rom<'_>, cert: &Cert<'_>, node: &NodeRef<'_>, state: &Abs) -> Option<Reason>
     requires { state.now ≡ node.now.state }
     ensures { result ≡ Ruled.reason_of rom.now cert.now node.now }

@@ -5,15 +5,12 @@ ghost use Rattle.gb_successors.specs.Below.gb_abs_effects.Targets as Targets;
 ghost use Rattle.gb_rules.specs.Rules as Ruled;
 
 use gb_calls::NodeRef;
-use gb_domain::pairs::Bounds;
-use gb_domain::types::{Abs, Rules};
 use gb_ops::machine::Region;
 use gb_ops::op::{Op, Pair};
-use gb_product::parts::Product;
-use gb_successors::AbsWrite;
 use gb_successors::stacks::{Stack, StackMove, stack_move};
 use gb_successors::successor::pointer_in;
 use gb_successors::successors::product_before;
+use gb_successors::{Abs, AbsWrite, Bounds, Product, Rules};
 
 fn is_sp(pair: Pair) -> bool
     ensures { result ≡ Targets.is_sp pair }
@@ -72,7 +69,7 @@ fn lacks_bytes(count: usize, state: &Abs) -> bool
     !state.core().stack_set || state.items().len() < count
 }
 
-/// The same by the rules of version 3: SP is set to a known address, one of the procedure's or of main's; what moves it
+/// Whether an instruction breaks what version 3 asks of the stack: SP is set to a known address, one of the procedure's or of main's; what moves it
 /// otherwise finds the stack set, and as many bytes as it takes off.
 #[tactic(auto, unfolding(crate::specs::Rules::breaks_extended_stack))]
 fn breaks_extended_stack(stack: Stack, node: &NodeRef<'_>, state: &Abs, op: Op) -> bool

@@ -1,10 +1,10 @@
 //! The reasons against what an instruction's successors do: each successor by itself, and the lowest of all.
 
 ghost use Rattle.std.specs.Prelude.{◌≡◌, true, find, Some};
-ghost use Rattle.gb_abs.specs.Operations.{core_settle};
-ghost use Rattle.gb_domain.specs.declared.rules.Rules.TheVariants.{Extended};
+ghost use Rattle.gb_successors.specs.Below.gb_abs.Operations.{core_settle};
+ghost use Rattle.gb_successors.specs.Below.gb_domain.declared.rules.Rules.TheVariants.{Extended};
 ghost use Rattle.gb_ops.specs.Cartridge.{kind_of};
-ghost use Rattle.gb_product.specs.Reduced.{product_of};
+ghost use Rattle.gb_successors.specs.Below.gb_product.Reduced.{product_of};
 ghost use Rattle.gb_successors.specs.Refused.{is_unstorable};
 ghost use Rattle.gb_successors.specs.Successors.{product_before, taken_from, not_taken_from, staying_successor, stays, reduced_successor};
 ghost use Rattle.gb_rules.specs.Lowest as Lowest;
@@ -19,21 +19,18 @@ use crate::procedures::{
     Called, called_by, calls_too_deep, is_uncallable, is_uncovered, is_unreturnable, ranges_of,
 };
 use crate::room::Room;
-use gb_abs::operations::settle;
-use gb_abs::reason::Reason;
 use gb_calls::{Cert, NodeRef};
 use gb_code::Rom;
 use gb_code::code::lies_in_high_ram;
-use gb_domain::relations::Relations;
-use gb_domain::types::{Abs, Core, Rules, Setting};
 use gb_ops::op::Row;
-use gb_product::reduced::reduce;
-use gb_product::sides::{not_taken_side, taken_side};
-use gb_successors::AbsWrite;
 use gb_successors::refused::{is_unknown, is_unstorable, meets_closed, meets_oam_transfer};
 use gb_successors::stacks::Stack;
 use gb_successors::successor::{Successor, staying_successor, taken_successor, untaken_successor};
 use gb_successors::successors::{has_condition, may_stay, side_successor};
+use gb_successors::{
+    Abs, AbsWrite, Core, Reason, Relations, Rules, Setting, not_taken_side, reduce, settle,
+    taken_side,
+};
 
 /// A node's instruction, whose successors are judged.
 #[derive(Clone, Copy)]
@@ -170,7 +167,7 @@ fn reason_of_taken(site: &Site<'_>, successor: &Successor<'_>, room: &mut Room) 
     }
 }
 
-/// The same of one that is reduced first: where nothing is meant by it there is none.
+/// The lowest reason against a successor that is reduced first: where nothing is meant by it there is none.
 #[inline(always)]
 fn reason_of_possible(
     site: &Site<'_>,
@@ -262,7 +259,7 @@ fn reason_on_other_side(
     }
 }
 
-/// The same; where there is no condition, it isn't asked for.
+/// The lowest reason against the side that isn't taken; without a condition there is no such side.
 #[inline(always)]
 fn reason_if_not_taken(
     site: &Site<'_>,
@@ -292,7 +289,7 @@ fn reason_on_halt(site: &Site<'_>, room: &mut Room) -> Option<Reason>
     reason_of_way(site, &successor, room)
 }
 
-/// The same, if it may.
+/// The lowest reason against staying on HALT, if the instruction may stay.
 #[inline(always)]
 #[tactic(auto, unfolding(gb_successors::specs::Successors::stays))]
 fn reason_if_staying(site: &Site<'_>, room: &mut Room) -> Option<Reason>
@@ -349,7 +346,7 @@ fn reason_of_each(
     lower(lower(lower(alone, taken), not_taken), staying)
 }
 
-/// The same by the rules of version 3: what is known before the instruction is reduced first.
+/// The lowest reason against the successors by the rules of version 3: what is known before the instruction is reduced first.
 #[inline(never)]
 fn reason_of_reduced(site: &Site<'_>, core: &Core, room: &mut Room) -> Option<Reason>
     requires stack { site.now.stack.now ≡ stack_of site.now.cert.now site.now.node.now.procedure }
@@ -383,7 +380,7 @@ fn reason_of_settled(site: &Site<'_>, core: &Core, room: &mut Room) -> Option<Re
     }
 }
 
-/// The same behind EI, where interrupts become on.
+/// The lowest reason after EI, where interrupts become on.
 #[inline(never)]
 fn reason_behind_enabling(site: &Site<'_>, room: &mut Room) -> Option<Reason>
     requires stack { site.now.stack.now ≡ stack_of site.now.cert.now site.now.node.now.procedure }

@@ -21,18 +21,18 @@ use Rattle.gb_domain.specs.declared.types.Range.{Range}
 use Rattle.gb_domain.specs.Types.{AbsState}
 use Rattle.gb_domain.specs.Areas.{IsRegion}
 use Rattle.gb_domain.specs.Rules.{IsVal}
-use Rattle.gb_abs.specs.Below.gb_vals.Vals.{any_val}
-use Rattle.gb_abs.specs.declared.span.Span.{Span}
-use Rattle.gb_abs.specs.Span.{IsIn, one}
-use Rattle.gb_abs.specs.Storage.{peek}
-use Rattle.gb_abs.specs.Cells.{ArePlaced}
-use Rattle.gb_abs.specs.Stack.{AreInRegion}
-use Rattle.gb_abs.specs.Meaning.{Holds, MeansParts}
-use Rattle.gb_abs_effects.specs.declared.reads.AbsRead.{AbsRead}
-use Rattle.gb_abs_effects.specs.declared.reads.AbsRead.TheVariants as read
-use Rattle.gb_abs_effects.specs.declared.writes.AbsWrite.{AbsWrite}
-use Rattle.gb_abs_effects.specs.declared.writes.AbsWrite.TheVariants as write
-use Rattle.gb_abs_effects.specs.Sound.{HoldsRead, HoldsWrite, IsWrite}
+use Rattle.gb_product.specs.Below.gb_vals.Vals.{any_val}
+use Rattle.gb_product.specs.Below.gb_abs.declared.span.Span.{Span}
+use Rattle.gb_product.specs.Below.gb_abs.Span.{IsIn, one}
+use Rattle.gb_product.specs.Below.gb_abs.Storage.{peek}
+use Rattle.gb_product.specs.Below.gb_abs.Cells.{ArePlaced}
+use Rattle.gb_product.specs.Below.gb_abs.Stack.{AreInRegion}
+use Rattle.gb_product.specs.Below.gb_abs.Meaning.{Holds, MeansParts}
+use Rattle.gb_product.specs.Below.gb_abs_effects.declared.reads.AbsRead.{AbsRead}
+use Rattle.gb_product.specs.Below.gb_abs_effects.declared.reads.AbsRead.TheVariants as read
+use Rattle.gb_product.specs.Below.gb_abs_effects.declared.writes.AbsWrite.{AbsWrite}
+use Rattle.gb_product.specs.Below.gb_abs_effects.declared.writes.AbsWrite.TheVariants as write
+use Rattle.gb_product.specs.Below.gb_abs_effects.Sound.{HoldsRead, HoldsWrite, IsWrite}
 use Rattle.gb_abs_memory.specs.declared.store.Stored.{Stored}
 use Rattle.gb_abs_memory.specs.Access.{is_storable, may_be_closed, meets_closed_ram, may_copy_closed_ram, store_meets_closed_ram, is_limited, is_store_limited, stored_state, starts_oam_transfer}
 use Rattle.gb_abs_memory.specs.Sound.{IsRom, IsStored, view}

@@ -24,19 +24,19 @@ use Rattle.gb_domain.specs.Pairs.{ArePairs}
 use Rattle.gb_domain.specs.Rules.{IsVal, IsCore}
 use Rattle.gb_domain.specs.Settings.{IsBase}
 use Rattle.gb_domain.specs.Types.{AbsState}
-use Rattle.gb_abs.specs.declared.span.Span.{Span}
-use Rattle.gb_abs.specs.Located.{sp_halves, sp_bounds, bounds_by, stack_base}
-use Rattle.gb_abs.specs.Meaning.{MeansParts}
-use Rattle.gb_abs.specs.Operations.{core_settle}
-use Rattle.gb_abs.specs.Origins.{registers_without_origins, core_without_origins}
-use Rattle.gb_abs.proofs.LocatedLaws.{bounds_sound}
-use Rattle.gb_abs.proofs.OperationLaws.{IsCore-settle}
-use Rattle.gb_abs_effects.specs.declared.writes.AbsEffect.{AbsEffect}
-use Rattle.gb_abs_effects.specs.declared.writes.AbsWrite.{AbsWrite}
-use Rattle.gb_abs_effects.specs.declared.writes.AbsWrite.TheVariants as write
-use Rattle.gb_abs_effects.specs.Sound.{HasBytes, IsWrite, IsAbsEffect}
-use Rattle.gb_abs_effects.specs.Transfer.{transfer}
-use Rattle.gb_abs_effects.proofs.RangeLaws.{transfer_inhabited}
+use Rattle.gb_product.specs.Below.gb_abs.declared.span.Span.{Span}
+use Rattle.gb_product.specs.Below.gb_abs.Located.{sp_halves, sp_bounds, bounds_by, stack_base}
+use Rattle.gb_product.specs.Below.gb_abs.Meaning.{MeansParts}
+use Rattle.gb_product.specs.Below.gb_abs.Operations.{core_settle}
+use Rattle.gb_product.specs.Below.gb_abs.Origins.{registers_without_origins, core_without_origins}
+use Rattle.gb_product.proofs.Below.gb_abs_laws.LocatedLaws.{bounds_sound}
+use Rattle.gb_product.proofs.Below.gb_abs_laws.OperationLaws.{IsCore-settle}
+use Rattle.gb_product.specs.Below.gb_abs_effects.declared.writes.AbsEffect.{AbsEffect}
+use Rattle.gb_product.specs.Below.gb_abs_effects.declared.writes.AbsWrite.{AbsWrite}
+use Rattle.gb_product.specs.Below.gb_abs_effects.declared.writes.AbsWrite.TheVariants as write
+use Rattle.gb_product.specs.Below.gb_abs_effects.Sound.{HasBytes, IsWrite, IsAbsEffect}
+use Rattle.gb_product.specs.Below.gb_abs_effects.Transfer.{transfer}
+use Rattle.gb_product.proofs.Below.gb_abs_effects_laws.RangeLaws.{transfer_inhabited}
 use Rattle.gb_abs_memory.specs.declared.store.Area.{Area}
 use Rattle.gb_abs_memory.specs.declared.store.Area.TheVariants as area
 use Rattle.gb_abs_memory.specs.Access.{area_of, stored_core_in, stored_core}

@@ -20,18 +20,18 @@ use Rattle.gb_domain.specs.declared.types.Origin.TheVariants.{ReturnHigh, Return
 use Rattle.gb_domain.specs.declared.types.Val.{Val}
 use Rattle.gb_domain.specs.declared.types.Core.{Core}
 use Rattle.gb_domain.specs.declared.types.Halves.{Halves}
-use Rattle.gb_abs.specs.Meaning.{origin_value, Holds, MeansCore}
-use Rattle.gb_abs.specs.Origins.{is_own}
-use Rattle.gb_abs.proofs.CoveringLaws.{origin_from}
-use Rattle.gb_abs_effects.specs.declared.reads.AbsRead.TheVariants as read
-use Rattle.gb_abs_effects.specs.declared.targets.Target.{Target}
-use Rattle.gb_abs_effects.specs.declared.targets.Target.TheVariants as target
-use Rattle.gb_abs_effects.specs.declared.writes.AbsWrite.{AbsWrite}
-use Rattle.gb_abs_effects.specs.declared.writes.AbsWrite.TheVariants as write
-use Rattle.gb_abs_effects.specs.Accesses.{read_of, operand_read}
-use Rattle.gb_abs_effects.specs.Pairs.{is_word_known, least_word, pair_halves}
-use Rattle.gb_abs_effects.specs.Targets.{target_of, is_call, is_pop, is_return}
-use Rattle.gb_abs_effects.proofs.TargetLaws.{target_of_sound, pc-returned}
+use Rattle.gb_product.specs.Below.gb_abs.Meaning.{origin_value, Holds, MeansCore}
+use Rattle.gb_product.specs.Below.gb_abs.Origins.{is_own}
+use Rattle.gb_product.proofs.Below.gb_abs_laws.CoveringLaws.{origin_from}
+use Rattle.gb_product.specs.Below.gb_abs_effects.declared.reads.AbsRead.TheVariants as read
+use Rattle.gb_product.specs.Below.gb_abs_effects.declared.targets.Target.{Target}
+use Rattle.gb_product.specs.Below.gb_abs_effects.declared.targets.Target.TheVariants as target
+use Rattle.gb_product.specs.Below.gb_abs_effects.declared.writes.AbsWrite.{AbsWrite}
+use Rattle.gb_product.specs.Below.gb_abs_effects.declared.writes.AbsWrite.TheVariants as write
+use Rattle.gb_product.specs.Below.gb_abs_effects.Accesses.{read_of, operand_read}
+use Rattle.gb_product.specs.Below.gb_abs_effects.Pairs.{is_word_known, least_word, pair_halves}
+use Rattle.gb_product.specs.Below.gb_abs_effects.Targets.{target_of, is_call, is_pop, is_return}
+use Rattle.gb_product.proofs.Below.gb_abs_effects_laws.TargetLaws.{target_of_sound, pc-returned}
 use Rattle.gb_product.specs.Below.gb_relations.Pointers.{WithinIf}
 use Rattle.gb_successors.specs.declared.stacks.Stack.{Stack}
 use Rattle.gb_successors.specs.declared.stacks.StackMove.{StackMove}

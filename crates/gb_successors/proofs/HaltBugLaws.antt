@@ -24,19 +24,19 @@ use Rattle.gb_domain.specs.declared.types.Core.{Core}
 use Rattle.gb_domain.specs.declared.types.Halves.{Halves}
 use Rattle.gb_domain.specs.declared.types.Range.{Range}
 use Rattle.gb_domain.specs.Types.{AbsState}
-use Rattle.gb_abs.specs.Located.{sp_halves}
-use Rattle.gb_abs.specs.Meaning.{MeansParts}
-use Rattle.gb_abs.specs.Operations.{core_settle}
-use Rattle.gb_abs.proofs.OperationLaws.{IsCore-settle}
-use Rattle.gb_abs_effects.specs.declared.reads.AbsRead.TheVariants as read
-use Rattle.gb_abs_effects.specs.declared.targets.Target.TheVariants as target
-use Rattle.gb_abs_effects.specs.declared.writes.AbsWrite.TheVariants as write
-use Rattle.gb_abs_effects.specs.Accesses.{read_of}
-use Rattle.gb_abs_effects.specs.Sides as Flags
-use Rattle.gb_abs_effects.specs.Sound.{HasBytes}
-use Rattle.gb_abs_effects.specs.Targets.{moves_sp, target_of}
-use Rattle.gb_abs_effects.specs.Transfer.{transfer}
-use Rattle.gb_abs_effects.proofs.SideLaws.{is_taken-without}
+use Rattle.gb_product.specs.Below.gb_abs.Located.{sp_halves}
+use Rattle.gb_product.specs.Below.gb_abs.Meaning.{MeansParts}
+use Rattle.gb_product.specs.Below.gb_abs.Operations.{core_settle}
+use Rattle.gb_product.proofs.Below.gb_abs_laws.OperationLaws.{IsCore-settle}
+use Rattle.gb_product.specs.Below.gb_abs_effects.declared.reads.AbsRead.TheVariants as read
+use Rattle.gb_product.specs.Below.gb_abs_effects.declared.targets.Target.TheVariants as target
+use Rattle.gb_product.specs.Below.gb_abs_effects.declared.writes.AbsWrite.TheVariants as write
+use Rattle.gb_product.specs.Below.gb_abs_effects.Accesses.{read_of}
+use Rattle.gb_product.specs.Below.gb_abs_effects.Sides as Flags
+use Rattle.gb_product.specs.Below.gb_abs_effects.Sound.{HasBytes}
+use Rattle.gb_product.specs.Below.gb_abs_effects.Targets.{moves_sp, target_of}
+use Rattle.gb_product.specs.Below.gb_abs_effects.Transfer.{transfer}
+use Rattle.gb_product.proofs.Below.gb_abs_effects_laws.SideLaws.{is_taken-without}
 use Rattle.gb_abs_memory.specs.Sound.{view}
 use Rattle.gb_product.specs.declared.parts.Product.{Product}
 use Rattle.gb_product.specs.Below.gb_relations.Sound.{IsByteFree}

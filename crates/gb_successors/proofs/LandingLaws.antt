@@ -11,7 +11,7 @@ use Rattle.gb_ops.specs.declared.machine.Read.TheVariants as machine_read
 use Rattle.gb_ops.specs.declared.machine.Write.TheVariants as machine_write
 use Rattle.gb_ops.specs.Cartridge.{kind_of}
 use Rattle.gb_ops.specs.Memory.{View, Storage, mapped_at, place_by, place_of, is_free_place, is_free, byte_by, byte_at, is_closed, stored, passed}
-use Rattle.gb_ops.specs.declared.machine.Place.TheVariants as place
+use Rattle.gb_ops.specs.declared.machine.ReadSource.TheVariants as place
 use Rattle.gb_ops.specs.Effects as Effects
 use Rattle.gb_ops.specs.Effects.{with_sp}
 use Rattle.gb_ops.specs.Machine as Machine
@@ -24,17 +24,17 @@ use Rattle.gb_domain.specs.declared.types.Core.{Core}
 use Rattle.gb_domain.specs.declared.types.Halves.{Halves}
 use Rattle.gb_domain.specs.Limits.{item_room}
 use Rattle.gb_domain.specs.Types.{AbsState}
-use Rattle.gb_abs.specs.Storage.{is_ram, peek}
-use Rattle.gb_abs.specs.Meaning.{MeansCore, MeansParts}
-use Rattle.gb_abs.specs.Operations.{with_core}
-use Rattle.gb_abs.specs.Stack.{AreInRegion, pushed, youngest}
-use Rattle.gb_abs.proofs.StackLaws.{IsRegionOpen-bound, MeansParts-pushed, MeansParts-with_core}
-use Rattle.gb_abs.proofs.StorageLaws.{read_ram}
-use Rattle.gb_abs_effects.specs.declared.writes.AbsWrite.{AbsWrite}
-use Rattle.gb_abs_effects.specs.declared.writes.AbsWrite.TheVariants as write
-use Rattle.gb_abs_effects.specs.Sound.{HoldsWrite, IsWrite}
-use Rattle.gb_abs_effects.specs.Targets.{moves_sp}
-use Rattle.gb_abs_effects.proofs.TargetLaws.{sp-kept, sp-pushed}
+use Rattle.gb_product.specs.Below.gb_abs.Storage.{is_ram, peek}
+use Rattle.gb_product.specs.Below.gb_abs.Meaning.{MeansCore, MeansParts}
+use Rattle.gb_product.specs.Below.gb_abs.Operations.{with_core}
+use Rattle.gb_product.specs.Below.gb_abs.Stack.{AreInRegion, pushed, youngest}
+use Rattle.gb_product.proofs.Below.gb_abs_laws.StackLaws.{IsRegionOpen-bound, MeansParts-pushed, MeansParts-with_core}
+use Rattle.gb_product.proofs.Below.gb_abs_laws.StorageLaws.{read_ram}
+use Rattle.gb_product.specs.Below.gb_abs_effects.declared.writes.AbsWrite.{AbsWrite}
+use Rattle.gb_product.specs.Below.gb_abs_effects.declared.writes.AbsWrite.TheVariants as write
+use Rattle.gb_product.specs.Below.gb_abs_effects.Sound.{HoldsWrite, IsWrite}
+use Rattle.gb_product.specs.Below.gb_abs_effects.Targets.{moves_sp}
+use Rattle.gb_product.proofs.Below.gb_abs_effects_laws.TargetLaws.{sp-kept, sp-pushed}
 use Rattle.gb_abs_memory.specs.Kept.{IsKept}
 use Rattle.gb_abs_memory.specs.Sound.{view}
 use Rattle.gb_product.specs.Below.gb_relations.Places.{behind_echo}
@@ -59,7 +59,7 @@ use Rattle.gb_successors.proofs.SituationLaws.{AreGiven, follows, related_behind
 use Rattle.gb_successors.specs.Refined.{with_carry}
 use Rattle.gb_successors.proofs.RelatedLaws.{has_operands}
 use Rattle.gb_product.proofs.Below.gb_relations_laws.TransferLaws.{relations_after_sound}
-use Rattle.gb_abs.specs.Located.{sp_bounds}
+use Rattle.gb_product.specs.Below.gb_abs.Located.{sp_bounds}
 use Rattle.gb_domain.specs.declared.pairs.WordPair.TheVariants as pairs
 
 -- ---- a byte of RAM that is read

@@ -19,19 +19,19 @@ use Rattle.gb_domain.specs.declared.setting.Setting.{Setting}
 use Rattle.gb_domain.specs.declared.types.Core.{Core}
 use Rattle.gb_domain.specs.declared.types.Halves.{Halves}
 use Rattle.gb_domain.specs.Types.{AbsState}
-use Rattle.gb_abs.specs.Meaning.{Holds, MeansParts}
-use Rattle.gb_abs.specs.Operations.{with_core}
-use Rattle.gb_abs.specs.Stack.{AreInRegion}
-use Rattle.gb_abs.proofs.StackLaws.{IsRegionOpen-bound, Pops-popped}
-use Rattle.gb_abs_effects.specs.declared.reads.AbsRead.{AbsRead}
-use Rattle.gb_abs_effects.specs.declared.reads.AbsRead.TheVariants as read
-use Rattle.gb_abs_effects.specs.declared.targets.Target.{Target}
-use Rattle.gb_abs_effects.specs.declared.targets.Target.TheVariants as target
-use Rattle.gb_abs_effects.specs.declared.writes.AbsWrite.TheVariants as write
-use Rattle.gb_abs_effects.specs.Accesses.{read_of}
-use Rattle.gb_abs_effects.specs.Pairs.{any_word}
-use Rattle.gb_abs_effects.specs.Sound.{HoldsRead, IsReadAt}
-use Rattle.gb_abs_effects.specs.Targets.{target_of, is_pop, is_return}
+use Rattle.gb_product.specs.Below.gb_abs.Meaning.{Holds, MeansParts}
+use Rattle.gb_product.specs.Below.gb_abs.Operations.{with_core}
+use Rattle.gb_product.specs.Below.gb_abs.Stack.{AreInRegion}
+use Rattle.gb_product.proofs.Below.gb_abs_laws.StackLaws.{IsRegionOpen-bound, Pops-popped}
+use Rattle.gb_product.specs.Below.gb_abs_effects.declared.reads.AbsRead.{AbsRead}
+use Rattle.gb_product.specs.Below.gb_abs_effects.declared.reads.AbsRead.TheVariants as read
+use Rattle.gb_product.specs.Below.gb_abs_effects.declared.targets.Target.{Target}
+use Rattle.gb_product.specs.Below.gb_abs_effects.declared.targets.Target.TheVariants as target
+use Rattle.gb_product.specs.Below.gb_abs_effects.declared.writes.AbsWrite.TheVariants as write
+use Rattle.gb_product.specs.Below.gb_abs_effects.Accesses.{read_of}
+use Rattle.gb_product.specs.Below.gb_abs_effects.Pairs.{any_word}
+use Rattle.gb_product.specs.Below.gb_abs_effects.Sound.{HoldsRead, IsReadAt}
+use Rattle.gb_product.specs.Below.gb_abs_effects.Targets.{target_of, is_pop, is_return}
 use Rattle.gb_abs_memory.specs.Sound.{view}
 use Rattle.gb_product.specs.Below.gb_relations.Pointers.{WithinIf, PointsWithin, pointer_of}
 use Rattle.gb_product.proofs.Below.gb_relations_laws.PointerLaws.{pointer_bounds_sound}

@@ -16,22 +16,22 @@ use Rattle.gb_ops.specs.declared.op.Op.TheVariants as op
 use Rattle.gb_domain.specs.declared.types.Val.{Val}
 use Rattle.gb_domain.specs.declared.types.Core.{Core}
 use Rattle.gb_domain.specs.Rules.{IsVal, IsCore}
-use Rattle.gb_abs.specs.declared.span.Span.{Span}
-use Rattle.gb_abs.specs.Span.{pair_span}
-use Rattle.gb_abs.specs.Operations.{core_set_register, core_settle}
+use Rattle.gb_product.specs.Below.gb_abs.declared.span.Span.{Span}
+use Rattle.gb_product.specs.Below.gb_abs.Span.{pair_span}
+use Rattle.gb_product.specs.Below.gb_abs.Operations.{core_set_register, core_settle}
 use Rattle.gb_domain.specs.declared.types.Halves.{Halves}
-use Rattle.gb_abs_effects.specs.declared.reads.AbsRead.{AbsRead}
-use Rattle.gb_abs_effects.specs.declared.reads.AbsRead.TheVariants as read
-use Rattle.gb_abs_effects.specs.declared.writes.AbsWrite.{AbsWrite}
-use Rattle.gb_abs_effects.specs.declared.writes.AbsWrite.TheVariants as write
-use Rattle.gb_abs_effects.specs.Accesses.{hl_span, indirect_span, high_span, operand_read, read_of}
-use Rattle.gb_abs_effects.specs.Pairs.{is_word_known, pair_halves, with_pair, with_indirect, with_stack_pair}
+use Rattle.gb_product.specs.Below.gb_abs_effects.declared.reads.AbsRead.{AbsRead}
+use Rattle.gb_product.specs.Below.gb_abs_effects.declared.reads.AbsRead.TheVariants as read
+use Rattle.gb_product.specs.Below.gb_abs_effects.declared.writes.AbsWrite.{AbsWrite}
+use Rattle.gb_product.specs.Below.gb_abs_effects.declared.writes.AbsWrite.TheVariants as write
+use Rattle.gb_product.specs.Below.gb_abs_effects.Accesses.{hl_span, indirect_span, high_span, operand_read, read_of}
+use Rattle.gb_product.specs.Below.gb_abs_effects.Pairs.{is_word_known, pair_halves, with_pair, with_indirect, with_stack_pair}
 use Rattle.gb_product.specs.Sound.{IsCutCore}
-use Rattle.gb_abs_effects.specs.declared.targets.Target.{Target}
-use Rattle.gb_abs_effects.specs.declared.targets.Target.TheVariants as target
-use Rattle.gb_abs_effects.specs.Targets.{moves_sp, target_of}
-use Rattle.gb_abs_effects.specs.Transfer.{transfer, store_operand, update_operand, update_a, apply_alu}
-use Rattle.gb_abs_effects.specs.Sound.{HasBytes}
+use Rattle.gb_product.specs.Below.gb_abs_effects.declared.targets.Target.{Target}
+use Rattle.gb_product.specs.Below.gb_abs_effects.declared.targets.Target.TheVariants as target
+use Rattle.gb_product.specs.Below.gb_abs_effects.Targets.{moves_sp, target_of}
+use Rattle.gb_product.specs.Below.gb_abs_effects.Transfer.{transfer, store_operand, update_operand, update_a, apply_alu}
+use Rattle.gb_product.specs.Below.gb_abs_effects.Sound.{HasBytes}
 
 -- ---- what stays of a core
 

@@ -31,25 +31,25 @@ use Rattle.gb_domain.specs.declared.types.Core.{Core}
 use Rattle.gb_domain.specs.declared.types.Halves.{Halves}
 use Rattle.gb_domain.specs.Pairs.{ArePairs}
 use Rattle.gb_domain.specs.Types.{AbsState}
-use Rattle.gb_abs.specs.Below.gb_vals.Meaning.{In}
-use Rattle.gb_abs.specs.Below.gb_vals.Vals.{any_val}
-use Rattle.gb_abs.specs.declared.span.Span.{Span}
-use Rattle.gb_abs.specs.Span.{is_one, may_meet}
-use Rattle.gb_abs.specs.Located.{item_at, stack_base}
-use Rattle.gb_abs.specs.Meaning.{Holds, MeansCore, MeansParts}
-use Rattle.gb_abs.specs.Operations.{core_end, with_core}
-use Rattle.gb_abs.specs.Origins.{registers_without_origins, core_without_origins}
-use Rattle.gb_abs.specs.Stack.{youngest}
-use Rattle.gb_abs.specs.Storage.{is_ram, peek}
-use Rattle.gb_abs.proofs.StackLaws.{Pops-popped, MeansParts-with_core}
-use Rattle.gb_abs_effects.specs.declared.reads.AbsRead.{AbsRead}
-use Rattle.gb_abs_effects.specs.declared.reads.AbsRead.TheVariants as read
-use Rattle.gb_abs_effects.specs.declared.writes.AbsWrite.{AbsWrite}
-use Rattle.gb_abs_effects.specs.declared.writes.AbsWrite.TheVariants as write
-use Rattle.gb_abs_effects.specs.Sides as Flags
-use Rattle.gb_abs_effects.specs.Sound.{HoldsRead, IsReadAt}
-use Rattle.gb_abs_effects.proofs.CoreLaws.{In-from, byte-of}
-use Rattle.gb_abs_effects.proofs.SideLaws.{is_taken-without, is_taken-with}
+use Rattle.gb_product.specs.Below.gb_vals.Meaning.{In}
+use Rattle.gb_product.specs.Below.gb_vals.Vals.{any_val}
+use Rattle.gb_product.specs.Below.gb_abs.declared.span.Span.{Span}
+use Rattle.gb_product.specs.Below.gb_abs.Span.{is_one, may_meet}
+use Rattle.gb_product.specs.Below.gb_abs.Located.{item_at, stack_base}
+use Rattle.gb_product.specs.Below.gb_abs.Meaning.{Holds, MeansCore, MeansParts}
+use Rattle.gb_product.specs.Below.gb_abs.Operations.{core_end, with_core}
+use Rattle.gb_product.specs.Below.gb_abs.Origins.{registers_without_origins, core_without_origins}
+use Rattle.gb_product.specs.Below.gb_abs.Stack.{youngest}
+use Rattle.gb_product.specs.Below.gb_abs.Storage.{is_ram, peek}
+use Rattle.gb_product.proofs.Below.gb_abs_laws.StackLaws.{Pops-popped, MeansParts-with_core}
+use Rattle.gb_product.specs.Below.gb_abs_effects.declared.reads.AbsRead.{AbsRead}
+use Rattle.gb_product.specs.Below.gb_abs_effects.declared.reads.AbsRead.TheVariants as read
+use Rattle.gb_product.specs.Below.gb_abs_effects.declared.writes.AbsWrite.{AbsWrite}
+use Rattle.gb_product.specs.Below.gb_abs_effects.declared.writes.AbsWrite.TheVariants as write
+use Rattle.gb_product.specs.Below.gb_abs_effects.Sides as Flags
+use Rattle.gb_product.specs.Below.gb_abs_effects.Sound.{HoldsRead, IsReadAt}
+use Rattle.gb_product.proofs.Below.gb_abs_effects_laws.CoreLaws.{In-from, byte-of}
+use Rattle.gb_product.proofs.Below.gb_abs_effects_laws.SideLaws.{is_taken-without, is_taken-with}
 use Rattle.gb_abs_memory.specs.declared.store.Area.{Area}
 use Rattle.gb_abs_memory.specs.declared.store.Area.TheVariants as area
 use Rattle.gb_abs_memory.specs.Access.{meets_closed_ram, may_be_closed, is_limited, home_of, val_at, item_or, val_or_item, is_table, table_by, several_by, loaded_val, area_of, stored_core_in, stored_core}

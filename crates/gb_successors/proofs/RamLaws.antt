@@ -8,9 +8,9 @@ use Rattle.gb_ops.specs.declared.machine.Faults.{Faults}
 use Rattle.gb_ops.specs.Memory.{View, Storage, wrote, is_closed}
 use Rattle.gb_ops.specs.Faults.{no_faults, write_faults, access_faults}
 use Rattle.gb_domain.specs.declared.relations.Relations.{Relations}
-use Rattle.gb_abs.specs.Meaning.{IsMemory}
-use Rattle.gb_abs.specs.Storage.{is_ram, peek}
-use Rattle.gb_abs.proofs.StorageLaws.{wrote-poked}
+use Rattle.gb_product.specs.Below.gb_abs.Meaning.{IsMemory}
+use Rattle.gb_product.specs.Below.gb_abs.Storage.{is_ram, peek}
+use Rattle.gb_product.proofs.Below.gb_abs_laws.StorageLaws.{wrote-poked}
 use Rattle.gb_product.specs.Below.gb_relations.Meaning.{HoldRelations}
 use Rattle.gb_product.specs.Below.gb_relations.Sound.{IsByteFree}
 use Rattle.gb_product.proofs.Below.gb_relations_laws.AddressLaws.{free-ram}

@@ -20,19 +20,19 @@ use Rattle.gb_domain.specs.declared.types.Core.{Core}
 use Rattle.gb_domain.specs.declared.types.Range.{Range}
 use Rattle.gb_domain.specs.Types.{AbsState}
 use Rattle.gb_domain.specs.Rules.{IsCore}
-use Rattle.gb_abs.specs.Located.{sp_halves}
-use Rattle.gb_abs.specs.Operations.{core_end}
-use Rattle.gb_abs.specs.Span.{one}
-use Rattle.gb_abs.specs.Stack.{pushed, popped}
-use Rattle.gb_abs.specs.Storage.{peek}
-use Rattle.gb_abs.specs.Meaning.{MeansCore, MeansParts}
-use Rattle.gb_abs_effects.specs.declared.targets.Target.{Target}
-use Rattle.gb_abs_effects.specs.declared.targets.Target.TheVariants as target
-use Rattle.gb_abs_effects.specs.declared.writes.AbsWrite.{AbsWrite}
-use Rattle.gb_abs_effects.specs.declared.writes.AbsWrite.TheVariants as write
-use Rattle.gb_abs_effects.specs.Sound as effects
-use Rattle.gb_abs_effects.specs.Sound.{IsWrite}
-use Rattle.gb_abs_effects.proofs.RangeLaws.{transfer_inhabited}
+use Rattle.gb_product.specs.Below.gb_abs.Located.{sp_halves}
+use Rattle.gb_product.specs.Below.gb_abs.Operations.{core_end}
+use Rattle.gb_product.specs.Below.gb_abs.Span.{one}
+use Rattle.gb_product.specs.Below.gb_abs.Stack.{pushed, popped}
+use Rattle.gb_product.specs.Below.gb_abs.Storage.{peek}
+use Rattle.gb_product.specs.Below.gb_abs.Meaning.{MeansCore, MeansParts}
+use Rattle.gb_product.specs.Below.gb_abs_effects.declared.targets.Target.{Target}
+use Rattle.gb_product.specs.Below.gb_abs_effects.declared.targets.Target.TheVariants as target
+use Rattle.gb_product.specs.Below.gb_abs_effects.declared.writes.AbsWrite.{AbsWrite}
+use Rattle.gb_product.specs.Below.gb_abs_effects.declared.writes.AbsWrite.TheVariants as write
+use Rattle.gb_product.specs.Below.gb_abs_effects.Sound as effects
+use Rattle.gb_product.specs.Below.gb_abs_effects.Sound.{IsWrite}
+use Rattle.gb_product.proofs.Below.gb_abs_effects_laws.RangeLaws.{transfer_inhabited}
 use Rattle.gb_abs_memory.specs.Access.{stored_state}
 use Rattle.gb_abs_memory.proofs.AfterStoreLaws.{IsCore-stored_state}
 use Rattle.gb_product.specs.Below.gb_pairs.Meaning.{AreBytes}

@@ -21,24 +21,24 @@ use Rattle.gb_domain.specs.declared.types.Val.{Val}
 use Rattle.gb_domain.specs.declared.types.Core.{Core}
 use Rattle.gb_domain.specs.Pairs.{ArePairs}
 use Rattle.gb_domain.specs.Rules.{IsVal, IsWord}
-use Rattle.gb_abs.specs.Below.gb_vals.Flags.{known}
-use Rattle.gb_abs.specs.Below.gb_vals.Meaning.{may_be}
-use Rattle.gb_abs.specs.Storage.{peek}
-use Rattle.gb_abs.specs.Located.{sp_halves, sp_bounds, bounds_by, stack_base}
-use Rattle.gb_abs.specs.Meaning.{Holds, MeansCore}
-use Rattle.gb_abs.proofs.LocatedLaws.{halves_sound, bounds_sound}
-use Rattle.gb_abs_effects.specs.declared.reads.AbsRead.{AbsRead}
-use Rattle.gb_abs_effects.specs.declared.reads.AbsRead.TheVariants as read
-use Rattle.gb_abs_effects.specs.declared.writes.AbsWrite.{AbsWrite}
-use Rattle.gb_abs_effects.specs.declared.writes.AbsWrite.TheVariants as write
-use Rattle.gb_abs_effects.specs.declared.writes.AbsEffect.{AbsEffect}
-use Rattle.gb_abs_effects.specs.Accesses.{read_of}
-use Rattle.gb_abs_effects.specs.Sound as effects
-use Rattle.gb_abs_effects.specs.Sound.{HoldsRead, HoldsWrite, IsReadAt, IsWrite, IsWrittenAt, IsAbsEffect, Follows, Begins}
-use Rattle.gb_abs_effects.proofs.CoreLaws.{In-from, byte-of}
-use Rattle.gb_abs_effects.proofs.ReadLaws.{read_of_sound, read_of_at}
-use Rattle.gb_abs_effects.proofs.RangeLaws.{transfer_inhabited}
-use Rattle.gb_abs_effects.proofs.TransferLaws.{transfer_sound}
+use Rattle.gb_product.specs.Below.gb_vals.Flags.{known}
+use Rattle.gb_product.specs.Below.gb_vals.Meaning.{may_be}
+use Rattle.gb_product.specs.Below.gb_abs.Storage.{peek}
+use Rattle.gb_product.specs.Below.gb_abs.Located.{sp_halves, sp_bounds, bounds_by, stack_base}
+use Rattle.gb_product.specs.Below.gb_abs.Meaning.{Holds, MeansCore}
+use Rattle.gb_product.proofs.Below.gb_abs_laws.LocatedLaws.{halves_sound, bounds_sound}
+use Rattle.gb_product.specs.Below.gb_abs_effects.declared.reads.AbsRead.{AbsRead}
+use Rattle.gb_product.specs.Below.gb_abs_effects.declared.reads.AbsRead.TheVariants as read
+use Rattle.gb_product.specs.Below.gb_abs_effects.declared.writes.AbsWrite.{AbsWrite}
+use Rattle.gb_product.specs.Below.gb_abs_effects.declared.writes.AbsWrite.TheVariants as write
+use Rattle.gb_product.specs.Below.gb_abs_effects.declared.writes.AbsEffect.{AbsEffect}
+use Rattle.gb_product.specs.Below.gb_abs_effects.Accesses.{read_of}
+use Rattle.gb_product.specs.Below.gb_abs_effects.Sound as effects
+use Rattle.gb_product.specs.Below.gb_abs_effects.Sound.{HoldsRead, HoldsWrite, IsReadAt, IsWrite, IsWrittenAt, IsAbsEffect, Follows, Begins}
+use Rattle.gb_product.proofs.Below.gb_abs_effects_laws.CoreLaws.{In-from, byte-of}
+use Rattle.gb_product.proofs.Below.gb_abs_effects_laws.ReadLaws.{read_of_sound, read_of_at}
+use Rattle.gb_product.proofs.Below.gb_abs_effects_laws.RangeLaws.{transfer_inhabited}
+use Rattle.gb_product.proofs.Below.gb_abs_effects_laws.TransferLaws.{transfer_sound}
 use Rattle.gb_product.specs.Below.gb_pairs.Meaning.{AreBytes}
 use Rattle.gb_product.specs.Below.gb_pairs.Meaning as pair_meaning
 use Rattle.gb_product.specs.Below.gb_relations.Meaning.{HoldRelations}

@@ -14,14 +14,14 @@ use Rattle.gb_domain.specs.declared.types.Range.{Range}
 use Rattle.gb_domain.specs.Types.{AbsState}
 use Rattle.gb_domain.specs.Pairs.{ArePairs}
 use Rattle.gb_domain.specs.Rules.{IsCore}
-use Rattle.gb_abs.specs.Located.{sp_halves, sp_bounds}
-use Rattle.gb_abs.specs.Meaning.{MeansCore, MeansParts}
-use Rattle.gb_abs.specs.Operations.{with_core}
-use Rattle.gb_abs.proofs.StackLaws.{MeansParts-with_core}
-use Rattle.gb_abs_effects.specs.declared.reads.AbsRead.{AbsRead}
-use Rattle.gb_abs_effects.specs.declared.writes.AbsEffect.{AbsEffect}
-use Rattle.gb_abs_effects.specs.Sound.{HasBytes}
-use Rattle.gb_abs_effects.specs.Transfer.{transfer}
+use Rattle.gb_product.specs.Below.gb_abs.Located.{sp_halves, sp_bounds}
+use Rattle.gb_product.specs.Below.gb_abs.Meaning.{MeansCore, MeansParts}
+use Rattle.gb_product.specs.Below.gb_abs.Operations.{with_core}
+use Rattle.gb_product.proofs.Below.gb_abs_laws.StackLaws.{MeansParts-with_core}
+use Rattle.gb_product.specs.Below.gb_abs_effects.declared.reads.AbsRead.{AbsRead}
+use Rattle.gb_product.specs.Below.gb_abs_effects.declared.writes.AbsEffect.{AbsEffect}
+use Rattle.gb_product.specs.Below.gb_abs_effects.Sound.{HasBytes}
+use Rattle.gb_product.specs.Below.gb_abs_effects.Transfer.{transfer}
 use Rattle.gb_product.specs.declared.parts.Product.{Product}
 use Rattle.gb_product.specs.Meaning.{AreRelated}
 use Rattle.gb_product.specs.Below.gb_relations.Pointers.{known_carry}

@@ -14,15 +14,15 @@ use Rattle.gb_domain.specs.Areas.{IsRegion}
 use Rattle.gb_domain.specs.Limits.{item_room}
 use Rattle.gb_domain.specs.Settings.{IsBase}
 use Rattle.gb_domain.specs.Types.{AbsState}
-use Rattle.gb_abs.specs.Below.gb_vals.Vals.{any_val}
-use Rattle.gb_abs.specs.Bytes.{without_newest, with_any_bytes, resized}
-use Rattle.gb_abs.specs.Origins.{core_without_origins}
-use Rattle.gb_abs.specs.Meaning.{MeansCore, MeansParts}
-use Rattle.gb_abs.specs.Operations.{with_core}
-use Rattle.gb_abs.specs.Stack.{AreInRegion}
-use Rattle.gb_abs.proofs.ByteLaws.{taking_sound, appending_sound, resizing_sound}
-use Rattle.gb_abs.proofs.OriginLaws.{AreCells-without_origins, MeansCore-without_origins}
-use Rattle.gb_abs.proofs.StackLaws.{MeansParts-with_core}
+use Rattle.gb_product.specs.Below.gb_vals.Vals.{any_val}
+use Rattle.gb_product.specs.Below.gb_abs.Bytes.{without_newest, with_any_bytes, resized}
+use Rattle.gb_product.specs.Below.gb_abs.Origins.{core_without_origins}
+use Rattle.gb_product.specs.Below.gb_abs.Meaning.{MeansCore, MeansParts}
+use Rattle.gb_product.specs.Below.gb_abs.Operations.{with_core}
+use Rattle.gb_product.specs.Below.gb_abs.Stack.{AreInRegion}
+use Rattle.gb_product.proofs.Below.gb_abs_laws.ByteLaws.{taking_sound, appending_sound, resizing_sound}
+use Rattle.gb_product.proofs.Below.gb_abs_laws.OriginLaws.{AreCells-without_origins, MeansCore-without_origins}
+use Rattle.gb_product.proofs.Below.gb_abs_laws.StackLaws.{MeansParts-with_core}
 use Rattle.gb_successors.specs.declared.stacks.Stack.{Stack}
 use Rattle.gb_successors.specs.declared.stacks.StackMove.{StackMove}
 use Rattle.gb_successors.specs.declared.stacks.StackMove.TheVariants as move

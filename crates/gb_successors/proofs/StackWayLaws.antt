@@ -29,29 +29,29 @@ use Rattle.gb_domain.specs.declared.types.Range.{Range}
 use Rattle.gb_domain.specs.Types.{AbsState}
 use Rattle.gb_domain.specs.Areas.{meets}
 use Rattle.gb_domain.specs.Rules.{IsVal}
-use Rattle.gb_abs.specs.Below.gb_vals.Vals.{single, any_val}
-use Rattle.gb_abs.specs.Storage.{peek}
-use Rattle.gb_abs.specs.Located.{sp_halves}
-use Rattle.gb_abs.specs.Operations.{core_end, with_core}
-use Rattle.gb_abs.specs.Meaning.{Holds, MeansCore, MeansParts, IsMemory}
-use Rattle.gb_abs.specs.Cells.{ArePlaced}
-use Rattle.gb_abs.specs.Stack.{AreInRegion, pushed, popped, last_word, youngest}
-use Rattle.gb_abs.specs.Sound.{Pops}
-use Rattle.gb_abs.proofs.StackLaws.{IsRegionOpen-bound, MeansParts-pushed, Pops-popped, MeansParts-with_core, youngest_is}
-use Rattle.gb_abs_effects.specs.declared.reads.AbsRead.{AbsRead}
-use Rattle.gb_abs_effects.specs.declared.reads.AbsRead.TheVariants as read
-use Rattle.gb_abs_effects.specs.declared.writes.AbsWrite.{AbsWrite}
-use Rattle.gb_abs_effects.specs.declared.writes.AbsWrite.TheVariants as write
+use Rattle.gb_product.specs.Below.gb_vals.Vals.{single, any_val}
+use Rattle.gb_product.specs.Below.gb_abs.Storage.{peek}
+use Rattle.gb_product.specs.Below.gb_abs.Located.{sp_halves}
+use Rattle.gb_product.specs.Below.gb_abs.Operations.{core_end, with_core}
+use Rattle.gb_product.specs.Below.gb_abs.Meaning.{Holds, MeansCore, MeansParts, IsMemory}
+use Rattle.gb_product.specs.Below.gb_abs.Cells.{ArePlaced}
+use Rattle.gb_product.specs.Below.gb_abs.Stack.{AreInRegion, pushed, popped, last_word, youngest}
+use Rattle.gb_product.specs.Below.gb_abs.Sound.{Pops}
+use Rattle.gb_product.proofs.Below.gb_abs_laws.StackLaws.{IsRegionOpen-bound, MeansParts-pushed, Pops-popped, MeansParts-with_core, youngest_is}
+use Rattle.gb_product.specs.Below.gb_abs_effects.declared.reads.AbsRead.{AbsRead}
+use Rattle.gb_product.specs.Below.gb_abs_effects.declared.reads.AbsRead.TheVariants as read
+use Rattle.gb_product.specs.Below.gb_abs_effects.declared.writes.AbsWrite.{AbsWrite}
+use Rattle.gb_product.specs.Below.gb_abs_effects.declared.writes.AbsWrite.TheVariants as write
 use Rattle.gb_domain.specs.declared.rules.Rules.TheVariants.{Simple}
 use Rattle.gb_successors.specs.Way.{Successor}
-use Rattle.gb_abs_effects.specs.declared.targets.Target.{Target}
-use Rattle.gb_abs_effects.specs.declared.targets.Target.TheVariants as target
-use Rattle.gb_abs_effects.specs.Pairs.{any_word, known_word}
-use Rattle.gb_abs_effects.specs.Accesses.{read_of}
-use Rattle.gb_abs_effects.specs.Targets.{is_push, is_pop, is_call, is_return}
-use Rattle.gb_abs_effects.specs.Sound.{HoldsRead, HoldsWrite, HoldsTarget, IsWrite, Follows}
-use Rattle.gb_abs_effects.proofs.ReadLaws.{read_of_sound}
-use Rattle.gb_abs_effects.proofs.TargetLaws.{sp-pushed, sp-popped, pc-returned}
+use Rattle.gb_product.specs.Below.gb_abs_effects.declared.targets.Target.{Target}
+use Rattle.gb_product.specs.Below.gb_abs_effects.declared.targets.Target.TheVariants as target
+use Rattle.gb_product.specs.Below.gb_abs_effects.Pairs.{any_word, known_word}
+use Rattle.gb_product.specs.Below.gb_abs_effects.Accesses.{read_of}
+use Rattle.gb_product.specs.Below.gb_abs_effects.Targets.{is_push, is_pop, is_call, is_return}
+use Rattle.gb_product.specs.Below.gb_abs_effects.Sound.{HoldsRead, HoldsWrite, HoldsTarget, IsWrite, Follows}
+use Rattle.gb_product.proofs.Below.gb_abs_effects_laws.ReadLaws.{read_of_sound}
+use Rattle.gb_product.proofs.Below.gb_abs_effects_laws.TargetLaws.{sp-pushed, sp-popped, pc-returned}
 use Rattle.gb_abs_memory.specs.Sound.{view}
 use Rattle.gb_abs_memory.specs.Kept.{IsKept}
 use Rattle.gb_successors.specs.Behind.{read_word, written, starts, ended}

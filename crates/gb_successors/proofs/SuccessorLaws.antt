@@ -26,31 +26,31 @@ use Rattle.gb_domain.specs.Types.{AbsState}
 use Rattle.gb_domain.specs.Areas.{IsRegion}
 use Rattle.gb_domain.specs.Settings.{IsBase}
 use Rattle.gb_domain.specs.Rules.{IsVal, IsCore, IsWord}
-use Rattle.gb_abs.specs.Below.gb_vals.Vals.{any_val}
+use Rattle.gb_product.specs.Below.gb_vals.Vals.{any_val}
 use Rattle.gb_domain.specs.declared.types.Halves.{Halves}
-use Rattle.gb_abs.specs.Storage.{peek}
-use Rattle.gb_abs.specs.Located.{sp_halves, halves_by, stack_base}
-use Rattle.gb_abs.specs.Operations.{core_settle, core_end, with_core}
-use Rattle.gb_abs.specs.Cells.{ArePlaced}
-use Rattle.gb_abs.specs.Stack.{AreInRegion, word_of, last_word, youngest}
-use Rattle.gb_abs.specs.Meaning.{Holds, MeansCore, MeansParts, IsMemory}
-use Rattle.gb_abs.proofs.LocatedLaws.{halves_sound}
-use Rattle.gb_abs.proofs.OperationLaws.{MeansCore-settle, end_sound}
-use Rattle.gb_abs.proofs.StackLaws.{MeansParts-with_core}
-use Rattle.gb_abs_effects.specs.declared.reads.AbsRead.{AbsRead}
-use Rattle.gb_abs_effects.specs.declared.reads.AbsRead.TheVariants as read
-use Rattle.gb_abs_effects.specs.declared.writes.AbsWrite.{AbsWrite}
-use Rattle.gb_abs_effects.specs.declared.targets.Target.{Target}
-use Rattle.gb_abs_effects.specs.declared.targets.Target.TheVariants as target
-use Rattle.gb_abs_effects.specs.Pairs.{any_word}
-use Rattle.gb_abs_effects.specs.Accesses.{read_of}
-use Rattle.gb_abs_effects.specs.Targets.{target_of, moves_sp, is_sp, is_push}
-use Rattle.gb_abs_effects.specs.Transfer.{transfer}
-use Rattle.gb_abs_effects.specs.Sound.{HasBytes, HoldsTarget, IsWrite, Follows, Begins}
-use Rattle.gb_abs_effects.proofs.ReadLaws.{read_of_sound}
-use Rattle.gb_abs_effects.proofs.RangeLaws.{transfer_inhabited}
-use Rattle.gb_abs_effects.proofs.TargetLaws.{target_of_sound, sp-kept, sp-loaded}
-use Rattle.gb_abs_effects.proofs.TransferLaws.{transfer_sound}
+use Rattle.gb_product.specs.Below.gb_abs.Storage.{peek}
+use Rattle.gb_product.specs.Below.gb_abs.Located.{sp_halves, halves_by, stack_base}
+use Rattle.gb_product.specs.Below.gb_abs.Operations.{core_settle, core_end, with_core}
+use Rattle.gb_product.specs.Below.gb_abs.Cells.{ArePlaced}
+use Rattle.gb_product.specs.Below.gb_abs.Stack.{AreInRegion, word_of, last_word, youngest}
+use Rattle.gb_product.specs.Below.gb_abs.Meaning.{Holds, MeansCore, MeansParts, IsMemory}
+use Rattle.gb_product.proofs.Below.gb_abs_laws.LocatedLaws.{halves_sound}
+use Rattle.gb_product.proofs.Below.gb_abs_laws.OperationLaws.{MeansCore-settle, end_sound}
+use Rattle.gb_product.proofs.Below.gb_abs_laws.StackLaws.{MeansParts-with_core}
+use Rattle.gb_product.specs.Below.gb_abs_effects.declared.reads.AbsRead.{AbsRead}
+use Rattle.gb_product.specs.Below.gb_abs_effects.declared.reads.AbsRead.TheVariants as read
+use Rattle.gb_product.specs.Below.gb_abs_effects.declared.writes.AbsWrite.{AbsWrite}
+use Rattle.gb_product.specs.Below.gb_abs_effects.declared.targets.Target.{Target}
+use Rattle.gb_product.specs.Below.gb_abs_effects.declared.targets.Target.TheVariants as target
+use Rattle.gb_product.specs.Below.gb_abs_effects.Pairs.{any_word}
+use Rattle.gb_product.specs.Below.gb_abs_effects.Accesses.{read_of}
+use Rattle.gb_product.specs.Below.gb_abs_effects.Targets.{target_of, moves_sp, is_sp, is_push}
+use Rattle.gb_product.specs.Below.gb_abs_effects.Transfer.{transfer}
+use Rattle.gb_product.specs.Below.gb_abs_effects.Sound.{HasBytes, HoldsTarget, IsWrite, Follows, Begins}
+use Rattle.gb_product.proofs.Below.gb_abs_effects_laws.ReadLaws.{read_of_sound}
+use Rattle.gb_product.proofs.Below.gb_abs_effects_laws.RangeLaws.{transfer_inhabited}
+use Rattle.gb_product.proofs.Below.gb_abs_effects_laws.TargetLaws.{target_of_sound, sp-kept, sp-loaded}
+use Rattle.gb_product.proofs.Below.gb_abs_effects_laws.TransferLaws.{transfer_sound}
 use Rattle.gb_abs_memory.specs.Sound.{view, AreVals}
 use Rattle.gb_abs_memory.proofs.LoadLaws.{IsVal-loaded_val}
 use Rattle.gb_successors.specs.Way.{Successor}

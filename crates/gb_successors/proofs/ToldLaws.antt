@@ -19,19 +19,19 @@ use Rattle.gb_domain.specs.Areas.{IsRegion}
 use Rattle.gb_domain.specs.Limits.{cell_room}
 use Rattle.gb_domain.specs.Rules.{IsVal}
 use Rattle.gb_domain.specs.Types.{AbsState}
-use Rattle.gb_abs.specs.Cells.{is_below, is_above, is_at, entered, with_cell, IsPlaced, ArePlaced}
-use Rattle.gb_abs.specs.Meaning.{MeansParts}
-use Rattle.gb_abs.specs.Operations.{with_core}
-use Rattle.gb_abs.specs.Stack.{AreInRegion}
-use Rattle.gb_abs.specs.Storage.{peek}
-use Rattle.gb_abs.proofs.CellLaws.{AllByRecursion-where, AllByRecursion-append, ArePlaced-with_cell}
-use Rattle.gb_abs.proofs.StorageLaws.{MeansParts-with_cell}
-use Rattle.gb_abs_effects.specs.declared.reads.AbsRead.{AbsRead}
-use Rattle.gb_abs_effects.specs.declared.reads.AbsRead.TheVariants as read
-use Rattle.gb_abs_effects.specs.declared.targets.Target.{Target}
-use Rattle.gb_abs_effects.specs.declared.targets.Target.TheVariants as target
-use Rattle.gb_abs_effects.specs.Accesses.{read_of}
-use Rattle.gb_abs_effects.specs.Sides as Flags
+use Rattle.gb_product.specs.Below.gb_abs.Cells.{is_below, is_above, is_at, entered, with_cell, IsPlaced, ArePlaced}
+use Rattle.gb_product.specs.Below.gb_abs.Meaning.{MeansParts}
+use Rattle.gb_product.specs.Below.gb_abs.Operations.{with_core}
+use Rattle.gb_product.specs.Below.gb_abs.Stack.{AreInRegion}
+use Rattle.gb_product.specs.Below.gb_abs.Storage.{peek}
+use Rattle.gb_product.proofs.Below.gb_abs_laws.CellLaws.{AllByRecursion-where, AllByRecursion-append, ArePlaced-with_cell}
+use Rattle.gb_product.proofs.Below.gb_abs_laws.StorageLaws.{MeansParts-with_cell}
+use Rattle.gb_product.specs.Below.gb_abs_effects.declared.reads.AbsRead.{AbsRead}
+use Rattle.gb_product.specs.Below.gb_abs_effects.declared.reads.AbsRead.TheVariants as read
+use Rattle.gb_product.specs.Below.gb_abs_effects.declared.targets.Target.{Target}
+use Rattle.gb_product.specs.Below.gb_abs_effects.declared.targets.Target.TheVariants as target
+use Rattle.gb_product.specs.Below.gb_abs_effects.Accesses.{read_of}
+use Rattle.gb_product.specs.Below.gb_abs_effects.Sides as Flags
 use Rattle.gb_abs_memory.specs.Sound.{AreVals}
 use Rattle.gb_product.specs.declared.parts.Branch.{Branch}
 use Rattle.gb_product.specs.Below.gb_relations.Sound.{IsByteFree}

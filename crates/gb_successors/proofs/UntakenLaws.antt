@@ -19,16 +19,16 @@ use Rattle.gb_domain.specs.declared.types.Cell.{Cell}
 use Rattle.gb_domain.specs.declared.types.Core.{Core}
 use Rattle.gb_domain.specs.declared.types.Range.{Range}
 use Rattle.gb_domain.specs.Types.{AbsState}
-use Rattle.gb_abs.specs.Operations.{with_core}
-use Rattle.gb_abs.specs.Meaning.{MeansCore}
-use Rattle.gb_abs.specs.Stack.{AreInRegion}
-use Rattle.gb_abs.specs.Storage.{peek}
-use Rattle.gb_abs.proofs.StackLaws.{MeansParts-with_core}
-use Rattle.gb_abs_effects.specs.declared.targets.Target.TheVariants as target
-use Rattle.gb_abs_effects.specs.declared.reads.AbsRead.TheVariants as read
-use Rattle.gb_abs_effects.specs.declared.writes.AbsWrite.TheVariants as write
-use Rattle.gb_abs_effects.specs.Transfer.{untaken}
-use Rattle.gb_abs_effects.proofs.TransferLaws.{untaken_sound}
+use Rattle.gb_product.specs.Below.gb_abs.Operations.{with_core}
+use Rattle.gb_product.specs.Below.gb_abs.Meaning.{MeansCore}
+use Rattle.gb_product.specs.Below.gb_abs.Stack.{AreInRegion}
+use Rattle.gb_product.specs.Below.gb_abs.Storage.{peek}
+use Rattle.gb_product.proofs.Below.gb_abs_laws.StackLaws.{MeansParts-with_core}
+use Rattle.gb_product.specs.Below.gb_abs_effects.declared.targets.Target.TheVariants as target
+use Rattle.gb_product.specs.Below.gb_abs_effects.declared.reads.AbsRead.TheVariants as read
+use Rattle.gb_product.specs.Below.gb_abs_effects.declared.writes.AbsWrite.TheVariants as write
+use Rattle.gb_product.specs.Below.gb_abs_effects.Transfer.{untaken}
+use Rattle.gb_product.proofs.Below.gb_abs_effects_laws.TransferLaws.{untaken_sound}
 use Rattle.gb_abs_memory.specs.Sound.{view}
 use Rattle.gb_product.specs.Meaning.{AreRelated}
 use Rattle.gb_product.specs.declared.parts.Branch.{Branch}

@@ -22,19 +22,19 @@ use Rattle.gb_domain.specs.declared.types.ImeSet.{ImeSet}
 use Rattle.gb_domain.specs.declared.types.Core.{Core}
 use Rattle.gb_domain.specs.declared.types.Range.{Range}
 use Rattle.gb_domain.specs.Types.{AbsState}
-use Rattle.gb_abs.specs.Below.gb_vals.Bits.{may_enable}
-use Rattle.gb_abs.specs.Located.{sp_bounds}
-use Rattle.gb_abs.specs.Operations.{core_settle, with_core, ime_set_after}
-use Rattle.gb_abs.specs.Meaning.{Holds, MeansCore, MeansParts, ime_may_be}
-use Rattle.gb_abs.specs.Stack.{AreInRegion}
-use Rattle.gb_abs.specs.Storage.{peek}
-use Rattle.gb_abs.proofs.OperationLaws.{IsCore-settle}
-use Rattle.gb_abs.proofs.StackLaws.{MeansParts-with_core}
-use Rattle.gb_abs_effects.specs.Sides as Flags
-use Rattle.gb_abs_effects.specs.declared.targets.Target.TheVariants as target
-use Rattle.gb_abs_effects.specs.Accesses.{read_of}
-use Rattle.gb_abs_effects.specs.Targets.{target_of}
-use Rattle.gb_abs_effects.specs.Transfer.{transfer}
+use Rattle.gb_product.specs.Below.gb_vals.Bits.{may_enable}
+use Rattle.gb_product.specs.Below.gb_abs.Located.{sp_bounds}
+use Rattle.gb_product.specs.Below.gb_abs.Operations.{core_settle, with_core, ime_set_after}
+use Rattle.gb_product.specs.Below.gb_abs.Meaning.{Holds, MeansCore, MeansParts, ime_may_be}
+use Rattle.gb_product.specs.Below.gb_abs.Stack.{AreInRegion}
+use Rattle.gb_product.specs.Below.gb_abs.Storage.{peek}
+use Rattle.gb_product.proofs.Below.gb_abs_laws.OperationLaws.{IsCore-settle}
+use Rattle.gb_product.proofs.Below.gb_abs_laws.StackLaws.{MeansParts-with_core}
+use Rattle.gb_product.specs.Below.gb_abs_effects.Sides as Flags
+use Rattle.gb_product.specs.Below.gb_abs_effects.declared.targets.Target.TheVariants as target
+use Rattle.gb_product.specs.Below.gb_abs_effects.Accesses.{read_of}
+use Rattle.gb_product.specs.Below.gb_abs_effects.Targets.{target_of}
+use Rattle.gb_product.specs.Below.gb_abs_effects.Transfer.{transfer}
 use Rattle.gb_abs_memory.specs.Sound.{view}
 use Rattle.gb_product.specs.Below.gb_pairs.Meaning.{AreBytes}
 use Rattle.gb_product.specs.Below.gb_places.Meaning.{HoldOneByte}

@@ -9,17 +9,17 @@ use Rattle.gb_domain.specs.declared.types.Core.{Core}
 use Rattle.gb_domain.specs.declared.types.Halves.{Halves}
 use Rattle.gb_domain.specs.Types.{AbsState}
 use Rattle.gb_domain.specs.Limits.{item_room}
-use Rattle.gb_abs.specs.Below.gb_vals.Vals.{single}
-use Rattle.gb_abs.specs.Stack.{pushed, popped, youngest, last_word}
-use Rattle.gb_abs.proofs.StackLaws.{youngest_is}
-use Rattle.gb_abs_effects.specs.declared.reads.AbsRead.TheVariants as read
-use Rattle.gb_abs_effects.specs.declared.writes.AbsWrite.{AbsWrite}
-use Rattle.gb_abs_effects.specs.declared.writes.AbsWrite.TheVariants as write
-use Rattle.gb_abs_effects.specs.declared.targets.Target.TheVariants as target
-use Rattle.gb_abs_effects.specs.Accesses.{read_of}
-use Rattle.gb_abs_effects.specs.Targets.{target_of, is_push, is_pop, is_call, is_return}
-use Rattle.gb_abs_effects.specs.Transfer.{transfer}
-use Rattle.gb_abs_effects.specs.Pairs.{any_word}
+use Rattle.gb_product.specs.Below.gb_vals.Vals.{single}
+use Rattle.gb_product.specs.Below.gb_abs.Stack.{pushed, popped, youngest, last_word}
+use Rattle.gb_product.proofs.Below.gb_abs_laws.StackLaws.{youngest_is}
+use Rattle.gb_product.specs.Below.gb_abs_effects.declared.reads.AbsRead.TheVariants as read
+use Rattle.gb_product.specs.Below.gb_abs_effects.declared.writes.AbsWrite.{AbsWrite}
+use Rattle.gb_product.specs.Below.gb_abs_effects.declared.writes.AbsWrite.TheVariants as write
+use Rattle.gb_product.specs.Below.gb_abs_effects.declared.targets.Target.TheVariants as target
+use Rattle.gb_product.specs.Below.gb_abs_effects.Accesses.{read_of}
+use Rattle.gb_product.specs.Below.gb_abs_effects.Targets.{target_of, is_push, is_pop, is_call, is_return}
+use Rattle.gb_product.specs.Below.gb_abs_effects.Transfer.{transfer}
+use Rattle.gb_product.specs.Below.gb_abs_effects.Pairs.{any_word}
 use Rattle.gb_successors.specs.Stacks.{pushed_if_room}
 use Rattle.gb_successors.specs.Words.{word_or_any}
 use Rattle.gb_successors.proofs.SimpleLaws.{with_stack_of}

@@ -9,16 +9,16 @@ use Rattle.gb_domain.specs.declared.types.Core.{Core}
 use Rattle.gb_domain.specs.declared.types.Halves.{Halves}
 use Rattle.gb_domain.specs.Types.{AbsState}
 use Rattle.gb_domain.specs.Limits.{cell_room}
-use Rattle.gb_abs.specs.Below.gb_vals.Vals.{any_val}
-use Rattle.gb_abs.specs.Span.{one}
-use Rattle.gb_abs.specs.Cells.{with_cell}
-use Rattle.gb_abs.specs.Operations.{core_end, with_core}
-use Rattle.gb_abs.specs.Stack.{youngest}
-use Rattle.gb_abs_effects.specs.declared.reads.AbsRead.{AbsRead}
-use Rattle.gb_abs_effects.specs.declared.reads.AbsRead.TheVariants as read
-use Rattle.gb_abs_effects.specs.declared.writes.AbsWrite.{AbsWrite}
-use Rattle.gb_abs_effects.specs.declared.writes.AbsWrite.TheVariants as write
-use Rattle.gb_abs_effects.specs.Pairs.{any_word}
+use Rattle.gb_product.specs.Below.gb_vals.Vals.{any_val}
+use Rattle.gb_product.specs.Below.gb_abs.Span.{one}
+use Rattle.gb_product.specs.Below.gb_abs.Cells.{with_cell}
+use Rattle.gb_product.specs.Below.gb_abs.Operations.{core_end, with_core}
+use Rattle.gb_product.specs.Below.gb_abs.Stack.{youngest}
+use Rattle.gb_product.specs.Below.gb_abs_effects.declared.reads.AbsRead.{AbsRead}
+use Rattle.gb_product.specs.Below.gb_abs_effects.declared.reads.AbsRead.TheVariants as read
+use Rattle.gb_product.specs.Below.gb_abs_effects.declared.writes.AbsWrite.{AbsWrite}
+use Rattle.gb_product.specs.Below.gb_abs_effects.declared.writes.AbsWrite.TheVariants as write
+use Rattle.gb_product.specs.Below.gb_abs_effects.Pairs.{any_word}
 use Rattle.gb_abs_memory.specs.declared.store.Area.{Area}
 use Rattle.gb_abs_memory.specs.declared.store.Area.TheVariants as area
 use Rattle.gb_abs_memory.specs.Access.{loaded_val, area_of, stored_state, stored_core, starts_oam_transfer}

@@ -7,3 +7,4 @@ pub mod Sound
 pub mod Words
 pub mod Way
 pub mod Below
+pub mod Opened

@@ -6,13 +6,13 @@ use Rattle.gb_ops.specs.declared.machine.Region.{Region}
 use Rattle.gb_domain.specs.declared.setting.Setting.{Setting}
 use Rattle.gb_domain.specs.declared.types.Core.{Core}
 use Rattle.gb_domain.specs.declared.types.Range.{Range}
-use Rattle.gb_abs.specs.Span.{one}
-use Rattle.gb_abs_effects.specs.declared.reads.AbsRead.{AbsRead}
-use Rattle.gb_abs_effects.specs.declared.reads.AbsRead.TheVariants as read
-use Rattle.gb_abs_effects.specs.declared.writes.AbsWrite.{AbsWrite}
-use Rattle.gb_abs_effects.specs.declared.writes.AbsWrite.TheVariants as write
-use Rattle.gb_abs_effects.specs.declared.targets.Target.{Target}
-use Rattle.gb_abs_effects.specs.declared.targets.Target.TheVariants as target
+use Rattle.gb_product.specs.Below.gb_abs.Span.{one}
+use Rattle.gb_product.specs.Below.gb_abs_effects.declared.reads.AbsRead.{AbsRead}
+use Rattle.gb_product.specs.Below.gb_abs_effects.declared.reads.AbsRead.TheVariants as read
+use Rattle.gb_product.specs.Below.gb_abs_effects.declared.writes.AbsWrite.{AbsWrite}
+use Rattle.gb_product.specs.Below.gb_abs_effects.declared.writes.AbsWrite.TheVariants as write
+use Rattle.gb_product.specs.Below.gb_abs_effects.declared.targets.Target.{Target}
+use Rattle.gb_product.specs.Below.gb_abs_effects.declared.targets.Target.TheVariants as target
 use Rattle.gb_abs_memory.specs.Access.{is_storable, meets_closed_ram, store_meets_closed_ram, is_limited, is_store_limited}
 use Rattle.gb_successors.specs.Way.{Successor}
 use Rattle.gb_successors.specs.Behind.{behind}

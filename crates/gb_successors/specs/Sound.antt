@@ -23,14 +23,14 @@ use Rattle.gb_domain.specs.Limits.{item_room}
 use Rattle.gb_domain.specs.Pairs.{ArePairs}
 use Rattle.gb_domain.specs.Rules.{IsCore, IsVal}
 use Rattle.gb_domain.specs.Settings.{IsBase}
-use Rattle.gb_abs.specs.Storage.{peek}
-use Rattle.gb_abs.specs.Cells.{ArePlaced}
-use Rattle.gb_abs.specs.Stack.{AreInRegion, pushed}
-use Rattle.gb_abs.specs.Meaning.{MeansParts, origin_value}
-use Rattle.gb_abs_effects.specs.declared.targets.Target.{Target}
-use Rattle.gb_abs_effects.specs.declared.targets.Target.TheVariants as target
-use Rattle.gb_abs_effects.specs.Sound.{HasBytes}
-use Rattle.gb_abs_effects.specs.Targets.{moves_sp, is_push, is_pop, is_call, is_return}
+use Rattle.gb_product.specs.Below.gb_abs.Storage.{peek}
+use Rattle.gb_product.specs.Below.gb_abs.Cells.{ArePlaced}
+use Rattle.gb_product.specs.Below.gb_abs.Stack.{AreInRegion, pushed}
+use Rattle.gb_product.specs.Below.gb_abs.Meaning.{MeansParts, origin_value}
+use Rattle.gb_product.specs.Below.gb_abs_effects.declared.targets.Target.{Target}
+use Rattle.gb_product.specs.Below.gb_abs_effects.declared.targets.Target.TheVariants as target
+use Rattle.gb_product.specs.Below.gb_abs_effects.Sound.{HasBytes}
+use Rattle.gb_product.specs.Below.gb_abs_effects.Targets.{moves_sp, is_push, is_pop, is_call, is_return}
 use Rattle.gb_abs_memory.specs.Kept.{IsKept}
 use Rattle.gb_abs_memory.specs.Sound.{IsRom, AreVals}
 use Rattle.gb_product.specs.Below.gb_relations.Sound.{IsByteFree}
@@ -43,7 +43,7 @@ use Rattle.gb_successors.specs.Successors.{taken_move, product_before, successor
 use Rattle.gb_successors.specs.Way.{Successor}
 use Rattle.gb_successors.specs.declared.successors.Successors.{Successors}
 use Rattle.gb_successors.specs.Refused.{is_unstorable, meets_closed, meets_oam_transfer}
-use Rattle.gb_abs_effects.specs.Pairs.{known_word}
+use Rattle.gb_product.specs.Below.gb_abs_effects.Pairs.{known_word}
 
 -- one of the successors
 abbrev pub IsOneOf : Successors → Successor → Type 0

@@ -12,11 +12,11 @@ use Rattle.gb_domain.specs.declared.types.Halves.{Halves}
 use Rattle.gb_domain.specs.Types.{AbsState}
 use Rattle.gb_domain.specs.Limits.{item_room}
 use Rattle.gb_domain.specs.Settings.{known_base}
-use Rattle.gb_abs.specs.Bytes.{without_newest, with_any_bytes, resized}
-use Rattle.gb_abs.specs.Origins.{core_without_origins, cell_without_origin}
-use Rattle.gb_abs.specs.Stack.{pushed}
-use Rattle.gb_abs_effects.specs.declared.writes.AbsWrite.{AbsWrite}
-use Rattle.gb_abs_effects.specs.declared.writes.AbsWrite.TheVariants as write
+use Rattle.gb_product.specs.Below.gb_abs.Bytes.{without_newest, with_any_bytes, resized}
+use Rattle.gb_product.specs.Below.gb_abs.Origins.{core_without_origins, cell_without_origin}
+use Rattle.gb_product.specs.Below.gb_abs.Stack.{pushed}
+use Rattle.gb_product.specs.Below.gb_abs_effects.declared.writes.AbsWrite.{AbsWrite}
+use Rattle.gb_product.specs.Below.gb_abs_effects.declared.writes.AbsWrite.TheVariants as write
 use Rattle.gb_successors.specs.declared.stacks.Stack.{Stack}
 use Rattle.gb_successors.specs.declared.stacks.StackMove.{StackMove}
 use Rattle.gb_successors.specs.declared.stacks.StackMove.TheVariants as move

@@ -11,17 +11,17 @@ use Rattle.gb_domain.specs.declared.types.Cell.{Cell}
 use Rattle.gb_domain.specs.declared.types.Core.{Core}
 use Rattle.gb_domain.specs.declared.types.Halves.{Halves}
 use Rattle.gb_domain.specs.Types.{AbsState}
-use Rattle.gb_abs.specs.Below.gb_vals.Bits.{may_enable}
-use Rattle.gb_abs.specs.Located.{sp_halves, sp_bounds}
-use Rattle.gb_abs.specs.Operations.{core_settle, with_core}
-use Rattle.gb_abs_effects.specs.declared.reads.AbsRead.{AbsRead}
-use Rattle.gb_abs_effects.specs.declared.reads.AbsRead.TheVariants as read
-use Rattle.gb_abs_effects.specs.declared.writes.AbsEffect.{AbsEffect}
-use Rattle.gb_abs_effects.specs.declared.writes.AbsWrite.TheVariants as write
-use Rattle.gb_abs_effects.specs.declared.targets.Target.TheVariants as target
-use Rattle.gb_abs_effects.specs.Accesses.{read_of}
-use Rattle.gb_abs_effects.specs.Targets.{target_of}
-use Rattle.gb_abs_effects.specs.Transfer.{transfer, only_on}
+use Rattle.gb_product.specs.Below.gb_vals.Bits.{may_enable}
+use Rattle.gb_product.specs.Below.gb_abs.Located.{sp_halves, sp_bounds}
+use Rattle.gb_product.specs.Below.gb_abs.Operations.{core_settle, with_core}
+use Rattle.gb_product.specs.Below.gb_abs_effects.declared.reads.AbsRead.{AbsRead}
+use Rattle.gb_product.specs.Below.gb_abs_effects.declared.reads.AbsRead.TheVariants as read
+use Rattle.gb_product.specs.Below.gb_abs_effects.declared.writes.AbsEffect.{AbsEffect}
+use Rattle.gb_product.specs.Below.gb_abs_effects.declared.writes.AbsWrite.TheVariants as write
+use Rattle.gb_product.specs.Below.gb_abs_effects.declared.targets.Target.TheVariants as target
+use Rattle.gb_product.specs.Below.gb_abs_effects.Accesses.{read_of}
+use Rattle.gb_product.specs.Below.gb_abs_effects.Targets.{target_of}
+use Rattle.gb_product.specs.Below.gb_abs_effects.Transfer.{transfer, only_on}
 use Rattle.gb_successors.specs.Way.{Successor}
 use Rattle.gb_successors.specs.declared.successors.Successors.{Successors}
 use Rattle.gb_successors.specs.declared.stacks.Stack.{Stack}

@@ -14,7 +14,22 @@ pub mod successor;
 pub mod successors;
 pub mod way;
 
+pub use stacks::{Stack, StackMove};
+pub use successors::Successors;
+pub use way::{Moved, Successor};
+
 // What lies below, for the crates above.
-pub use gb_abs_effects::reads::AbsRead;
-pub use gb_abs_effects::targets::Target;
-pub use gb_abs_effects::writes::AbsWrite;
+pub use gb_abs_memory::{Reason, Span, any, cell_at, is_ram, known, length_of, settle, with_value};
+pub use gb_domain::pairs::{
+    ANY_BOUNDS, Bounds, Link, NOTHING_KNOWN, Other, PairFacts, Pairs, WordPair,
+};
+pub use gb_domain::places::{NO_REGISTER, OneByte, Test};
+pub use gb_domain::relations::Relations;
+pub use gb_domain::types::{
+    Abs, Cell, Core, Ctl, Flg, ImeSet, May, Origin, RANGES, Range, Rules, Setting, Val,
+};
+pub use gb_product::covering::covers;
+pub use gb_product::parts::Product;
+pub use gb_product::reduced::{reduce, reduced};
+pub use gb_product::sides::{not_taken_side, taken_side};
+pub use gb_product::{AbsRead, AbsWrite, Target};

@@ -4,17 +4,13 @@ ghost use Rattle.std.specs.Prelude.{◌≡◌};
 ghost use Rattle.gb_successors.specs.Refined as Refined;
 
 use crate::stacks::StackMove;
-use gb_abs::known;
-use gb_abs::origins::is_own;
-use gb_abs::span::Span;
-use gb_abs_effects::pairs::{is_word_known, least_word, pair_halves};
-use gb_abs_effects::reads::AbsRead;
-use gb_abs_effects::targets::Target;
-use gb_abs_effects::transfer::Inputs;
-use gb_abs_effects::writes::{AbsEffect, AbsWrite};
 use gb_domain::pairs::Bounds;
 use gb_domain::types::{Core, Halves, Origin, Rules, Setting};
 use gb_ops::op::{Op, Pair};
+use gb_product::{
+    AbsEffect, AbsRead, AbsWrite, Inputs, Span, Target, is_own, is_word_known, known, least_word,
+    pair_halves,
+};
 
 /// Where an address is taken from a pair, its bounds are the pair's.
 fn span_within(bounds: Option<Bounds>, span: Span) -> Span

@@ -6,10 +6,6 @@ ghost use Rattle.gb_successors.specs.Successors.{has};
 
 use crate::successor::Successor;
 use crate::successors::Successors;
-use gb_abs::span::Span;
-use gb_abs_effects::reads::AbsRead;
-use gb_abs_effects::targets::Target;
-use gb_abs_effects::writes::AbsWrite;
 use gb_abs_memory::Rom;
 use gb_abs_memory::refusals::{
     is_limited, is_store_limited, meets_closed_ram, store_meets_closed_ram,
@@ -17,6 +13,7 @@ use gb_abs_memory::refusals::{
 use gb_abs_memory::store::is_storable;
 use gb_domain::types::{Core, Range, Setting};
 use gb_ops::machine::{Kind, Region};
+use gb_product::{AbsRead, AbsWrite, Span, Target};
 
 /// Whether a write may lie where no store is allowed. Both bytes of a word are asked for.
 #[tactic(auto, unfolding(crate::specs::Refused::is_unstorable))]

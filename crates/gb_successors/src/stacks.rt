@@ -2,18 +2,16 @@
 
 ghost use Rattle.std.specs.Prelude.{◌≡◌};
 ghost use Rattle.gb_domain.specs.declared.rules.Rules.TheVariants.{Extended};
-ghost use Rattle.gb_abs.specs.Bytes as Bytes;
-ghost use Rattle.gb_abs.specs.Origins as Origins;
+ghost use Rattle.gb_product.specs.Below.gb_abs.Bytes as Bytes;
+ghost use Rattle.gb_product.specs.Below.gb_abs.Origins as Origins;
 ghost use Rattle.gb_successors.specs.Stacks as Stacks;
 
 use arrayvec::ArrayVec;
-use gb_abs::bytes::{append_bytes, resize};
-use gb_abs::origins::{cells_without_origins, core_without_origins};
-use gb_abs_effects::writes::AbsWrite;
 use gb_domain::pairs::Bounds;
 use gb_domain::types::{Abs, Core, Halves, Rules, Setting};
 use gb_ops::machine::Region;
 use gb_ops::op::{Op, Pair};
+use gb_product::{AbsWrite, append_bytes, cells_without_origins, core_without_origins, resize};
 
 /// Where the states of a procedure stand, and how much it may have on the stack.
 #[derive(Clone, Copy)]
@@ -179,7 +177,7 @@ pub fn stack_move(stack: Stack, op: Op, write: AbsWrite, hl: Option<Bounds>) -> 
 }
 
 /// A word is pushed, where there is room for it. What pushes more is refused.
-#[tactic(auto, unfolding(crate::specs::Stacks::pushed_if_room, gb_abs::specs::Stack::pushed, gb_domain::specs::Limits::item_room))]
+#[tactic(auto, unfolding(crate::specs::Stacks::pushed_if_room, crate::specs::Opened::pushed, gb_domain::specs::Limits::item_room))]
 fn push_if_room(setting: Setting, word: Halves, state: &mut Abs)
     ensures { state.new ≡ Stacks.pushed_if_room setting word state.old }
 {
@@ -202,7 +200,7 @@ fn appended_if_room(setting: Setting, count: u8, state: &Abs) -> Abs
 }
 
 /// The newest bytes are taken off. Of fewer none is left.
-#[tactic(auto, unfolding(gb_abs::specs::Bytes::without_newest))]
+#[tactic(auto, unfolding(crate::specs::Opened::without_newest))]
 fn take_newest(count: u8, state: &mut Abs)
     ensures { state.new ≡ Bytes.without_newest count state.old }
 {
@@ -233,7 +231,7 @@ fn begun_anew(state: &Abs) -> Abs
     )
 }
 
-/// The same, in the place of the states: kept out of line, so that others are cleared and copied only then.
+/// Appends bytes of any value to the states where they are. It is out of line, so that the copy is paid only here.
 #[inline(never)]
 fn append_if_room(setting: Setting, count: u8, state: &mut Abs)
     ensures { state.new ≡ Stacks.appended_if_room setting count state.old }

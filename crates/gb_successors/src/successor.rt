@@ -1,12 +1,12 @@
 //! How the successors of an instruction come about.
 
 ghost use Rattle.std.specs.Prelude.{◌≡◌, None};
-ghost use Rattle.gb_abs.specs.Operations.{with_core};
+ghost use Rattle.gb_product.specs.Below.gb_abs.Operations.{with_core};
 ghost use Rattle.gb_domain.specs.declared.rules.Rules.TheVariants.{Simple, Extended};
-ghost use Rattle.gb_abs.specs.Stack.{youngest};
-ghost use Rattle.gb_abs_effects.specs.Transfer as Transfer;
-ghost use Rattle.gb_abs_effects.specs.declared.reads.AbsRead.TheVariants.{Byte};
-ghost use Rattle.gb_abs_effects.specs.declared.writes.AbsWrite.TheVariants.{Nothing};
+ghost use Rattle.gb_product.specs.Below.gb_abs.Stack.{youngest};
+ghost use Rattle.gb_product.specs.Below.gb_abs_effects.Transfer as Transfer;
+ghost use Rattle.gb_product.specs.Below.gb_abs_effects.declared.reads.AbsRead.TheVariants.{Byte};
+ghost use Rattle.gb_product.specs.Below.gb_abs_effects.declared.writes.AbsWrite.TheVariants.{Nothing};
 ghost use Rattle.gb_successors.specs.declared.stacks.StackMove.TheVariants.{Stay};
 ghost use Rattle.gb_successors.specs.Behind as Behind;
 ghost use Rattle.gb_successors.specs.Behind.{state_behind};
@@ -16,15 +16,6 @@ ghost use Rattle.gb_successors.specs.Words.{word_or_any};
 use crate::refined::{cut_read, refine, refined_target};
 use crate::stacks::{Stack, StackMove, move_core, stack_move};
 pub use crate::way::{Moved, Successor};
-use gb_abs::any;
-use gb_abs::located::{sp_bounds, sp_halves};
-use gb_abs::operations::{end, pass};
-use gb_abs::span::Span;
-use gb_abs_effects::pairs::any_word;
-use gb_abs_effects::reads::{AbsRead, read_of};
-use gb_abs_effects::targets::{Target, target_of};
-use gb_abs_effects::transfer::{Inputs, transfer_in};
-use gb_abs_effects::writes::{AbsEffect, AbsWrite, quiet};
 use gb_abs_memory::Rom;
 use gb_abs_memory::load::loaded_by;
 use gb_abs_memory::store::{Area, area_of, starts_oam_transfer, store_in_core};
@@ -34,7 +25,10 @@ use gb_domain::types::{Abs, Cell, Core, Halves, ImeSet, Rules, Setting};
 use gb_ops::machine::Kind;
 use gb_ops::op::{Op, Row};
 use gb_product::parts::{Branch, Product};
-use gb_product::{known_carry, pointer_bounds, relations_after};
+use gb_product::{
+    AbsEffect, AbsRead, AbsWrite, Inputs, Span, Target, any, any_word, end, known_carry, pass,
+    pointer_bounds, quiet, read_of, relations_after, sp_bounds, sp_halves, target_of, transfer_in,
+};
 
 /// The word that was pushed last, as far as it is known.
 #[inline(never)]
@@ -65,7 +59,7 @@ fn read_byte(setting: Setting, rom: &Rom<'_>, state: &Abs, core: &Core, span: Sp
 
 /// What is known of what is read: of a byte, or of the word that was pushed last.
 #[inline(always)]
-#[tactic(auto, unfolding(crate::specs::Behind::read_word, gb_abs::specs::Stack::youngest))]
+#[tactic(auto, unfolding(crate::specs::Behind::read_word, crate::specs::Opened::youngest))]
 fn read_word(setting: Setting, rom: &Rom<'_>, state: &Abs, core: &Core, read: AbsRead) -> Halves
     ensures { result ≡ Behind.read_word setting rom.now (with_core state.now core.now) read }
 {
@@ -180,7 +174,7 @@ pub fn pointer_in(stack: Stack, op: Op, product: &Product) -> Option<Bounds>
 
 /// An instruction that is taken, and the side that it is taken from, which is settled.
 #[derive(Clone, Copy)]
-struct Taken<'w, 'a> {
+struct TakenSide<'w, 'a> {
     stack: &'w Stack,
     rom: &'w Rom<'w>,
     row: &'w Row,
@@ -195,7 +189,11 @@ struct Taken<'w, 'a> {
 /// The successor where the instruction is taken, by rules that are the stack's own: so that they are known where it is made. Its
 /// effect is made where it is given, in the place of the core before it.
 #[inline(always)]
-fn successor_by<'a>(rules: Rules, taken: &Taken<'_, 'a>, effect: &mut AbsEffect) -> Successor<'a>
+fn successor_by<'a>(
+    rules: Rules,
+    taken: &TakenSide<'_, 'a>,
+    effect: &mut AbsEffect,
+) -> Successor<'a>
     requires own { taken.now.stack.now.setting.rules ≡ rules }
     requires before { effect.old ≡ Transfer.quiet taken.now.core.now }
     ensures { result ≡ Succession.taken_successor taken.now.stack.now taken.now.rom.now taken.now.row.now taken.now.next taken.now.state.now (record { core = taken.now.core.now; relations = taken.now.relations.now; cell = taken.now.cell.now }) }
@@ -244,9 +242,9 @@ fn successor_by<'a>(rules: Rules, taken: &Taken<'_, 'a>, effect: &mut AbsEffect)
     }
 }
 
-/// The same by the rules of versions 1 and 2.
+/// The successor where the instruction is taken, by the rules of versions 1 and 2.
 #[inline(never)]
-fn simple_successor<'a>(taken: &Taken<'_, 'a>) -> Successor<'a>
+fn simple_successor<'a>(taken: &TakenSide<'_, 'a>) -> Successor<'a>
     requires { taken.now.stack.now.setting.rules ≡ Simple }
     ensures { result ≡ Succession.taken_successor taken.now.stack.now taken.now.rom.now taken.now.row.now taken.now.next taken.now.state.now (record { core = taken.now.core.now; relations = taken.now.relations.now; cell = taken.now.cell.now }) }
 {
@@ -254,9 +252,9 @@ fn simple_successor<'a>(taken: &Taken<'_, 'a>) -> Successor<'a>
     successor_by(Rules::Simple, taken, &mut effect)
 }
 
-/// The same by the rules of version 3.
+/// The successor where the instruction is taken, by the rules of version 3.
 #[inline(never)]
-fn extended_successor<'a>(taken: &Taken<'_, 'a>) -> Successor<'a>
+fn extended_successor<'a>(taken: &TakenSide<'_, 'a>) -> Successor<'a>
     requires { taken.now.stack.now.setting.rules ≡ Extended }
     ensures { result ≡ Succession.taken_successor taken.now.stack.now taken.now.rom.now taken.now.row.now taken.now.next taken.now.state.now (record { core = taken.now.core.now; relations = taken.now.relations.now; cell = taken.now.cell.now }) }
 {
@@ -279,7 +277,7 @@ pub fn taken_successor<'a>(
 ) -> Successor<'a>
     ensures { result ≡ Succession.taken_successor stack.now rom.now row.now next state.now (record { core = core.now; relations = relations.now; cell = cell.now }) }
 {
-    let taken = Taken {
+    let taken = TakenSide {
         stack,
         rom,
         row,

@@ -10,9 +10,6 @@ ghost use Rattle.gb_successors.specs.Sound.{AreSoundSuccessors};
 
 use crate::stacks::Stack;
 use crate::successor::{Successor, staying_successor, taken_successor, untaken_successor};
-use gb_abs::may_enable;
-use gb_abs::operations::settle;
-use gb_abs_effects::sides::condition_of;
 use gb_abs_memory::Rom;
 use gb_domain::types::{Abs, Core, Rules};
 use gb_ops::machine::Kind;
@@ -20,6 +17,7 @@ use gb_ops::op::{Op, Row};
 use gb_product::parts::{Branch, Product};
 use gb_product::reduced::reduced;
 use gb_product::sides::{not_taken_side, taken_side};
+use gb_product::{condition_of, may_enable, settle};
 
 /// The possible successors of an instruction.
 #[derive(Drop)]
@@ -74,7 +72,7 @@ pub fn product_before(rules: Rules, state: &Abs) -> Option<Product>
 }
 
 /// Whether an instruction has a condition. Where it has none it is always taken, and nothing is cut.
-#[tactic(auto, unfolding(gb_product::specs::Sides::taken_side, gb_product::specs::Sides::not_taken_side, gb_abs_effects::specs::Sides::sides_of))]
+#[tactic(auto, unfolding(gb_product::specs::Sides::taken_side, gb_product::specs::Sides::not_taken_side, crate::specs::Opened::sides_of))]
 pub fn has_condition(op: Op) -> bool
     ensures taken { result ≡ false → (cells : List Cell) (core : Core) (r : Relations) → taken_side op cells core r ≡ Some (record { core = core; relations = r; cell = None }) }
     ensures not_taken { result ≡ false → (cells : List Cell) (core : Core) (r : Relations) → not_taken_side op cells core r ≡ None }
@@ -109,7 +107,7 @@ pub fn side_successor<'a>(
     taken_successor(&stack, rom, &row, next, state, core, relations, &side.cell)
 }
 
-/// The same, reduced, in the place of none.
+/// Puts the successor of the taken side, reduced, where none was.
 #[inline(never)]
 fn put_taken_side<'a>(
     stack: Stack,
@@ -132,7 +130,7 @@ fn put_taken_side<'a>(
     }
 }
 
-/// The same; where there is no condition nothing is cut, so that nothing is copied.
+/// Puts the successor of the taken side. Without a condition nothing is cut, so nothing is copied.
 fn put_taken_from<'a>(
     stack: Stack,
     rom: &Rom<'_>,
@@ -242,7 +240,7 @@ fn put_not_taken<'a>(
     }
 }
 
-/// The same, where something is meant before it.
+/// Puts the successor that stays on HALT, if something is meant before it.
 #[tactic(auto, unfolding(crate::specs::Successors::stays))]
 fn put_stay<'a>(row: Row, address: u16, state: &'a Abs, way: &mut Option<Successor<'a>>)
     requires { way.old ≡ None }

@@ -1,23 +1,19 @@
 //! One successor of an instruction, and the states behind it.
 
 ghost use Rattle.std.specs.Prelude.{◌≡◌, ◌+◌, ◌≤◌, ◌++◌, IfSome, length};
-ghost use Rattle.gb_abs.specs.Cells.{with_cell};
-ghost use Rattle.gb_abs.specs.Operations.{with_core};
+ghost use Rattle.gb_product.specs.Below.gb_abs.Cells.{with_cell};
+ghost use Rattle.gb_product.specs.Below.gb_abs.Operations.{with_core};
 ghost use Rattle.gb_domain.specs.Limits.{cell_room};
 ghost use Rattle.gb_successors.specs.Behind as Behind;
 ghost use Rattle.gb_successors.specs.Behind.{with_relations};
 
 use crate::stacks::{Stack, StackMove, move_stack};
-use gb_abs::cells::with_cell;
-use gb_abs::span::Span;
-use gb_abs_effects::reads::AbsRead;
-use gb_abs_effects::targets::Target;
-use gb_abs_effects::writes::AbsWrite;
 use gb_abs_memory::store::store_in;
 use gb_domain::relations::Relations;
 use gb_domain::types::{Abs, Cell, Core, Rules, Setting, Val};
 use gb_ops::machine::Kind;
 use gb_product::reduced::reduce;
+use gb_product::{AbsRead, AbsWrite, Span, Target, with_cell};
 use std::marker::Model;
 
 /// One way on from an instruction: what it reads and writes besides its own bytes, where it goes on,
@@ -150,7 +146,7 @@ fn tell_cell(rules: Rules, cell: Cell, state: &mut Abs)
     *state = with_cell(rules, state, cell.address, cell.val);
 }
 
-/// The same, where it tells one.
+/// Sets the cell that a condition bounds, if it bounds one.
 #[tactic(auto, unfolding(crate::specs::Behind::with_cell_if))]
 fn set_cell(setting: Setting, cell: Option<Cell>, state: &mut Abs)
     ensures { state.new ≡ Behind.with_cell_if setting cell state.old }

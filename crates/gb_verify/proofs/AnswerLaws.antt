@@ -3,11 +3,11 @@ use Rattle.std.proofs.Common.{◌≡◌, ℕ, List, Option, Some, None, Result, 
 use Rattle.std.specs.Result.{IsOk}
 use Rattle.gb_text.specs.Below.gb_header.declared.fault.HeaderFault.{HeaderFault}
 use Rattle.gb_text.specs.Below.gb_header.Header as Header
-use Rattle.gb_states.specs.Below.gb_fields.declared.fault.CertFault.{CertFault}
-use Rattle.gb_states.specs.Below.gb_fields.declared.fault.CertFault.TheVariants as fault
-use Rattle.gb_domain.specs.Certificate.{Certificate}
-use Rattle.gb_states.specs.Reading.{read_certificate}
-use Rattle.gb_states.specs.Spelling.{Spells}
+use Rattle.gb_rules.specs.Below.gb_fields.declared.fault.CertFault.{CertFault}
+use Rattle.gb_rules.specs.Below.gb_fields.declared.fault.CertFault.TheVariants as fault
+use Rattle.gb_rules.specs.Below.gb_domain.Certificate.{Certificate}
+use Rattle.gb_rules.specs.Below.gb_states.Reading.{read_certificate}
+use Rattle.gb_rules.specs.Below.gb_states.Spelling.{Spells}
 use Rattle.gb_text.specs.Text.{GainsBeginning}
 use Rattle.gb_verify.specs.Verdict.{verdict_of, IsVerdict, IsRight}
 use Rattle.gb_verify.specs.Headline.{IsSafe, IfAccepted}
@@ -112,7 +112,7 @@ verify_bytes_outcome rom cert (answer.Judged (Refused i r)) h = ap outcome_of (o
 
 pub verify_bytes_beginning : (old new : Option (List ℕ)) (rom cert : List ℕ) (a : Answer) → IsAnswer rom cert a → GainsBeginning old (answer_text a) new → HasBeginning old rom cert new
 verify_bytes_beginning old new rom cert a (inl e) g = inl (subst (λ b. GainsBeginning old (answer_text b) new) e g)
-verify_bytes_beginning old new rom cert a (inr m) g = inr (subst (λ b. GainsBeginning old (answer_text b) new) m.0 g)
+verify_bytes_beginning old new rom cert a (inr m) g = inr (m.1, subst (λ b. GainsBeginning old (answer_text b) new) m.0 g)
 
 pub verify_bytes_accepted : (P : Type 0) (a : Answer) → IfAcceptedAnswer a P → IfVerified (outcome_of a) P
 verify_bytes_accepted P (answer.Cartridge f) h = tt

@@ -1,10 +1,10 @@
 -- What is written of a certificate's file: the certificate's text, or the line of a fault.
 use Rattle.std.proofs.Common.{◌≡◌, ℕ, List, Option, Result, Ok, Err, ◌⊎◌, inl, inr, refl, sym, ap, subst}
 use Rattle.std.specs.Result.{OnOk, OnErr}
-use Rattle.gb_states.specs.Below.gb_fields.declared.fault.CertFault.{CertFault}
-use Rattle.gb_states.specs.Below.gb_fields.declared.fault.CertFault.TheVariants as fault
-use Rattle.gb_domain.specs.Certificate.{Certificate}
-use Rattle.gb_states.specs.Reading.{read_certificate}
+use Rattle.gb_rules.specs.Below.gb_fields.declared.fault.CertFault.{CertFault}
+use Rattle.gb_rules.specs.Below.gb_fields.declared.fault.CertFault.TheVariants as fault
+use Rattle.gb_rules.specs.Below.gb_domain.Certificate.{Certificate}
+use Rattle.gb_rules.specs.Below.gb_states.Reading.{read_certificate}
 use Rattle.gb_text.specs.Sink.{Gains}
 use Rattle.gb_text.specs.Text.{GainsBeginning}
 use Rattle.gb_verify.specs.Text.{certificate_text}

@@ -12,12 +12,12 @@ use Rattle.gb_ops.specs.declared.machine.Mapped.TheVariants as mapped
 use Rattle.gb_ops.specs.Registers.{get}
 use Rattle.gb_ops.specs.Memory.{mapped_at}
 use Rattle.gb_ops.specs.Play.{MState, IsStart, processor_at_power_up}
-use Rattle.gb_domain.specs.declared.types.Origin.{Origin}
-use Rattle.gb_domain.specs.declared.types.Origin.TheVariants as origin
-use Rattle.gb_domain.specs.declared.types.Val.{Val}
-use Rattle.gb_domain.specs.Types.{AbsState, ProcedureParts, Node}
-use Rattle.gb_states.specs.Rules.{IsCertificate, is_of, have_entries}
-use Rattle.gb_domain.specs.Certificate.{Certificate}
+use Rattle.gb_rules.specs.Below.gb_domain.declared.types.Origin.{Origin}
+use Rattle.gb_rules.specs.Below.gb_domain.declared.types.Origin.TheVariants as origin
+use Rattle.gb_rules.specs.Below.gb_domain.declared.types.Val.{Val}
+use Rattle.gb_rules.specs.Below.gb_domain.Types.{AbsState, ProcedureParts, Node}
+use Rattle.gb_rules.specs.Below.gb_states.Rules.{IsCertificate, is_of, have_entries}
+use Rattle.gb_rules.specs.Below.gb_domain.Certificate.{Certificate}
 use Rattle.gb_rules.specs.Below.gb_abs.Storage.{peek, peek_by}
 use Rattle.gb_rules.specs.Below.gb_abs.Meaning.{Holds, HoldsFlags, MeansCore, MeansParts, IsMemory, origin_value, ime_may_be}
 use Rattle.gb_rules.specs.Below.gb_vals.Flags.{known}
@@ -28,8 +28,8 @@ use Rattle.gb_rules.specs.Below.gb_product.Meaning.{Means}
 use Rattle.gb_rules.specs.Below.gb_abs.Stack.{AreInRegion}
 use Rattle.gb_rules.proofs.Below.gb_product_laws.CoveringLaws.{Means-covered}
 use Rattle.gb_rules.proofs.Below.gb_product_laws.MeaningLaws.{HoldRelations-nothing}
-use Rattle.gb_domain.specs.Limits.{rules_of}
-use Rattle.gb_domain.specs.Settings.{IsBase}
+use Rattle.gb_rules.specs.Below.gb_domain.Limits.{rules_of}
+use Rattle.gb_rules.specs.Below.gb_domain.Settings.{IsBase}
 use Rattle.gb_rules.specs.Procedures.{need_of, setting_of}
 use Rattle.gb_rules.specs.Safety.{IsMeant}
 use Rattle.gb_rules.proofs.SearchLaws.{Contains-slice_get}

@@ -4,17 +4,17 @@ use Rattle.std.proofs.lemmas.Bool.Decides.{nat_tests}
 use Rattle.std.specs.List.{flat_map}
 use Rattle.std.proofs.lemmas.List.{drop_more}
 use Rattle.std.proofs.lemmas.Option.{slice_get_within, get_or_from_slice_get}
-use Rattle.gb_states.specs.Below.gb_fields.declared.fault.CertFault.{CertFault}
-use Rattle.gb_states.specs.Below.gb_fields.declared.fault.CertFault.TheVariants as fault
-use Rattle.gb_states.specs.Below.gb_fields.Format.{GivesUnlessMemory}
-use Rattle.gb_domain.specs.Types.{ProcedureParts}
-use Rattle.gb_domain.specs.Certificate.{Certificate}
-use Rattle.gb_domain.specs.Limits.{rules_of}
-use Rattle.gb_domain.specs.declared.rules.Rules.TheVariants.{Extended}
-use Rattle.gb_states.specs.Rules.{is_version, IsCertificate}
-use Rattle.gb_states.specs.Reading.{read_certificate}
-use Rattle.gb_states.specs.Spelling as spelled
-use Rattle.gb_states.specs.Spelling.{Spells}
+use Rattle.gb_rules.specs.Below.gb_fields.declared.fault.CertFault.{CertFault}
+use Rattle.gb_rules.specs.Below.gb_fields.declared.fault.CertFault.TheVariants as fault
+use Rattle.gb_rules.specs.Below.gb_fields.Format.{GivesUnlessMemory}
+use Rattle.gb_rules.specs.Below.gb_domain.Types.{ProcedureParts}
+use Rattle.gb_rules.specs.Below.gb_domain.Certificate.{Certificate}
+use Rattle.gb_rules.specs.Below.gb_domain.Limits.{rules_of}
+use Rattle.gb_rules.specs.Below.gb_domain.declared.rules.Rules.TheVariants.{Extended}
+use Rattle.gb_rules.specs.Below.gb_states.Rules.{is_version, IsCertificate}
+use Rattle.gb_rules.specs.Below.gb_states.Reading.{read_certificate}
+use Rattle.gb_rules.specs.Below.gb_states.Spelling as spelled
+use Rattle.gb_rules.specs.Below.gb_states.Spelling.{Spells}
 use Rattle.gb_rules.specs.Below.gb_cert.Places.{upgraded_version}
 use Rattle.gb_rules.proofs.Below.gb_cert_laws.Lending.{upgraded as is_upgraded}
 use Rattle.gb_text.specs.Sink.{Gains}

@@ -4,19 +4,19 @@ use Rattle.std.specs.Prelude.{slice_get, IfSome, min}
 use Rattle.std.specs.List.{list_all}
 use Rattle.std.proofs.lemmas.Bool.Decides.{nat_tests}
 use Rattle.gb_ops.specs.declared.machine.Region.{Region}
-use Rattle.gb_domain.specs.declared.types.Val.{Val}
-use Rattle.gb_domain.specs.declared.types.Cell.{Cell}
-use Rattle.gb_domain.specs.declared.rules.Rules.{Rules}
-use Rattle.gb_domain.specs.declared.rules.Rules.TheVariants.{Simple, Extended}
-use Rattle.gb_domain.specs.Types.{AbsState, ProcedureParts, Node}
-use Rattle.gb_domain.specs.Certificate.{Certificate}
-use Rattle.gb_domain.specs.Limits.{rules_of, item_room, cell_room}
-use Rattle.gb_domain.specs.Rules.{IsChain, IsVal}
-use Rattle.gb_states.specs.Below.gb_fields.Limits.{unit, node_limit, range_room}
-use Rattle.gb_states.specs.declared.role.Role.{Role}
-use Rattle.gb_states.specs.declared.role.Role.TheVariants as role
-use Rattle.gb_states.specs.Rules.{is_whole, may_be_pushed, is_traced, is_cell_traced, is_state_traced, IsState, IsProcedure, IsNode, IsCertificate, is_of, have_entries, is_after, key}
-use Rattle.gb_states.proofs.StateLaws.{limit_bound}
+use Rattle.gb_rules.specs.Below.gb_domain.declared.types.Val.{Val}
+use Rattle.gb_rules.specs.Below.gb_domain.declared.types.Cell.{Cell}
+use Rattle.gb_rules.specs.Below.gb_domain.declared.rules.Rules.{Rules}
+use Rattle.gb_rules.specs.Below.gb_domain.declared.rules.Rules.TheVariants.{Simple, Extended}
+use Rattle.gb_rules.specs.Below.gb_domain.Types.{AbsState, ProcedureParts, Node}
+use Rattle.gb_rules.specs.Below.gb_domain.Certificate.{Certificate}
+use Rattle.gb_rules.specs.Below.gb_domain.Limits.{rules_of, item_room, cell_room}
+use Rattle.gb_rules.specs.Below.gb_domain.Rules.{IsChain, IsVal}
+use Rattle.gb_rules.specs.Below.gb_fields.Limits.{unit, node_limit, range_room}
+use Rattle.gb_rules.specs.Below.gb_states.declared.role.Role.{Role}
+use Rattle.gb_rules.specs.Below.gb_states.declared.role.Role.TheVariants as role
+use Rattle.gb_rules.specs.Below.gb_states.Rules.{is_whole, may_be_pushed, is_traced, is_cell_traced, is_state_traced, IsState, IsProcedure, IsNode, IsCertificate, is_of, have_entries, is_after, key}
+use Rattle.gb_rules.proofs.Below.gb_states_laws.StateLaws.{limit_bound}
 use Rattle.gb_verify.specs.Widened.{return_word, above_return_word, widened_node, widened_need, widened_procedure, widened_procedures, widened_by, widened}
 
 -- ---- states

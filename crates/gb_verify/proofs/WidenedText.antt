@@ -4,25 +4,25 @@ use Rattle.std.specs.Prelude.{IfSome}
 use Rattle.std.specs.List.{flat_map}
 use Rattle.std.proofs.lemmas.List.{drop_more}
 use Rattle.std.proofs.lemmas.Option.{slice_get_within, get_or_from_slice_get}
-use Rattle.gb_domain.specs.declared.types.Val.{Val}
-use Rattle.gb_domain.specs.declared.types.Cell.{Cell}
-use Rattle.gb_domain.specs.declared.relations.Relations.{Relations}
-use Rattle.gb_domain.specs.declared.rules.Rules.{Rules}
-use Rattle.gb_domain.specs.declared.rules.Rules.TheVariants.{Simple, Extended}
-use Rattle.gb_domain.specs.RelationRules.{compared, is_test_alone, test_alone}
-use Rattle.gb_domain.specs.Types.{AbsState, ProcedureParts, Node}
-use Rattle.gb_domain.specs.Certificate.{Certificate}
-use Rattle.gb_domain.specs.Limits.{rules_of, item_room}
-use Rattle.gb_domain.specs.Rules.{IsChain}
+use Rattle.gb_rules.specs.Below.gb_domain.declared.types.Val.{Val}
+use Rattle.gb_rules.specs.Below.gb_domain.declared.types.Cell.{Cell}
+use Rattle.gb_rules.specs.Below.gb_domain.declared.relations.Relations.{Relations}
+use Rattle.gb_rules.specs.Below.gb_domain.declared.rules.Rules.{Rules}
+use Rattle.gb_rules.specs.Below.gb_domain.declared.rules.Rules.TheVariants.{Simple, Extended}
+use Rattle.gb_rules.specs.Below.gb_domain.RelationRules.{compared, is_test_alone, test_alone}
+use Rattle.gb_rules.specs.Below.gb_domain.Types.{AbsState, ProcedureParts, Node}
+use Rattle.gb_rules.specs.Below.gb_domain.Certificate.{Certificate}
+use Rattle.gb_rules.specs.Below.gb_domain.Limits.{rules_of, item_room}
+use Rattle.gb_rules.specs.Below.gb_domain.Rules.{IsChain}
 use Rattle.gb_ops.specs.declared.machine.Region.{Region}
-use Rattle.gb_states.specs.declared.role.Role.{Role}
-use Rattle.gb_states.specs.declared.role.Role.TheVariants as role
-use Rattle.gb_states.specs.Rules.{IsState, IsProcedure, IsNode, IsCertificate, is_after, key}
+use Rattle.gb_rules.specs.Below.gb_states.declared.role.Role.{Role}
+use Rattle.gb_rules.specs.Below.gb_states.declared.role.Role.TheVariants as role
+use Rattle.gb_rules.specs.Below.gb_states.Rules.{IsState, IsProcedure, IsNode, IsCertificate, is_after, key}
 use Rattle.std.proofs.lemmas.Bool.Decides.{nat_tests}
-use Rattle.gb_states.specs.Below.gb_fields.Limits.{unit}
-use Rattle.gb_states.specs.RelationSpelling.{relations, places, pairs}
-use Rattle.gb_states.specs.Spelling as spelled
-use Rattle.gb_states.proofs.RelationLaws.{is-alone}
+use Rattle.gb_rules.specs.Below.gb_fields.Limits.{unit}
+use Rattle.gb_rules.specs.Below.gb_states.RelationSpelling.{relations, places, pairs}
+use Rattle.gb_rules.specs.Below.gb_states.Spelling as spelled
+use Rattle.gb_rules.proofs.Below.gb_states_laws.RelationLaws.{is-alone}
 use Rattle.gb_text.specs.Sink.{Gains}
 use Rattle.gb_text.specs.Text.{GainsBeginning}
 use Rattle.gb_text.proofs.Gained.{gains_both, begins_first, begins_second}

@@ -1,8 +1,8 @@
 -- What is written of a certificate's file (own texts).
 use Rattle.std.specs.Prelude.{ℕ, List, Option, Result, Ok, Err, ◌⊎◌}
-use Rattle.gb_states.specs.Below.gb_fields.declared.fault.CertFault.{CertFault}
-use Rattle.gb_domain.specs.Certificate.{Certificate}
-use Rattle.gb_states.specs.Reading.{read_certificate}
+use Rattle.gb_rules.specs.Below.gb_fields.declared.fault.CertFault.{CertFault}
+use Rattle.gb_rules.specs.Below.gb_domain.Certificate.{Certificate}
+use Rattle.gb_rules.specs.Below.gb_states.Reading.{read_certificate}
 use Rattle.gb_text.specs.Text.{GainsBeginning}
 use Rattle.gb_verify.specs.Text.{certificate_text, memory_line}
 

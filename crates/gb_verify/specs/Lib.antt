@@ -6,3 +6,5 @@ pub mod Upgrade
 pub mod Verdict
 pub mod Widened
 pub mod Below
+pub mod Opened
+pub mod OpenedSpelling

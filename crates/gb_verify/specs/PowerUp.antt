@@ -3,10 +3,10 @@ use Rattle.std.specs.Prelude.{ℕ, true, false, not, ◌==◌, List, slice_index
 use Rattle.gb_ops.specs.declared.op.Register.{Register}
 use Rattle.gb_ops.specs.declared.op.Register.TheVariants.{A, B, C, D, E, H, L}
 use Rattle.gb_ops.specs.declared.machine.Region.{Region}
-use Rattle.gb_domain.specs.declared.types.Origin.TheVariants as origin
-use Rattle.gb_domain.specs.declared.types.Val.{Val}
-use Rattle.gb_domain.specs.declared.types.Core.{Core}
-use Rattle.gb_domain.specs.Types.{AbsState, state_of, origin_of_register}
+use Rattle.gb_rules.specs.Below.gb_domain.declared.types.Origin.TheVariants as origin
+use Rattle.gb_rules.specs.Below.gb_domain.declared.types.Val.{Val}
+use Rattle.gb_rules.specs.Below.gb_domain.declared.types.Core.{Core}
+use Rattle.gb_rules.specs.Below.gb_domain.Types.{AbsState, state_of, origin_of_register}
 use Rattle.gb_rules.specs.Below.gb_vals.Flags.{known}
 
 -- a register's value at power-up, which is its own origin

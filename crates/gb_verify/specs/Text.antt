@@ -2,12 +2,12 @@
 use Rattle.std.specs.Prelude.{◌≡◌, ℕ, List, ◌++◌, codes, decimal, Result, Ok, Err, IsOk, Option, ◌⊎◌}
 use Rattle.gb_text.specs.Below.gb_header.declared.fault.HeaderFault.{HeaderFault}
 use Rattle.gb_text.specs.Below.gb_header.Header as Header
-use Rattle.gb_states.specs.Below.gb_fields.declared.fault.CertFault.{CertFault}
-use Rattle.gb_states.specs.Below.gb_fields.declared.fault.CertFault.TheVariants.{Memory}
-use Rattle.gb_states.specs.Below.gb_fields.Fault as CertFaults
-use Rattle.gb_domain.specs.Certificate.{Certificate}
-use Rattle.gb_states.specs.Reading.{read_certificate}
-use Rattle.gb_states.specs.Spelling.{Spells}
+use Rattle.gb_rules.specs.Below.gb_fields.declared.fault.CertFault.{CertFault}
+use Rattle.gb_rules.specs.Below.gb_fields.declared.fault.CertFault.TheVariants.{Memory}
+use Rattle.gb_rules.specs.Below.gb_fields.Fault as CertFaults
+use Rattle.gb_rules.specs.Below.gb_domain.Certificate.{Certificate}
+use Rattle.gb_rules.specs.Below.gb_states.Reading.{read_certificate}
+use Rattle.gb_rules.specs.Below.gb_states.Spelling.{Spells}
 use Rattle.gb_rules.specs.Below.gb_abs.Reason.{reason_number}
 use Rattle.gb_text.specs.Cartridge.{cartridge_text}
 use Rattle.gb_text.specs.Text.{line_feed, GainsBeginning}
@@ -81,9 +81,9 @@ abbrev pub IsOutcome : Outcome → List ℕ → List ℕ → Type 0
 IsOutcome outcome.NoMemory rom cert = IsOk (Header.parsed rom)
 IsOutcome o rom cert = o ≡ outcome_of (answer_of rom cert)
 
--- a beginning of the line of the two files, or of the line where memory ran out
+-- a beginning of the line of the two files, or, where the cartridge could be read, of the line where memory ran out
 abbrev pub HasBeginning : Option (List ℕ) → List ℕ → List ℕ → Option (List ℕ) → Type 0
-HasBeginning old rom cert new = GainsBeginning old (line_of rom cert) new ⊎ GainsBeginning old memory_line new
+HasBeginning old rom cert new = GainsBeginning old (line_of rom cert) new ⊎ (IsOk (Header.parsed rom) × GainsBeginning old memory_line new)
 
 -- both files can be read, the certificate is right, and every run from power-up is safe
 pub record IsVerified (rom bytes : List ℕ) : Type 0 where

@@ -1,9 +1,9 @@
 -- When a certificate is right for a cartridge, and the verdict (own rules).
 use Rattle.std.specs.Prelude.{◌≡◌, ℕ, ◌+◌, ◌<◌, Bool, true, false, not, ◌||◌, ◌==◌, if◌then◌else◌, List, [], ◌∷◌, length, ◌⊎◌, slice_get, Option, Some, None, option_and_then}
 use Rattle.std.specs.List.{All}
-use Rattle.gb_domain.specs.Limits.{rules_of}
-use Rattle.gb_domain.specs.Types.{ProcedureParts, Node}
-use Rattle.gb_domain.specs.Certificate.{Certificate}
+use Rattle.gb_rules.specs.Below.gb_domain.Limits.{rules_of}
+use Rattle.gb_rules.specs.Below.gb_domain.Types.{ProcedureParts, Node}
+use Rattle.gb_rules.specs.Below.gb_domain.Certificate.{Certificate}
 use Rattle.gb_rules.specs.Below.gb_abs.declared.reason.Reason.{Reason}
 use Rattle.gb_rules.specs.Below.gb_abs.declared.reason.Reason.TheVariants as reason
 use Rattle.gb_rules.specs.Below.gb_product.Covering.{covers}

@@ -1,13 +1,13 @@
 -- A certificate of version 1 or 2 in version 3 of the format (own).
 use Rattle.std.specs.Prelude.{◌≡◌, ◌==◌, ◌≤◌, ℕ, ◌+◌, Bool, true, false, not, List, [], ◌∷◌, ◌++◌, length, map, Some, min}
-use Rattle.gb_domain.specs.declared.types.Origin.TheVariants.{ReturnHigh, ReturnLow}
-use Rattle.gb_domain.specs.declared.types.Val.{Val}
-use Rattle.gb_domain.specs.declared.rules.Rules.{Rules}
-use Rattle.gb_domain.specs.declared.rules.Rules.TheVariants.{Simple, Extended}
-use Rattle.gb_domain.specs.Types.{AbsState, ProcedureParts, Node}
-use Rattle.gb_domain.specs.Certificate.{Certificate}
-use Rattle.gb_domain.specs.Limits.{rules_of}
-use Rattle.gb_domain.specs.RelationRules.{is_test_alone}
+use Rattle.gb_rules.specs.Below.gb_domain.declared.types.Origin.TheVariants.{ReturnHigh, ReturnLow}
+use Rattle.gb_rules.specs.Below.gb_domain.declared.types.Val.{Val}
+use Rattle.gb_rules.specs.Below.gb_domain.declared.rules.Rules.{Rules}
+use Rattle.gb_rules.specs.Below.gb_domain.declared.rules.Rules.TheVariants.{Simple, Extended}
+use Rattle.gb_rules.specs.Below.gb_domain.Types.{AbsState, ProcedureParts, Node}
+use Rattle.gb_rules.specs.Below.gb_domain.Certificate.{Certificate}
+use Rattle.gb_rules.specs.Below.gb_domain.Limits.{rules_of}
+use Rattle.gb_rules.specs.Below.gb_domain.RelationRules.{is_test_alone}
 
 -- the word that was pushed as the procedure was entered, its high byte first
 abbrev pub return_word : List Val

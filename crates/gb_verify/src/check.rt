@@ -8,7 +8,6 @@ ghost use Rattle.gb_verify.specs.Verdict.{IsVerdict, verdict_of, IgnoresVersion,
 ghost use Rattle.gb_verify.specs.Headline.{IfAccepted, IsSafe};
 
 use crate::verdict::Verdict;
-use gb_domain::types::{Abs, Core, Ctl, Flg, ImeSet, Origin, Val};
 use gb_ops::machine::Region;
 use gb_ops::op::Register;
 use gb_ops::registers::Registers;
@@ -16,7 +15,10 @@ use gb_rules::interrupts::lacks_handler;
 use gb_rules::procedures::stack_of;
 use gb_rules::room::Room;
 use gb_rules::rules::reason_near;
-use gb_rules::{Cert, NodeRef, Reason, Stack, covers, holds_bytes, known};
+use gb_rules::{
+    Abs, Cert, Core, Ctl, Flg, ImeSet, NodeRef, Origin, Reason, Stack, Val, covers, holds_bytes,
+    known,
+};
 use gb_text::Rom;
 
 /// A register's value at power-up, which is its own origin.

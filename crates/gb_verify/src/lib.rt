@@ -13,25 +13,27 @@ pub mod verdict;
 pub mod verify;
 mod widen;
 
+pub use upgrade::{UpgradeTo, Upgraded};
+pub use verdict::Verdict;
+pub use verify::{Answer, Outcome};
+
 // What lies below, for the crates above.
-pub use gb_domain::places::{OneByte, Test};
-pub use gb_domain::relations::Relations;
-pub use gb_domain::types::{
-    Abs, Cell, Core, Ctl, Flg, ImeSet, May, Origin, RANGES, Range, Rules, Setting, Val,
-};
 pub use gb_rules::covered::covered_at;
+pub use gb_rules::interrupts::check_irqs;
 pub use gb_rules::procedures::{
     callee_at, exit_of, need_of, ranges_of, setting_of, stack_of, taken_by,
 };
 pub use gb_rules::rules::{check_node, is_nop_behind};
 pub use gb_rules::{
-    AbsRead, AbsWrite, Cert, NodeRef, ProcedureRef, Reason, Resumed, Span, Stack, Successor,
-    Successors, Target, any, are_ranges_inside, area_end, cell_at, covers, enter, holds_bytes,
-    is_limited, is_ram, is_stack_limited, known_bank, known_byte, known_bytes, leaves_area,
-    left_by_dispatch, length_of, lies_in_high_ram, may_come, meets_closed_ram, resume,
-    successors_of, with_value,
+    ANY_BOUNDS, Abs, AbsRead, AbsWrite, Bounds, Cell, Cert, CertFault, Core, Ctl, Flg, Halves,
+    ImeSet, Link, May, NO_REGISTER, NOTHING_KNOWN, NodeRef, OneByte, Origin, Other, PairFacts,
+    Pairs, ProcedureRef, RANGES, Range, Reason, Relations, Resumed, Rules, Setting, Span, Stack,
+    Successor, Successors, Target, Test, Val, WordPair, any, are_ranges_inside, area_end, callee,
+    cell_at, covers, covers_controller, covers_core, covers_ime, covers_may, covers_origin,
+    covers_relations, covers_val, enter, handler, holds_bytes, is_limited, is_ram,
+    is_stack_limited, known_bank, known_byte, known_bytes, leaves_area, left_by_dispatch,
+    length_of, lies_in_high_ram, may_come, meets_closed_ram, reduced, resume, successors_of,
+    test_alone, with_value,
 };
-pub use gb_states::CertFault;
-pub use gb_states::relations::test_alone;
 pub use gb_text::sink::Plain;
 pub use gb_text::{HeaderFault, Rom};

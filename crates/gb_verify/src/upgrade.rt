@@ -2,10 +2,10 @@
 
 ghost use Rattle.std.specs.Prelude.{◌≡◌, false, is_err, IfOk, OnOk, OnErr};
 ghost use Rattle.std.specs.List.{flat_map};
-ghost use Rattle.gb_domain.specs.Limits.{rules_of};
+ghost use Rattle.gb_rules.specs.Below.gb_domain.Limits.{rules_of};
 ghost use Rattle.gb_rules.specs.Below.gb_cert.Places.{upgraded_version};
-ghost use Rattle.gb_states.specs.Rules.{IsCertificate};
-ghost use Rattle.gb_states.specs.Spelling as spelled;
+ghost use Rattle.gb_rules.specs.Below.gb_states.Rules.{IsCertificate};
+ghost use Rattle.gb_rules.specs.Below.gb_states.Spelling as spelled;
 ghost use Rattle.gb_text.specs.Sink.{Gains};
 ghost use Rattle.gb_text.specs.Text.{GainsBeginning};
 ghost use Rattle.gb_verify.specs.CertificateFile.{HasBeginning};
@@ -13,8 +13,7 @@ ghost use Rattle.gb_verify.specs.Upgrade.{text_in, upgraded_text, written, fault
 
 use crate::verify::certificate_line;
 use crate::widen::put_widened;
-use gb_domain::types::Rules;
-use gb_rules::{Cert, CertFault, ProcedureRef};
+use gb_rules::{Cert, CertFault, ProcedureRef, Rules};
 use gb_text::put::put_all;
 use gb_text::sink::{OutFault, Sink};
 use std::alloc::Global;
@@ -29,7 +28,7 @@ pub enum UpgradeTo {
 /// What was written of a certificate's bytes.
 #[derive(Clone, Copy, PartialEq, Eq)]
 pub enum Upgraded {
-    /// The same certificate, in the version that was asked for, or in its own where that is a later one.
+    /// The certificate, in the version that was asked for, or in its own if that is a later one.
     Written,
     /// The line of their first fault: they are no certificate.
     Unreadable,
@@ -38,7 +37,7 @@ pub enum Upgraded {
 }
 
 /// A node's number as versions 2 and 3 spell it, the lowest byte first.
-#[tactic(auto, unfolding(gb_states::specs::Spelling::node_number))]
+#[tactic(auto, unfolding(crate::specs::OpenedSpelling::node_number))]
 fn node_number(number: u32) -> [u8; 4]
     ensures { result ≡ spelled.node_number 2 number }
 {

@@ -3,7 +3,7 @@
 use gb_rules::Reason;
 
 /// The verdict on a certificate.
-#[derive(Clone, Copy, PartialEq, Eq)]
+#[derive(Clone, Copy, Debug, PartialEq, Eq)]
 pub enum Verdict {
     /// The certificate is right; with its numbers of nodes and procedures.
     Accepted { nodes: u32, procedures: u32 },

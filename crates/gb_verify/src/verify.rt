@@ -23,7 +23,7 @@ pub enum Answer {
 }
 
 /// What kind of line was written.
-#[derive(Clone, Copy, PartialEq, Eq)]
+#[derive(Clone, Copy, Debug, PartialEq, Eq)]
 pub enum Outcome {
     Accepted,
     Refused,

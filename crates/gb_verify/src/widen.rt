@@ -2,17 +2,16 @@
 
 ghost use Rattle.std.specs.Prelude.{◌≡◌, ◌≤◌, ◌∷◌, ◌++◌, false, is_err, length, map, IfSome, OnOk, OnErr};
 ghost use Rattle.std.specs.List.{flat_map};
-ghost use Rattle.gb_domain.specs.declared.rules.Rules.TheVariants.{Simple, Extended};
-ghost use Rattle.gb_domain.specs.Limits.{rules_of};
-ghost use Rattle.gb_states.specs.RelationSpelling.{relations};
-ghost use Rattle.gb_states.specs.Rules.{IsCertificate};
-ghost use Rattle.gb_states.specs.Spelling as spelled;
+ghost use Rattle.gb_rules.specs.Below.gb_domain.declared.rules.Rules.TheVariants.{Simple, Extended};
+ghost use Rattle.gb_rules.specs.Below.gb_domain.Limits.{rules_of};
+ghost use Rattle.gb_rules.specs.Below.gb_states.RelationSpelling.{relations};
+ghost use Rattle.gb_rules.specs.Below.gb_states.Rules.{IsCertificate};
+ghost use Rattle.gb_rules.specs.Below.gb_states.Spelling as spelled;
 ghost use Rattle.gb_text.specs.Sink.{Gains};
 ghost use Rattle.gb_text.specs.Text.{GainsBeginning};
 ghost use Rattle.gb_verify.specs.Widened.{above_return_word, below_items, widened_need, widened_node, widened_procedure, widened_procedures, widened, IsNarrow};
 
-use gb_domain::types::Range;
-use gb_rules::{Cert, NodeRef, ProcedureRef, StateRef};
+use gb_rules::{Cert, NodeRef, ProcedureRef, Range, StateRef};
 use gb_text::put::put_all;
 use gb_text::sink::{OutFault, Sink};
 
@@ -20,7 +19,7 @@ use gb_text::sink::{OutFault, Sink};
 const NEED_LIMIT: u16 = 8192;
 
 /// What lies below the items: where the procedure was entered its return word, any two bytes that are copies of it.
-#[tactic(auto, unfolding(gb_states::specs::Spelling::val))]
+#[tactic(auto, unfolding(crate::specs::Opened::val))]
 fn below_items(is_entered: bool) -> &'static [u8]
     ensures { result.now ≡ flat_map spelled.val (below_items is_entered) }
 {
@@ -76,7 +75,7 @@ fn put_cells<W: Sink>(state: &StateRef<'_>, out: &mut W) -> Result<(), OutFault>
 }
 
 /// Writes a state of version 1 or 2 in version 3.
-#[tactic(auto, using(gb_text::proofs::Gained::gains_both, gb_text::proofs::Gained::begins_first, gb_text::proofs::Gained::begins_second), unfolding(gb_states::specs::Spelling::state))]
+#[tactic(auto, using(gb_text::proofs::Gained::gains_both, gb_text::proofs::Gained::begins_first, gb_text::proofs::Gained::begins_second), unfolding(crate::specs::Opened::state))]
 fn put_state<W: Sink>(state: &StateRef<'_>, is_entered: bool, out: &mut W) -> Result<(), OutFault>
     requires works { W.has_failed out.old ≡ false }
     requires narrow { IsNarrow state.now }
@@ -91,7 +90,7 @@ fn put_state<W: Sink>(state: &StateRef<'_>, is_entered: bool, out: &mut W) -> Re
 }
 
 /// What stands before a node's state.
-#[tactic(auto, unfolding(gb_states::specs::Numbers::word))]
+#[tactic(auto, unfolding(crate::specs::Opened::word))]
 fn node_front(node: &NodeRef<'_>) -> [u8; 5]
     ensures { result ≡ (node.now.procedure ∷ spelled.word node.now.address) ++ spelled.word node.now.bank }
 {
@@ -119,7 +118,7 @@ fn put_node<W: Sink>(node: &NodeRef<'_>, out: &mut W) -> Result<(), OutFault>
 }
 
 /// A range: its first and its last address.
-#[tactic(auto, unfolding(gb_states::specs::Spelling::range, gb_states::specs::Numbers::word))]
+#[tactic(auto, unfolding(crate::specs::Opened::range, crate::specs::Opened::word))]
 fn range_bytes(range: Range) -> [u8; 4]
     ensures { result ≡ spelled.range range }
 {
@@ -166,7 +165,7 @@ fn put_declared<W: Sink>(
 }
 
 /// Writes in what state a procedure returns, if it does.
-#[tactic(auto, using(gb_text::proofs::Gained::gains_both, gb_text::proofs::Gained::begins_first, gb_text::proofs::Gained::begins_second), unfolding(gb_states::specs::Spelling::exit))]
+#[tactic(auto, using(gb_text::proofs::Gained::gains_both, gb_text::proofs::Gained::begins_first, gb_text::proofs::Gained::begins_second), unfolding(crate::specs::Opened::exit))]
 fn put_exit<W: Sink>(procedure: &ProcedureRef<'_>, out: &mut W) -> Result<(), OutFault>
     requires works { W.has_failed out.old ≡ false }
     requires narrow { IfSome procedure.now.exit IsNarrow }
@@ -196,7 +195,7 @@ fn need(procedure: &ProcedureRef<'_>, is_main: bool) -> u16
 }
 
 /// What stands before a procedure's ranges: the number of its entry, its base and its need.
-#[tactic(auto, unfolding(gb_states::specs::Numbers::node_number, gb_states::specs::Numbers::word))]
+#[tactic(auto, unfolding(crate::specs::Opened::node_number, crate::specs::Opened::word))]
 fn procedure_front(procedure: &ProcedureRef<'_>, is_main: bool) -> [u8; 8]
     ensures { result ≡ spelled.node_number 3 procedure.now.entry ++ (spelled.word procedure.now.base ++ spelled.word (widened_procedure is_main procedure.now).need) }
 {

@@ -2,9 +2,9 @@ use Rattle.std.proofs.Common.{◌≡◌, ◌+◌, length, take, drop, get_or, sy
 use Rattle.std.proofs.lemmas.List.{drop_all}
 use Rattle.arrayvec.specs.ArrayVec.{ArrayVec}
 use Rattle.gb_domain.specs.declared.types.Cell.{Cell}
-use Rattle.gb_abs.proofs.CellLaws.{blank, length-where}
+use Rattle.gb_product.proofs.Below.gb_abs_laws.CellLaws.{blank, length-where}
 use Rattle.gb_calls.specs.Resuming.{is_in_ranges, is_out_of_ranges, inserted, merged}
-use Rattle.gb_abs.specs.Origins.{cell_without_origin}
+use Rattle.gb_product.specs.Below.gb_abs.Origins.{cell_without_origin}
 use Rattle.gb_calls.proofs.CellLaws.{written, merged-put, merged-passed}
 use Rattle.gb_calls.proofs.cells.most_cells_back.Goals as goal
 use Rattle.gb_calls.proofs.cells.most_cells_back.Goals.{then-is_in_ranges, else-is_in_ranges}

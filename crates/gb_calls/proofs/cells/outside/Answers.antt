@@ -1,7 +1,7 @@
 use Rattle.std.proofs.Common.{◌≡◌, ◌+◌, ◌≤◌, true, false, cond, [], length, get_or, sym, ◌∙◌, ap, arith}
 use Rattle.std.specs.List.{filter}
 use Rattle.gb_domain.specs.declared.types.Cell.{Cell}
-use Rattle.gb_abs.proofs.CellLaws.{blank, length-where, room_left}
+use Rattle.gb_product.proofs.Below.gb_abs_laws.CellLaws.{blank, length-where, room_left}
 use Rattle.gb_calls.specs.Resuming.{is_in_ranges, is_out_of_ranges}
 use Rattle.gb_calls.proofs.cells.outside.Goals as goal
 

@@ -1,8 +1,8 @@
 use Rattle.std.proofs.Common.{◌≡◌, ◌==◌, ◌&&◌, Bool, length, sym, ap, ◌∙◌}
 use Rattle.gb_domain.specs.declared.relations.Relations.{Relations}
 use Rattle.gb_domain.specs.RelationRules.{test_alone}
-use Rattle.gb_abs.specs.Covering.{covers_items, covers_cells}
-use Rattle.gb_abs.proofs.ListLaws.{covers-no_lists}
+use Rattle.gb_product.specs.Below.gb_abs.Covering.{covers_items, covers_cells}
+use Rattle.gb_product.proofs.Below.gb_abs_laws.ListLaws.{covers-no_lists}
 use Rattle.gb_product.specs.Covering.{covers_relations}
 use Rattle.gb_calls.proofs.covering.covers_rest.Goals as goal
 

@@ -1,4 +1,4 @@
-use Rattle.gb_states.proofs.ListedLaws.{items_put}
+use Rattle.gb_cert.proofs.Below.gb_states_laws.ListedLaws.{items_put}
 use Rattle.gb_calls.proofs.ItemLaws.{returning_front}
 use Rattle.gb_calls.proofs.entering.+append_returning.Goals as goal
 

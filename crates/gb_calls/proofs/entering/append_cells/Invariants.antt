@@ -1,5 +1,5 @@
 use Rattle.std.proofs.Common.{◌≡◌, ◌+◌, ◌++◌, length, map, take}
-use Rattle.gb_abs.specs.Origins.{cell_without_origin}
+use Rattle.gb_product.specs.Below.gb_abs.Origins.{cell_without_origin}
 use Rattle.gb_calls.proofs.entering.append_cells.Given as goal
 
 abbrev pub invariant-loop-cell : goal.invariant-loop-cell

@@ -1,5 +1,5 @@
 use Rattle.std.proofs.Common.{◌≡◌, ◌+◌, ◌++◌, length, map, take}
-use Rattle.gb_abs.specs.Origins.{without_origin}
+use Rattle.gb_product.specs.Below.gb_abs.Origins.{without_origin}
 use Rattle.gb_calls.proofs.resuming.append_without_origins.Given as goal
 
 abbrev pub invariant-loop-item : goal.invariant-loop-item

@@ -1,5 +1,5 @@
 use Rattle.std.proofs.Common.{◌≡◌, sym}
-use Rattle.gb_relations.specs.Returned.{returned}
+use Rattle.gb_product.specs.Below.gb_relations.Returned.{returned}
 use Rattle.gb_calls.specs.Resuming.{kept_by, core_back}
 use Rattle.gb_calls.proofs.ResumingLaws.{too_deep}
 use Rattle.gb_calls.proofs.resuming.put_rejoined.Goals as goal

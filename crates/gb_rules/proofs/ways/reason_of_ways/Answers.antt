@@ -1,5 +1,5 @@
 use Rattle.std.proofs.Common.{◌∙◌, ap}
-use Rattle.gb_abs.specs.Operations.{core_settle}
+use Rattle.gb_successors.specs.Below.gb_abs.Operations.{core_settle}
 use Rattle.gb_rules.proofs.LowestLaws.{settled_core}
 use Rattle.gb_rules.proofs.ways.reason_of_ways.Goals as goal
 

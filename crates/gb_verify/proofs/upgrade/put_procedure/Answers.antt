@@ -1,5 +1,5 @@
 use Rattle.std.proofs.Common.{◌∙◌, ap}
-use Rattle.gb_states.specs.Spelling as spelled
+use Rattle.gb_rules.specs.Below.gb_states.Spelling as spelled
 use Rattle.gb_verify.proofs.FileLaws.{on_err, when_ok, when_err}
 use Rattle.gb_verify.proofs.UpgradeLaws.{procedure_whole, procedure_begun, procedure_entered}
 use Rattle.gb_verify.proofs.upgrade.put_procedure.Goals as goal

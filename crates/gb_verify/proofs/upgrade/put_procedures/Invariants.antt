@@ -1,7 +1,7 @@
 use Rattle.std.proofs.Common.{◌≡◌, false, drop}
 use Rattle.std.specs.List.{flat_map}
 use Rattle.gb_rules.specs.Below.gb_cert.Places.{upgraded_version}
-use Rattle.gb_states.specs.Spelling as spelled
+use Rattle.gb_rules.specs.Below.gb_states.Spelling as spelled
 use Rattle.gb_text.proofs.Remaining.{Remains}
 use Rattle.gb_verify.proofs.upgrade.put_procedures.Given as goal
 

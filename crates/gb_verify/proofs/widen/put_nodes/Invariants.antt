@@ -1,7 +1,7 @@
 use Rattle.std.proofs.Common.{◌≡◌, false, drop, map}
 use Rattle.std.specs.List.{flat_map}
-use Rattle.gb_domain.specs.declared.rules.Rules.TheVariants.{Extended}
-use Rattle.gb_states.specs.Spelling as spelled
+use Rattle.gb_rules.specs.Below.gb_domain.declared.rules.Rules.TheVariants.{Extended}
+use Rattle.gb_rules.specs.Below.gb_states.Spelling as spelled
 use Rattle.gb_text.proofs.Remaining.{Remains}
 use Rattle.gb_verify.specs.Widened.{widened_node}
 use Rattle.gb_verify.proofs.widen.put_nodes.Given as goal

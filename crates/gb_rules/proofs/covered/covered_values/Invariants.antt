@@ -1,7 +1,0 @@
-use Rattle.std.proofs.Common.{◌<◌, ℕ, false, slice_index_or}
-use Rattle.gb_rules.specs.Covered.{with_parts, with_value}
-use Rattle.gb_rules.proofs.ValueLaws.{IsMark}
-use Rattle.gb_rules.proofs.covered.covered_values.Given as goal
-
-abbrev pub invariant-loop-number : goal.invariant-loop-number
-invariant-loop-number l = (v : ℕ) → v < 256 → IsMark l.cert.nodes l.procedure l.address (with_value l.register (with_parts l.states.core.now l.states.relations.now l.states.lists.now) v) l.number (slice_index_or l.marks v false)
