@@ -5,7 +5,7 @@ use Rattle.std.proofs.lemmas.Bool.{lt-ltb}
 use Rattle.std.proofs.lemmas.Bool.Decides.{nat_tests}
 use Rattle.gb_ops.specs.declared.machine.Mapped.{Mapped}
 use Rattle.gb_ops.specs.declared.machine.Mapped.TheVariants as mapped
-use Rattle.gb_ops.specs.declared.machine.Place.TheVariants as place
+use Rattle.gb_ops.specs.declared.machine.ReadSource.TheVariants as place
 use Rattle.gb_ops.specs.Memory.{View, Storage, mapped_at, is_high, rom_byte, is_closed, is_free, is_free_place, place_of, place_by, byte_at, byte_by, wrote, wrote_by, kept_or, passed}
 use Rattle.gb_ops.specs.Cartridge.{kind_of, shown_bank}
 use Rattle.gb_mbc.specs.Controllers.{is_latch}

@@ -17,7 +17,7 @@ use crate::memory::Memory;
 use crate::{Bus, Taken};
 use bitflags::Flags;
 use gb_mbc::Mapper;
-use gb_ops::machine::{Mapped, Place};
+use gb_ops::machine::{Mapped, ReadSource};
 use gb_ops::map::mapped_at;
 use gb_ppu::{Irqs, Keys};
 
@@ -104,7 +104,7 @@ impl Memory<'_> {
         ensures { self.new ≡ self.old }
     {
         if matches!(address, 0x8000..=0x9FFF | 0xFE00..=0xFE9F | 0xFF40..=0xFF4B) {
-            self.devices.settle();
+            let _ = self.devices.settle();
         }
     }
 
@@ -358,15 +358,15 @@ impl Bus for Memory<'_> {
     }
 
     #[tactic(auto, unfolding(gb_ops::specs::Memory::place_of))]
-    fn place(&self, address: u16) -> Place {
+    fn place(&self, address: u16) -> ReadSource {
         self.sizes();
         if self.is_closed(address) {
-            return Place::Free;
+            return ReadSource::Free;
         }
         match mapped_at(address) {
-            Mapped::Rom => Place::Rom(self.shown_bank(address)),
-            Mapped::WorkRam(_) | Mapped::HighRam(_) | Mapped::InterruptEnable => Place::Plain,
-            Mapped::CartridgeRam | Mapped::Transfer | Mapped::Hardware => Place::Free,
+            Mapped::Rom => ReadSource::Rom(self.shown_bank(address)),
+            Mapped::WorkRam(_) | Mapped::HighRam(_) | Mapped::InterruptEnable => ReadSource::Plain,
+            Mapped::CartridgeRam | Mapped::Transfer | Mapped::Hardware => ReadSource::Free,
         }
     }
 

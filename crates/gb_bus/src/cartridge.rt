@@ -4,6 +4,7 @@ ghost use Rattle.std.specs.Prelude.{◌≡◌, ◌<◌, ◌≤◌};
 ghost use Rattle.gb_ops.specs.Memory.{rom_byte};
 ghost use Rattle.gb_ops.specs.Cartridge.{shown_bank, ram_banks};
 ghost use Rattle.gb_bus.specs.CartridgeRam as CartridgeRam;
+ghost use Rattle.gb_mbc.specs.Below.gb_header.Header.{IsCartridge};
 
 use crate::memory::Memory;
 use gb_mbc::{ClockRegister, Mapper};
@@ -18,10 +19,27 @@ pub enum Behind {
     Nothing,
 }
 
+impl<'a> Memory<'a> {
+    /// The bytes of the cartridge's file.
+    pub fn cartridge(&self) -> &'a [u8]
+        ensures bytes { result.now ≡ self.now.view.rom }
+        ensures cartridge { IsCartridge result.now }
+    {
+        self.rom
+    }
+
+    /// Whether the gate to cartridge RAM is open.
+    pub fn gate(&self) -> bool
+        ensures { result ≡ self.now.view.storage.banks.gate }
+    {
+        self.controller.gate()
+    }
+}
+
 impl Memory<'_> {
     /// The ROM bank shown at an address below 8000.
     #[tactic(auto, using(crate::proofs::Cartridges::low_is_shown, crate::proofs::Cartridges::high_is_shown))]
-    pub(crate) fn shown_bank(&self, address: u16) -> u16
+    pub fn shown_bank(&self, address: u16) -> u16
         requires { address < 0x8000 }
         ensures { result ≡ shown_bank self.now.view.rom self.now.view.storage.banks address }
     {
@@ -34,7 +52,8 @@ impl Memory<'_> {
 
     /// The ROM's byte at an address below 8000.
     #[tactic(auto, using(crate::proofs::Cartridges::rom_laws))]
-    pub(crate) fn rom_byte(&self, address: u16) -> u8
+    #[inline(always)]
+    pub fn rom_byte(&self, address: u16) -> u8
         requires { address < 0x8000 }
         ensures { result ≡ rom_byte self.now.view.rom (shown_bank self.now.view.rom self.now.view.storage.banks address) address }
     {

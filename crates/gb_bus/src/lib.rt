@@ -22,7 +22,9 @@ mod registers;
 mod transfer;
 
 pub use access::plain_storage_reads_back;
-use gb_ops::machine::Place;
+pub use cartridge::Behind;
+use gb_ops::machine::ReadSource;
+pub use hardware::{Hardware, IoRegister};
 pub use memory::Memory;
 
 // What lies below, for the crates above.
@@ -62,7 +64,7 @@ pub trait Bus {
 
     /// What answers a read. Work RAM and high RAM have their sizes on every bus, so that what is
     /// stored there reads back.
-    fn place(&self, address: u16) -> Place
+    fn place(&self, address: u16) -> ReadSource
         ensures place { result ≡ place_of (shows self.now) address }
         ensures sized { IsSized (shows self.now) };
 
@@ -74,7 +76,7 @@ pub trait Bus {
         ensures free { result.is_free ≡ is_free (shows self.old) address }
         ensures fixed { OnFalse (is_free (shows self.old) address) (byte_at (shows self.old) address ≡ result.byte) }
     {
-        let is_free = matches!(self.place(address), Place::Free);
+        let is_free = matches!(self.place(address), ReadSource::Free);
         let byte = self.read(address);
         Taken { byte, is_free }
     }

@@ -112,6 +112,14 @@ fn zero_bytes(alloc: Global, size: usize) -> Result<Vec<u8>, AllocError>
     Ok(vec![in alloc; 0; size]?)
 }
 
+/// The same bytes, in room of their own.
+fn same_bytes(alloc: Global, bytes: &[u8]) -> Result<Vec<u8>, AllocError>
+    ensures items { IfOk result (λ copy. copy.items ≡ bytes.now) }
+    ensures size { IfOk result (λ copy. vec_len copy ≡ length bytes.now) }
+{
+    Vec::from_slice(alloc, bytes)
+}
+
 impl<'a> Memory<'a> {
     /// Work RAM and high RAM have their sizes.
     pub(crate) fn sizes(&self)
@@ -156,6 +164,44 @@ impl<'a> Memory<'a> {
             transfer: Transfer::new(),
             is_starting: false,
             page: 0,
+        };
+        Ok(memory)
+    }
+
+    /// A memory that holds the same, in room of its own.
+    ///
+    /// # Errors
+    ///
+    /// AllocError where there is no room.
+    pub fn try_clone(&self, alloc: Global) -> Result<Memory<'a>, AllocError>
+        ensures { IfOk result (λ memory. memory ≡ self.now) }
+    {
+        let cartridge_ram = same_bytes(alloc, &self.cartridge_ram)?;
+        let video_ram = Box::new(alloc, *self.video_ram)?;
+        let work_ram = Box::new(alloc, *self.work_ram)?;
+        let oam = Box::new(alloc, *self.oam)?;
+        let high_ram = Box::new(alloc, *self.high_ram)?;
+        let screen = Box::new(alloc, *self.screen)?;
+        let memory = Memory {
+            rom: self.rom,
+            controller: self.controller.copied(),
+            low_bank: self.low_bank,
+            high_bank: self.high_bank,
+            cartridge_ram,
+            clock: self.clock,
+            video_ram,
+            oam,
+            work_ram,
+            high_ram,
+            interrupt_enable: self.interrupt_enable,
+            joypad: self.joypad,
+            devices: self.devices.copied(),
+            screen,
+            requests: self.requests,
+            pending: self.pending,
+            transfer: self.transfer,
+            is_starting: self.is_starting,
+            page: self.page,
         };
         Ok(memory)
     }

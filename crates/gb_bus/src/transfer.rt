@@ -18,6 +18,14 @@ fn source_page(page: u8) -> u8
 }
 
 impl Memory<'_> {
+    /// The M-cycles that a transfer has left.
+    #[inline(always)]
+    pub fn transfer_left(&self) -> u8
+        ensures { result ≡ self.now.view.storage.count }
+    {
+        self.transfer.left()
+    }
+
     /// A byte as it is copied: neither the picture nor a transfer closes it.
     #[tactic(auto, unfolding(crate::specs::Access::source_byte, gb_ops::specs::Memory::mapped_at))]
     fn source_byte(&self, address: u16) -> u8

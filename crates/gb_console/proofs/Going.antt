@@ -31,7 +31,7 @@ use Rattle.gb_cpu.specs.Step.{state}
 use Rattle.gb_console.specs.declared.frame.Ending.{Ending}
 use Rattle.gb_console.specs.declared.frame.Ending.TheVariants as ending
 use Rattle.gb_console.specs.Console.{ConsoleState, IsConsoleStep, IsChosen, IsReachable, interrupt, taken, told, shown, rom_of, machine_of}
-use Rattle.gb_console.specs.Frame.{IsFrame, IsFrameStep, Goes, IsSomeStep, IsPassing, HasGoneOn, HasGone, seconds_at, ending_by, ending_after}
+use Rattle.gb_console.specs.Frame.{IsFrame, IsFrameStep, Goes, Rests, IsSomeStep, IsPassing, HasGoneOn, HasGone, seconds_at, ending_by, ending_after}
 use Rattle.gb_console.proofs.Interrupts.{shared_irq}
 use Rattle.gb_console.proofs.Stepping.{IsEvent, IsKept, step_of, step_keeps}
 use Rattle.gb_console.proofs.Reaching.{next_reachable}
@@ -188,35 +188,44 @@ not_locked false false h = refl
 not_passed : (n : ℕ) → n + 1 < 17556 → nat_le 17556 (n + 1) ≡ false
 not_passed n h = grind (arith, nat_tests)
 
-waits_frame : (cpu : Cpu) (c d : Contents) (n later : ℕ) (keys : Keys) → is_idle cpu ≡ false → cpu.is_waiting ≡ true → shared c ≡ 0
+waits_on : (cpu : Cpu) (c d : Contents) (n later : ℕ) (keys : Keys) → is_idle cpu ≡ false → cpu.is_waiting ≡ true → shared c ≡ 0
     → c.pad.keys ≡ key_bits keys → c.view.starting ≡ false → n + 1 < 17556 → later ≡ n + 1 → d ≡ advanced c 1
-    → IsFrameStep (console_of cpu c n) keys 0 None (console_of cpu d later)
+    → IsConsoleStep (console_of cpu c n) keys 0 (event.Wait 1) (console_of cpu d later)
+waits_on cpu c d n later keys goes waiting none held settled small is e =
+    rw e (waits_step cpu c n later keys goes waiting none held settled (omega (arith, is, small)))
+
+waits_within : (cpu : Cpu) (c d : Contents) (n later : ℕ) → is_idle cpu ≡ false → n + 1 < 17556
+    → None ≡ ending_after (console_of cpu c n) (event.Wait 1) (console_of cpu d later)
 unfolding ending_after event_cycles
-waits_frame cpu c d n later keys goes waiting none held settled small is e =
-    rw e
-    (record {
-      event = event.Wait 1;
-      step = waits_step cpu c n later keys goes waiting none held settled (omega (arith, is, small));
-      ending = rw (not_passed n small) (not_locked cpu.processor.locked cpu.processor.stopped goes);
-    })
+waits_within cpu c d n later goes small = rw (not_passed n small) (not_locked cpu.processor.locked cpu.processor.stopped goes)
 
 no_seconds : (n : ℕ) → seconds_at n 0 ≡ 0
 no_seconds zero = refl
 no_seconds (suc n) = refl
 
-pub waits_go : (k : ℕ) (cpu : Cpu) (c d : Contents) (n later : ℕ) (keys : Keys) → is_idle cpu ≡ false → cpu.is_waiting ≡ true → shared c ≡ 0
+pub waits_rest : (k : ℕ) (cpu : Cpu) (c d : Contents) (n later : ℕ) (keys : Keys) → is_idle cpu ≡ false → cpu.is_waiting ≡ true → shared c ≡ 0
     → c.pad.keys ≡ key_bits keys → c.view.starting ≡ false → n + k < 17556 → later ≡ n + k → Waits k c d
-    → Goes (console_of cpu c n) keys 0 k (console_of cpu d later)
-waits_go zero cpu c d n later keys goes waiting none held settled small is w =
+    → Rests (console_of cpu c n) keys k (console_of cpu d later)
+waits_rest zero cpu c d n later keys goes waiting none held settled small is w =
     let e : later ≡ n = omega (arith, is) in rw (w, e) refl
-waits_go (suc k) cpu c d n later keys goes waiting none held settled small is w =
+waits_rest (suc k) cpu c d n later keys goes waiting none held settled small is w =
     let kept = waits_keep k c w.0 settled w.1 in
     let no : shared w.0 ≡ 0 = w.2 ∙ none in
-    let still : w.0.pad.keys ≡ key_bits keys = ap (λ (p : Pad). p.keys) kept.pad ∙ held in (
+    let still : w.0.pad.keys ≡ key_bits keys = ap (λ (p : Pad). p.keys) kept.pad ∙ held in
+    let within : n + k + 1 < 17556 = omega (arith, small) in (
       console_of cpu w.0 (n + k),
-      waits_go k cpu c w.0 n (n + k) keys goes waiting none held settled (omega (arith, small)) refl w.1,
-      rw (no_seconds k) (waits_frame cpu w.0 d (n + k) later keys goes waiting no still kept.settled (omega (arith, small)) (omega (arith, is)) w.3),
+      waits_rest k cpu c w.0 n (n + k) keys goes waiting none held settled (omega (arith, small)) refl w.1,
+      waits_on cpu w.0 d (n + k) later keys goes waiting no still kept.settled within (omega (arith, is)) w.3,
+      waits_within cpu w.0 d (n + k) later goes within,
     )
+
+-- they are steps of a frame
+pub rests_go : (k : ℕ) (old : ConsoleState) (keys : Keys) (new : ConsoleState) → Rests old keys k new → Goes old keys 0 k new
+rests_go zero old keys new r = r
+rests_go (suc k) old keys new r = (r.0, rests_go k old keys r.0 r.1, rw (no_seconds k) (record { event = event.Wait 1; step = r.2; ending = r.3 }))
+
+pub rests_gone : (k : ℕ) (old : ConsoleState) (keys : Keys) (new : ConsoleState) → Rests old keys k new → HasGoneOn old keys new
+rests_gone k old keys new r = record { steps = k; goes = rests_go k old keys new r }
 
 -- ---- what steps keep
 
@@ -237,9 +246,9 @@ goes_reachable old keys seconds (suc n) new h r =
 -- a wait, and what it keeps
 pub some_wait : (k : ℕ) (cpu : Cpu) (c b d : Contents) (n later : ℕ) (keys : Keys) → b ≡ c → is_idle cpu ≡ false → cpu.is_waiting ≡ true → shared c ≡ 0
     → c.pad.keys ≡ key_bits keys → c.view.starting ≡ false → n + k < 17556 → later ≡ n + k → Waits k b d
-    → HasGoneOn (console_of cpu c n) keys (console_of cpu d later)
+    → Rests (console_of cpu c n) keys k (console_of cpu d later)
 some_wait k cpu c b d n later keys e goes waiting none held settled small is w =
-    record { steps = k; goes = waits_go k cpu c d n later keys goes waiting none held settled small is (rw e at w) }
+    waits_rest k cpu c d n later keys goes waiting none held settled small is (rw e at w)
 
 pub wait_keeps : (k : ℕ) (cpu : Cpu) (c b d : Contents) (n : ℕ) (keys : Keys) → b ≡ c → is_idle cpu ≡ false → cpu.is_waiting ≡ true → shared c ≡ 0
     → c.pad.keys ≡ key_bits keys → c.view.starting ≡ false → n + k < 17556 → Waits k b d
@@ -247,7 +256,7 @@ pub wait_keeps : (k : ℕ) (cpu : Cpu) (c b d : Contents) (n : ℕ) (keys : Keys
     → (n + k < 17556) × (d.view.starting ≡ false) × IsReachable d.view.rom (record { processor = cpu.processor; storage = d.view.storage }) × IsRom d.view.rom
 wait_keeps k cpu c b d n keys e goes waiting none held settled small w reached cartridge =
     let there : Waits k c d = rw e at w in
-    let steps = waits_go k cpu c d n (n + k) keys goes waiting none held settled small refl there in
+    let steps = rests_go k (console_of cpu c n) keys (console_of cpu d (n + k)) (waits_rest k cpu c d n (n + k) keys goes waiting none held settled small refl there) in
     let same : d.view.rom ≡ c.view.rom = goes_cartridge (console_of cpu c n) keys 0 k (console_of cpu d (n + k)) steps in (
       small,
       (waits_keep k c d settled there).settled,

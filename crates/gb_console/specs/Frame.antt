@@ -2,6 +2,7 @@
 -- frame's, or the console is locked or stopped).
 use Rattle.std.specs.Prelude.{◌≡◌, ℕ, zero, suc, ◌+◌, nat_le, Bool, true, false, Option, Some, None}
 use Rattle.gb_ops.specs.declared.machine.Event.{Event}
+use Rattle.gb_ops.specs.declared.machine.Event.TheVariants as event
 use Rattle.gb_ops.specs.Accesses.{event_cycles}
 use Rattle.gb_cpu.specs.Below.gb_timer.declared.irqs.Keys.{Keys}
 use Rattle.gb_cpu.specs.Below.gb_timer.Joypad.{key_bits}
@@ -48,6 +49,13 @@ abbrev pub Goes : ConsoleState → Keys → ℕ → ℕ → ConsoleState → Typ
 Goes old keys seconds zero new = new ≡ old
 Goes old keys seconds (suc n) new =
     (before : ConsoleState) × Goes old keys seconds n before × IsFrameStep before keys (seconds_at n seconds) None new
+
+-- n waits of one M-cycle, none of which ends the frame
+abbrev pub Rests : ConsoleState → Keys → ℕ → ConsoleState → Type 0
+Rests old keys zero new = new ≡ old
+Rests old keys (suc n) new =
+    (before : ConsoleState) × Rests old keys n before × IsConsoleStep before keys 0 (event.Wait 1) new
+    × (None ≡ ending_after before (event.Wait 1) new)
 
 -- a step without seconds, of n M-cycles
 pub record IsSomeStep (old : ConsoleState) (keys : Keys) (n : ℕ) (new : ConsoleState) : Type 0 where

@@ -1,14 +1,15 @@
 //! The event of a step: what is taken before it, and which one it is.
 
-ghost use Rattle.std.specs.Prelude.{◌≡◌, false, if◌then◌else◌, IfSome};
+ghost use Rattle.std.specs.Prelude.{◌≡◌, true, false, if◌then◌else◌, IfSome};
 ghost use Rattle.gb_ops.specs.Accesses.{Joined, accesses_of, event_cycles};
-ghost use Rattle.gb_ops.specs.Machine.{is_ime};
+ghost use Rattle.gb_ops.specs.Machine.{is_ime, is_possible};
 ghost use Rattle.gb_ops.specs.Play.{IsStep};
 ghost use Rattle.gb_ops.specs.declared.registers.Ime.TheVariants as ime;
 ghost use Rattle.gb_cpu.specs.Below.gb_timer.Interrupts.{next_irq};
 ghost use Rattle.gb_cpu.specs.Below.gb_bus.Access.{IsAccessed};
 ghost use Rattle.gb_cpu.specs.Below.gb_accesses.Access.{HasFreeBytes};
 ghost use Rattle.gb_cpu.specs.Choice.{waits_after, is_idle};
+ghost use Rattle.gb_cpu.specs.Met.{HasMet};
 ghost use Rattle.gb_cpu.specs.Step.{state, IsDispatchable};
 ghost use Rattle.gb_console.specs.Console.{IsChosen, interrupt, told};
 
@@ -72,6 +73,8 @@ pub(crate) fn act(cpu: &mut Cpu, memory: &mut Memory<'_>) -> Stepped
     ensures cycles { result.cycles ≡ event_cycles (state cpu.old.processor memory.old.view) result.event }
     ensures free { HasFreeBytes (state cpu.old.processor memory.old.view) result.event }
     ensures waiting { cpu.new.is_waiting ≡ waits_after cpu.old (state cpu.old.processor memory.old.view) result.event }
+    ensures possible { is_possible (state cpu.old.processor memory.old.view) result.event ≡ true }
+    ensures met { HasMet (state cpu.old.processor memory.old.view) result.event result.met }
 {
     match interrupt(*cpu, memory) {
         Some(i) => cpu.dispatch(memory, i),

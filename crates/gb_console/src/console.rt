@@ -2,11 +2,13 @@
 
 ghost use Rattle.std.specs.Prelude.{◌≡◌, ◌<◌, ◌≤◌, ◌+◌, ◌%◌, nat_le, true, false, IfOk};
 ghost use Rattle.gb_ops.specs.Accesses.{event_cycles};
+ghost use Rattle.gb_ops.specs.Machine.{is_possible};
 ghost use Rattle.gb_ops.specs.Play.{IsStart};
 ghost use Rattle.gb_ops.specs.declared.machine.Event.TheVariants as event;
 ghost use Rattle.gb_cpu.specs.Choice.{is_idle};
+ghost use Rattle.gb_cpu.specs.Met.{HasMet};
 ghost use Rattle.gb_console.specs.Console.{IsConsoleStep, IsReachable, at_power_up, machine_of, rom_of, shown};
-ghost use Rattle.gb_console.specs.Frame.{HasGoneOn, IsReady, IsPassing};
+ghost use Rattle.gb_console.specs.Frame.{Rests, IsReady, IsPassing};
 ghost use Rattle.gb_cpu.specs.Below.gb_ppu.Picture.{frame_cycles};
 ghost use Rattle.gb_verify.specs.Below.gb_abs_memory.Sound.{IsRom};
 
@@ -84,10 +86,28 @@ impl<'a> Console<'a> {
         })
     }
 
+    /// A console in the same state, in room of its own: both go on alike with the same keys and seconds.
+    ///
+    /// # Errors
+    ///
+    /// AllocError where there is no room.
+    pub fn try_clone(&self, alloc: Global) -> Result<Console<'a>, AllocError>
+        ensures { IfOk result (λ console. console ≡ self.now) }
+    {
+        let memory = self.memory.try_clone(alloc)?;
+        Ok(Console {
+            memory,
+            cpu: self.cpu,
+            cycles: self.cycles,
+        })
+    }
+
     /// One event, and its M-cycles.
     fn take_event(&mut self, keys: Keys, seconds: u32) -> Stepped
         ensures step { IsConsoleStep self.old keys seconds result.event self.new }
         ensures cycles { result.cycles ≡ event_cycles (shown self.old) result.event }
+        ensures possible { is_possible (shown self.old) result.event ≡ true }
+        ensures met { HasMet (shown self.old) result.event result.met }
         ensures small { self.old.cycles < frame_cycles }
     {
         take(self.cpu, &mut self.memory, keys, seconds);
@@ -98,7 +118,7 @@ impl<'a> Console<'a> {
 
     /// Whether an instruction comes next with nothing else, no interrupt is shared and these keys are held.
     #[inline(always)]
-    pub(crate) fn is_ready(&mut self, keys: Keys) -> bool
+    pub fn is_ready(&mut self, keys: Keys) -> bool
         ensures same { self.new ≡ self.old }
         ensures ready { result ≡ true → IsReady self.old keys }
     {
@@ -107,7 +127,7 @@ impl<'a> Console<'a> {
 
     /// An instruction that comes next. Answers whether it reached or passed the frame's end.
     #[inline(always)]
-    pub(crate) fn run(&mut self, keys: Keys) -> bool
+    pub fn run(&mut self, keys: Keys) -> bool
         requires { IsReady self.old keys }
         ensures { IsPassing self.old keys result self.new }
     {
@@ -115,22 +135,26 @@ impl<'a> Console<'a> {
         count(&mut self.cycles, cycles)
     }
 
-    /// Lets a waiting processor wait while nothing else changes, but not up to a frame's end.
-    pub(crate) fn wait(&mut self, keys: Keys)
+    /// Lets a waiting processor wait while nothing else changes, but not up to a frame's end. Answers how
+    /// many steps that was, each a wait of one M-cycle.
+    pub fn wait(&mut self, keys: Keys) -> u8
         requires { is_idle self.old.cpu ≡ false }
-        ensures { HasGoneOn self.old keys self.new }
+        ensures { Rests self.old keys result self.new }
     {
         if !self.cpu.is_waiting || !self.memory.holds(keys) || self.memory.pending() != 0 {
-            return;
+            return 0;
         }
         let waited = self.memory.wait(byte_of(FRAME_CYCLES - 1 - self.cycles));
         self.cycles += u16::from(waited);
+        waited
     }
 
-    /// One event, and its M-cycles; nothing changes where the console is locked or stopped.
-    pub(crate) fn advance(&mut self, keys: Keys, seconds: u32) -> Stepped
+    /// One event as `step` answers it, with its M-cycles and what it met.
+    pub fn advance(&mut self, keys: Keys, seconds: u32) -> Stepped
         ensures step { IsConsoleStep self.old keys seconds result.event self.new }
         ensures cycles { result.cycles ≡ event_cycles (shown self.old) result.event }
+        ensures possible { is_possible (shown self.old) result.event ≡ true }
+        ensures met { HasMet (shown self.old) result.event result.met }
         ensures waits { is_idle self.old.cpu ≡ true → result.event ≡ event.Wait 0 }
         ensures unchanged { is_idle self.old.cpu ≡ true → self.new ≡ self.old }
     {
@@ -148,8 +172,8 @@ impl<'a> Console<'a> {
         self.advance(keys, seconds).event
     }
 
-    /// The M-cycles since power-up, modulo a frame's.
-    pub(crate) fn cycles(&self) -> u16
+    /// The M-cycles since power-up, modulo a frame's 17,556.
+    pub fn cycles(&self) -> u16
         ensures value { result ≡ self.now.cycles }
         ensures small { result < frame_cycles }
     {
@@ -157,10 +181,19 @@ impl<'a> Console<'a> {
     }
 
     /// The processor.
-    pub(crate) fn processor(&self) -> Processor
+    #[inline(always)]
+    pub fn processor(&self) -> Processor
         ensures { result ≡ self.now.cpu.processor }
     {
         self.cpu.processor
+    }
+
+    /// The memory.
+    #[inline(always)]
+    pub fn memory(&self) -> &Memory<'a>
+        ensures { result.now ≡ self.now.contents }
+    {
+        &self.memory
     }
 
     /// The shades of each line, from the top on: 0 to 3, as each was drawn last.
@@ -177,8 +210,15 @@ impl<'a> Console<'a> {
         self.cpu.processor.pc
     }
 
+    /// States of a console that no transfer is about to start between events.
+    pub fn rests(&self)
+        ensures { self.now.contents.view.starting ≡ false }
+    {
+        let _ = &self.memory;
+    }
+
     /// States of a console that its cartridge holds bytes, of a number of banks that a cartridge may have.
-    pub(crate) fn holds_cartridge(&self)
+    pub fn holds_cartridge(&self)
         ensures { IsRom (rom_of self.now) }
     {
         let _ = &self.memory;

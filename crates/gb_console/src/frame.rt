@@ -12,7 +12,7 @@ use crate::console::Console;
 use gb_cpu::{FRAME_CYCLES, Keys};
 
 /// How a frame ended.
-#[derive(Clone, Copy, PartialEq, Eq)]
+#[derive(Clone, Copy, Debug, PartialEq, Eq)]
 pub enum Ending {
     /// The M-cycles since power-up reached or passed a multiple of 17,556.
     Whole,
@@ -35,7 +35,7 @@ impl Console<'_> {
     }
 
     /// How a step ended the frame, if it did, by whether it reached or passed its end.
-    fn ending(&self, is_passed: bool) -> Option<Ending>
+    pub fn ending(&self, is_passed: bool) -> Option<Ending>
         ensures { result ≡ ending_by self.now.cpu.processor.locked self.now.cpu.processor.stopped is_passed }
     {
         let processor = self.processor();
@@ -51,10 +51,10 @@ impl Console<'_> {
         None
     }
 
-    /// The same, where it may be known that the console is neither locked nor stopped.
+    /// How a step ended the frame, if it did. It asks less if it is known that the console is neither locked nor stopped.
     #[inline(always)]
     #[tactic(auto, using(crate::proofs::Going::not_locked))]
-    fn ending_unless(&self, goes: bool, is_passed: bool) -> Option<Ending>
+    pub fn ending_unless(&self, goes: bool, is_passed: bool) -> Option<Ending>
         requires { goes ≡ true → is_idle self.now.cpu ≡ false }
         ensures { result ≡ ending_by self.now.cpu.processor.locked self.now.cpu.processor.stopped is_passed }
     {

@@ -17,9 +17,14 @@ pub use frame::Ending;
 pub use run::Input;
 
 // What lies below, for the crates above.
-pub use gb_cpu::{HEIGHT, Keys, WIDTH};
-pub use gb_verify::check::check;
+pub use gb_cpu::step::{Met, Stepped};
+pub use gb_cpu::{FRAME_CYCLES, HEIGHT, Keys, Memory, WIDTH};
+pub use gb_verify::check::{check, verdict_ignores_version};
 pub use gb_verify::upgrade::{UpgradeTo, Upgraded, upgrade_bytes};
 pub use gb_verify::verdict::Verdict;
 pub use gb_verify::verify::{Outcome, certificate_line, verify_bytes};
-pub use gb_verify::{Cert, CertFault, NodeRef, ProcedureRef};
+pub use gb_verify::{
+    Abs, Answer, Cell, Cert, CertFault, Core, Ctl, Flg, ImeSet, May, NodeRef, OneByte, Origin,
+    ProcedureRef, Range, Reason, Relations, Rules, Setting, Span, Test, Val, callee, check_irqs,
+    check_node, covered_at, covers, enter, resume, successors_of,
+};

@@ -12,5 +12,7 @@ mod plain;
 mod power_up;
 pub mod step;
 
+pub use step::{Cpu, Met, Stepped};
+
 // What lies below, for the crates above.
 pub use gb_accesses::{Bus, FRAME_CYCLES, HEIGHT, Irqs, Keys, Memory, WIDTH, next_irq};

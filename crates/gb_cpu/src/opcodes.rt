@@ -124,7 +124,7 @@ fn run_by_opcode<B: Bus>(cpu: &mut Cpu, bus: &mut B, opcode: u8) -> u8
 impl Cpu {
     ghost use Rattle.gb_cpu.specs.Run.{IsReady, IsSomeStep};
 
-    /// The same as `step` where an instruction comes next, no HALT mark is left, interrupts don't wait and none is shared; it
+    /// Does what `step` does if an instruction comes next, no HALT mark is left, interrupts don't wait and none is shared; it
     /// answers the M-cycles alone.
     #[inline(always)]
     pub fn run<B: Bus>(&mut self, bus: &mut B) -> u8

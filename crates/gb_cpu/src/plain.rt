@@ -10,6 +10,7 @@ ghost use Rattle.gb_cpu.specs.Step.{state};
 use crate::step::{Executed, lock};
 use gb_accesses::plain::advance_plainly;
 use gb_accesses::{Bus, cycles_of, load, perform, read_of, store};
+use gb_ops::machine::{Read, Write};
 use gb_ops::op::Row;
 use gb_ops::registers::Processor;
 
@@ -25,13 +26,20 @@ fn execute_plainly<B: Bus>(processor: &mut Processor, bus: &mut B, row: Row) -> 
     ensures in_range { Machine.is_bytes 2 result.reads ≡ true }
 {
     advance_plainly(processor, row);
-    let answer = load(bus, read_of(row.op, *processor));
+    let read = read_of(row.op, *processor);
+    let answer = load(bus, read);
     let outcome = perform(row.op, processor, answer.loaded.low, answer.loaded.high);
-    store(bus, outcome.write);
+    let write = outcome.write;
+    store(bus, write);
     let cycles = cycles_of(row, outcome.is_taken);
     bus.pass(cycles);
     let reads = answer.free;
-    Executed { reads, cycles }
+    Executed {
+        reads,
+        cycles,
+        read,
+        write,
+    }
 }
 
 /// A row's instruction, or an undefined opcode.
@@ -56,6 +64,8 @@ pub(crate) fn run_plain_row<B: Bus>(
             Executed {
                 reads: [0, 0],
                 cycles: 1,
+                read: Read::Nothing,
+                write: Write::Nothing,
             }
         }
     }

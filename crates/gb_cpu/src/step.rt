@@ -2,13 +2,15 @@
 //!
 //! The parts of a step are inlined into its caller: one that drops the event pays nothing for its bytes.
 
-ghost use Rattle.std.specs.Prelude.{Some, if◌then◌else◌, [], ◌∷◌, ℕ, true, ◌%◌, IsTrue, ◌==◌, slice_index, ◌≡◌, ◌<◌, ◌≤◌, ◌^◌, ◌≢◌};
+ghost use Rattle.std.specs.Prelude.{Some, None, if◌then◌else◌, [], ◌∷◌, ℕ, true, ◌%◌, IsTrue, ◌==◌, slice_index, ◌≡◌, ◌<◌, ◌≤◌, ◌^◌, ◌≢◌};
 ghost use Rattle.gb_ops.specs.Machine as Machine;
 ghost use Rattle.gb_ops.specs.Accesses.{Joined, execute_log, row_log, accesses_of, executed_cycles, row_cycles, event_cycles};
 ghost use Rattle.gb_ops.specs.Accesses as access;
 ghost use Rattle.gb_ops.specs.Play.{IsStep};
 ghost use Rattle.gb_accesses.specs.Access.{row_free_reads, HasFreeBytes};
+ghost use Rattle.gb_cpu.specs.Met.{HasMet, IsRowMet};
 ghost use Rattle.gb_cpu.specs.Step.{state, IsSpecial, IsDispatchable};
+ghost use Rattle.gb_ops.specs.declared.machine.Read.TheVariants as read;
 
 use gb_accesses::plain::is_plain;
 use gb_accesses::{
@@ -16,15 +18,18 @@ use gb_accesses::{
     with_sp,
 };
 use gb_ops::decode::decode;
-use gb_ops::machine::{Event, Write};
+use gb_ops::machine::{Event, Read, Write};
 use gb_ops::op::Row;
 use gb_ops::registers::{Ime, Processor};
+use std::fmt;
 
-/// The free bytes that an instruction read, and its M-cycles.
+/// The free bytes that an instruction read, its M-cycles, and what it read and wrote.
 #[derive(Clone, Copy)]
 pub(crate) struct Executed {
     pub(crate) reads: [u8; 2],
     pub(crate) cycles: u8,
+    pub(crate) read: Read,
+    pub(crate) write: Write,
 }
 
 /// Executes an instruction of the table.
@@ -36,15 +41,23 @@ fn execute<B: Bus>(processor: &mut Processor, bus: &mut B, row: Row) -> Executed
     ensures cycles { result.cycles ≡ executed_cycles (state processor.old (B.shows bus.old)) row result.reads }
     ensures free { result.reads ≡ row_free_reads (Some row) (state processor.old (B.shows bus.old)) result.reads }
     ensures in_range { Machine.is_bytes 2 result.reads ≡ true }
+    ensures met { IsRowMet (Some row) (state processor.old (B.shows bus.old)) result.reads result.read result.write }
 {
     advance(processor, row);
-    let answer = load(bus, read_of(row.op, *processor));
+    let read = read_of(row.op, *processor);
+    let answer = load(bus, read);
     let outcome = perform(row.op, processor, answer.loaded.low, answer.loaded.high);
-    store(bus, outcome.write);
+    let write = outcome.write;
+    store(bus, write);
     let cycles = cycles_of(row, outcome.is_taken);
     bus.pass(cycles);
     let reads = answer.free;
-    Executed { reads, cycles }
+    Executed {
+        reads,
+        cycles,
+        read,
+        write,
+    }
 }
 
 /// The interrupts that are enabled and requested.
@@ -58,17 +71,44 @@ fn pending<B: Bus>(bus: &mut B) -> u8
     bus.pending()
 }
 
-/// An event that happened, and its M-cycles.
-#[derive(Clone, Copy)]
+/// What an event met: the bytes of its instruction, 00 after its length, and what it read and wrote
+/// besides them.
+#[derive(Clone, Copy, PartialEq, Eq)]
+pub struct Met {
+    pub bytes: [u8; 3],
+    pub read: Read,
+    pub write: Write,
+}
+
+impl fmt::Debug for Met {
+    /// The bytes of the instruction: what it read and wrote follows from them and the state.
+    fn fmt<W: fmt::Write>(&self, f: &mut fmt::Formatter<W>) -> fmt::Result {
+        let [first, second, third] = self.bytes;
+        write!(f, "Met({first:02X} {second:02X} {third:02X})")
+    }
+}
+
+/// An event that happened, its M-cycles, and what it met.
+#[derive(Clone, Copy, Debug, PartialEq, Eq)]
 pub struct Stepped {
     pub event: Event,
     pub cycles: u8,
+    pub met: Met,
 }
 
-fn answer(event: Event, cycles: u8) -> Stepped
-    ensures { result ≡ record { event = event; cycles = cycles } }
+/// An event that met nothing but a write.
+fn answer(event: Event, cycles: u8, write: Write) -> Stepped
+    ensures { result ≡ record { event = event; cycles = cycles; met = record { bytes = 0 ∷ 0 ∷ 0 ∷ []; read = read.Nothing; write = write } } }
 {
-    Stepped { event, cycles }
+    Stepped {
+        event,
+        cycles,
+        met: Met {
+            bytes: [0, 0, 0],
+            read: Read::Nothing,
+            write,
+        },
+    }
 }
 
 /// The processor.
@@ -102,6 +142,7 @@ fn run_row<B: Bus>(processor: &mut Processor, bus: &mut B, row: Option<Row>) -> 
     ensures cycles { result.cycles ≡ row_cycles row (state processor.old (B.shows bus.old)) result.reads }
     ensures free { result.reads ≡ row_free_reads row (state processor.old (B.shows bus.old)) result.reads }
     ensures in_range { Machine.is_bytes 2 result.reads ≡ true }
+    ensures met { IsRowMet row (state processor.old (B.shows bus.old)) result.reads result.read result.write }
 {
     match row {
         Some(row) => execute(processor, bus, row),
@@ -110,6 +151,8 @@ fn run_row<B: Bus>(processor: &mut Processor, bus: &mut B, row: Option<Row>) -> 
             Executed {
                 reads: [0, 0],
                 cycles: 1,
+                read: Read::Nothing,
+                write: Write::Nothing,
             }
         }
     }
@@ -190,15 +233,17 @@ impl Cpu {
         ensures cycles { result.cycles ≡ event_cycles (state self.old.processor (B.shows bus.old)) result.event }
         ensures free { HasFreeBytes (state self.old.processor (B.shows bus.old)) result.event }
         ensures waiting { self.new.is_waiting ≡ waits_after self.old (state self.old.processor (B.shows bus.old)) result.event }
+        ensures possible { Machine.is_possible (state self.old.processor (B.shows bus.old)) result.event ≡ true }
+        ensures met { HasMet (state self.old.processor (B.shows bus.old)) result.event result.met }
     {
         let processor = self.processor;
         if processor.locked || processor.stopped {
-            return answer(Event::Wait(0), 0);
+            return answer(Event::Wait(0), 0, Write::Nothing);
         }
         let shared = pending(bus);
         if self.is_waiting && shared == 0 {
             bus.pass(1);
-            return answer(Event::Wait(1), 1);
+            return answer(Event::Wait(1), 1, Write::Nothing);
         }
         let fetched = fetch(bus, processor);
         let fetch = fetched.free;
@@ -207,17 +252,25 @@ impl Cpu {
         match special_case(opcode, processor.ime, shared) {
             Some(Special::Stay) => {
                 self.processor = stay(processor, bus);
-                answer(Event::HaltStay, 1)
+                answer(Event::HaltStay, 1, Write::Nothing)
             }
             Some(Special::Bug) => {
                 self.processor = leave_mark(processor, bus);
-                answer(Event::HaltBug, 1)
+                answer(Event::HaltBug, 1, Write::Nothing)
             }
             None => {
                 let executed = run_row(&mut self.processor, bus, decode(&fetched.bytes));
                 self.is_waiting = opcode == 0x76;
                 let reads = executed.reads;
-                answer(Event::Run { fetch, reads }, executed.cycles)
+                Stepped {
+                    event: Event::Run { fetch, reads },
+                    cycles: executed.cycles,
+                    met: Met {
+                        bytes: fetched.bytes,
+                        read: executed.read,
+                        write: executed.write,
+                    },
+                }
             }
         }
     }
@@ -232,6 +285,8 @@ impl Cpu {
         ensures cycles { result.cycles ≡ event_cycles (state self.old.processor (B.shows bus.old)) result.event }
         ensures free { HasFreeBytes (state self.old.processor (B.shows bus.old)) result.event }
         ensures waiting { self.new.is_waiting ≡ waits_after self.old (state self.old.processor (B.shows bus.old)) result.event }
+        ensures possible { Machine.is_possible (state self.old.processor (B.shows bus.old)) result.event ≡ true }
+        ensures met { HasMet (state self.old.processor (B.shows bus.old)) result.event result.met }
     {
         self.act(bus)
     }
@@ -246,6 +301,8 @@ impl Cpu {
         ensures choice { result.event ≡ (if is_idle self.old then Event.Wait 0 else Event.Irq i) }
         ensures cycles { result.cycles ≡ event_cycles (state self.old.processor (B.shows bus.old)) result.event }
         ensures waiting { self.new.is_waiting ≡ waits_after self.old (state self.old.processor (B.shows bus.old)) result.event }
+        ensures possible { Machine.is_possible (state self.old.processor (B.shows bus.old)) result.event ≡ true }
+        ensures met { HasMet (state self.old.processor (B.shows bus.old)) result.event result.met }
     {
         self.interrupt(bus, i)
     }
@@ -260,13 +317,16 @@ impl Cpu {
         ensures choice { result.event ≡ (if is_idle self.old then Event.Wait 0 else Event.Irq i) }
         ensures cycles { result.cycles ≡ event_cycles (state self.old.processor (B.shows bus.old)) result.event }
         ensures waiting { self.new.is_waiting ≡ waits_after self.old (state self.old.processor (B.shows bus.old)) result.event }
+        ensures possible { Machine.is_possible (state self.old.processor (B.shows bus.old)) result.event ≡ true }
+        ensures met { HasMet (state self.old.processor (B.shows bus.old)) result.event result.met }
     {
         let processor = self.processor;
         if processor.locked || processor.stopped {
-            return answer(Event::Wait(0), 0);
+            return answer(Event::Wait(0), 0, Write::Nothing);
         }
+        let push = Write::Push(processor.sp, processor.pc);
         bus.acknowledge(i);
-        store(bus, Write::Push(processor.sp, processor.pc));
+        store(bus, push);
         bus.pass(5);
         let below = with_sp(processor, processor.sp.wrapping_sub(2));
         self.is_waiting = false;
@@ -274,6 +334,6 @@ impl Cpu {
             ime: Ime::Off,
             ..with_pc(below, 0x40 + 8 * u16::from(i))
         };
-        answer(Event::Irq(i), 5)
+        answer(Event::Irq(i), 5, push)
     }
 }

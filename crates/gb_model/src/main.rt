@@ -10,7 +10,7 @@ mod report;
 mod setup;
 
 use crate::report::report;
-use crate::setup::{Line, Setup};
+use crate::setup::{Setup, SetupLine};
 use std::alloc::Global;
 use std::io::{self, BufRead, BufReader, BufWriter, Split, Write};
 
@@ -23,9 +23,9 @@ fn answer<W: Write>(
     number: u64,
 ) -> io::Result<()> {
     match setup.apply(alloc, line)? {
-        Line::Nothing => {}
-        Line::Wrong => writeln!(out, "error line {number}")?,
-        Line::Happens(event) => report(out, setup, event)?,
+        SetupLine::Nothing => {}
+        SetupLine::Wrong => writeln!(out, "error line {number}")?,
+        SetupLine::Happens(event) => report(out, setup, event)?,
     }
     // A peer at a pipe may wait for this line before it writes the next.
     out.flush()

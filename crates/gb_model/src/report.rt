@@ -11,44 +11,44 @@ use std::io::{self, Write};
 
 /// A field of a state's line, with so many hexadecimal digits.
 #[derive(Clone, Copy)]
-struct Field {
+struct ReportField {
     value: u16,
     digits: usize,
 }
 
-fn word(value: u16) -> Field {
-    Field { value, digits: 4 }
+fn word(value: u16) -> ReportField {
+    ReportField { value, digits: 4 }
 }
 
-fn byte(value: u8) -> Field {
-    Field {
+fn byte(value: u8) -> ReportField {
+    ReportField {
         value: u16::from(value),
         digits: 2,
     }
 }
 
-fn flag(value: bool) -> Field {
-    Field {
+fn flag(value: bool) -> ReportField {
+    ReportField {
         value: u16::from(value),
         digits: 1,
     }
 }
 
-fn ime(ime: Ime) -> Field {
+fn ime(ime: Ime) -> ReportField {
     let value = match ime {
         Ime::Off => 0,
         Ime::Pending => 1,
         Ime::On => 2,
     };
-    Field { value, digits: 1 }
+    ReportField { value, digits: 1 }
 }
 
 /// The fields of a state but for its memories, in the order of the line.
-fn state_fields(state: &MachineState) -> [Field; 20] {
+fn state_fields(state: &MachineState) -> [ReportField; 20] {
     let p = state.processor();
     let r = p.registers;
     let banks = state.banks();
-    let bank = Field {
+    let bank = ReportField {
         value: banks.bank,
         digits: 3,
     };

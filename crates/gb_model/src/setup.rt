@@ -17,7 +17,7 @@ const SMALLEST_ROM: usize = 0x8000;
 
 /// What a line asks for.
 #[derive(Clone, Copy)]
-pub enum Line {
+pub enum SetupLine {
     /// It changed the setup, or was empty.
     Nothing,
     /// It is none of the forms.
@@ -55,7 +55,7 @@ fn cartridge_of(
 }
 
 /// The event that a line's first word names.
-fn event(word: &str, fields: &mut Fields<'_>) -> Line {
+fn event(word: &str, fields: &mut Fields<'_>) -> SetupLine {
     let event = match word {
         "run" => Event::Run {
             fetch: fields.bytes::<3>(),
@@ -65,9 +65,9 @@ fn event(word: &str, fields: &mut Fields<'_>) -> Line {
         "haltbug" => Event::HaltBug,
         "irq" => Event::Irq(fields.byte()),
         "wait" => Event::Wait(fields.number(u64::MAX)),
-        _ => return Line::Wrong,
+        _ => return SetupLine::Wrong,
     };
-    Line::Happens(event)
+    SetupLine::Happens(event)
 }
 
 fn flags(fields: &mut Fields<'_>) -> Flags {
@@ -137,29 +137,33 @@ impl Setup {
     }
 
     /// Does what a line asks for; a wrong line changes nothing but the part that was read.
-    pub fn apply(&mut self, alloc: Global, line: &[u8]) -> Result<Line, AllocError> {
+    pub fn apply(&mut self, alloc: Global, line: &[u8]) -> Result<SetupLine, AllocError> {
         let Ok(text) = str::from_utf8(line) else {
-            return Ok(Line::Wrong);
+            return Ok(SetupLine::Wrong);
         };
         let mut fields = Fields::new(text);
         let asked = self.apply_fields(alloc, &mut fields)?;
         if fields.is_read() {
             Ok(asked)
         } else {
-            Ok(Line::Wrong)
+            Ok(SetupLine::Wrong)
         }
     }
 
-    fn apply_fields(&mut self, alloc: Global, fields: &mut Fields<'_>) -> Result<Line, AllocError> {
+    fn apply_fields(
+        &mut self,
+        alloc: Global,
+        fields: &mut Fields<'_>,
+    ) -> Result<SetupLine, AllocError> {
         match fields.word() {
-            None => Ok(Line::Nothing),
+            None => Ok(SetupLine::Nothing),
             Some("cartridge") => self.set_cartridge(alloc, fields),
             Some(word) => Ok(self.change(word, fields)),
         }
     }
 
     /// What takes no memory.
-    fn change(&mut self, word: &str, fields: &mut Fields<'_>) -> Line {
+    fn change(&mut self, word: &str, fields: &mut Fields<'_>) -> SetupLine {
         match word {
             "rom" => self.patch_rom(fields),
             "region" => self.set_region(fields),
@@ -167,7 +171,7 @@ impl Setup {
             "ram" => self.patch_ram(fields),
             _ => return event(word, fields),
         }
-        Line::Nothing
+        SetupLine::Nothing
     }
 
     /// A cartridge of zeros, of a type, a ROM size and a RAM size. Its controller takes the registers as its
@@ -176,19 +180,19 @@ impl Setup {
         &mut self,
         alloc: Global,
         fields: &mut Fields<'_>,
-    ) -> Result<Line, AllocError> {
+    ) -> Result<SetupLine, AllocError> {
         let type_byte = fields.byte();
         let rom_size = fields.number(8);
         let ram_size = fields.byte();
         if fields.is_wrong() {
-            return Ok(Line::Wrong);
+            return Ok(SetupLine::Wrong);
         }
         let rom = cartridge_of(alloc, type_byte, rom_size as u8, ram_size)?;
         let Some(cartridge) = Cartridge::new(alloc, rom)? else {
-            return Ok(Line::Wrong);
+            return Ok(SetupLine::Wrong);
         };
         self.put_in(cartridge);
-        Ok(Line::Nothing)
+        Ok(SetupLine::Nothing)
     }
 
     fn put_in(&mut self, cartridge: Cartridge) {

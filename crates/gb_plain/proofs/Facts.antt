@@ -1,8 +1,9 @@
 -- The facts of a header, and what a controller shows by them.
-use Rattle.std.proofs.Common.{◌≡◌, ◌≢◌, ℕ, ◌<◌, ◌≤◌, true, false, not, ◌||◌, ◌==◌, nat_lt, List, Option, Some, None, Ok, Err, slice_set, slice_index, refl, ap, arith, get_or-set_other}
+use Rattle.std.proofs.Common.{◌≡◌, ◌≢◌, ℕ, ◌<◌, ◌≤◌, true, false, not, ◌||◌, ◌==◌, nat_lt, List, Option, Some, None, Ok, Err, slice_set, slice_index, refl, ap, ◌∙◌, arith, get_or-set_other}
 use Rattle.std.proofs.lemmas.List.{get_or-replicate}
 use Rattle.std.proofs.lemmas.Bool.{lt-ltb}
 use Rattle.gb_ops.specs.declared.machine.Banks.{Banks}
+use Rattle.gb_ops.specs.declared.machine.Kind.{Kind}
 use Rattle.gb_ops.specs.Cartridge.{kind_of, kind_of_type, rom_banks, rom_banks_of_size, ram_banks, type_has_ram, has_clock, type_has_clock, type_has_rumble, shown_bank, banks_after, has_ram_or_clock}
 use Rattle.gb_cpu.specs.Below.gb_header.declared.fault.HeaderFault.{HeaderFault}
 use Rattle.gb_cpu.specs.Below.gb_header.Header.{parsed, taken_or, fault_of}
@@ -28,6 +29,10 @@ registers_are f rom r a v is below = rw (is, lt-ltb a 0x8000 below) refl
 pub ram_or_clock_by_features : (a b : List ℕ) → features_of a ≡ features_of b → has_ram_or_clock a ≡ has_ram_or_clock b
 unfolding features_of has_ram_or_clock
 ram_or_clock_by_features a b e = ap (λ (f : Features). not (f.ram_banks == 0) || f.has_clock) e
+
+pub kind_by_features : (f : Features) (rom : List ℕ) (k : Kind) → f ≡ features_of rom → k ≡ f.kind → k ≡ kind_of rom
+unfolding features_of
+kind_by_features f rom k is same = same ∙ ap (λ (g : Features). g.kind) is
 
 -- the facts rest on the bytes 0147 to 0149 alone
 pub features_set :

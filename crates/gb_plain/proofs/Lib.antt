@@ -1,9 +1,8 @@
 pub mod Bytes
 pub mod Dispatching
 pub mod Facts
-pub mod Fetches
 pub mod Leaving
-pub mod Limiting
+pub mod Meeting
 pub mod Ordering
 pub mod Pending
 pub mod Running

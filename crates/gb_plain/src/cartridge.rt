@@ -8,7 +8,7 @@ ghost use Rattle.gb_plain.specs.Shown.{blank, zeros};
 
 use gb_header::Rom;
 use gb_mbc::{Controller, Flat, Mapper};
-use gb_ops::machine::Banks;
+use gb_ops::machine::{Banks, Kind};
 use std::alloc::{AllocError, Global};
 use std::marker::Model;
 
@@ -120,6 +120,19 @@ impl Cartridge {
         ensures { result ≡ self.now.banks }
     {
         self.controller.banks()
+    }
+
+    /// The kind of its controller.
+    #[tactic(auto, using(crate::proofs::Facts::kind_by_features))]
+    pub fn kind(&self) -> Kind
+        ensures { result ≡ Spec.kind_of self.now.rom }
+    {
+        match self.controller {
+            Controller::Flat(_) => Kind::Rom,
+            Controller::Mbc1(_) => Kind::Mbc1,
+            Controller::Mbc3(_) => Kind::Mbc3,
+            Controller::Mbc5(_) => Kind::Mbc5,
+        }
     }
 
     /// Whether it has something behind A000-BFFF.

@@ -15,3 +15,8 @@ mod memory;
 pub mod places;
 pub mod possible;
 pub mod state;
+
+pub use cartridge::Cartridge;
+pub use machine::PlainMachine;
+pub use places::PlaceList;
+pub use state::MachineState;

@@ -20,7 +20,7 @@ use crate::state::MachineState;
 use gb_cpu::Bus;
 use gb_cpu::step::{Cpu, Stepped};
 use gb_effects::advance::{length_of, second_address, third_address};
-use gb_ops::machine::{Event, Place};
+use gb_ops::machine::{Event, ReadSource};
 
 /// The opcode of HALT.
 const HALT: u8 = 0x76;
@@ -67,7 +67,7 @@ impl Bus for PlainMachine {
     }
 
     #[tactic(auto, using(crate::proofs::Starting::place_is, crate::proofs::Starting::sized_is))]
-    fn place(&self, address: u16) -> Place {
+    fn place(&self, address: u16) -> ReadSource {
         self.state.sizes();
         place_of(&self.state, address)
     }

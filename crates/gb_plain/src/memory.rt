@@ -1,40 +1,33 @@
 //! Memory, as instructions meet it within an event.
 
-ghost use Rattle.std.specs.Prelude.{◌≡◌, ◌<◌, ◌≤◌, ◌==◌, ◌&&◌, not};
+ghost use Rattle.std.specs.Prelude.{◌≡◌};
 ghost use Rattle.gb_ops.specs.Memory as Spec;
 ghost use Rattle.gb_plain.specs.Shown.{shown, resting};
 
 use crate::state::MachineState;
-use gb_ops::machine::{Mapped, Place};
+use gb_ops::machine::{Mapped, ReadSource};
 use gb_ops::map::mapped_at;
-
-/// Whether a transfer with so many M-cycles left closes an address.
-pub fn closes(count: u8, address: u16) -> bool
-    ensures { result ≡ (not (count == 0) && not (Spec.is_high (Spec.mapped_at address))) }
-{
-    count != 0 && !matches!(mapped_at(address), Mapped::HighRam(_))
-}
 
 /// Whether a transfer closes an address.
 #[tactic(auto, unfolding(gb_ops::specs::Memory::is_closed))]
 pub fn is_closed(state: &MachineState, address: u16) -> bool
     ensures { result ≡ Spec.is_closed state.now.machine.storage address }
 {
-    closes(state.count(), address)
+    state.count() != 0 && !matches!(mapped_at(address), Mapped::HighRam(_))
 }
 
 /// What answers a read between events.
 #[tactic(auto, unfolding(gb_ops::specs::Memory::place_of))]
-pub fn place_of(state: &MachineState, address: u16) -> Place
+pub fn place_of(state: &MachineState, address: u16) -> ReadSource
     ensures { result ≡ Spec.place_of (resting state.now.rom state.now.machine) address }
 {
     if is_closed(state, address) {
-        return Place::Free;
+        return ReadSource::Free;
     }
     match mapped_at(address) {
-        Mapped::Rom => Place::Rom(state.cartridge().shown_bank(address)),
-        Mapped::WorkRam(_) | Mapped::HighRam(_) | Mapped::InterruptEnable => Place::Plain,
-        Mapped::CartridgeRam | Mapped::Transfer | Mapped::Hardware => Place::Free,
+        Mapped::Rom => ReadSource::Rom(state.cartridge().shown_bank(address)),
+        Mapped::WorkRam(_) | Mapped::HighRam(_) | Mapped::InterruptEnable => ReadSource::Plain,
+        Mapped::CartridgeRam | Mapped::Transfer | Mapped::Hardware => ReadSource::Free,
     }
 }
 
@@ -44,8 +37,8 @@ pub fn is_free(state: &MachineState, address: u16) -> bool
     ensures { result ≡ Spec.is_free (resting state.now.rom state.now.machine) address }
 {
     match place_of(state, address) {
-        Place::Rom(_) | Place::Plain => false,
-        Place::Free => true,
+        ReadSource::Rom(_) | ReadSource::Plain => false,
+        ReadSource::Free => true,
     }
 }
 

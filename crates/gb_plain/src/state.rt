@@ -2,12 +2,14 @@
 
 ghost use Rattle.std.specs.Prelude.{◌≡◌, ◌≢◌, ◌<◌, ◌≤◌, true, false, length, vec_len, replicate, slice_index, slice_set, IfOk, ◌-◌, if◌then◌else◌};
 ghost use Rattle.gb_ops.specs.Cartridge as Spec;
-ghost use Rattle.gb_plain.specs.Shown.{zeros as zero_bytes};
+ghost use Rattle.gb_faults.specs.Limits.{limits_of};
+ghost use Rattle.gb_plain.specs.Shown.{resting, zeros as zero_bytes};
 ghost use Rattle.gb_dma.specs.Transfer.{started};
 
 use crate::cartridge::Cartridge;
 use gb_cpu::step::Cpu;
 use gb_dma::Transfer;
+use gb_faults::Limits;
 use gb_ops::machine::Banks;
 use gb_ops::registers::Processor;
 use std::alloc::{AllocError, Global};
@@ -119,6 +121,20 @@ impl MachineState {
         ensures { result ≡ self.now.machine.storage.banks }
     {
         self.cartridge.banks()
+    }
+
+    /// The limits of accesses.
+    #[tactic(auto, unfolding(gb_faults::specs::Limits::limits_of))]
+    pub fn limits(&self) -> Limits<'_>
+        ensures { result ≡ limits_of (resting self.now.rom self.now.machine) }
+    {
+        Limits::new(
+            self.cartridge.bytes(),
+            self.cartridge.kind(),
+            self.cartridge.has_ram_or_clock(),
+            self.cartridge.banks().gate,
+            self.transfer.left(),
+        )
     }
 
     /// The interrupts that are enabled.

@@ -1,4 +1,4 @@
-//! The program: its words, files and statuses, and what it says to a person.
+//! The program: its words, files and statuses, and its messages.
 //!
 //! `run` does what the words ask for; the lines that it prints are gb_verify's and gb_printed's, whose contracts say what they
 //! are. `status` says which status each outcome has. Read `perform` first, then `status`; files are read by gb_files, and what
@@ -19,7 +19,7 @@ use std::io::Input;
 use std::process::ExitCode;
 use std::rt::{Env, Files};
 
-/// Runs the program on the words behind its name, and answers its status. `is_shown` says whether a person sees standard
+/// Runs the program on the words after its name, and answers its status. `is_shown` says whether a person sees standard
 /// error as it comes.
 pub fn run<R: Print + Eprint + Input + Files + Env + AllocGlobal>(
     rt: &R,

@@ -3,14 +3,17 @@
 use gb_command_line::shown_name;
 use gb_explain::explain;
 
-/// The program's name, in what it says to a person.
+/// The program's name, in its messages.
 pub const PROGRAM: &str = "gulmyrek";
 
-/// Says of a refused certificate which node it is, what is wrong with it, and what usually mends that. The
-/// certificate is checked again; where memory runs out, nothing is said.
+/// Says which node of a refused certificate is wrong, why, and how to fix that. The certificate is checked again; where memory
+/// runs out, nothing is said.
 pub fn tell_refusal<R: Eprint + AllocGlobal>(rt: &R, name: &str, rom: &[u8], cert: &[u8]) {
     if let Some(explanation) = explain(rt.alloc(), rom, cert) {
         let name = shown_name(name);
         let _ = eprintln!(rt; "{PROGRAM}: {name}: {explanation}");
+        let _ = eprintln!(rt;
+            "{PROGRAM}: {name}: a certificate fits one build only: after a change, make a new one with certify"
+        );
     }
 }

@@ -2,17 +2,19 @@
 
 use crate::inputs::has_input_twice;
 use crate::messages::{PROGRAM, tell_refusal};
-use crate::progress::Shown;
+use crate::progress::FramesShown;
 use crate::status::{header_status, run_status, show_status, upgrade_status};
 use crate::stored;
 use crate::versions::upgrade_to;
-use gb_command_line::messages::{tell_fault, tell_output, verify};
+use gb_command_line::messages::{
+    FileNames, tell_cartridge, tell_fault, tell_memory, tell_output, verify,
+};
 use gb_command_line::status::Status;
 use gb_command_line::words::{explain, tell_words, words_of};
 use gb_command_line::{
-    Plain, Rom, Trouble, UpgradeTo, read_cartridge, read_certificate, read_file, upgrade_bytes,
+    Plain, Trouble, UpgradeTo, read_cartridge, read_certificate, read_file, upgrade_bytes,
 };
-use gb_printed::{header_bytes, run_bytes, show_bytes};
+use gb_printed::{RunOutcome, header_bytes, run_bytes, show_bytes};
 use gb_words::{Task, read_words};
 use std::io::{self, Input};
 use std::rt::{Env, Files};
@@ -23,14 +25,12 @@ fn verify_files<R: Print + Eprint + Input + Files + AllocGlobal>(
     rom: &str,
     cert: &str,
 ) -> Result<Status, Trouble> {
-    let rom = read_cartridge(rt, PROGRAM, rom)?;
+    let rom_bytes = read_cartridge(rt, PROGRAM, rom)?;
     let bytes = read_certificate(rt, PROGRAM, cert)?;
-    let status = verify(rt, PROGRAM, &rom, &bytes);
-    if status == Status::Unreadable && Rom::parse(&rom).is_ok() {
-        tell_fault(rt, PROGRAM, cert, &bytes);
-    }
+    let names = FileNames { rom, cert };
+    let status = verify(rt, PROGRAM, names, &rom_bytes, &bytes);
     if status == Status::Refused {
-        tell_refusal(rt, cert, &rom, &bytes);
+        tell_refusal(rt, cert, &rom_bytes, &bytes);
     }
     Ok(status)
 }
@@ -40,11 +40,24 @@ fn header<R: Print + Eprint + Input + Files + AllocGlobal>(
     rt: &R,
     rom: &str,
 ) -> Result<Status, Trouble> {
-    let rom = read_cartridge(rt, PROGRAM, rom)?;
+    let bytes = read_cartridge(rt, PROGRAM, rom)?;
     let mut out = Plain::new(io::writer(rt));
-    match header_bytes(&rom, &mut out) {
-        Ok(fault) => Ok(header_status(fault)),
-        Err(_) => Ok(tell_output(rt, PROGRAM)),
+    let fault = match header_bytes(&bytes, &mut out) {
+        Ok(fault) => fault,
+        Err(_) => return Ok(tell_output(rt, PROGRAM)),
+    };
+    if let Some(fault) = fault {
+        tell_cartridge(rt, PROGRAM, rom, fault);
+    }
+    Ok(header_status(fault))
+}
+
+/// Says why a certificate can't be read, or that there isn't enough memory for it.
+fn tell_certificate<R: Eprint + AllocGlobal>(rt: &R, name: &str, bytes: &[u8], status: Status) {
+    match status {
+        Status::Unreadable => tell_fault(rt, PROGRAM, name, bytes),
+        Status::Failed => tell_memory(rt, PROGRAM, name),
+        Status::Done | Status::Refused => {}
     }
 }
 
@@ -59,9 +72,7 @@ fn show<R: Print + Eprint + Input + Files + AllocGlobal>(
         Ok(fault) => show_status(fault),
         Err(_) => return Ok(tell_output(rt, PROGRAM)),
     };
-    if status == Status::Unreadable {
-        tell_fault(rt, PROGRAM, cert, &bytes);
-    }
+    tell_certificate(rt, cert, &bytes, status);
     Ok(status)
 }
 
@@ -77,9 +88,7 @@ fn upgrade<R: Print + Eprint + Input + Files + AllocGlobal>(
         Ok(upgraded) => upgrade_status(upgraded),
         Err(_) => return Ok(tell_output(rt, PROGRAM)),
     };
-    if status == Status::Unreadable {
-        tell_fault(rt, PROGRAM, cert, &bytes);
-    }
+    tell_certificate(rt, cert, &bytes, status);
     Ok(status)
 }
 
@@ -91,14 +100,35 @@ fn run<R: Print + Eprint + Input + Files + AllocGlobal>(
     frames: u32,
     is_shown: bool,
 ) -> Result<Status, Trouble> {
-    let rom = read_cartridge(rt, PROGRAM, rom)?;
+    let bytes = read_cartridge(rt, PROGRAM, rom)?;
     let script = read_file(rt, PROGRAM, script, u64::from(frames))?;
     let mut out = Plain::new(io::writer(rt));
-    let mut progress = Shown::new(rt, is_shown);
-    match run_bytes(rt.alloc(), &rom, &script, frames, &mut out, &mut progress) {
-        Ok(outcome) => run_status(outcome),
-        Err(_) => Ok(tell_output(rt, PROGRAM)),
+    let mut progress = FramesShown::new(rt, is_shown);
+    let outcome = match run_bytes(rt.alloc(), &bytes, &script, frames, &mut out, &mut progress) {
+        Ok(outcome) => outcome,
+        Err(_) => return Ok(tell_output(rt, PROGRAM)),
+    };
+    match outcome {
+        RunOutcome::NoMemory => tell_memory(rt, PROGRAM, rom),
+        RunOutcome::NoCartridge(fault) => tell_cartridge(rt, PROGRAM, rom, fault),
+        RunOutcome::Ended(_) => {}
     }
+    run_status(outcome)
+}
+
+/// No command: the cartridge and the certificate that the program brings along.
+fn verify_stored<R: Print + Eprint + AllocGlobal>(rt: &R) -> Status {
+    let names = FileNames {
+        rom: "the built-in cartridge",
+        cert: "the built-in certificate",
+    };
+    verify(
+        rt,
+        PROGRAM,
+        names,
+        &stored::cartridge(),
+        stored::CERTIFICATE,
+    )
 }
 
 /// Does what the words ask for; `is_shown` says whether a person sees standard error.
@@ -112,10 +142,10 @@ fn perform<R: Print + Eprint + Input + Files + AllocGlobal>(
         Err(error) => return Ok(explain(rt, PROGRAM, &error)),
     };
     if has_input_twice(&task) {
-        return Ok(tell_words(rt, "only one of the files can be - for standard input"));
+        return Ok(tell_words(rt, "only one file can be - (standard input)"));
     }
     match task {
-        Task::Stored => { Ok(verify(rt, PROGRAM, &stored::cartridge(), stored::CERTIFICATE)) },
+        Task::Stored => Ok(verify_stored(rt)),
         Task::Verify { rom, cert } => verify_files(rt, rom, cert),
         Task::Header { rom } => header(rt, rom),
         Task::Show { cert } => show(rt, cert),
@@ -136,7 +166,7 @@ pub fn start<R: Print + Eprint + Input + Files + Env + AllocGlobal>(
     let Some(words) = words_of(rt)? else {
         return Ok(tell_words(
             rt,
-            "a word is not UTF-8; a file with such a name can be given as - by < on standard input",
+            "an argument isn't UTF-8; pass such a file on standard input: `gulmyrek header - < FILE`",
         ));
     };
     let mut texts = Vec::new(rt.alloc());

@@ -2,24 +2,24 @@
 
 use gb_printed::Progress;
 
-/// The frames from one telling to the next.
+/// The frames from one message to the next.
 const STEP: u32 = 100;
 
 /// A line on standard error that is written over and over, and wiped at the end.
 #[derive(Drop)]
-pub struct Shown<'a, R> {
+pub struct FramesShown<'a, R> {
     rt: &'a R,
     is_shown: bool,
 }
 
-impl<'a, R> Shown<'a, R> {
+impl<'a, R> FramesShown<'a, R> {
     /// A line that is written only where it is to be shown.
-    pub fn new(rt: &'a R, is_shown: bool) -> Shown<'a, R> {
-        Shown { rt, is_shown }
+    pub fn new(rt: &'a R, is_shown: bool) -> FramesShown<'a, R> {
+        FramesShown { rt, is_shown }
     }
 }
 
-impl<R: Eprint> Progress for Shown<'_, R> {
+impl<R: Eprint> Progress for FramesShown<'_, R> {
     fn frame(&mut self, number: u32, frames: u32) {
         if self.is_shown && number % STEP == 0 {
             let _ = eprint!(self.rt; "\rframe {number} of {frames}");

@@ -4,14 +4,14 @@ ghost use Rattle.std.specs.Prelude.{◌≡◌};
 ghost use Rattle.gb_program.specs.Versions.{upgrade_to};
 
 use gb_command_line::UpgradeTo;
-use gb_words::Version;
+use gb_words::TargetVersion;
 
 /// The version that the words name.
-pub fn upgrade_to(version: Version) -> UpgradeTo
+pub fn upgrade_to(version: TargetVersion) -> UpgradeTo
     ensures { result ≡ upgrade_to version }
 {
     match version {
-        Version::Two => UpgradeTo::Two,
-        Version::Three => UpgradeTo::Three,
+        TargetVersion::Two => UpgradeTo::Two,
+        TargetVersion::Three => UpgradeTo::Three,
     }
 }

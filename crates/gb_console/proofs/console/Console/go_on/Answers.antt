@@ -1,7 +1,7 @@
 use Rattle.std.proofs.Common.{◌≡◌, sym, subst, true, None, arith}
 use Rattle.gb_console.specs.Frame.{IsFrameStep, IsPassing, IsReady}
 use Rattle.gb_console.proofs.Frames.{forward}
-use Rattle.gb_console.proofs.Going.{passing_step, one_more, both_gone, step_running}
+use Rattle.gb_console.proofs.Going.{passing_step, one_more, both_gone, rests_gone, step_running}
 use Rattle.gb_console.proofs.console.Console.go_on.Goals as goal
 
 pub loop-goes-smaller : goal.loop-goes-smaller
@@ -25,4 +25,4 @@ loop-goes-preserved c =
     )
 
 pub returns : goal.returns
-returns c = both_gone c.args.self.now c.loop-goes.self c.wait.new.self c.args.keys c.loop-goes.invariant.0 c.wait.ensures
+returns c = both_gone c.args.self.now c.loop-goes.self c.wait.new.self c.args.keys c.loop-goes.invariant.0 (rests_gone c.wait.result c.loop-goes.self c.args.keys c.wait.new.self c.wait.ensures)

@@ -10,4 +10,4 @@ dispatch-stepped-requires c =
 pub returns : goal.returns
 returns c =
     let made = c.dispatch-stepped.ensures in
-    rw (c.from.ensures, c.set_processor.ensures) (irq c.args.self.now.state c.args.self.now.handed _ _ c.dispatch-stepped.new.bus _ _ c.requires c.processor.ensures made.machine made.next made.choice made.cycles)
+    rw (c.from.ensures, c.set_processor.ensures) (irq c.args.self.now.state c.args.self.now.handed _ _ c.dispatch-stepped.new.bus c.dispatch-stepped.result _ c.requires c.processor.ensures made.machine made.next made.choice made.cycles)

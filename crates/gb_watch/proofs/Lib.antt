@@ -1,0 +1,5 @@
+pub mod Counting
+pub mod Judging
+pub mod Parsing
+pub mod Playing
+pub mod Quietly

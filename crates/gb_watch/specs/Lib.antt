@@ -1,0 +1,4 @@
+pub mod Watch
+pub mod Played
+pub mod Ready
+pub mod Verified

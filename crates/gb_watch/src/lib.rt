@@ -1,0 +1,16 @@
+//! Frames of the console that are watched for faults.
+//!
+//! `watch_frame` is a frame up to its first event with a fault for a stack region: the definition's faults
+//! (`gb_ops/specs/Faults.antt`) of the very event that the console answers, and none is told where there is none
+//! (`specs/Watch.antt`). `played::watched_frames_are_played` says the same of the machine's runs; where some
+//! certificate with the region is right for the cartridge, no fault is told (`specs/Verified.antt`). Most instructions
+//! run after a cheap test that says that they have no fault (`gb_faults::Guard`); every other step's faults are
+//! computed from what it met. Read `sighting` first, then `frame`.
+#![tactic(auto)]
+
+pub mod frame;
+pub mod played;
+pub mod sighting;
+
+pub use frame::watch_frame;
+pub use sighting::{Sighting, Watched};
