@@ -1,10 +1,10 @@
-//! An older certificate, and what a new one changed beside it.
+//! An older certificate, and what a new one changed since then.
 
 use crate::files::read_symbols;
-use crate::messages::{PROGRAM, tell_no_cartridge, tell_symbols};
+use crate::messages::{PROGRAM, tell_symbols};
 use crate::perform::work;
-use crate::words::{Before, Task};
-use gb_command_line::messages::{tell_fault, tell_output, verify};
+use crate::words::{CertifyTask, OlderBuild};
+use gb_command_line::messages::{FileNames, tell_output, verify};
 use gb_command_line::status::Status;
 use gb_command_line::{Cert, Rom, Trouble, read_cartridge, read_certificate};
 use gb_page::{Changes, Older, changes_json};
@@ -35,7 +35,7 @@ fn read_rom<R: Eprint + Input + Files + AllocGlobal>(
 /// Reads the older files.
 pub fn read_before<R: Eprint + Input + Files + AllocGlobal>(
     rt: &R,
-    before: &Before<'_>,
+    before: &OlderBuild<'_>,
 ) -> Result<OldFiles, Trouble> {
     Ok(OldFiles {
         cert: read_certificate(rt, PROGRAM, before.cert)?,
@@ -44,10 +44,10 @@ pub fn read_before<R: Eprint + Input + Files + AllocGlobal>(
     })
 }
 
-/// Does what a task says, beside an older certificate with its symbols, if they are named.
-fn work_beside_certificate<'x, R: Print + Eprint + Input + Files + AllocGlobal>(
+/// Does what a task says, with an older certificate and its symbols, if they are named.
+fn work_with_certificate<'x, R: Print + Eprint + Input + Files + AllocGlobal>(
     rt: &R,
-    task: &Task<'_>,
+    task: &CertifyTask<'_>,
     bytes: &[u8],
     symbols: &Symbols<'_>,
     cert: &'x Cert<'_>,
@@ -62,10 +62,10 @@ fn work_beside_certificate<'x, R: Print + Eprint + Input + Files + AllocGlobal>(
     work(rt, task, bytes, symbols, Some(&older), is_shown)
 }
 
-/// The same, with the older cartridge.
-fn work_beside_cartridge<'x, R: Print + Eprint + Input + Files + AllocGlobal>(
+/// Compares with the older build, whose cartridge is given.
+fn work_with_cartridge<'x, R: Print + Eprint + Input + Files + AllocGlobal>(
     rt: &R,
-    task: &Task<'_>,
+    task: &CertifyTask<'_>,
     bytes: &[u8],
     symbols: &Symbols<'_>,
     rom: &'x Rom<'_>,
@@ -81,10 +81,10 @@ fn work_beside_cartridge<'x, R: Print + Eprint + Input + Files + AllocGlobal>(
     work(rt, task, bytes, symbols, Some(&older), is_shown)
 }
 
-/// The same, with the older cartridge, if that is named.
-fn work_beside_files<'x, R: Print + Eprint + Input + Files + AllocGlobal>(
+/// Compares with the older build, and reads its cartridge if it is named.
+fn work_with_files<'x, R: Print + Eprint + Input + Files + AllocGlobal>(
     rt: &R,
-    task: &Task<'_>,
+    task: &CertifyTask<'_>,
     bytes: &[u8],
     symbols: &Symbols<'_>,
     files: &OldFiles,
@@ -93,27 +93,30 @@ fn work_beside_files<'x, R: Print + Eprint + Input + Files + AllocGlobal>(
     is_shown: bool,
 ) -> Result<Status, Trouble> {
     let Some(
-        Before {
+        OlderBuild {
             rom: Some(name),
             ..
         },
     ) = task.before
     else {
-        return work_beside_certificate(rt, task, bytes, symbols, cert, old, is_shown);
+        return work_with_certificate(rt, task, bytes, symbols, cert, old, is_shown);
     };
     let Ok(rom) = Rom::parse(&files.rom) else {
         // The line says what is wrong with the cartridge.
-        tell_no_cartridge(rt, name);
-        return Ok(verify(rt, PROGRAM, &files.rom, b""));
+        let names = FileNames {
+            rom: name,
+            cert: task.cert,
+        };
+        return Ok(verify(rt, PROGRAM, names, &files.rom, b""));
     };
-    work_beside_cartridge(rt, task, bytes, symbols, &rom, cert, old, is_shown)
+    work_with_cartridge(rt, task, bytes, symbols, &rom, cert, old, is_shown)
 }
 
-/// Does what a task says, beside an older certificate.
-pub fn work_beside<R: Print + Eprint + Input + Files + AllocGlobal>(
+/// Does what a task says, with an older certificate.
+pub fn work_with_older<R: Print + Eprint + Input + Files + AllocGlobal>(
     rt: &R,
-    task: &Task<'_>,
-    before: &Before<'_>,
+    task: &CertifyTask<'_>,
+    before: &OlderBuild<'_>,
     files: &OldFiles,
     bytes: &[u8],
     symbols: &Symbols<'_>,
@@ -121,16 +124,18 @@ pub fn work_beside<R: Print + Eprint + Input + Files + AllocGlobal>(
 ) -> Result<Status, Trouble> {
     let Ok(cert) = Cert::parse(rt.alloc(), &files.cert) else {
         // The line says what is wrong with the certificate.
-        let status = verify(rt, PROGRAM, bytes, &files.cert);
-        tell_fault(rt, PROGRAM, before.cert, &files.cert);
-        return Ok(status);
+        let names = FileNames {
+            rom: task.rom,
+            cert: before.cert,
+        };
+        return Ok(verify(rt, PROGRAM, names, bytes, &files.cert));
     };
     match (Symbols::parse(rt.alloc(), &files.symbols), before.symbols) {
         (Ok(old), Some(_)) => {
-            work_beside_files(rt, task, bytes, symbols, files, &cert, Some(&old), is_shown)
+            work_with_files(rt, task, bytes, symbols, files, &cert, Some(&old), is_shown)
         }
-        (Ok(_), None) => work_beside_files(rt, task, bytes, symbols, files, &cert, None, is_shown),
-        (Err(fault), Some(name)) => Ok(tell_symbols(rt, name, fault)),
+        (Ok(_), None) => work_with_files(rt, task, bytes, symbols, files, &cert, None, is_shown),
+        (Err(fault), Some(name)) => tell_symbols(rt, name, fault),
         (Err(_), None) => Err(Trouble::Memory),
     }
 }
@@ -168,31 +173,34 @@ fn print_changes<R: Print + Eprint + AllocGlobal>(
     }
 }
 
-/// Prints the verdict's line, and behind one that accepts what was changed.
+/// Prints the verdict's line, and after one that accepts what was changed.
 pub fn tell_verdict<R: Print + Eprint + AllocGlobal>(
     rt: &R,
-    task: &Task<'_>,
+    task: &CertifyTask<'_>,
     bytes: &[u8],
     cert_bytes: &[u8],
     changes: Option<&Changes>,
 ) -> Result<Status, Trouble> {
-    match (verify(rt, PROGRAM, bytes, cert_bytes), changes) {
+    match (
+        verify(rt, PROGRAM, task.names(), bytes, cert_bytes),
+        changes,
+    ) {
         (Status::Done, Some(changes)) => print_changes(rt, task.is_json, changes),
         (status, _) => Ok(status),
     }
 }
 
-/// The same of a certificate that was made.
+/// Prints what a certificate that was just made changed.
 pub fn tell_made<R: Print + Eprint + AllocGlobal>(
     rt: &R,
-    task: &Task<'_>,
+    task: &CertifyTask<'_>,
     bytes: &[u8],
     cert_bytes: &[u8],
     symbols: &Symbols<'_>,
     older: Option<&Older<'_, '_, '_, '_>>,
 ) -> Result<Status, Trouble> {
     let (Ok(rom), Ok(cert)) = (Rom::parse(bytes), Cert::parse(rt.alloc(), cert_bytes)) else {
-        return Ok(verify(rt, PROGRAM, bytes, cert_bytes));
+        return Ok(verify(rt, PROGRAM, task.names(), bytes, cert_bytes));
     };
     let changes = changes_of(rt.alloc(), &rom, &cert, symbols, older)?;
     tell_verdict(rt, task, bytes, cert_bytes, changes.as_ref())

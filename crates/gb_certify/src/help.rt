@@ -1,31 +1,26 @@
-//! What the program's help says below its list of words.
+//! The program's help below its list of words.
 
 /// Below the help.
 pub(crate) const BELOW: &str = "\
-certify ROM CERT makes a certificate of the cartridge ROM, has it checked by the checker of gulmyrek, writes it into the
-file CERT if it is accepted, and prints the verdict's line. Where no certificate can be made, no file is written (an older
-one of that name stays as it was); standard output says so in a line, and standard error tells each obstacle: its place, the
-instruction, the rule, the state there, the way there, and what usually mends it.
+certify analyses every path through the game, makes a certificate, has the proved checker of gulmyrek check it, and
+writes it to CERT. If the game doesn't pass, it writes no file. Then stderr shows each finding: where it is, what can go
+wrong, how the code gets there, and the fix. docs/FINDINGS.md explains each kind of finding.
 
-  certify game.gb game.cert --sym game.sym   tells addresses by symbols (RGBDS .sym, SDCC .noi and .map)
-  certify game.gb game.cert --lines game.cdb   tells the line of the source too, as game.c:120 (SDCC .cdb and .rst)
-  certify --explain game.gb game.cert        reads CERT: its verdict, why it is refused, and what the maker finds
-  certify --list game.gb game.cert           reads CERT: its nodes with instructions, registers and cells
-  certify --report page.html game.gb game.cert   a page for a browser: banks, stack, interrupts, RAM, the listing; CERT is
-                                             read, or made first where it isn't there; with --json the same facts
-                                             for programs
-  certify --compare old.cert game.gb game.cert   what the new build changed beside an older certificate, a line each behind
-                                             the verdict's, or as JSON, and with --report on the page; --old-rom and
-                                             --old-sym name the older cartridge and its symbols
+  certify game.gb game.cert --sym game.sym       check a game, with your labels in the findings
+  certify game.gb game.cert --lines game.cdb     with your source lines too, as in game.c:120
+  certify --report page.html game.gb game.cert   write a page for a browser: stack, interrupts, banks, RAM, routines
+  certify --explain game.gb game.cert            explain why an existing certificate is refused
+  certify --list game.gb game.cert               list its nodes with instructions, registers and RAM
+  certify --compare old.cert game.gb game.cert   show what changed since an older build
 
 It prints one line on standard output:
-  ACCEPTED nodes N procedures P  every run of the cartridge from power-up is safe, and CERT is written (status 0)
-  NO CERTIFICATE obstacles N     none could be made (status 1); with --json there is an object a line in its place
-  REFUSED node I reason R        with --explain or --report: CERT is refused (status 1)
-  CARTRIDGE Hn, CERTIFICATE Cn   a file is none (status 2)
-With --compare the status of an accepted certificate is 0 only where nothing that is compared has changed, else 1.
-Beside them status 2 says that the words are wrong or a file of symbols is none, 3 that memory ran out or a file or device
-can't be read or written. ROM may be - for standard input; where CERT is read, it may be - in its place.
+  ACCEPTED nodes N procedures P  the game passes, and CERT is written (status 0)
+  NO CERTIFICATE obstacles N     N findings (status 1); with --json, a line of JSON for each instead
+  REFUSED node I reason R        with --explain or --report: the checker refuses CERT (status 1)
+  CARTRIDGE Hn, CERTIFICATE Cn   not a valid ROM, not a valid certificate (status 2)
+  FAULT memory, FAULT device     not enough memory, or a file can't be read or written (status 3)
+With --compare, status 0 also means that nothing changed. Status 2 also means wrong arguments or symbols.
+ROM can be - for standard input; so can CERT where it is read.
 
-That no certificate was found doesn't mean that the cartridge is wrong. A certificate that is made is trusted no more than
-any other: gulmyrek verify gives the same verdict on it.";
+A finding doesn't prove that the game is wrong: the analysis is conservative and may reject a safe game. You don't have to
+trust certify: `gulmyrek verify game.gb game.cert` checks the certificate on its own.";

@@ -22,7 +22,7 @@ use std::io::Input;
 use std::process::ExitCode;
 use std::rt::{Env, Files};
 
-/// Runs the program on the words behind its name, and answers its status. `is_shown` says whether a person sees standard
+/// Runs the program on the words after its name, and answers its status. `is_shown` says whether a person sees standard
 /// error as it comes.
 pub fn run<R: Print + Eprint + Input + Files + Env + AllocGlobal>(
     rt: &R,

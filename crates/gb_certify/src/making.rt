@@ -3,15 +3,15 @@
 use crate::compare::tell_made;
 use crate::files::write_file;
 use crate::messages::PROGRAM;
-use crate::progress::Shown;
-use crate::words::Task;
+use crate::progress::RoundsShown;
+use crate::words::CertifyTask;
 use gb_command_line::messages::{tell_output, verify};
 use gb_command_line::status::Status;
 use gb_command_line::{
     Outcome, Plain, Rom, Trouble, UpgradeTo, Upgraded, upgrade_bytes, verify_bytes,
 };
 use gb_page::Older;
-use gb_refine::{Limits, Made, Obstacle, Symbols, Told, make, obstacle_json};
+use gb_refine::{Finding, Made, SearchLimits, ShownFinding, Symbols, finding_json, make};
 use std::io;
 use std::rt::Files;
 
@@ -37,7 +37,7 @@ fn is_upgraded<R: AllocGlobal>(rt: &R, cert: &[u8], newest: &mut Vec<u8>) -> boo
 /// accepts it so too.
 pub fn in_newest_version<R: AllocGlobal>(
     rt: &R,
-    task: &Task<'_>,
+    task: &CertifyTask<'_>,
     rom: &[u8],
     cert: Vec<u8>,
 ) -> Vec<u8> {
@@ -56,28 +56,28 @@ pub fn in_newest_version<R: AllocGlobal>(
 /// What the maker gives.
 pub fn made<R: Eprint + AllocGlobal>(
     rt: &R,
-    task: &Task<'_>,
+    task: &CertifyTask<'_>,
     rom: &Rom<'_>,
     is_shown: bool,
 ) -> Result<Made, Trouble> {
-    let limits = Limits {
+    let limits = SearchLimits {
         nodes: task.nodes as usize,
         rounds: ROUNDS,
         region: task.region,
         rules: task.rules,
     };
-    let mut progress = Shown::new(rt, is_shown);
+    let mut progress = RoundsShown::new(rt, is_shown);
     Ok(make(rt.alloc(), rom, limits, &mut progress)?)
 }
 
-/// Tells obstacles as JSON, an object a line, on standard output.
+/// Prints findings as JSON, an object a line, on standard output.
 fn print_json<R: Print + Eprint + AllocGlobal>(
     rt: &R,
-    obstacles: &[Obstacle],
+    findings: &[Finding],
     symbols: &Symbols<'_>,
 ) -> Result<Status, Trouble> {
-    for obstacle in obstacles {
-        let text = obstacle_json(rt.alloc(), obstacle, symbols)?;
+    for finding in findings {
+        let text = finding_json(rt.alloc(), finding, symbols)?;
         if rt.println(text.as_str()).is_err() {
             return Ok(tell_output(rt, PROGRAM));
         }
@@ -85,44 +85,44 @@ fn print_json<R: Print + Eprint + AllocGlobal>(
     Ok(Status::Refused)
 }
 
-/// Tells obstacles to a person, on standard error.
-pub fn tell_obstacles<R: Eprint>(rt: &R, obstacles: &[Obstacle], symbols: &Symbols<'_>) {
-    for (number, obstacle) in obstacles.iter().enumerate() {
+/// Prints findings on standard error.
+pub fn tell_findings<R: Eprint>(rt: &R, findings: &[Finding], symbols: &Symbols<'_>) {
+    for (number, finding) in findings.iter().enumerate() {
         let number = number.saturating_add(1);
-        let told = Told {
-            obstacle: &*obstacle,
+        let shown = ShownFinding {
+            finding: &*finding,
             symbols: &*symbols,
         };
-        let _ = match obstacle.line(symbols) {
-            Some(line) => eprintln!(rt; "{line}: {number}. {told}"),
-            None => eprintln!(rt; "{number}. {told}"),
+        let _ = match finding.line(symbols) {
+            Some(line) => eprintln!(rt; "{line}: {number}. {shown}"),
+            None => eprintln!(rt; "{number}. {shown}"),
         };
     }
 }
 
-/// Says that there is no certificate, and what is in the way.
+/// Says that there is no certificate, and why.
 pub fn report<R: Print + Eprint + AllocGlobal>(
     rt: &R,
-    task: &Task<'_>,
-    obstacles: &[Obstacle],
+    task: &CertifyTask<'_>,
+    findings: &[Finding],
     symbols: &Symbols<'_>,
 ) -> Result<Status, Trouble> {
     if task.is_json {
-        return print_json(rt, obstacles, symbols);
+        return print_json(rt, findings, symbols);
     }
-    tell_obstacles(rt, obstacles, symbols);
-    let count = obstacles.len();
+    tell_findings(rt, findings, symbols);
+    let count = findings.len();
     match println!(rt; "NO CERTIFICATE obstacles {count}") {
         Ok(()) => Ok(Status::Refused),
         Err(_) => Ok(tell_output(rt, PROGRAM)),
     }
 }
 
-/// Makes a certificate, writes it where the checker accepts it, and prints the verdict's line, and what was changed beside an
-/// older one.
+/// Makes a certificate, writes it where the checker accepts it, and prints the verdict's line, and what changed since an older
+/// one.
 pub fn make_file<R: Print + Eprint + Files + AllocGlobal>(
     rt: &R,
-    task: &Task<'_>,
+    task: &CertifyTask<'_>,
     bytes: &[u8],
     symbols: &Symbols<'_>,
     older: Option<&Older<'_, '_, '_, '_>>,
@@ -130,15 +130,15 @@ pub fn make_file<R: Print + Eprint + Files + AllocGlobal>(
 ) -> Result<Status, Trouble> {
     let Ok(rom) = Rom::parse(bytes) else {
         // The line says what is wrong with the cartridge.
-        return Ok(verify(rt, PROGRAM, bytes, b""));
+        return Ok(verify(rt, PROGRAM, task.names(), bytes, b""));
     };
     match made(rt, task, &rom, is_shown)? {
-        Made::Obstacles(obstacles) => report(rt, task, &obstacles, symbols),
+        Made::Findings(findings) => report(rt, task, &findings, symbols),
         Made::Certificate(cert) if is_accepted(rt, bytes, &cert) => {
             let cert = in_newest_version(rt, task, bytes, cert);
             write_file(rt, task.cert, &cert)?;
             tell_made(rt, task, bytes, &cert, symbols, older)
         }
-        Made::Certificate(_) => report(rt, task, &[Obstacle::Refused], symbols),
+        Made::Certificate(_) => report(rt, task, &[Finding::Internal], symbols),
     }
 }

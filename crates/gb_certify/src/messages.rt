@@ -1,11 +1,11 @@
 //! What the program alone says on standard error.
 
-use gb_command_line::shown_name;
 use gb_command_line::status::Status;
-use gb_refine::SymbolFault;
+use gb_command_line::{Trouble, shown_name};
+use gb_refine::{SymbolFault, SymbolFaultKind};
 use std::io;
 
-/// The program's name, in what it says to a person.
+/// The program's name, in its messages.
 pub(crate) const PROGRAM: &str = "certify";
 
 /// Says why a file can't be written.
@@ -15,21 +15,20 @@ pub fn tell_written<R: Eprint>(rt: &R, name: &str, error: &io::Error) {
         io::ErrorKind::PermissionDenied => eprintln!(rt;
             "certify: {name}: no permission to write it"
         ),
-        io::ErrorKind::IsADirectory => eprintln!(rt; "certify: {name}: it is a folder"),
-        io::ErrorKind::OutOfMemory => eprintln!(rt; "certify: {name}: memory ran out"),
+        io::ErrorKind::IsADirectory => eprintln!(rt; "certify: {name}: is a folder"),
+        io::ErrorKind::OutOfMemory => eprintln!(rt;
+            "certify: {name}: not enough memory to write it"
+        ),
         _ => eprintln!(rt; "certify: {name}: {error}"),
     };
 }
 
-/// Says which file is no cartridge.
-pub fn tell_no_cartridge<R: Eprint>(rt: &R, name: &str) {
-    let name = shown_name(name);
-    let _ = eprintln!(rt; "certify: {name}: it is no cartridge");
-}
-
-/// Says what is wrong with a file of symbols.
-pub fn tell_symbols<R: Eprint>(rt: &R, name: &str, fault: SymbolFault) -> Status {
-    let name = shown_name(name);
-    let _ = eprintln!(rt; "certify: {name}: {fault}");
-    Status::Unreadable
+/// Says what is wrong with a file of symbols or of lines.
+pub fn tell_symbols<R: Eprint>(rt: &R, name: &str, fault: SymbolFault) -> Result<Status, Trouble> {
+    let shown = shown_name(name);
+    let _ = eprintln!(rt; "certify: {shown}: {fault}");
+    match fault.kind {
+        SymbolFaultKind::Memory => Err(Trouble::Memory),
+        _ => Ok(Status::Unreadable),
+    }
 }

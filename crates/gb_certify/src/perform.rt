@@ -1,12 +1,13 @@
 //! What becomes of the words.
 
-use crate::compare::{read_before, work_beside};
+use crate::compare::{read_before, work_with_older};
 use crate::files::read_symbols;
 use crate::making::make_file;
 use crate::messages::{PROGRAM, tell_symbols};
 use crate::reading::{explain_file, list_file};
 use crate::report::report_file;
-use crate::words::{Task, Work, read_words};
+use crate::words::{CertifyTask, Work, read_words};
+use gb_command_line::messages::tell_memory;
 use gb_command_line::status::Status;
 use gb_command_line::words::{explain, tell_words, words_of};
 use gb_command_line::{Trouble, is_input, read_cartridge};
@@ -16,7 +17,7 @@ use std::io::Input;
 use std::rt::{Env, Files};
 
 /// The names of the older files.
-fn names_before<'a>(task: &Task<'a>) -> [Option<&'a str>; 3] {
+fn names_before<'a>(task: &CertifyTask<'a>) -> [Option<&'a str>; 3] {
     match task.before {
         Some(before) => [Some(before.cert), before.rom, before.symbols],
         None => [None, None, None],
@@ -29,13 +30,13 @@ fn inputs_among(names: &[Option<&str>]) -> usize {
 }
 
 /// How many of the files are standard input, which can be read only once.
-fn inputs(task: &Task<'_>) -> usize {
+fn inputs(task: &CertifyTask<'_>) -> usize {
     let names = [Some(task.rom), Some(task.cert), task.symbols, task.lines];
     inputs_among(&names).saturating_add(inputs_among(&names_before(task)))
 }
 
 /// Whether the older cartridge has this name.
-fn is_old_cartridge(task: &Task<'_>, name: &str) -> bool {
+fn is_old_cartridge(task: &CertifyTask<'_>, name: &str) -> bool {
     match task.before {
         Some(before) => before.rom == Some(name),
         None => false,
@@ -43,29 +44,29 @@ fn is_old_cartridge(task: &Task<'_>, name: &str) -> bool {
 }
 
 /// What is wrong with the name of the file that is to be written, if something is.
-fn wrong_output(task: &Task<'_>) -> Option<&'static str> {
+fn wrong_output(task: &CertifyTask<'_>) -> Option<&'static str> {
     match task.work {
         Work::Make if is_input(task.cert) => {
-            Some("CERT is written, so it can't be -; a file of that name is ./-")
+            Some("certify writes CERT, so it can't be -; use ./- for a file named -")
         }
         Work::Make if task.rom == task.cert => {
-            Some("CERT is written, so it can't be the cartridge's own file")
+            Some("certify writes CERT, and refuses to overwrite the ROM")
         }
         Work::Make if is_old_cartridge(task, task.cert) => {
-            Some("CERT is written, so it can't be the older cartridge's file")
+            Some("certify writes CERT, and refuses to overwrite the older ROM")
         }
         Work::Report(name) if is_input(name) => {
-            Some("FILE is written, so it can't be -; a file of that name is ./-")
+            Some("--report writes FILE, so it can't be -; use ./- for a file named -")
         }
         Work::Report(name) if is_read(task, name) => {
-            Some("FILE is written, so it can't be a file that is read")
+            Some("--report writes FILE, and refuses to overwrite a file that it reads")
         }
         _ => None,
     }
 }
 
 /// Whether a file of this name is read.
-fn is_read(task: &Task<'_>, name: &str) -> bool {
+fn is_read(task: &CertifyTask<'_>, name: &str) -> bool {
     task.rom == name
         || task.cert == name
         || task.symbols == Some(name)
@@ -76,7 +77,7 @@ fn is_read(task: &Task<'_>, name: &str) -> bool {
 /// Does what a task says, with the bytes of its cartridge, its symbols, and an older certificate, if there is one.
 pub fn work<R: Print + Eprint + Input + Files + AllocGlobal>(
     rt: &R,
-    task: &Task<'_>,
+    task: &CertifyTask<'_>,
     bytes: &[u8],
     symbols: &Symbols<'_>,
     older: Option<&Older<'_, '_, '_, '_>>,
@@ -90,10 +91,10 @@ pub fn work<R: Print + Eprint + Input + Files + AllocGlobal>(
     }
 }
 
-/// The same, where the older certificate isn't read yet.
+/// Does the task; the older certificate isn't read yet.
 fn work_on<R: Print + Eprint + Input + Files + AllocGlobal>(
     rt: &R,
-    task: &Task<'_>,
+    task: &CertifyTask<'_>,
     bytes: &[u8],
     symbols: &Symbols<'_>,
     is_shown: bool,
@@ -101,7 +102,7 @@ fn work_on<R: Print + Eprint + Input + Files + AllocGlobal>(
     match task.before {
         Some(before) => {
             let files = read_before(rt, &before)?;
-            work_beside(rt, task, &before, &files, bytes, symbols, is_shown)
+            work_with_older(rt, task, &before, &files, bytes, symbols, is_shown)
         }
         None => work(rt, task, bytes, symbols, None, is_shown),
     }
@@ -110,11 +111,11 @@ fn work_on<R: Print + Eprint + Input + Files + AllocGlobal>(
 /// Does what a task says; `is_shown` says whether a person sees standard error.
 fn perform<R: Print + Eprint + Input + Files + AllocGlobal>(
     rt: &R,
-    task: &Task<'_>,
+    task: &CertifyTask<'_>,
     is_shown: bool,
 ) -> Result<Status, Trouble> {
     if inputs(task) > 1 {
-        return Ok(tell_words(rt, "only one of the files can be - for standard input"));
+        return Ok(tell_words(rt, "only one file can be - (standard input)"));
     }
     if let Some(text) = wrong_output(task) {
         return Ok(tell_words(rt, text));
@@ -131,7 +132,11 @@ fn perform<R: Print + Eprint + Input + Files + AllocGlobal>(
     {
         return tell_fault(rt, task.lines, fault);
     }
-    work_on(rt, task, &bytes, &symbols, is_shown)
+    let done = work_on(rt, task, &bytes, &symbols, is_shown);
+    if let Err(Trouble::Memory) = done {
+        tell_memory(rt, PROGRAM, task.rom);
+    }
+    done
 }
 
 /// Says what is wrong with a file of symbols or of lines; where none is named, memory ran out.
@@ -141,7 +146,7 @@ fn tell_fault<R: Eprint>(
     fault: SymbolFault,
 ) -> Result<Status, Trouble> {
     match name {
-        Some(name) => Ok(tell_symbols(rt, name, fault)),
+        Some(name) => tell_symbols(rt, name, fault),
         None => Err(Trouble::Memory),
     }
 }
@@ -154,7 +159,7 @@ pub fn start<R: Print + Eprint + Input + Files + Env + AllocGlobal>(
     let Some(words) = words_of(rt)? else {
         return Ok(tell_words(
             rt,
-            "a word is not UTF-8; a cartridge with such a name can be given as - by < on standard input",
+            "an argument isn't UTF-8; pass such a ROM on standard input: `certify - game.cert < FILE`",
         ));
     };
     let mut texts = Vec::new(rt.alloc());

@@ -1,19 +1,19 @@
 //! How far the making of a certificate has come, for whoever waits for it.
 
-use gb_refine::Progress;
+use gb_refine::SearchProgress;
 
 /// A line on standard error that is written over and over, and wiped at the end.
 #[derive(Drop)]
-pub struct Shown<'a, R> {
+pub struct RoundsShown<'a, R> {
     rt: &'a R,
     is_shown: bool,
     number: u32,
 }
 
-impl<'a, R> Shown<'a, R> {
+impl<'a, R> RoundsShown<'a, R> {
     /// A line that is written only where it is to be shown.
-    pub fn new(rt: &'a R, is_shown: bool) -> Shown<'a, R> {
-        Shown {
+    pub fn new(rt: &'a R, is_shown: bool) -> RoundsShown<'a, R> {
+        RoundsShown {
             rt,
             is_shown,
             number: 0,
@@ -21,7 +21,7 @@ impl<'a, R> Shown<'a, R> {
     }
 }
 
-impl<R: Eprint> Progress for Shown<'_, R> {
+impl<R: Eprint> SearchProgress for RoundsShown<'_, R> {
     fn round(&mut self, number: u32) {
         self.number = number;
     }
@@ -37,7 +37,7 @@ impl<R: Eprint> Progress for Shown<'_, R> {
 
     fn shrinks(&mut self) {
         if self.is_shown {
-            let _ = eprint!(self.rt; "\rthere is one; smaller ones are sought");
+            let _ = eprint!(self.rt; "\r{:45}", "certificate found; trying smaller ones");
         }
     }
 

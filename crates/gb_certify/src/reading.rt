@@ -1,16 +1,16 @@
 //! A certificate that is there: its refusal explained, or its nodes listed.
 
-use crate::making::{made, tell_obstacles};
+use crate::making::{made, tell_findings};
 use crate::messages::PROGRAM;
-use crate::words::Task;
-use gb_command_line::messages::{tell_fault, tell_output, verify};
+use crate::words::CertifyTask;
+use gb_command_line::messages::{tell_output, verify};
 use gb_command_line::status::Status;
 use gb_command_line::{Cert, Rom, Trouble, read_certificate, shown_name};
 use gb_refine::{Listing, Made, Symbols, explain};
 use std::io::Input;
 use std::rt::Files;
 
-/// Says why a certificate is refused: of the node what gulmyrek says, and before it the node's symbol.
+/// Says why a certificate is refused, with the node's label before what gulmyrek says.
 fn tell_refusal<R: Eprint + AllocGlobal>(
     rt: &R,
     name: &str,
@@ -32,10 +32,10 @@ fn tell_refusal<R: Eprint + AllocGlobal>(
     }
 }
 
-/// Says what the maker finds for the same cartridge.
+/// Says whether a new certificate can be made for the same cartridge.
 fn tell_made<R: Eprint + AllocGlobal>(
     rt: &R,
-    task: &Task<'_>,
+    task: &CertifyTask<'_>,
     rom: &Rom<'_>,
     symbols: &Symbols<'_>,
     is_shown: bool,
@@ -43,12 +43,12 @@ fn tell_made<R: Eprint + AllocGlobal>(
     match made(rt, task, rom, is_shown)? {
         Made::Certificate(_) => {
             let _ = eprintln!(rt;
-                "certify: the cartridge itself is in order: without --explain a certificate is made"
+                "certify: the game itself passes: run certify without --explain to make a new certificate"
             );
         }
-        Made::Obstacles(obstacles) => {
-            let _ = eprintln!(rt; "certify: no certificate can be made either:");
-            tell_obstacles(rt, &obstacles, symbols);
+        Made::Findings(findings) => {
+            let _ = eprintln!(rt; "certify: a new certificate can't be made either:");
+            tell_findings(rt, &findings, symbols);
         }
     }
     Ok(())
@@ -57,23 +57,19 @@ fn tell_made<R: Eprint + AllocGlobal>(
 /// Prints the verdict's line of a certificate that is there, and says why it is refused.
 pub fn explain_file<R: Print + Eprint + Input + Files + AllocGlobal>(
     rt: &R,
-    task: &Task<'_>,
+    task: &CertifyTask<'_>,
     bytes: &[u8],
     symbols: &Symbols<'_>,
     is_shown: bool,
 ) -> Result<Status, Trouble> {
     let cert = read_certificate(rt, PROGRAM, task.cert)?;
-    let status = verify(rt, PROGRAM, bytes, &cert);
+    let status = verify(rt, PROGRAM, task.names(), bytes, &cert);
     let Ok(rom) = Rom::parse(bytes) else {
         return Ok(status);
     };
-    match status {
-        Status::Unreadable => tell_fault(rt, PROGRAM, task.cert, &cert),
-        Status::Refused => {
-            tell_refusal(rt, task.cert, bytes, &cert, symbols);
-            tell_made(rt, task, &rom, symbols, is_shown)?;
-        }
-        Status::Done | Status::Failed => {}
+    if status == Status::Refused {
+        tell_refusal(rt, task.cert, bytes, &cert, symbols);
+        tell_made(rt, task, &rom, symbols, is_shown)?;
     }
     Ok(status)
 }
@@ -81,16 +77,14 @@ pub fn explain_file<R: Print + Eprint + Input + Files + AllocGlobal>(
 /// Prints the nodes of a certificate that is there, right or wrong.
 pub fn list_file<R: Print + Eprint + Input + Files + AllocGlobal>(
     rt: &R,
-    task: &Task<'_>,
+    task: &CertifyTask<'_>,
     bytes: &[u8],
     symbols: &Symbols<'_>,
 ) -> Result<Status, Trouble> {
     let cert_bytes = read_certificate(rt, PROGRAM, task.cert)?;
     let (Ok(rom), Ok(cert)) = (Rom::parse(bytes), Cert::parse(rt.alloc(), &cert_bytes)) else {
-        // The line says which file is none, and what is wrong with it.
-        let status = verify(rt, PROGRAM, bytes, &cert_bytes);
-        tell_fault(rt, PROGRAM, task.cert, &cert_bytes);
-        return Ok(status);
+        // The line says which file isn't valid, and why.
+        return Ok(verify(rt, PROGRAM, task.names(), bytes, &cert_bytes));
     };
     let listing = Listing {
         rom: &rom,

@@ -5,12 +5,12 @@ use crate::files::{is_missing, write_file, write_whole};
 use crate::making::{in_newest_version, is_accepted, made, report};
 use crate::messages::PROGRAM;
 use crate::playing::{is_right, played};
-use crate::words::Task;
-use gb_command_line::messages::{tell_fault, verify};
+use crate::words::CertifyTask;
+use gb_command_line::messages::verify;
 use gb_command_line::status::Status;
 use gb_command_line::{Cert, Rom, Trouble, read_certificate};
-use gb_page::{Changes, Extras, Older, facts_json, obstacles_page, page_of};
-use gb_refine::{Made, Obstacle, Symbols, obstacle_json};
+use gb_page::{Changes, Extras, Older, facts_json, findings_page, page_of};
+use gb_refine::{Finding, Made, Symbols, finding_json};
 use std::alloc::{AllocError, Global};
 use std::fmt;
 use std::io::Input;
@@ -43,7 +43,7 @@ fn page_with_screen(
 /// What is written on a certificate: a page, or its facts as JSON.
 fn text_on(
     alloc: Global,
-    task: &Task<'_>,
+    task: &CertifyTask<'_>,
     rom: &Rom<'_>,
     cert: &Cert<'_>,
     symbols: &Symbols<'_>,
@@ -61,9 +61,9 @@ fn text_on(
 
 /// Texts on lines of their own.
 #[derive(Clone, Copy)]
-struct Lines<'a>(&'a [String]);
+struct JsonLines<'a>(&'a [String]);
 
-impl fmt::Display for Lines<'_> {
+impl fmt::Display for JsonLines<'_> {
     fn fmt<W: fmt::Write>(&self, f: &mut fmt::Formatter<W>) -> fmt::Result {
         for line in self.0 {
             let line = line.as_str();
@@ -76,36 +76,36 @@ impl fmt::Display for Lines<'_> {
 /// Obstacles as JSON, an object a line.
 fn obstacle_lines(
     alloc: Global,
-    obstacles: &[Obstacle],
+    findings: &[Finding],
     symbols: &Symbols<'_>,
 ) -> Result<String, AllocError> {
     let mut lines = Vec::new(alloc);
-    for obstacle in obstacles {
-        lines.push(obstacle_json(alloc, obstacle, symbols)?)?;
+    for finding in findings {
+        lines.push(finding_json(alloc, finding, symbols)?)?;
     }
-    let lines = Lines(lines.as_slice());
+    let lines = JsonLines(lines.as_slice());
     format!(in alloc; "{lines}")
 }
 
-/// What is written where there is no certificate: a page, or the obstacles as JSON.
+/// What is written where there is no certificate: a page, or the findings as JSON.
 fn text_on_obstacles(
     alloc: Global,
-    task: &Task<'_>,
+    task: &CertifyTask<'_>,
     rom: &Rom<'_>,
-    obstacles: &[Obstacle],
+    findings: &[Finding],
     symbols: &Symbols<'_>,
 ) -> Result<String, AllocError> {
     if task.is_json {
-        obstacle_lines(alloc, obstacles, symbols)
+        obstacle_lines(alloc, findings, symbols)
     } else {
-        obstacles_page(alloc, rom, obstacles, symbols, task.before.is_some())
+        findings_page(alloc, rom, findings, symbols, task.before.is_some())
     }
 }
 
 /// Writes a page on a certificate, right or wrong, and prints the verdict's line.
 fn write_page<R: Print + Eprint + Files + AllocGlobal>(
     rt: &R,
-    task: &Task<'_>,
+    task: &CertifyTask<'_>,
     name: &str,
     bytes: &[u8],
     cert_bytes: &[u8],
@@ -113,10 +113,8 @@ fn write_page<R: Print + Eprint + Files + AllocGlobal>(
     older: Option<&Older<'_, '_, '_, '_>>,
 ) -> Result<Status, Trouble> {
     let (Ok(rom), Ok(cert)) = (Rom::parse(bytes), Cert::parse(rt.alloc(), cert_bytes)) else {
-        // The line says which file is none, and what is wrong with it.
-        let status = verify(rt, PROGRAM, bytes, cert_bytes);
-        tell_fault(rt, PROGRAM, task.cert, cert_bytes);
-        return Ok(status);
+        // The line says which file isn't valid, and why.
+        return Ok(verify(rt, PROGRAM, task.names(), bytes, cert_bytes));
     };
     let changes = changes_of(rt.alloc(), &rom, &cert, symbols, older)?;
     let page = text_on(rt.alloc(), task, &rom, &cert, symbols, changes.as_ref())?;
@@ -124,24 +122,24 @@ fn write_page<R: Print + Eprint + Files + AllocGlobal>(
     tell_verdict(rt, task, bytes, cert_bytes, changes.as_ref())
 }
 
-/// Writes a page on what is in the way of a certificate, and says that there is none.
+/// Writes a page on why there is no certificate, and says that there is none.
 fn write_obstacles<R: Print + Eprint + Files + AllocGlobal>(
     rt: &R,
-    task: &Task<'_>,
+    task: &CertifyTask<'_>,
     name: &str,
     rom: &Rom<'_>,
-    obstacles: &[Obstacle],
+    findings: &[Finding],
     symbols: &Symbols<'_>,
 ) -> Result<Status, Trouble> {
-    let page = text_on_obstacles(rt.alloc(), task, rom, obstacles, symbols)?;
+    let page = text_on_obstacles(rt.alloc(), task, rom, findings, symbols)?;
     write_whole(rt, name, page.as_bytes())?;
-    report(rt, task, obstacles, symbols)
+    report(rt, task, findings, symbols)
 }
 
 /// Makes the certificate first, and writes it where the checker accepts it.
 fn report_made<R: Print + Eprint + Files + AllocGlobal>(
     rt: &R,
-    task: &Task<'_>,
+    task: &CertifyTask<'_>,
     name: &str,
     bytes: &[u8],
     symbols: &Symbols<'_>,
@@ -150,17 +148,17 @@ fn report_made<R: Print + Eprint + Files + AllocGlobal>(
 ) -> Result<Status, Trouble> {
     let Ok(rom) = Rom::parse(bytes) else {
         // The line says what is wrong with the cartridge.
-        return Ok(verify(rt, PROGRAM, bytes, b""));
+        return Ok(verify(rt, PROGRAM, task.names(), bytes, b""));
     };
     match made(rt, task, &rom, is_shown)? {
-        Made::Obstacles(obstacles) => write_obstacles(rt, task, name, &rom, &obstacles, symbols),
+        Made::Findings(findings) => write_obstacles(rt, task, name, &rom, &findings, symbols),
         Made::Certificate(cert) if is_accepted(rt, bytes, &cert) => {
             let cert = in_newest_version(rt, task, bytes, cert);
             write_file(rt, task.cert, &cert)?;
             write_page(rt, task, name, bytes, &cert, symbols, older)
         }
         Made::Certificate(_) => {
-            write_obstacles(rt, task, name, &rom, &[Obstacle::Refused], symbols)
+            write_obstacles(rt, task, name, &rom, &[Finding::Internal], symbols)
         }
     }
 }
@@ -168,7 +166,7 @@ fn report_made<R: Print + Eprint + Files + AllocGlobal>(
 /// Writes a page on a certificate; where its file isn't there, one is made first.
 pub fn report_file<R: Print + Eprint + Input + Files + AllocGlobal>(
     rt: &R,
-    task: &Task<'_>,
+    task: &CertifyTask<'_>,
     name: &str,
     bytes: &[u8],
     symbols: &Symbols<'_>,

@@ -3,11 +3,12 @@
 use crate::help;
 use clap::error::ErrorKind;
 use clap::{Arg, ArgAction, ArgMatches, Command, Error};
+use gb_command_line::messages::FileNames;
 use gb_ops::machine::Region;
 use gb_refine::Rules;
 use std::alloc::{AllocError, Global};
 
-/// The most nodes that may be allowed: a certificate of version 2 has no more.
+/// The most nodes that may be allowed: a certificate of versions 2 and 3 has no more.
 const MOST_NODES: i64 = 1_048_576;
 
 /// The most nodes, where nothing is said.
@@ -28,7 +29,7 @@ pub enum Work<'a> {
 
 /// An older certificate, and its cartridge and its symbols, where they are named.
 #[derive(Clone, Copy, PartialEq, Eq)]
-pub struct Before<'a> {
+pub struct OlderBuild<'a> {
     pub cert: &'a str,
     pub rom: Option<&'a str>,
     pub symbols: Option<&'a str>,
@@ -36,7 +37,7 @@ pub struct Before<'a> {
 
 /// What the program is asked to do.
 #[derive(Clone, Copy, PartialEq, Eq)]
-pub struct Task<'a> {
+pub struct CertifyTask<'a> {
     pub work: Work<'a>,
     pub rom: &'a str,
     pub cert: &'a str,
@@ -44,12 +45,22 @@ pub struct Task<'a> {
     /// The file of the author's lines.
     pub lines: Option<&'a str>,
     /// With what the certificate is compared.
-    pub before: Option<Before<'a>>,
+    pub before: Option<OlderBuild<'a>>,
     pub nodes: u32,
     pub region: Option<Region>,
     /// The rules by which alone a certificate is sought.
     pub rules: Option<Rules>,
     pub is_json: bool,
+}
+
+impl<'a> CertifyTask<'a> {
+    /// The names of the cartridge's and of the certificate's file.
+    pub fn names(&self) -> FileNames<'a> {
+        FileNames {
+            rom: self.rom,
+            cert: self.cert,
+        }
+    }
 }
 
 /// An argument that names a file.
@@ -87,7 +98,9 @@ fn with_arg<'a>(
 /// The program without its words.
 fn plain_command<'a>(alloc: Global) -> Result<Command<'a>, AllocError> {
     Command::new(alloc, "certify")
-        .about("certify makes a certificate for a Game Boy cartridge and has it checked")
+        .about(
+            "Checks that a Game Boy game can't crash by its stack, banks, interrupts or DMA, and makes its certificate",
+        )
         .after_help(help::BELOW)
         .version("0.5.0")
         .no_binary_name(true)
@@ -99,7 +112,7 @@ fn with_files<'a>(alloc: Global) -> Result<Command<'a>, AllocError> {
     let command = plain_command(alloc);
     let command = with_arg(
         command,
-        file_arg(alloc, "rom", "ROM", "The cartridge's file"),
+        file_arg(alloc, "rom", "ROM", "The game (.gb); certify only reads it"),
     );
     with_arg(
         command,
@@ -107,7 +120,7 @@ fn with_files<'a>(alloc: Global) -> Result<Command<'a>, AllocError> {
             alloc,
             "cert",
             "CERT",
-            "The certificate's file, which is written",
+            "The certificate; certify writes it if the game passes",
         ),
     )
 }
@@ -119,39 +132,39 @@ fn with_options<'a>(alloc: Global) -> Result<Command<'a>, AllocError> {
         alloc,
         "sym",
         "FILE",
-        "Tell addresses by the symbols of this file",
+        "Show your labels: RGBDS .sym, SDCC .noi or .map",
     );
     let lines = option_arg(
         alloc,
         "lines",
         "FILE",
-        "Tell the lines of sources by this file, SDCC's .cdb or .rst",
+        "Show your source lines: SDCC .cdb or .rst",
     );
     let nodes = option_arg(
         alloc,
         "nodes",
         "N",
-        "Allow so many nodes, 400000 if nothing is said, at most 1048576: no certificate has more",
+        "Limit of nodes, at most 1048576; default 400000",
     )
     .value_parser(clap::value_parser!(u32).range(1..=MOST_NODES));
     let stack = option_arg(
         alloc,
         "stack",
         "FIRST..LAST",
-        "The stack's addresses, as DF00..DFFF; else the least that is needed below LD SP",
+        "Addresses for the stack, as in DF00..DFFF; default: as many as needed below `ld sp`",
     );
     let rules = option_arg(
         alloc,
         "rules",
         "N",
-        "Make it by the rules of version N alone, 1, 2 or 3; else by those of 3, and then by those of 1 and 2",
+        "Use the rules of version 1, 2 or 3 only; default: 3, then 1 and 2",
     )
     .value_parser(clap::value_parser!(u32).range(1..=3));
     let report = option_arg(
         alloc,
         "report",
         "FILE",
-        "Write a page on CERT into FILE; CERT is made first where it isn't there",
+        "Write a report page (HTML) into FILE; makes CERT first if it doesn't exist",
     );
     let command = with_arg(with_arg(with_arg(command, symbols), lines), nodes);
     with_arg(with_arg(with_arg(command, stack), rules), report)
@@ -164,19 +177,19 @@ fn with_before<'a>(alloc: Global) -> Result<Command<'a>, AllocError> {
         alloc,
         "compare",
         "OLD",
-        "Tell what CERT changed beside the older certificate OLD",
+        "Show what changed since the older certificate OLD",
     );
     let rom = option_arg(
         alloc,
         "old-rom",
         "FILE",
-        "The cartridge of OLD, which tells the stack's deepest way before",
+        "The older ROM, for the older deepest call chain",
     );
     let symbols = option_arg(
         alloc,
         "old-sym",
         "FILE",
-        "The symbols of OLD, by which procedures are found that have moved",
+        "The older symbols, to match routines that moved",
     );
     with_arg(with_arg(with_arg(command, compare), rom), symbols)
 }
@@ -184,16 +197,12 @@ fn with_before<'a>(alloc: Global) -> Result<Command<'a>, AllocError> {
 /// The program's command line.
 fn program_command<'a>(alloc: Global) -> Result<Command<'a>, AllocError> {
     let command = with_before(alloc);
-    let explain = flag_arg(
-        alloc,
-        "explain",
-        "Explain why CERT, which is there, is refused",
-    );
-    let list = flag_arg(alloc, "list", "List the nodes of CERT, which is there");
+    let explain = flag_arg(alloc, "explain", "Explain why an existing CERT is refused");
+    let list = flag_arg(alloc, "list", "List the nodes of an existing CERT");
     let json = flag_arg(
         alloc,
         "json",
-        "Tell what is in the way as JSON on standard output; with --report, the facts in FILE",
+        "Print findings as JSON on standard output; with --report, write JSON into FILE",
     );
     let command = with_arg(with_arg(command, explain), list);
     with_arg(command, json)
@@ -252,7 +261,7 @@ fn stack_of(alloc: Global, matches: &ArgMatches<'_>) -> Result<Option<Region>, E
         Some(region) => Ok(Some(region)),
         None => Err(wrong(
             alloc,
-            "--stack wants FIRST..LAST in hexadecimal, an even number of bytes inside C000..DFFF or FF80..FFFE, as DF00..DFFF",
+            "--stack needs FIRST..LAST in hexadecimal, for example DF00..DFFF: an even number of bytes in WRAM (C000..DFFF) or HRAM (FF80..FFFE)",
         )),
     }
 }
@@ -287,34 +296,34 @@ fn before_of<'a>(
     alloc: Global,
     matches: &ArgMatches<'a>,
     work: Work<'a>,
-) -> Result<Option<Before<'a>>, Error> {
+) -> Result<Option<OlderBuild<'a>>, Error> {
     let rom = matches.get_str("old-rom");
     let symbols = matches.get_str("old-sym");
     match (matches.get_str("compare"), work) {
-        (Some(cert), Work::Make | Work::Report(_)) => Ok(Some(Before { cert, rom, symbols })),
+        (Some(cert), Work::Make | Work::Report(_)) => Ok(Some(OlderBuild { cert, rom, symbols })),
         (Some(_), Work::Explain | Work::List) => Err(wrong(
             alloc,
             "--compare can't be used with --explain or --list",
         )),
         (None, _) if rom.is_some() || symbols.is_some() => {
-            Err(wrong(alloc, "--old-rom and --old-sym go with --compare"))
+            Err(wrong(alloc, "--old-rom and --old-sym need --compare"))
         }
         (None, _) => Ok(None),
     }
 }
 
 /// What the words after the program's name ask for.
-pub fn read_words<'a>(alloc: Global, words: &'a [&'a str]) -> Result<Task<'a>, Error> {
+pub fn read_words<'a>(alloc: Global, words: &'a [&'a str]) -> Result<CertifyTask<'a>, Error> {
     let matches = program_command(alloc)?.try_get_matches_from(words)?;
     let (Some(rom), Some(cert)) = (matches.get_str("rom"), matches.get_str("cert")) else {
-        return Err(wrong(alloc, "ROM and CERT are wanted"));
+        return Err(wrong(alloc, "ROM and CERT are missing"));
     };
     let nodes = match matches.get_one::<u32>("nodes") {
         Some(nodes) => nodes,
         None => NODES,
     };
     let work = work_of(alloc, &matches)?;
-    Ok(Task {
+    Ok(CertifyTask {
         work,
         rom,
         cert,

@@ -3,13 +3,13 @@
 use crate::order::order;
 use gb_cert::{NodePlan, ProcedurePlan, Version, WriteFault, write_certificate};
 use gb_fixpoint::limits::COMPARED;
-use gb_fixpoint::types::{Node, Procedure, Run};
+use gb_fixpoint::types::{Run, RunNode, RunProcedure};
 use gb_fixpoint::{Abs, Region, Rules, covers, known_bank};
 use std::alloc::{AllocError, Global};
 
 /// Where a node stands in a certificate: by its procedure, then by its address.
 #[derive(Clone, Copy, PartialEq, Eq, PartialOrd, Ord)]
-struct Standing {
+struct NodeStanding {
     procedure: usize,
     address: u16,
     node: usize,
@@ -73,7 +73,11 @@ fn base_of(run: &Run<'_>, number: usize) -> u16 {
 }
 
 /// A procedure with this base. What is too large for its field is above the limit that the writer names.
-fn procedure_plan<'a>(procedure: &'a Procedure, base: u16, places: &[usize]) -> ProcedurePlan<'a> {
+fn procedure_plan<'a>(
+    procedure: &'a RunProcedure,
+    base: u16,
+    places: &[usize],
+) -> ProcedurePlan<'a> {
     let entry = match procedure.entry {
         Some(number) => places.get(number).copied().unwrap_or(0),
         None => 0,
@@ -88,7 +92,7 @@ fn procedure_plan<'a>(procedure: &'a Procedure, base: u16, places: &[usize]) -> 
 }
 
 /// In what state a procedure returns, if it does.
-fn exit_of(procedure: &Procedure) -> Option<&Abs> {
+fn exit_of(procedure: &RunProcedure) -> Option<&Abs> {
     match &procedure.exit {
         Some(state) => Some(state),
         None => None,
@@ -99,7 +103,7 @@ fn exit_of(procedure: &Procedure) -> Option<&Abs> {
 fn nodes<'a>(
     alloc: Global,
     run: &'a Run<'_>,
-    standings: &[Standing],
+    standings: &[NodeStanding],
 ) -> Result<Vec<NodePlan<'a>>, WriteFault> {
     let mut nodes = Vec::new(alloc);
     for standing in standings {
@@ -114,7 +118,7 @@ fn nodes<'a>(
 fn node_plan<'a>(
     run: &Run<'_>,
     procedure: usize,
-    node: &'a Node,
+    node: &'a RunNode,
 ) -> Result<NodePlan<'a>, WriteFault> {
     let Ok(procedure) = u8::try_from(procedure) else {
         return Err(WriteFault::Procedures);
@@ -130,7 +134,11 @@ fn node_plan<'a>(
 }
 
 /// The nodes that a certificate needs, in its order, by the order of procedures.
-fn standings(alloc: Global, run: &Run<'_>, order: &[usize]) -> Result<Vec<Standing>, AllocError> {
+fn standings(
+    alloc: Global,
+    run: &Run<'_>,
+    order: &[usize],
+) -> Result<Vec<NodeStanding>, AllocError> {
     let numbers = numbers(alloc, run, order)?;
     let spare = spare_nodes(alloc, run)?;
     let mut standings = Vec::new(alloc);
@@ -144,14 +152,14 @@ fn add_standings(
     run: &Run<'_>,
     numbers: &[usize],
     spare: &[bool],
-    standings: &mut Vec<Standing>,
+    standings: &mut Vec<NodeStanding>,
 ) -> Result<(), AllocError> {
     for (number, node) in run.nodes.iter().enumerate() {
         if spare.get(number) == Some(&true) {
             continue;
         }
         if let Some(procedure) = numbers.get(node.key.procedure) {
-            standings.push(Standing {
+            standings.push(NodeStanding {
                 procedure: *procedure,
                 address: node.key.address,
                 node: number,
@@ -173,7 +181,11 @@ fn numbers(alloc: Global, run: &Run<'_>, order: &[usize]) -> Result<Vec<usize>, 
 }
 
 /// For each node its number in a certificate, 0 where it is spare.
-fn places(alloc: Global, run: &Run<'_>, standings: &[Standing]) -> Result<Vec<usize>, AllocError> {
+fn places(
+    alloc: Global,
+    run: &Run<'_>,
+    standings: &[NodeStanding],
+) -> Result<Vec<usize>, AllocError> {
     let mut places = vec![in alloc; 0; run.nodes.len()]?;
     for (place, standing) in standings.iter().enumerate() {
         if let Some(number) = places.get_mut(standing.node) {
@@ -226,7 +238,7 @@ fn is_spare(run: &Run<'_>, number: usize, nodes: &[usize], spare: &[bool]) -> bo
 }
 
 /// Whether a node stands for all that another one does.
-fn stands_for(run: &Run<'_>, number: usize, node: &Node) -> bool {
+fn stands_for(run: &Run<'_>, number: usize, node: &RunNode) -> bool {
     match run.nodes.get(number) {
         Some(other) => covers(&node.state, &other.state),
         None => false,
@@ -234,7 +246,7 @@ fn stands_for(run: &Run<'_>, number: usize, node: &Node) -> bool {
 }
 
 /// Whether a node stands for all that the node with a number does.
-fn is_above(run: &Run<'_>, node: &Node, number: usize) -> bool {
+fn is_above(run: &Run<'_>, node: &RunNode, number: usize) -> bool {
     match run.nodes.get(number) {
         Some(other) => covers(&other.state, &node.state),
         None => false,

@@ -14,8 +14,9 @@ pub use needs::find_needs;
 
 // What lies below, for the crates above.
 pub use gb_cert::WriteFault;
-pub use gb_fixpoint::cause::{Cause, Failure, Outcome, StackMisuse, Wish};
-pub use gb_fixpoint::configuration::{Configuration, Place};
+pub use gb_fixpoint::cause::{Cause, Failure, RunEnd, StackMisuse, Wish};
+pub use gb_fixpoint::code_point::CodePoint;
+pub use gb_fixpoint::configuration::{Configuration, TargetPlace};
 pub use gb_fixpoint::register_set::REGISTERS;
 pub use gb_fixpoint::types::{Run, Spot};
 pub use gb_fixpoint::{Cert, Rom, Rules, Verdict, check, is_ram, limits};

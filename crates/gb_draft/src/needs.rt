@@ -1,12 +1,12 @@
 //! The bytes of stack that procedures need.
 
 use gb_fixpoint::limits::PROCEDURES;
-use gb_fixpoint::types::{Call, Run};
+use gb_fixpoint::types::{CallSite, Run};
 use std::alloc::{AllocError, Global};
 use std::collections::{BTreeMap, BTreeSet};
 
 /// For each call the most bytes that its sites hold.
-type Held = BTreeMap<Call, usize>;
+type Held = BTreeMap<CallSite, usize>;
 
 /// Finds the least needs of a run's procedures: the bytes that a procedure's own nodes hold, and at each call those and the
 /// return word, but for what the callee takes over, and the callee's need. Some where there are none: the number of a procedure on a cycle of calls.
@@ -40,7 +40,7 @@ fn add_held(
         if let Some(node) = run.nodes.get(*site) {
             let caller = node.key.procedure;
             let bytes = node.state.items().len();
-            let most = held.entry(Call { caller, callee })?.or_insert(0);
+            let most = held.entry(CallSite { caller, callee })?.or_insert(0);
             *most = bytes.max(*most);
         }
     }
@@ -57,7 +57,7 @@ fn set_own_needs(run: &mut Run<'_>) {
 }
 
 /// What a caller needs at a call.
-fn need_at(run: &Run<'_>, call: &Call, held: usize) -> usize {
+fn need_at(run: &Run<'_>, call: &CallSite, held: usize) -> usize {
     match run.procedures.get(call.callee) {
         Some(callee) => held
             .saturating_add(2)

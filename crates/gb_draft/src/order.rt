@@ -1,10 +1,11 @@
 //! The order of procedures in a certificate. The checker takes the first procedure that stands for what is entered, so
 //! each call must find its own one before others.
 
+use gb_fixpoint::code_point::CodePoint;
 use gb_fixpoint::entries::Entered;
 use gb_fixpoint::keys::ProcedureKey;
 use gb_fixpoint::register_set::REGISTERS;
-use gb_fixpoint::types::{Procedure, Run};
+use gb_fixpoint::types::{Run, RunProcedure};
 use gb_fixpoint::{Abs, Core, ImeSet, Rules, Val, covers};
 use std::alloc::{AllocError, Global};
 use std::collections::{BTreeMap, BTreeSet};
@@ -27,7 +28,7 @@ struct Ranked {
 const CELLS: usize = 64;
 
 /// By target, the numbers of the procedures that begin there.
-type Entries = BTreeMap<u16, Vec<usize>>;
+type Entries = BTreeMap<CodePoint, Vec<usize>>;
 
 /// How many values there are beside the first.
 fn width(val: &Val) -> usize {
@@ -153,13 +154,13 @@ fn entries(alloc: Global, run: &Run<'_>) -> Result<Entries, AllocError> {
     let mut entries = BTreeMap::new(alloc);
     for (number, procedure) in run.procedures.iter().enumerate() {
         if number != 0 {
-            add_entry(&mut entries, procedure.key.target, number)?;
+            add_entry(&mut entries, procedure.key.point(), number)?;
         }
     }
     Ok(entries)
 }
 
-fn add_entry(entries: &mut Entries, target: u16, number: usize) -> Result<(), AllocError> {
+fn add_entry(entries: &mut Entries, target: CodePoint, number: usize) -> Result<(), AllocError> {
     entries.entry(target)?.or_default().push(number)?;
     Ok(())
 }
@@ -211,7 +212,7 @@ fn add_others(
 }
 
 /// Whether a procedure with a base takes over what the one takes that is entered, its base being right.
-fn fits(run: &Run<'_>, procedure: &Procedure, entered: &Entered) -> bool {
+fn fits(run: &Run<'_>, procedure: &RunProcedure, entered: &Entered) -> bool {
     let ProcedureKey { base, taken, .. } = procedure.key;
     let waiting = entered.held.saturating_sub(usize::from(taken));
     let is_right = base == 0

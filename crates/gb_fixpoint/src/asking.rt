@@ -5,11 +5,10 @@
 use crate::bounds::bounds_of;
 use crate::cause::Wish;
 use crate::limits::ARGUMENTS;
-use crate::stop::Stop;
+use crate::stop::RunStop;
 use crate::types::Run;
-use gb_domain::pairs::WordPair;
 use gb_ops::op::{Indirect, Op, Operand, Pair, Register};
-use gb_verify::{Abs, AbsRead, AbsWrite, Core, Origin, Rules, Span, Successors, Target};
+use gb_verify::{Abs, AbsRead, AbsWrite, Core, Origin, Rules, Span, Successors, Target, WordPair};
 
 /// The bytes that an instruction takes off the stack.
 fn bytes_taken(op: Op) -> usize {
@@ -85,17 +84,17 @@ impl<'a> Run<'a> {
     }
 
     /// A procedure that is called is followed in its callers from now on. Nothing is wanted of main and of handlers.
-    pub(crate) fn want_inline(&self, procedure: usize) -> Result<(), Stop> {
+    pub(crate) fn want_inline(&self, procedure: usize) -> Result<(), RunStop> {
         let target = self.target(procedure);
         if self.is_called(procedure) && !self.configuration.inlined.contains(&target) {
-            Err(Stop::Wanted(Wish::Inline(target)))
+            Err(RunStop::Wanted(Wish::Inline(target)))
         } else {
             Ok(())
         }
     }
 
     /// A procedure takes over so many more of its callers' bytes from now on, or is followed in them where these are too many.
-    pub(crate) fn want_bytes(&self, procedure: usize, more: usize) -> Result<(), Stop> {
+    pub(crate) fn want_bytes(&self, procedure: usize, more: usize) -> Result<(), RunStop> {
         if !self.is_called(procedure) {
             return Ok(());
         }
@@ -104,14 +103,14 @@ impl<'a> Run<'a> {
             Ok(more)
                 if more <= ARGUMENTS
                     && self.configuration.arguments_at(target) <= ARGUMENTS - more => {
-                Err(Stop::Wanted(Wish::Arguments { target, more }))
+                Err(RunStop::Wanted(Wish::Arguments { target, more }))
             }
             _ => self.want_inline(procedure),
         }
     }
 
     /// A procedure knows its base from now on, if it doesn't yet.
-    pub(crate) fn want_base(&self, procedure: usize) -> Result<(), Stop> {
+    pub(crate) fn want_base(&self, procedure: usize) -> Result<(), RunStop> {
         let target = self.target(procedure);
         if procedure == 0
             || self.base_of(procedure) != 0
@@ -119,12 +118,12 @@ impl<'a> Run<'a> {
         {
             Ok(())
         } else {
-            Err(Stop::Wanted(Wish::Base(target)))
+            Err(RunStop::Wanted(Wish::Base(target)))
         }
     }
 
     /// What an instruction asks before it is executed in a state of a procedure.
-    pub(crate) fn ask_before(&self, procedure: usize, state: &Abs, op: Op) -> Result<(), Stop> {
+    pub(crate) fn ask_before(&self, procedure: usize, state: &Abs, op: Op) -> Result<(), RunStop> {
         if self.rules() == Rules::Simple {
             return Ok(());
         }
@@ -142,7 +141,11 @@ impl<'a> Run<'a> {
     }
 
     /// What an instruction asks, by what it reads and writes and where it goes on.
-    pub(crate) fn ask_behind(&self, procedure: usize, ways: &Successors<'_>) -> Result<(), Stop> {
+    pub(crate) fn ask_behind(
+        &self,
+        procedure: usize,
+        ways: &Successors<'_>,
+    ) -> Result<(), RunStop> {
         if self.rules() == Rules::Simple || procedure == 0 {
             return Ok(());
         }
@@ -167,7 +170,7 @@ impl<'a> Run<'a> {
     }
 
     /// A store into the stack region: the procedure knows its base, and the bytes are its own.
-    fn ask_store(&self, procedure: usize, span: Span) -> Result<(), Stop> {
+    fn ask_store(&self, procedure: usize, span: Span) -> Result<(), RunStop> {
         if !self.lies_in_region(span) {
             return Ok(());
         }
@@ -176,7 +179,7 @@ impl<'a> Run<'a> {
     }
 
     /// A read of one byte of the stack: it is the procedure's own.
-    fn ask_read(&self, procedure: usize, span: Span) -> Result<(), Stop> {
+    fn ask_read(&self, procedure: usize, span: Span) -> Result<(), RunStop> {
         if self.lies_in_region(span) {
             self.ask_above(procedure, span)
         } else {
@@ -185,7 +188,7 @@ impl<'a> Run<'a> {
     }
 
     /// Bytes at and above the base are taken over.
-    fn ask_above(&self, procedure: usize, span: Span) -> Result<(), Stop> {
+    fn ask_above(&self, procedure: usize, span: Span) -> Result<(), RunStop> {
         let base = self.base_of(procedure);
         if base != 0 && base <= span.last {
             let above = usize::from(span.last.saturating_sub(base));

@@ -1,9 +1,8 @@
 //! Bounds of pairs.
 
-use gb_domain::pairs::{Bounds, PairFacts, Pairs, WordPair};
 use gb_ops::op::Register;
 use gb_ops::registers::Registers;
-use gb_verify::Val;
+use gb_verify::{Bounds, PairFacts, Pairs, Val, WordPair};
 
 /// The pairs that words are known of.
 pub(crate) const WORD_PAIRS: [WordPair; 3] = [WordPair::Bc, WordPair::De, WordPair::Hl];

@@ -1,13 +1,14 @@
 //! Calls and dispatches: procedures are found or made, entered, and resumed behind.
 
 use crate::cause::Cause;
+use crate::code_point::CodePoint;
 use crate::contexts::Context;
 use crate::keys::{ControllerKey, KnownRegisters, NodeKey, ProcedureKey};
 use crate::limits::PROCEDURES;
 use crate::register_set::RegisterSet;
-use crate::stop::Stop;
+use crate::stop::RunStop;
 use crate::tracking::keep_tracked;
-use crate::types::{Call, Procedure, Run};
+use crate::types::{CallSite, Run, RunProcedure};
 use gb_verify::{Abs, Core, Range, Resumed, Rules, enter, resume};
 use std::collections::BTreeSet;
 use std::mem;
@@ -22,24 +23,25 @@ impl<'a> Run<'a> {
         target: u16,
         back: u16,
         is_handler: bool,
-    ) -> Result<(), Stop> {
+    ) -> Result<(), RunStop> {
         let Some(node) = self.nodes.get(number) else {
             return Ok(());
         };
         let procedure = node.key.procedure;
-        if self.is_inlined(target) {
+        let point = CodePoint::of(self.rom, &caller.core().ctl, target);
+        if self.is_inlined(point) {
             self.returns.insert(back)?;
             return self.flow(number, target, caller);
         }
-        self.ask_callee(procedure, caller, target)?;
-        let context = self.context(procedure, caller, target);
+        self.ask_callee(procedure, caller, point)?;
+        let context = self.context(procedure, caller, point);
         let mut entered = enter(self.rules(), context.taken, caller);
         keep_tracked(&mut entered, self.tracked.as_slice());
         let cells = self.number_cells(entered.cells())?;
-        let key = self.procedure_key(entered.core(), target, is_handler, cells, context);
+        let key = self.procedure_key(entered.core(), point, is_handler, cells, context);
         let callee = self.procedure_with(key)?;
         self.link(number, procedure, callee, target)?;
-        self.arrive(Some(number), NodeKey::of_entry(callee, target), &entered)?;
+        self.arrive(Some(number), NodeKey::of_entry(callee, point), &entered)?;
         self.inherit_ranges(procedure, callee)?;
         self.go_behind(number, callee, caller, back)
     }
@@ -51,7 +53,7 @@ impl<'a> Run<'a> {
         callee: usize,
         caller: &Abs,
         back: u16,
-    ) -> Result<(), Stop> {
+    ) -> Result<(), RunStop> {
         match self.resumed(callee, caller) {
             Some(mut resumed) => self.flow(number, back, &mut resumed),
             None => Ok(()),
@@ -62,7 +64,7 @@ impl<'a> Run<'a> {
     pub(crate) fn procedure_key(
         &self,
         core: &Core,
-        target: u16,
+        target: CodePoint,
         is_handler: bool,
         cells: usize,
         context: Context,
@@ -73,7 +75,8 @@ impl<'a> Run<'a> {
             None => RegisterSet::empty(),
         };
         ProcedureKey {
-            target,
+            target: target.address,
+            bank: target.bank,
             is_handler,
             ime: (core.ime.off, core.ime.pending, core.ime.on),
             bound: core.bound,
@@ -95,16 +98,16 @@ impl<'a> Run<'a> {
     }
 
     /// The procedure with a key, which is made where there is none.
-    fn procedure_with(&mut self, key: ProcedureKey) -> Result<usize, Stop> {
+    fn procedure_with(&mut self, key: ProcedureKey) -> Result<usize, RunStop> {
         if let Some(number) = self.procedure_index.get(&key) {
             return Ok(*number);
         }
         let number = self.procedures.len();
         if number >= PROCEDURES {
-            return Err(Stop::TooLarge);
+            return Err(RunStop::Crowded);
         }
         self.procedure_index.insert(key, number)?;
-        self.procedures.push(Procedure::new(self.alloc, key))?;
+        self.procedures.push(RunProcedure::new(self.alloc, key))?;
         Ok(number)
     }
 
@@ -115,11 +118,11 @@ impl<'a> Run<'a> {
         caller: usize,
         callee: usize,
         target: u16,
-    ) -> Result<(), Stop> {
+    ) -> Result<(), RunStop> {
         if let Some(called) = self.procedures.get_mut(callee) {
             called.sites.insert(number)?;
         }
-        let call = Call { caller, callee };
+        let call = CallSite { caller, callee };
         if self.calls.insert(call)? {
             if let Some(calling) = self.procedures.get_mut(caller) {
                 calling.callees.insert(callee)?;
@@ -136,7 +139,7 @@ impl<'a> Run<'a> {
     }
 
     /// Whether a procedure is another one, or calls it, itself or by others.
-    fn reaches(&self, from: usize, to: usize) -> Result<bool, Stop> {
+    fn reaches(&self, from: usize, to: usize) -> Result<bool, RunStop> {
         let mut seen = BTreeSet::new(self.alloc);
         seen.insert(from)?;
         let mut open = vec![in self.alloc; from]?;
@@ -170,7 +173,7 @@ impl<'a> Run<'a> {
     }
 
     /// What a callee may write its caller may write too; by the rules of version 3 main may write everywhere.
-    pub(crate) fn inherit_ranges(&mut self, caller: usize, callee: usize) -> Result<(), Stop> {
+    pub(crate) fn inherit_ranges(&mut self, caller: usize, callee: usize) -> Result<(), RunStop> {
         if caller == 0 && self.rules() == Rules::Extended {
             return Ok(());
         }
@@ -185,7 +188,7 @@ impl<'a> Run<'a> {
     }
 
     /// A procedure may write a range. Where its ranges grew, its callers take them over.
-    pub(crate) fn record_written(&mut self, procedure: usize, range: Range) -> Result<(), Stop> {
+    pub(crate) fn record_written(&mut self, procedure: usize, range: Range) -> Result<(), RunStop> {
         let region = self.configuration.region;
         let Some(writing) = self.procedures.get_mut(procedure) else {
             return Ok(());
@@ -197,7 +200,7 @@ impl<'a> Run<'a> {
     }
 
     /// All callers of a procedure wait for their turns.
-    pub(crate) fn enqueue_sites(&mut self, procedure: usize) -> Result<(), Stop> {
+    pub(crate) fn enqueue_sites(&mut self, procedure: usize) -> Result<(), RunStop> {
         let Some(called) = self.procedures.get_mut(procedure) else {
             return Ok(());
         };

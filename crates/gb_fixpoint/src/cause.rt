@@ -1,5 +1,6 @@
 //! Why a run stopped.
 
+use crate::code_point::CodePoint;
 use crate::register_set::RegisterSet;
 use gb_verify::{Reason, Span};
 
@@ -51,7 +52,7 @@ pub enum Cause {
     /// HALT where interrupts may be off, and no NOP behind it.
     Halt,
     Stack(StackMisuse),
-    /// More than 16 words are pushed.
+    /// More bytes are on the stack than a state holds: 255, or 16 words by the rules of versions 1 and 2.
     PushesTooMany,
     /// A procedure at this address may be called or dispatched while it runs.
     Recursion { target: u16 },
@@ -90,18 +91,18 @@ pub struct Failure {
 #[derive(Clone, Copy, PartialEq, Eq)]
 pub enum Wish {
     /// Calls of this target are followed in their callers.
-    Inline(u16),
+    Inline(CodePoint),
     /// The procedures that begin there know their base.
-    Base(u16),
+    Base(CodePoint),
     /// They take over so many more of their callers' bytes.
-    Arguments { target: u16, more: u8 },
+    Arguments { target: CodePoint, more: u8 },
     /// Main's stack begins below this address.
     Top(u16),
 }
 
 /// What a run came to.
 #[derive(Clone, Copy, PartialEq, Eq)]
-pub enum Outcome {
+pub enum RunEnd {
     /// All nodes are covered.
     Finished,
     Failed(Failure),
@@ -109,7 +110,9 @@ pub enum Outcome {
     StackSet { sp: u16 },
     /// The configuration is to say something else first.
     Wanted(Wish),
-    /// The limit of nodes, of procedures or of steps was met.
+    /// There would be more procedures than a certificate has.
+    Crowded,
+    /// The limit of nodes or of steps was met.
     TooLarge,
 }
 

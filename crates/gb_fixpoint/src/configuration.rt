@@ -1,5 +1,6 @@
 //! How finely a run tells states apart.
 
+use crate::code_point::CodePoint;
 use crate::limits::NODES;
 use crate::register_set::RegisterSet;
 use gb_ops::machine::Region;
@@ -7,12 +8,12 @@ use gb_verify::Rules;
 use std::alloc::{AllocError, Global};
 use std::collections::{BTreeSet, HashMap, HashSet};
 
-/// An address in the procedures that begin at another one.
+/// A point of the code of the procedures that begin at another one.
 #[derive(Clone, Copy, PartialEq, Eq, PartialOrd, Ord, Hash)]
-pub struct Place {
-    /// The address where the procedure begins.
-    pub target: u16,
-    pub address: u16,
+pub struct TargetPlace {
+    /// Where the procedure begins.
+    pub target: CodePoint,
+    pub point: CodePoint,
 }
 
 /// What refinement has decided so far. Each failure adds an edit; the last one may be taken back, and at the end what a
@@ -30,36 +31,36 @@ pub struct Configuration {
     /// The memory cells that are kept, as many as a state holds.
     pub tracked: BTreeSet<u16>,
     /// Where the known registers are part of the key.
-    pub keyed: HashSet<Place>,
+    pub keyed: HashSet<TargetPlace>,
     /// Where H and D are taken value by value, while they have at most 8 values, and are part of the key.
-    pub paged: HashSet<Place>,
+    pub paged: HashSet<TargetPlace>,
     /// The registers of which one is taken value by value on arrival: of those that aren't known the one with the fewest
     /// values. Covering goes value by value over one register alone, so another one has to wait for the next address.
-    pub split: HashMap<Place, RegisterSet>,
+    pub split: HashMap<TargetPlace, RegisterSet>,
     /// The registers whose known values are part of the key: counters of outer loops, whose rounds are told apart.
-    pub counted: HashMap<Place, RegisterSet>,
+    pub counted: HashMap<TargetPlace, RegisterSet>,
     /// The bytes of the stack whose known values are part of the key, a bit for each of the first 64 by its place: counters that are
     /// kept on the stack.
-    pub counted_items: HashMap<Place, u64>,
+    pub counted_items: HashMap<TargetPlace, u64>,
     /// Where the carry is part of the key beside the known registers: it is read from there on.
-    pub carried: HashSet<Place>,
+    pub carried: HashSet<TargetPlace>,
     /// The registers of which is part of the key whether they are 0, or FF: counters that begin at 0, or that are counted down
     /// before they are looked at, where the first or the last round is told apart.
-    pub peeled: HashMap<Place, RegisterSet>,
-    /// By the address where procedures begin, the registers by whose known values they are parted.
-    pub parted: HashMap<u16, RegisterSet>,
+    pub peeled: HashMap<TargetPlace, RegisterSet>,
+    /// By where procedures begin, the registers by whose known values they are parted.
+    pub parted: HashMap<CodePoint, RegisterSet>,
     /// Where procedures begin that are not parted by the controller and the key cells.
-    pub flat: HashSet<u16>,
+    pub flat: HashSet<CodePoint>,
     /// The cells whose known values are part of every key: shadows of the bank, states.
     pub key_cells: BTreeSet<u16>,
     /// The targets of calls that are followed in the caller, and begin no procedure.
-    pub inlined: HashSet<u16>,
+    pub inlined: HashSet<CodePoint>,
     /// Where procedures begin whose base is known, so that there is one for each depth.
-    pub based: HashSet<u16>,
-    /// By the address where procedures begin, the bytes above the return word that they take over.
-    pub arguments: HashMap<u16, u8>,
+    pub based: HashSet<CodePoint>,
+    /// By where procedures begin, the bytes above the return word that they take over.
+    pub arguments: HashMap<CodePoint, u8>,
     /// Places with a failure that stands. Nothing goes on from there; the run goes on elsewhere.
-    pub given_up: HashSet<Place>,
+    pub given_up: HashSet<TargetPlace>,
     /// The numbers of plans that were taken back, and are not to be tried again.
     pub taken_back: BTreeSet<u64>,
     /// The values at which widening stops, besides 0 and 255.
@@ -106,9 +107,9 @@ impl Configuration {
         })
     }
 
-    /// How many of its caller's bytes a procedure takes over that begins at an address: by the rules of versions 1 and 2
+    /// How many of its caller's bytes a procedure takes over that begins at a target: by the rules of versions 1 and 2
     /// none.
-    pub fn taken_at(&self, target: u16) -> u8 {
+    pub fn taken_at(&self, target: CodePoint) -> u8 {
         match self.rules {
             Rules::Simple => 0,
             Rules::Extended => RETURN_WORD.saturating_add(self.arguments_at(target)),
@@ -116,7 +117,7 @@ impl Configuration {
     }
 
     /// The bytes above the return word that a procedure takes over.
-    pub fn arguments_at(&self, target: u16) -> u8 {
+    pub fn arguments_at(&self, target: CodePoint) -> u8 {
         match self.arguments.get(&target) {
             Some(bytes) => *bytes,
             None => 0,
@@ -124,7 +125,7 @@ impl Configuration {
     }
 
     /// The bytes of the stack whose known values are part of the key at a place.
-    pub fn items_at(&self, place: Place) -> u64 {
+    pub fn items_at(&self, place: TargetPlace) -> u64 {
         match self.counted_items.get(&place) {
             Some(items) => *items,
             None => 0,
@@ -132,7 +133,7 @@ impl Configuration {
     }
 
     /// Calls of a target are followed in their callers from now on.
-    pub fn inline(&mut self, target: u16) -> Result<(), AllocError> {
+    pub fn inline(&mut self, target: CodePoint) -> Result<(), AllocError> {
         self.inlined.insert(target)?;
         self.based.remove(&target);
         self.arguments.remove(&target);

@@ -2,7 +2,8 @@
 //! stack that it takes over.
 
 use crate::cause::Wish;
-use crate::stop::Stop;
+use crate::code_point::CodePoint;
+use crate::stop::RunStop;
 use crate::types::Run;
 use gb_verify::{Abs, Rules};
 
@@ -17,12 +18,12 @@ pub struct Context {
 
 impl<'a> Run<'a> {
     /// Whether calls of a target are followed in their callers.
-    pub(crate) fn is_inlined(&self, target: u16) -> bool {
+    pub(crate) fn is_inlined(&self, target: CodePoint) -> bool {
         self.configuration.inlined.contains(&target)
     }
 
     /// With what a procedure begins that is called from a procedure in a state, the return word being pushed.
-    pub(crate) fn context(&self, procedure: usize, caller: &Abs, target: u16) -> Context {
+    pub(crate) fn context(&self, procedure: usize, caller: &Abs, target: CodePoint) -> Context {
         let taken = self.configuration.taken_at(target);
         let above = self.base_of(procedure);
         let waiting = caller.items().len().saturating_sub(usize::from(taken));
@@ -41,8 +42,8 @@ impl<'a> Run<'a> {
         &self,
         procedure: usize,
         caller: &Abs,
-        target: u16,
-    ) -> Result<(), Stop> {
+        target: CodePoint,
+    ) -> Result<(), RunStop> {
         if self.rules() == Rules::Simple {
             return Ok(());
         }
@@ -50,7 +51,7 @@ impl<'a> Run<'a> {
         let missing = taken.saturating_sub(caller.items().len());
         if missing != 0 {
             self.want_bytes(procedure, missing)?;
-            return Err(Stop::Wanted(Wish::Inline(target)));
+            return Err(RunStop::Wanted(Wish::Inline(target)));
         }
         if self.configuration.based.contains(&target) {
             self.want_base(procedure)?;
@@ -64,7 +65,8 @@ impl<'a> Run<'a> {
         number: usize,
         address: u16,
         state: &mut Abs,
-    ) -> Result<(), Stop> {
-        self.flow_in(number, 0, address, state)
+    ) -> Result<(), RunStop> {
+        let point = CodePoint::of(self.rom, &state.core().ctl, address);
+        self.flow_in(number, 0, point, state)
     }
 }

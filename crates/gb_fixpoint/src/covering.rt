@@ -1,8 +1,6 @@
 //! Whether a node holds a state already: the checker's test, with both lists of cells gone through once.
 
-use gb_abs::covering::{covers_core, covers_val};
-use gb_product::covering::covers_relations;
-use gb_verify::{Abs, Cell, Val, any};
+use gb_verify::{Abs, Cell, Val, any, covers_core, covers_relations, covers_val};
 
 /// The cells from an address on; they are in order of address.
 fn from_address(address: u16, cells: &[Cell]) -> &[Cell] {

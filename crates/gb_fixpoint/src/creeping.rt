@@ -3,8 +3,8 @@
 
 use crate::instruction::decoded;
 use crate::limits::{CREEPS, POINT_STEPS};
-use crate::stop::Stop;
-use crate::types::{CellPoint, Creep, Node, Run};
+use crate::stop::RunStop;
+use crate::types::{CellPoint, Creep, Run, RunNode};
 use arrayvec::ArrayVec;
 use gb_ops::op::{Indirect, Op, Operand, Register, StackPair};
 use gb_verify::{Abs, Cell, Val, any, cell_at};
@@ -80,7 +80,11 @@ impl<'a> Run<'a> {
     }
 
     /// What is compared with these values, or masked by them, at a node is a cell's byte, or was computed from it.
-    pub(crate) fn record_cell_points(&mut self, number: usize, points: &[u8]) -> Result<(), Stop> {
+    pub(crate) fn record_cell_points(
+        &mut self,
+        number: usize,
+        points: &[u8],
+    ) -> Result<(), RunStop> {
         let is_first = match self.nodes.get(number) {
             Some(node) => node.growths == 0,
             None => false,
@@ -97,7 +101,7 @@ impl<'a> Run<'a> {
     }
 
     /// Counts that cells are widened at a node. Those that were often go further.
-    pub(crate) fn hasten(&mut self, number: usize, grown: &mut Abs) -> Result<(), Stop> {
+    pub(crate) fn hasten(&mut self, number: usize, grown: &mut Abs) -> Result<(), RunStop> {
         let Some(node) = self.nodes.get(number) else {
             return Ok(());
         };
@@ -124,7 +128,7 @@ impl<'a> Run<'a> {
     }
 
     /// The cells of a node that grew; some of them go on to a value that they are compared with, or to an end.
-    fn hastened(&self, node: &Node, grown: &[Cell], often: &[u16]) -> ArrayVec<Cell, 64> {
+    fn hastened(&self, node: &RunNode, grown: &[Cell], often: &[u16]) -> ArrayVec<Cell, 64> {
         let mut cells = ArrayVec::new();
         for cell in grown {
             let val = if often.contains(&cell.address) {

@@ -1,8 +1,8 @@
 //! What nodes enter, for who puts procedures in order.
 
+use crate::code_point::CodePoint;
 use crate::contexts::Context;
 use crate::instruction::decoded;
-use crate::interrupting::FIRST_VECTOR;
 use crate::tracking::keep_tracked;
 use crate::types::Run;
 use gb_verify::{Abs, Successor, Target, enter, left_by_dispatch, may_come, successors_of};
@@ -11,7 +11,7 @@ use std::alloc::AllocError;
 /// What a node enters, and where.
 #[derive(Drop)]
 pub struct Entered {
-    pub target: u16,
+    pub target: CodePoint,
     pub is_handler: bool,
     /// What the callee begins with.
     pub state: Abs,
@@ -42,7 +42,7 @@ impl<'a> Run<'a> {
         }
         let after = left_by_dispatch(self.rules(), node.key.address, &node.state);
         for interrupt in 0..5u8 {
-            let vector = FIRST_VECTOR + 8 * u16::from(interrupt);
+            let vector = self.vector_of(interrupt, node);
             if may_come(interrupt, node.state.core()) && !self.is_inlined(vector) {
                 all.push(self.entered_in(node.key.procedure, vector, true, &after))?;
             }
@@ -53,14 +53,26 @@ impl<'a> Run<'a> {
     fn called_by(&self, caller: usize, way: &Option<Successor<'_>>) -> Option<Entered> {
         let Some(successor) = way else { return None };
         match successor.target {
-            Target::Call(target) if !self.is_inlined(target) => {
-                Some(self.entered_in(caller, target, false, &successor.state()))
+            Target::Call(address) => {
+                let state = successor.state();
+                let target = CodePoint::of(self.rom, &state.core().ctl, address);
+                if self.is_inlined(target) {
+                    None
+                } else {
+                    Some(self.entered_in(caller, target, false, &state))
+                }
             }
             _ => None,
         }
     }
 
-    fn entered_in(&self, procedure: usize, target: u16, is_handler: bool, caller: &Abs) -> Entered {
+    fn entered_in(
+        &self,
+        procedure: usize,
+        target: CodePoint,
+        is_handler: bool,
+        caller: &Abs,
+    ) -> Entered {
         let context = self.context(procedure, caller, target);
         let mut state = enter(self.rules(), context.taken, caller);
         keep_tracked(&mut state, self.tracked.as_slice());

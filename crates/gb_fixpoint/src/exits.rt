@@ -4,12 +4,13 @@ use crate::bounds::{WORD_PAIRS, facts_of, halves_of, set_facts};
 use crate::covering::is_covered;
 use crate::limits::{EXIT_GROWTHS, PAIR_GROWTHS};
 use crate::steps::Growth;
-use crate::stop::Stop;
+use crate::stop::RunStop;
 use crate::types::Run;
 use arrayvec::ArrayVec;
-use gb_domain::pairs::{NOTHING_KNOWN, Pairs};
 use gb_ops::registers::Registers;
-use gb_verify::{Abs, Cell, Core, Ctl, Flg, May, OneByte, Origin, Range, Relations, Val};
+use gb_verify::{
+    Abs, Cell, Core, Ctl, Flg, May, NOTHING_KNOWN, OneByte, Origin, Pairs, Range, Relations, Val,
+};
 
 /// Any value of a bit.
 const EITHER: May = May {
@@ -150,7 +151,7 @@ fn seen(ranges: &[Range], exit: &Abs) -> Abs {
 
 impl<'a> Run<'a> {
     /// A procedure's exit becomes one above it and a state. Where its callers see that it grew, they go on again.
-    pub(crate) fn exit(&mut self, procedure: usize, state: &Abs) -> Result<(), Stop> {
+    pub(crate) fn exit(&mut self, procedure: usize, state: &Abs) -> Result<(), RunStop> {
         let Some(exit) = self.grown_exit(procedure, state) else {
             return Ok(());
         };

@@ -1,6 +1,7 @@
 //! States flow to the nodes of their keys.
 
-use crate::configuration::Place;
+use crate::code_point::CodePoint;
+use crate::configuration::TargetPlace;
 use crate::covering::is_covered;
 use crate::keys::{KnownRegisters, NodeKey};
 use crate::limits::{
@@ -8,41 +9,37 @@ use crate::limits::{
 };
 use crate::register_set::{REGISTERS, RegisterSet};
 use crate::steps::{Growth, link_in};
-use crate::stop::Stop;
+use crate::stop::RunStop;
 use crate::tracking::keep_tracked;
-use crate::types::{CellValue, Edge, Node, Run, Spot};
+use crate::types::{CellValue, Edge, Run, RunNode, Spot};
 use arrayvec::ArrayVec;
 use gb_ops::op::Register;
-use gb_product::reduced::reduced;
-use gb_verify::{Abs, Cell, Core, Rules, Val, cell_at};
+use gb_verify::{Abs, Cell, Core, Rules, Val, cell_at, reduced};
 
 impl<'a> Run<'a> {
     /// A state goes on from a node to an address of the same procedure.
-    pub(crate) fn flow(&mut self, from: usize, to: u16, state: &mut Abs) -> Result<(), Stop> {
+    pub(crate) fn flow(&mut self, from: usize, to: u16, state: &mut Abs) -> Result<(), RunStop> {
         let Some(node) = self.nodes.get(from) else {
             return Ok(());
         };
-        let NodeKey {
-            procedure,
-            address,
-            ..
-        } = node.key;
-        self.record_edge(procedure, address, to)?;
-        self.flow_in(from, procedure, to, state)
+        let (procedure, before) = (node.key.procedure, node.key.point());
+        let behind = CodePoint::of(self.rom, &state.core().ctl, to);
+        self.record_edge(procedure, before, behind)?;
+        self.flow_in(from, procedure, behind, state)
     }
 
-    /// A state goes on from a node to an address of a procedure.
+    /// A state goes on from a node to a point of a procedure's code.
     pub(crate) fn flow_in(
         &mut self,
         from: usize,
         procedure: usize,
-        to: u16,
+        point: CodePoint,
         state: &mut Abs,
-    ) -> Result<(), Stop> {
+    ) -> Result<(), RunStop> {
         keep_tracked(state, self.tracked.as_slice());
-        let place = Place {
+        let place = TargetPlace {
             target: self.target(procedure),
-            address: to,
+            point,
         };
         let Some(register) = self.split_register(place, state.core()) else {
             return self.arrive_peeled(from, procedure, place, state);
@@ -61,9 +58,9 @@ impl<'a> Run<'a> {
         &mut self,
         from: usize,
         procedure: usize,
-        place: Place,
+        place: TargetPlace,
         state: &Abs,
-    ) -> Result<(), Stop> {
+    ) -> Result<(), RunStop> {
         let Some(register) = self.peeled_register(place, state.core()) else {
             return self.arrive_at(from, procedure, place, state);
         };
@@ -77,7 +74,7 @@ impl<'a> Run<'a> {
     }
 
     /// The counter that is told apart at a place and may be 0 and more.
-    fn peeled_register(&self, place: Place, core: &Core) -> Option<Register> {
+    fn peeled_register(&self, place: TargetPlace, core: &Core) -> Option<Register> {
         let peeled = self.configuration.peeled.get(&place)?;
         for register in REGISTERS {
             let val = core.registers.get(register);
@@ -100,24 +97,30 @@ impl<'a> Run<'a> {
     }
 
     /// A way on is recorded, and its target as a loop's head if it leads backward.
-    fn record_edge(&mut self, procedure: usize, from: u16, to: u16) -> Result<(), Stop> {
+    fn record_edge(
+        &mut self,
+        procedure: usize,
+        from: CodePoint,
+        to: CodePoint,
+    ) -> Result<(), RunStop> {
         let edge = Edge {
             procedure,
             from,
             to,
         };
-        let is_backward = to < from || (to == from && self.rules() == Rules::Simple);
+        let is_backward = to.address < from.address
+            || (to == from && self.rules() == Rules::Simple);
         if self.edges.insert(edge)? && is_backward {
             self.heads.insert(Spot {
                 procedure,
-                address: to,
+                point: to,
             })?;
         }
         Ok(())
     }
 
     /// The register that is taken value by value on arrival.
-    fn split_register(&self, place: Place, core: &Core) -> Option<Register> {
+    fn split_register(&self, place: TargetPlace, core: &Core) -> Option<Register> {
         if let Some(registers) = self.configuration.split.get(&place)
             && let Some(register) = narrowest(registers, core, u8::MAX)
         {
@@ -134,12 +137,12 @@ impl<'a> Run<'a> {
     }
 
     /// Whether all that is known of registers is part of the key.
-    fn is_keyed(&self, place: Place, core: &Core) -> bool {
+    fn is_keyed(&self, place: TargetPlace, core: &Core) -> bool {
         core.bound != 0 || self.configuration.keyed.contains(&place)
     }
 
     /// The registers whose known values are part of the key, and the carry where all are and it is told apart.
-    fn key_registers(&self, place: Place, core: &Core) -> KnownRegisters {
+    fn key_registers(&self, place: TargetPlace, core: &Core) -> KnownRegisters {
         let values = &core.registers;
         if self.is_keyed(place, core) {
             let known = KnownRegisters::of(values, &RegisterSet::all());
@@ -177,9 +180,9 @@ impl<'a> Run<'a> {
         &mut self,
         from: usize,
         procedure: usize,
-        place: Place,
+        place: TargetPlace,
         state: &Abs,
-    ) -> Result<(), Stop> {
+    ) -> Result<(), RunStop> {
         let cells = self.number_cells(state.cells())?;
         let is_keyed = self.is_keyed(place, state.core());
         let counted = self.configuration.items_at(place);
@@ -188,7 +191,7 @@ impl<'a> Run<'a> {
         let core = state.core();
         let key = NodeKey::of_state(
             procedure,
-            place.address,
+            place.point,
             core,
             state.items().len(),
             self.key_registers(place, core),
@@ -226,7 +229,7 @@ impl<'a> Run<'a> {
     }
 
     /// The number of the values that the key cells have.
-    pub(crate) fn number_cells(&mut self, cells: &[Cell]) -> Result<usize, Stop> {
+    pub(crate) fn number_cells(&mut self, cells: &[Cell]) -> Result<usize, RunStop> {
         if let Some(number) = self.find_cells(cells) {
             return Ok(number);
         }
@@ -243,7 +246,7 @@ impl<'a> Run<'a> {
         via: Option<usize>,
         key: NodeKey,
         state: &Abs,
-    ) -> Result<(), Stop> {
+    ) -> Result<(), RunStop> {
         if let Some(number) = self.node_index.get(&key) {
             let number = *number;
             return self.grow(number, state);
@@ -252,10 +255,10 @@ impl<'a> Run<'a> {
         self.node_index.insert(key, number)?;
         let spot = Spot {
             procedure: key.procedure,
-            address: key.address,
+            point: key.point(),
         };
         self.at.entry(spot)?.or_default().push(number)?;
-        self.nodes.push(Node {
+        self.nodes.push(RunNode {
             key,
             state: state.copied(),
             growths: 0,
@@ -271,7 +274,7 @@ impl<'a> Run<'a> {
     }
 
     /// A node's state becomes one above it and another one.
-    pub(crate) fn grow(&mut self, number: usize, state: &Abs) -> Result<(), Stop> {
+    pub(crate) fn grow(&mut self, number: usize, state: &Abs) -> Result<(), RunStop> {
         let Some(node) = self.nodes.get(number) else {
             return Ok(());
         };
@@ -281,8 +284,8 @@ impl<'a> Run<'a> {
         self.grow_to_hold(number, state)
     }
 
-    /// The same for a state that the node doesn't hold yet.
-    fn grow_to_hold(&mut self, number: usize, state: &Abs) -> Result<(), Stop> {
+    /// Lets a node grow to hold a state that it doesn't hold yet.
+    fn grow_to_hold(&mut self, number: usize, state: &Abs) -> Result<(), RunStop> {
         let Some(node) = self.nodes.get(number) else {
             return Ok(());
         };
@@ -302,7 +305,7 @@ impl<'a> Run<'a> {
     }
 
     /// A node's state is widened.
-    fn widen(&mut self, number: usize, growth: Growth, state: &Abs) -> Result<(), Stop> {
+    fn widen(&mut self, number: usize, growth: Growth, state: &Abs) -> Result<(), RunStop> {
         let Some(node) = self.nodes.get(number) else {
             return Ok(());
         };
@@ -317,7 +320,7 @@ impl<'a> Run<'a> {
     }
 
     /// How a node grows the next time.
-    fn growth_of(&self, node: &Node) -> Growth {
+    fn growth_of(&self, node: &RunNode) -> Growth {
         if node.growths >= PAIR_GROWTHS {
             Growth::WidenedWithoutPairs
         } else if node.growths >= self.patience(node.key) {
@@ -331,7 +334,7 @@ impl<'a> Run<'a> {
     fn is_head(&self, key: NodeKey) -> bool {
         let spot = Spot {
             procedure: key.procedure,
-            address: key.address,
+            point: key.point(),
         };
         self.heads.contains(&spot)
     }

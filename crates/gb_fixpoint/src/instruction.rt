@@ -62,7 +62,7 @@ fn bytes_moved(op: Op) -> Option<usize> {
     }
 }
 
-/// The same by those of version 3, but for LD SP,HL.
+/// What is wrong with the stack by the rules of version 3, except for LD SP,HL.
 fn extended_misuse(state: &Abs, op: Op) -> Option<StackMisuse> {
     let bytes = bytes_moved(op)?;
     if !state.core().stack_set {

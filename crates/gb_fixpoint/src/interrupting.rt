@@ -2,22 +2,21 @@
 
 use crate::bounds::{WORD_PAIRS, facts_of};
 use crate::cause::Cause;
+use crate::code_point::CodePoint;
 use crate::contexts::Context;
 use crate::covering::{are_cells_known, are_items_known};
 use crate::register_set::{REGISTERS, RegisterSet};
-use crate::stop::Stop;
-use crate::types::{Node, Procedure, Run};
-use gb_abs::covering::{covers_controller, covers_core, covers_ime, covers_val};
-use gb_domain::pairs::Pairs;
+use crate::stop::RunStop;
+use crate::types::{Run, RunNode, RunProcedure};
 use gb_ops::registers::Registers;
-use gb_product::covering::covers_relations;
 use gb_verify::{
-    Abs, Cell, Core, Ctl, Flg, ImeSet, Origin, Range, Rules, Val, cell_at, left_by_dispatch,
+    Abs, Cell, Core, Ctl, Flg, ImeSet, Origin, Pairs, Range, Rules, Val, cell_at,
+    covers_controller, covers_core, covers_ime, covers_relations, covers_val, left_by_dispatch,
     may_come,
 };
 
 /// The address that interrupt 0 calls; those of the others follow it, 8 bytes apart.
-pub(crate) const FIRST_VECTOR: u16 = 0x40;
+const FIRST_VECTOR: u16 = 0x40;
 
 /// The bytes of a return word.
 const RETURN_WORD: u8 = 2;
@@ -132,7 +131,7 @@ fn holds_left(state: &Abs, ranges: &[Range], exit: &Abs) -> bool {
 
 impl<'a> Run<'a> {
     /// Dispatches each interrupt that may come at a node.
-    pub(crate) fn interrupt(&mut self, number: usize) -> Result<(), Stop> {
+    pub(crate) fn interrupt(&mut self, number: usize) -> Result<(), RunStop> {
         let Some(node) = self.nodes.get(number) else {
             return Ok(());
         };
@@ -146,29 +145,35 @@ impl<'a> Run<'a> {
                     let cause = Cause::InterruptWithoutStack { interrupt };
                     return Err(Run::failure(number, cause, RegisterSet::empty()));
                 }
-                let vector = FIRST_VECTOR + 8 * u16::from(interrupt);
-                let outcome = self.dispatch(number, vector);
+                let outcome = self.dispatch(number, interrupt);
                 self.keep(outcome)?;
             }
         }
         Ok(())
     }
 
+    /// Where the handler of an interrupt begins that comes at a node.
+    pub(crate) fn vector_of(&self, interrupt: u8, node: &RunNode) -> CodePoint {
+        let vector = FIRST_VECTOR.saturating_add(u16::from(interrupt).saturating_mul(8));
+        CodePoint::of(self.rom, &node.state.core().ctl, vector)
+    }
+
     /// A handler comes at a node. Where nothing is new in that, nothing is done.
-    fn dispatch(&mut self, number: usize, vector: u16) -> Result<(), Stop> {
+    fn dispatch(&mut self, number: usize, interrupt: u8) -> Result<(), RunStop> {
         let Some(node) = self.nodes.get(number) else {
             return Ok(());
         };
+        let vector = self.vector_of(interrupt, node);
         if self.is_handled(number, node, vector) {
             return Ok(());
         }
         let address = node.key.address;
         let mut after = left_by_dispatch(self.rules(), address, &node.state);
-        self.call(number, &mut after, vector, address, true)
+        self.call(number, &mut after, vector.address, address, true)
     }
 
     /// Whether a handler's target is called plainly: its return word alone is taken over, and its base isn't known.
-    fn is_plain(&self, vector: u16) -> bool {
+    fn is_plain(&self, vector: CodePoint) -> bool {
         self.rules() == Rules::Extended
             && self.configuration.taken_at(vector) == RETURN_WORD
             && !self.configuration.based.contains(&vector)
@@ -176,7 +181,7 @@ impl<'a> Run<'a> {
     }
 
     /// The handler at a vector that was entered in a node's states before, whose core it begins with is given.
-    fn handler_of(&self, node: &Node, vector: u16, entered: &Core) -> Option<usize> {
+    fn handler_of(&self, node: &RunNode, vector: CodePoint, entered: &Core) -> Option<usize> {
         let cells = self.find_cells(node.state.cells())?;
         let context = Context {
             base: 0,
@@ -187,7 +192,7 @@ impl<'a> Run<'a> {
     }
 
     /// Whether a handler comes at a node and leaves it with nothing new.
-    fn is_handled(&self, number: usize, node: &Node, vector: u16) -> bool {
+    fn is_handled(&self, number: usize, node: &RunNode, vector: CodePoint) -> bool {
         if node.state.core().bound != 0 || !self.is_plain(vector) {
             return false;
         }
@@ -206,7 +211,7 @@ impl<'a> Run<'a> {
     }
 
     /// Whether a handler's first node holds all that it begins with at a node.
-    fn is_entered(&self, handler: &Procedure, node: &Node, entered: &Core) -> bool {
+    fn is_entered(&self, handler: &RunProcedure, node: &RunNode, entered: &Core) -> bool {
         let Some(entry) = handler.entry else {
             return false;
         };
@@ -225,14 +230,14 @@ impl<'a> Run<'a> {
     }
 
     /// Whether it is still this handler that comes at a node, whose state may have grown since.
-    fn is_still_entered(&self, node: &Node, handler: usize) -> bool {
+    fn is_still_entered(&self, node: &RunNode, handler: usize) -> bool {
         let vector = self.target(handler);
         !self.is_plain(vector)
             || self.handler_of(node, vector, &entered_core(node.state.core())) == Some(handler)
     }
 
     /// A node goes on behind a handler that may interrupt it, and whose exit or ranges grew.
-    pub(crate) fn come_back(&mut self, number: usize, handler: usize) -> Result<(), Stop> {
+    pub(crate) fn come_back(&mut self, number: usize, handler: usize) -> Result<(), RunStop> {
         let Some(node) = self.nodes.get(number) else {
             return Ok(());
         };
@@ -242,7 +247,7 @@ impl<'a> Run<'a> {
             return Ok(());
         };
         let is_held = match self.procedures.get(handler) {
-            Some(handler) => self.is_plain(handler.key.target) && is_left(handler, node),
+            Some(handler) => self.is_plain(handler.key.point()) && is_left(handler, node),
             None => true,
         };
         if is_held || !self.is_still_entered(node, handler) {
@@ -254,7 +259,7 @@ impl<'a> Run<'a> {
 }
 
 /// Whether a node holds all that it goes on with behind a handler, or the handler hasn't returned yet.
-fn is_left(handler: &Procedure, node: &Node) -> bool {
+fn is_left(handler: &RunProcedure, node: &RunNode) -> bool {
     match &handler.exit {
         Some(exit) => holds_left(&node.state, handler.ranges.as_slice(), exit),
         None => true,

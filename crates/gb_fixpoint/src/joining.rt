@@ -1,6 +1,6 @@
 //! The least state above two others.
 
-use crate::relating::{Known, join_relations};
+use crate::relating::{KnownRelations, join_relations};
 use arrayvec::ArrayVec;
 use gb_ops::registers::Registers;
 use gb_verify::{
@@ -101,8 +101,8 @@ fn join_tests(a: &Relations, b: &Relations) -> Relations {
 }
 
 /// The registers of a state, and what is known of several parts of it together.
-pub(crate) fn known_of(state: &Abs) -> Known<'_> {
-    Known {
+pub(crate) fn known_of(state: &Abs) -> KnownRelations<'_> {
+    KnownRelations {
         registers: &state.core().registers,
         relations: state.relations(),
     }

@@ -1,5 +1,6 @@
 //! What tells the nodes of an address apart, and the procedures of a target.
 
+use crate::code_point::CodePoint;
 use crate::register_set::{REGISTERS, RegisterSet};
 use gb_ops::op::Register;
 use gb_ops::registers::Registers;
@@ -29,6 +30,8 @@ pub struct NodeKey {
     /// The number of the procedure.
     pub procedure: usize,
     pub address: u16,
+    /// The bank shown at the address, 0 for RAM; None where it isn't known.
+    pub bank: Option<u16>,
     /// The one node where its procedure begins. It joins all that enters: nothing below is part of its key.
     pub is_entry: bool,
     /// Whether interrupts may be off, pending and on.
@@ -51,6 +54,8 @@ pub struct NodeKey {
 pub struct ProcedureKey {
     /// The address where it begins.
     pub target: u16,
+    /// The bank shown there, 0 for RAM; None where it isn't known.
+    pub bank: Option<u16>,
     /// Whether it handles an interrupt.
     pub is_handler: bool,
     /// Whether interrupts may be off, pending and on.
@@ -145,10 +150,11 @@ impl ControllerKey {
 
 impl NodeKey {
     /// The key of a procedure's first node.
-    pub fn of_entry(procedure: usize, address: u16) -> NodeKey {
+    pub fn of_entry(procedure: usize, point: CodePoint) -> NodeKey {
         NodeKey {
             procedure,
-            address,
+            address: point.address,
+            bank: point.bank,
             is_entry: true,
             ime: (false, false, false),
             bound: 0,
@@ -165,7 +171,7 @@ impl NodeKey {
     /// The key of a node with this core and so many bytes on the stack, parted by registers, key cells and words.
     pub fn of_state(
         procedure: usize,
-        address: u16,
+        point: CodePoint,
         core: &Core,
         items: usize,
         registers: KnownRegisters,
@@ -174,7 +180,8 @@ impl NodeKey {
     ) -> NodeKey {
         NodeKey {
             procedure,
-            address,
+            address: point.address,
+            bank: point.bank,
             is_entry: false,
             ime: (core.ime.off, core.ime.pending, core.ime.on),
             bound: core.bound,
@@ -187,6 +194,14 @@ impl NodeKey {
             words,
         }
     }
+
+    /// Where the node is.
+    pub fn point(&self) -> CodePoint {
+        CodePoint {
+            address: self.address,
+            bank: self.bank,
+        }
+    }
 }
 
 impl ProcedureKey {
@@ -194,6 +209,7 @@ impl ProcedureKey {
     pub fn of_main(core: &Core, base: u16) -> ProcedureKey {
         ProcedureKey {
             target: 0x0100,
+            bank: Some(0),
             is_handler: false,
             ime: (true, false, false),
             bound: 0,
@@ -203,6 +219,14 @@ impl ProcedureKey {
             cells: 0,
             base,
             taken: 0,
+        }
+    }
+
+    /// Where the procedure begins.
+    pub fn point(&self) -> CodePoint {
+        CodePoint {
+            address: self.target,
+            bank: self.bank,
         }
     }
 }

@@ -4,7 +4,7 @@
 //! to return.
 //!
 //! States are taken on by the rules of version 3, or by those of versions 1 and 2, as the configuration says.
-//! States: `joining`, `steps` and `ranges` join and widen them, `configuration`, `keys` and `register_set` say how
+//! Code is named by its `code_point`, bank and address. States: `joining`, `steps` and `ranges` join and widen them, `configuration`, `keys` and `register_set` say how
 //! finely they are told apart, `cause` why a run stops. What is against an instruction in a state is `instruction` and
 //! `refusals`, by the checker's own tests; what is asked of the stack is stated again, told apart more finely. The
 //! run: read `types` and `run`, then `stepping`, `flow`, `calls` and `exits`; `entries` is for who orders procedures.
@@ -14,6 +14,7 @@ mod asking;
 mod bounds;
 mod calls;
 pub mod cause;
+pub mod code_point;
 pub mod configuration;
 mod contexts;
 mod covering;
@@ -41,6 +42,15 @@ mod stop;
 mod tracking;
 pub mod types;
 mod words;
+
+pub use cause::{Cause, Failure, RunEnd, StackMisuse, TransferMisuse, Wish};
+pub use configuration::{Configuration, TargetPlace};
+pub use entries::Entered;
+pub use keys::{ControllerKey, KnownRegisters, NodeKey, ProcedureKey};
+pub use register_set::RegisterSet;
+pub use types::{
+    CallSite, CellStore, CellValue, Edge, PlacedWord, Run, RunNode, RunProcedure, Spot,
+};
 
 // What lies below, for the crates above.
 pub use gb_ops::machine::Region;

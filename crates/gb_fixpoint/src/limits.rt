@@ -1,4 +1,4 @@
-//! The limits of the maker of certificates, all in one place. None of them is asked for by a rule: what a limit cuts off is
+//! The limits of the maker of certificates. None of them is asked for by a rule: what a limit cuts off is
 //! told as an obstacle, or costs nodes. The first ones are of a run, then of its joins and widening, of what is told apart, of
 //! refinement, and of shrinking.
 
@@ -11,13 +11,19 @@ pub const FEW_NODES: usize = 20_000;
 /// The most procedures: a certificate has no more.
 pub const PROCEDURES: usize = 255;
 
+/// About how many procedures are saved at once where there would be more: half of them.
+pub const SAVED_PROCEDURES: usize = 128;
+
+/// How many nodes more a procedure may cost that is saved by following its calls.
+pub const NODES_A_PROCEDURE: usize = 64;
+
 /// The most steps of a run.
 pub const RUN_STEPS: u64 = 60_000_000;
 
 /// How many steps of nodes all rounds together may take: no more is begun behind them.
 pub const ALL_STEPS: u64 = 4_000_000;
 
-/// The same for each node that is allowed.
+/// The steps of all rounds together, for each node that is allowed.
 pub const STEPS_A_NODE: u64 = 200;
 
 /// From how many steps of a run on a round is dear.
@@ -29,13 +35,13 @@ pub const OBSTACLES: usize = 10;
 /// How often a node grows by joins alone, by the rules of versions 1 and 2.
 pub const SIMPLE_GROWTHS: u32 = 60;
 
-/// The same at the head of a loop and where a procedure begins.
+/// The growths after which a loop's head or a procedure's entry is widened, by the rules of versions 1 and 2.
 pub const SIMPLE_HEAD_GROWTHS: u32 = 8;
 
 /// How often a node grows by joins alone, by the rules of version 3, by which more is known, and lost if it is widened too soon.
 pub const GROWTHS: u32 = 150;
 
-/// The same at the head of a loop and where a procedure begins.
+/// The growths after which a loop's head or a procedure's entry is widened, by the rules of version 3.
 pub const HEAD_GROWTHS: u32 = 12;
 
 /// How often an exit grows before it is widened.
@@ -71,13 +77,13 @@ pub const COMPARED: usize = 400;
 /// The most edits for one place and reason.
 pub const EDITS: u32 = 12;
 
-/// The same where the pointer is kept in RAM: it would be told apart through all memory.
+/// The most edits for one place where the pointer is kept in RAM: it would be told apart through all memory.
 pub const EDITS_OF_KEPT: u32 = 6;
 
 /// How many plans of an attempt are taken back with another one tried in their place, where few nodes are allowed.
 pub const TAKEN_BACK: u32 = 4;
 
-/// The same where more are, and where a jump was led into what is no code.
+/// How often an edit is taken back where more nodes are allowed, or where a jump was led into what is no code.
 pub const TAKEN_BACK_OF_MANY: u32 = 1;
 
 /// How many nodes are gone back from what is no code to the jump that led there.
@@ -86,7 +92,7 @@ pub const STEPS_BACK: u32 = 16;
 /// How many instructions a slice goes back.
 pub const SLICE: u32 = 40;
 
-/// The same where it goes through a loop.
+/// The most instructions of a slice that goes through a loop.
 pub const LONG_SLICE: u32 = 80;
 
 /// How often what a loop computes from is sought among the registers that were found: there are seven of them.
@@ -98,7 +104,7 @@ pub const CARRIED: u32 = 8;
 /// The most values that a register is split into, while there may be something better.
 pub const FEW_VALUES: u32 = 64;
 
-/// The same where there is nothing better: all values of a byte.
+/// The most values that a slice tells apart if nothing better helps: all values of a byte.
 pub const ALL_VALUES: u32 = 256;
 
 /// The most pairs of values, where one register of two is split and the other follows.

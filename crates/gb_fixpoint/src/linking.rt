@@ -5,9 +5,9 @@
 use crate::bounds::{WORD_PAIRS, facts_of, halves_of, set_facts};
 use crate::limits::FACTOR;
 use crate::register_set::REGISTERS;
-use crate::relating::{Known, are_same_pairs};
-use gb_domain::pairs::{Link, Other, PairFacts, Pairs, WordPair};
+use crate::relating::{KnownRelations, are_same_pairs};
 use gb_ops::op::Register;
+use gb_verify::{Link, Other, PairFacts, Pairs, WordPair};
 
 pub(crate) fn are_same_links(a: &Link, b: &Link) -> bool {
     let are_same_others = match (a.other, b.other) {
@@ -19,7 +19,7 @@ pub(crate) fn are_same_links(a: &Link, b: &Link) -> bool {
 }
 
 /// The value of a pair that has one alone.
-fn word_in(pair: WordPair, state: Known<'_>) -> Option<u16> {
+fn word_in(pair: WordPair, state: KnownRelations<'_>) -> Option<u16> {
     let bounds = state.bounds(pair);
     if bounds.first == bounds.last {
         Some(bounds.first)
@@ -29,7 +29,7 @@ fn word_in(pair: WordPair, state: Known<'_>) -> Option<u16> {
 }
 
 /// The value of what a link reads, where it has one alone.
-fn other_in(other: Other, state: Known<'_>) -> Option<u16> {
+fn other_in(other: Other, state: KnownRelations<'_>) -> Option<u16> {
     match other {
         Other::Pair(pair) => word_in(pair, state),
         Other::Register(register) => {
@@ -48,7 +48,7 @@ fn sum_of(pair: u16, factor: u16, other: u16) -> u16 {
 }
 
 /// Whether a link holds in a state in which the pair and what it reads are known.
-pub(crate) fn holds_link(pair: WordPair, link: &Link, state: Known<'_>) -> bool {
+pub(crate) fn holds_link(pair: WordPair, link: &Link, state: KnownRelations<'_>) -> bool {
     match (word_in(pair, state), other_in(link.other, state)) {
         (Some(word), Some(other)) => sum_of(word, link.factor, other) == link.sum,
         _ => false,
@@ -71,7 +71,12 @@ fn factor_of(pair_step: u16, other_step: u16) -> Option<u16> {
 }
 
 /// A link of a pair that holds in both states, where the pair steps by a constant as the other by one.
-fn link_by(pair: WordPair, other: Other, before: Known<'_>, behind: Known<'_>) -> Option<Link> {
+fn link_by(
+    pair: WordPair,
+    other: Other,
+    before: KnownRelations<'_>,
+    behind: KnownRelations<'_>,
+) -> Option<Link> {
     let pair_before = word_in(pair, before)?;
     let pair_behind = word_in(pair, behind)?;
     let other_before = other_in(other, before)?;
@@ -88,7 +93,7 @@ fn link_by(pair: WordPair, other: Other, before: Known<'_>, behind: Known<'_>) -
 }
 
 /// Whether what a link reads gets smaller from one state to the other.
-fn is_counted_down(other: Other, before: Known<'_>, behind: Known<'_>) -> bool {
+fn is_counted_down(other: Other, before: KnownRelations<'_>, behind: KnownRelations<'_>) -> bool {
     match (other_in(other, before), other_in(other, behind)) {
         (Some(first), Some(second)) => second < first,
         _ => false,
@@ -113,8 +118,8 @@ fn reads(pair: WordPair, read: WordPair, pairs: &Pairs) -> bool {
 fn link_to_pair(
     pair: WordPair,
     linked: &Pairs,
-    before: Known<'_>,
-    behind: Known<'_>,
+    before: KnownRelations<'_>,
+    behind: KnownRelations<'_>,
     is_down: bool,
 ) -> Option<Link> {
     for other in WORD_PAIRS {
@@ -132,8 +137,8 @@ fn link_to_pair(
 /// A link of a pair with a register that isn't one of its own.
 fn link_to_register(
     pair: WordPair,
-    before: Known<'_>,
-    behind: Known<'_>,
+    before: KnownRelations<'_>,
+    behind: KnownRelations<'_>,
     is_down: bool,
 ) -> Option<Link> {
     for register in REGISTERS {
@@ -150,7 +155,12 @@ fn link_to_register(
 
 /// A link of a pair that holds in both states: with what is counted down first, and with another pair before its bytes,
 /// since a byte goes round where its pair goes on.
-fn inferred(pair: WordPair, linked: &Pairs, before: Known<'_>, behind: Known<'_>) -> Option<Link> {
+fn inferred(
+    pair: WordPair,
+    linked: &Pairs,
+    before: KnownRelations<'_>,
+    behind: KnownRelations<'_>,
+) -> Option<Link> {
     link_to_pair(pair, linked, before, behind, true)
         .or(link_to_register(pair, before, behind, true))
         .or(link_to_register(pair, before, behind, false))
@@ -158,7 +168,11 @@ fn inferred(pair: WordPair, linked: &Pairs, before: Known<'_>, behind: Known<'_>
 }
 
 /// What is known of pairs in both states, with links that hold in both where none is known yet.
-pub(crate) fn with_links(pairs: &Pairs, before: Known<'_>, behind: Known<'_>) -> Pairs {
+pub(crate) fn with_links(
+    pairs: &Pairs,
+    before: KnownRelations<'_>,
+    behind: KnownRelations<'_>,
+) -> Pairs {
     let mut linked = *pairs;
     for pair in WORD_PAIRS {
         let facts = facts_of(pair, pairs);

@@ -98,7 +98,7 @@ impl RangeSet {
         }
     }
 
-    /// The same set, once more.
+    /// A copy, for another procedure.
     pub fn copied(&self) -> RangeSet {
         let mut ranges = ArrayVec::new();
         for range in self.as_slice() {

@@ -7,15 +7,14 @@ use crate::limits::CODE_AHEAD;
 use crate::register_set::RegisterSet;
 use crate::stacks::is_settable;
 use crate::steps::Steps;
-use crate::stop::Stop;
+use crate::stop::RunStop;
 use crate::types::Run;
 use gb_ops::op::{AluOp, Op, Operand, Pair, Register, Row};
-use gb_product::reduced::reduced;
-use gb_verify::{Abs, Rules, Span, known_byte, length_of};
+use gb_verify::{Abs, Rules, Span, known_byte, length_of, reduced};
 
 /// What stands at a node.
 #[derive(Clone, Copy)]
-struct Found {
+struct FoundPoints {
     address: u16,
     /// The number of its procedure.
     procedure: usize,
@@ -27,7 +26,7 @@ struct Found {
 impl<'a> Run<'a> {
     /// The instruction at a node. The code bytes in RAM, the values that it compares with or loads, and what LD SP,n16
     /// loads are recorded.
-    pub(crate) fn instruction_at(&mut self, number: usize) -> Result<Row, Stop> {
+    pub(crate) fn instruction_at(&mut self, number: usize) -> Result<Row, RunStop> {
         let found = self.found_at(number)?;
         if found.address >= 0x8000 {
             self.record_code(found.address, found.opcode)?;
@@ -46,7 +45,7 @@ impl<'a> Run<'a> {
     }
 
     /// What stands at a node, and what it asks of the configuration.
-    fn found_at(&self, number: usize) -> Result<Found, Stop> {
+    fn found_at(&self, number: usize) -> Result<FoundPoints, RunStop> {
         let Some(node) = self.nodes.get(number) else {
             return Err(Run::failure(number, Cause::Area, RegisterSet::empty()));
         };
@@ -58,7 +57,7 @@ impl<'a> Run<'a> {
             },
             Err(cause) => Err(cause),
         };
-        Ok(Found {
+        Ok(FoundPoints {
             address,
             procedure,
             opcode: known_byte(self.rom, &node.state, address),
@@ -68,7 +67,7 @@ impl<'a> Run<'a> {
 
     /// The bytes of an instruction in RAM are wanted, as far as its length is known; else what was copied there with its first
     /// byte, since code is copied whole.
-    fn record_code(&mut self, address: u16, opcode: Option<u8>) -> Result<(), Stop> {
+    fn record_code(&mut self, address: u16, opcode: Option<u8>) -> Result<(), RunStop> {
         let length = match opcode {
             Some(opcode) => length_of(opcode),
             None => self.copied_from(address),
@@ -99,14 +98,14 @@ impl<'a> Run<'a> {
         state: &Abs,
         address: u16,
         op: Op,
-    ) -> Result<Option<Cause>, Stop> {
+    ) -> Result<Option<Cause>, RunStop> {
         self.ask_before(procedure, state, op)?;
         Ok(refused(self.rules(), self.rom, state, address, op))
     }
 
     /// LD SP,n16: by the rules of versions 1 and 2 main's, to the address behind the region; by those of version 3 to an
     /// address of the procedure's stack, or of main's.
-    fn set_stack(&mut self, number: usize, procedure: usize, word: u16) -> Result<(), Stop> {
+    fn set_stack(&mut self, number: usize, procedure: usize, word: u16) -> Result<(), RunStop> {
         if self.sp.is_none() {
             self.sp = Some(word);
         }
@@ -117,18 +116,18 @@ impl<'a> Run<'a> {
     }
 
     /// SP is set to a known address.
-    fn set_known_stack(&self, number: usize, procedure: usize, word: u16) -> Result<(), Stop> {
+    fn set_known_stack(&self, number: usize, procedure: usize, word: u16) -> Result<(), RunStop> {
         let last = self.configuration.region.last;
         let above = u32::from(last).saturating_add(1);
         if u32::from(word) == above {
             return Ok(());
         }
         if !self.configuration.is_stack_seen {
-            return Err(Stop::StackSet(word));
+            return Err(RunStop::StackSet(word));
         }
         let is_near = are_in_one_area(last, word.saturating_sub(1));
         if u32::from(word) > above && is_near && !self.configuration.is_stack_given {
-            return Err(Stop::Wanted(Wish::Top(word)));
+            return Err(RunStop::Wanted(Wish::Top(word)));
         }
         if is_settable(self.stack_of(procedure), word) {
             return Ok(());
@@ -138,7 +137,7 @@ impl<'a> Run<'a> {
     }
 
     /// LD SP,HL: HL is known, and an address of the procedure's stack or of main's. Where nothing is meant, nothing is asked.
-    fn set_by_hl(&self, number: usize, procedure: usize) -> Result<(), Stop> {
+    fn set_by_hl(&self, number: usize, procedure: usize) -> Result<(), RunStop> {
         let Some(node) = self.nodes.get(number) else {
             return Ok(());
         };
@@ -159,7 +158,12 @@ impl<'a> Run<'a> {
     }
 
     /// LD SP,n16: main's, to the address behind the region.
-    fn set_main_stack(&mut self, number: usize, procedure: usize, word: u16) -> Result<(), Stop> {
+    fn set_main_stack(
+        &mut self,
+        number: usize,
+        procedure: usize,
+        word: u16,
+    ) -> Result<(), RunStop> {
         let none = RegisterSet::empty();
         if procedure != 0 {
             let cause = Cause::Stack(StackMisuse::SetInCallee);
@@ -172,11 +176,11 @@ impl<'a> Run<'a> {
             let cause = Cause::Stack(StackMisuse::SetAgain(word));
             return Err(Run::failure(number, cause, none));
         }
-        Err(Stop::StackSet(word))
+        Err(RunStop::StackSet(word))
     }
 
     /// The values at which widening had better stop, by an instruction.
-    fn record_points(&mut self, number: usize, op: Op) -> Result<(), Stop> {
+    fn record_points(&mut self, number: usize, op: Op) -> Result<(), RunStop> {
         match op {
             Op::AluImmediate(AluOp::Cp, value) => {
                 let points = [value.saturating_sub(1), value, value.saturating_add(1)];
@@ -196,7 +200,7 @@ impl<'a> Run<'a> {
         }
     }
 
-    fn add_point(&mut self, point: u8) -> Result<(), Stop> {
+    fn add_point(&mut self, point: u8) -> Result<(), RunStop> {
         if self.points.insert(point)? {
             self.widening = Steps::new(&self.points);
         }

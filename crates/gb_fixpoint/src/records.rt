@@ -1,6 +1,6 @@
 //! What refinement wants to know of a step's accesses.
 
-use crate::stop::Stop;
+use crate::stop::RunStop;
 use crate::types::{CellStore, Run, Spot};
 use gb_ops::op::{Op, Operand, Register};
 use gb_verify::{AbsRead, AbsWrite, Range, Rules, Span, Successors, Val, is_ram};
@@ -42,14 +42,11 @@ impl<'a> Run<'a> {
         number: usize,
         op: Op,
         ways: &Successors<'_>,
-    ) -> Result<(), Stop> {
+    ) -> Result<(), RunStop> {
         let Some(node) = self.nodes.get(number) else {
             return Ok(());
         };
-        let spot = Spot {
-            procedure: node.key.procedure,
-            address: node.key.address,
-        };
+        let spot = node.spot();
         let Some(taken) = &ways.taken else {
             return Ok(());
         };
@@ -68,7 +65,7 @@ impl<'a> Run<'a> {
     }
 
     /// A byte of RAM that is read at one address is wanted.
-    fn record_read(&mut self, op: Op, span: Span) -> Result<(), Stop> {
+    fn record_read(&mut self, op: Op, span: Span) -> Result<(), RunStop> {
         let home = home_of(span.first);
         if span.is_one() && is_ram(home) {
             self.wanted.insert(home)?;
@@ -86,7 +83,7 @@ impl<'a> Run<'a> {
         op: Op,
         span: Span,
         val: Val,
-    ) -> Result<(), Stop> {
+    ) -> Result<(), RunStop> {
         let is_known = val.lo == val.hi;
         if span.last < 0x8000 && !is_known {
             self.switches.insert(spot)?;

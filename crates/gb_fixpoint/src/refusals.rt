@@ -183,7 +183,7 @@ fn first_interrupt(core: &Core) -> Option<u8> {
 
 /// Where an instruction stands.
 #[derive(Clone, Copy)]
-pub struct Standing<'a> {
+pub struct AtInstruction<'a> {
     pub stack: Stack,
     pub state: &'a Abs,
     pub address: u16,
@@ -191,8 +191,8 @@ pub struct Standing<'a> {
 }
 
 /// What an OAM transfer refuses of an instruction, or of a dispatch before it.
-fn transfer_refusal(standing: Standing<'_>, ways: &Successors<'_>) -> Option<Refusal> {
-    let Standing {
+fn transfer_refusal(standing: AtInstruction<'_>, ways: &Successors<'_>) -> Option<Refusal> {
+    let AtInstruction {
         stack,
         state,
         address,
@@ -214,8 +214,12 @@ fn transfer_refusal(standing: Standing<'_>, ways: &Successors<'_>) -> Option<Ref
 }
 
 /// What is against an instruction in a state, of all but covering, calls and returns.
-pub fn refusal(rom: &Rom<'_>, standing: Standing<'_>, ways: &Successors<'_>) -> Option<Refusal> {
-    let Standing {
+pub fn refusal(
+    rom: &Rom<'_>,
+    standing: AtInstruction<'_>,
+    ways: &Successors<'_>,
+) -> Option<Refusal> {
+    let AtInstruction {
         stack,
         state,
         row,

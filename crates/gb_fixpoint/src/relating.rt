@@ -3,20 +3,20 @@
 use crate::bounds::{WORD_PAIRS, bounds_of, box_of, facts_of, set_facts};
 use crate::linking::{are_same_links, holds_link};
 use crate::register_set::REGISTERS;
-use gb_domain::pairs::{ANY_BOUNDS, Bounds, Link, PairFacts, Pairs, WordPair};
-use gb_domain::places::{NO_REGISTER, OneByte, Test};
-use gb_domain::relations::Relations;
 use gb_ops::registers::Registers;
-use gb_verify::Val;
+use gb_verify::{
+    ANY_BOUNDS, Bounds, Link, NO_REGISTER, OneByte, PairFacts, Pairs, Relations, Test, Val,
+    WordPair,
+};
 
 /// The registers of a state, and what is known of several parts of it together.
 #[derive(Clone, Copy)]
-pub(crate) struct Known<'a> {
+pub(crate) struct KnownRelations<'a> {
     pub registers: &'a Registers<Val>,
     pub relations: &'a Relations,
 }
 
-impl<'a> Known<'a> {
+impl<'a> KnownRelations<'a> {
     /// The bounds of a pair.
     pub(crate) fn bounds(&self, pair: WordPair) -> Bounds {
         bounds_of(pair, self.registers, &self.relations.pairs)
@@ -98,7 +98,7 @@ fn hull(a: Bounds, b: Bounds) -> Bounds {
 }
 
 /// The link of a pair that holds in both: one that both have, or that one has and the other's single values meet.
-fn join_link(pair: WordPair, a: Known<'_>, b: Known<'_>) -> Option<Link> {
+fn join_link(pair: WordPair, a: KnownRelations<'_>, b: KnownRelations<'_>) -> Option<Link> {
     match (a.link(pair), b.link(pair)) {
         (Some(x), Some(y)) if are_same_links(&x, &y) => Some(x),
         (Some(x), _) if holds_link(pair, &x, b) => Some(x),
@@ -107,7 +107,7 @@ fn join_link(pair: WordPair, a: Known<'_>, b: Known<'_>) -> Option<Link> {
     }
 }
 
-fn join_facts(pair: WordPair, a: Known<'_>, b: Known<'_>) -> PairFacts {
+fn join_facts(pair: WordPair, a: KnownRelations<'_>, b: KnownRelations<'_>) -> PairFacts {
     PairFacts {
         bounds: hull(a.bounds(pair), b.bounds(pair)),
         link: join_link(pair, a, b),
@@ -115,7 +115,7 @@ fn join_facts(pair: WordPair, a: Known<'_>, b: Known<'_>) -> PairFacts {
 }
 
 /// What is known of pairs in both.
-fn join_pairs(a: Known<'_>, b: Known<'_>) -> Pairs {
+fn join_pairs(a: KnownRelations<'_>, b: KnownRelations<'_>) -> Pairs {
     let mut pairs = Pairs::default();
     for pair in WORD_PAIRS {
         set_facts(pair, join_facts(pair, a, b), &mut pairs);
@@ -141,7 +141,7 @@ pub(crate) fn without_boxes(registers: &Registers<Val>, relations: &Relations) -
 }
 
 /// What is known of several parts together in both, by the rules of version 3.
-pub(crate) fn join_relations(a: Known<'_>, b: Known<'_>) -> Relations {
+pub(crate) fn join_relations(a: KnownRelations<'_>, b: KnownRelations<'_>) -> Relations {
     Relations {
         byte: join_byte(&a.relations.byte, &b.relations.byte),
         zero: join_zero(a.relations.zero, b.relations.zero),

@@ -1,15 +1,16 @@
 //! A run from power-up to the fixpoint.
 
-use crate::cause::{Cause, Failure, Outcome};
-use crate::configuration::{Configuration, Place};
+use crate::cause::{Cause, Failure, RunEnd};
+use crate::code_point::CodePoint;
+use crate::configuration::{Configuration, TargetPlace};
 use crate::keys::{NodeKey, ProcedureKey};
 use crate::limits::{DEAR_STEPS, PROCEDURES, RUN_STEPS};
 use crate::ranges::RangeSet;
 use crate::register_set::RegisterSet;
 use crate::stacks::main_base;
 use crate::steps::Steps;
-use crate::stop::Stop;
-use crate::types::{Procedure, Run, Spot, Turn};
+use crate::stop::RunStop;
+use crate::types::{Run, RunProcedure, Spot, Turn};
 use gb_ops::op::Register;
 use gb_verify::check::core_at_power_up;
 use gb_verify::{Abs, Rom, known_bytes};
@@ -17,11 +18,14 @@ use std::alloc::{AllocError, Global};
 use std::collections::{BTreeMap, BTreeSet, HashMap, HashSet};
 
 /// Where main begins.
-const START: u16 = 0x0100;
+const START: CodePoint = CodePoint {
+    address: 0x0100,
+    bank: Some(0),
+};
 
-impl Procedure {
-    pub(crate) fn new(alloc: Global, key: ProcedureKey) -> Procedure {
-        Procedure {
+impl RunProcedure {
+    pub(crate) fn new(alloc: Global, key: ProcedureKey) -> RunProcedure {
+        RunProcedure {
             key,
             entry: None,
             exit: None,
@@ -84,26 +88,27 @@ impl<'a> Run<'a> {
 
     /// Goes from power-up to the fixpoint, to the first failure at a place that wasn't given up, or to a limit. A run that was
     /// long goes on past it, since others may be met besides.
-    pub fn run(&mut self) -> Result<Outcome, AllocError> {
+    pub fn run(&mut self) -> Result<RunEnd, AllocError> {
         match self.run_to_stop() {
-            Ok(()) => Ok(self.outcome(Outcome::Finished)),
-            Err(Stop::Failed(failure)) => Ok(self.outcome(Outcome::Failed(failure))),
-            Err(Stop::StackSet(sp)) => Ok(self.outcome(Outcome::StackSet { sp })),
-            Err(Stop::Wanted(wish)) => Ok(self.outcome(Outcome::Wanted(wish))),
-            Err(Stop::TooLarge) => Ok(self.outcome(Outcome::TooLarge)),
-            Err(Stop::Memory(error)) => Err(error),
+            Ok(()) => Ok(self.outcome(RunEnd::Finished)),
+            Err(RunStop::Failed(failure)) => Ok(self.outcome(RunEnd::Failed(failure))),
+            Err(RunStop::StackSet(sp)) => Ok(self.outcome(RunEnd::StackSet { sp })),
+            Err(RunStop::Wanted(wish)) => Ok(self.outcome(RunEnd::Wanted(wish))),
+            Err(RunStop::Crowded) => Ok(self.outcome(RunEnd::Crowded)),
+            Err(RunStop::TooLarge) => Ok(self.outcome(RunEnd::TooLarge)),
+            Err(RunStop::Memory(error)) => Err(error),
         }
     }
 
     /// What a run came to: the first failure that it went past, if there is one.
-    fn outcome(&self, last: Outcome) -> Outcome {
+    fn outcome(&self, last: RunEnd) -> RunEnd {
         match self.passed.first() {
-            Some(failure) => Outcome::Failed(*failure),
+            Some(failure) => RunEnd::Failed(*failure),
             None => last,
         }
     }
 
-    fn run_to_stop(&mut self) -> Result<(), Stop> {
+    fn run_to_stop(&mut self) -> Result<(), RunStop> {
         self.begin()?;
         for _ in 0..RUN_STEPS {
             let Some(turn) = self.queue.pop_first() else {
@@ -113,25 +118,25 @@ impl<'a> Run<'a> {
                 return Ok(());
             }
             if self.nodes.len() > self.configuration.limit {
-                return Err(Stop::TooLarge);
+                return Err(RunStop::TooLarge);
             }
             self.take_turn(turn)?;
         }
-        Err(Stop::TooLarge)
+        Err(RunStop::TooLarge)
     }
 
     /// Main is entered.
-    fn begin(&mut self) -> Result<(), Stop> {
+    fn begin(&mut self) -> Result<(), RunStop> {
         let region = self.configuration.region;
         let core = core_at_power_up(self.rom, region);
         let base = main_base(self.rules(), region);
-        let main = Procedure::new(self.alloc, ProcedureKey::of_main(&core, base));
+        let main = RunProcedure::new(self.alloc, ProcedureKey::of_main(&core, base));
         self.procedures.push(main)?;
         self.arrive(None, NodeKey::of_entry(0, START), &Abs::new(core))
     }
 
     /// Steps a node, or goes on behind a handler there.
-    fn take_turn(&mut self, turn: Turn) -> Result<(), Stop> {
+    fn take_turn(&mut self, turn: Turn) -> Result<(), RunStop> {
         let outcome = if turn.handler == 0 {
             if let Some(waiting) = self.nodes.get_mut(turn.node) {
                 waiting.is_queued = false;
@@ -145,21 +150,21 @@ impl<'a> Run<'a> {
     }
 
     /// A failure at a place that was given up is kept, the first of each place, and stops nothing.
-    pub(crate) fn keep(&mut self, outcome: Result<(), Stop>) -> Result<(), Stop> {
+    pub(crate) fn keep(&mut self, outcome: Result<(), RunStop>) -> Result<(), RunStop> {
         match outcome {
-            Err(Stop::Failed(failure)) if self.is_given_up(failure.node) => {
+            Err(RunStop::Failed(failure)) if self.is_given_up(failure.node) => {
                 if !self.has_failed(failure.node) {
                     self.failures.push(failure)?;
                 }
                 Ok(())
             }
-            Err(Stop::Failed(failure)) if self.steps >= DEAR_STEPS => self.pass(failure),
+            Err(RunStop::Failed(failure)) if self.steps >= DEAR_STEPS => self.pass(failure),
             outcome => outcome,
         }
     }
 
     /// The run goes past a failure, half as far again as it has come, and keeps the first of each place.
-    fn pass(&mut self, failure: Failure) -> Result<(), Stop> {
+    fn pass(&mut self, failure: Failure) -> Result<(), RunStop> {
         if self.passed.is_empty() {
             self.last_step = self.steps.saturating_add(self.steps / 2);
         }
@@ -170,7 +175,7 @@ impl<'a> Run<'a> {
     }
 
     /// Whether the run went past a failure at a place already.
-    fn is_passed(&self, place: Option<Place>) -> bool {
+    fn is_passed(&self, place: Option<TargetPlace>) -> bool {
         for failure in &self.passed {
             if self.place_of(failure.node) == place {
                 return true;
@@ -180,8 +185,8 @@ impl<'a> Run<'a> {
     }
 
     /// A failure at a node.
-    pub(crate) fn failure(node: usize, cause: Cause, registers: RegisterSet) -> Stop {
-        Stop::Failed(Failure {
+    pub(crate) fn failure(node: usize, cause: Cause, registers: RegisterSet) -> RunStop {
+        RunStop::Failed(Failure {
             node,
             cause,
             registers,
@@ -204,7 +209,7 @@ impl<'a> Run<'a> {
     }
 
     /// A node waits for its turn.
-    pub(crate) fn enqueue(&mut self, node: usize) -> Result<(), Stop> {
+    pub(crate) fn enqueue(&mut self, node: usize) -> Result<(), RunStop> {
         let Some(waiting) = self.nodes.get_mut(node) else {
             return Ok(());
         };
@@ -222,7 +227,7 @@ impl<'a> Run<'a> {
     }
 
     /// A node waits to go on behind a handler; where it waits for its turn, it does so then.
-    pub(crate) fn enqueue_behind(&mut self, node: usize, handler: usize) -> Result<(), Stop> {
+    pub(crate) fn enqueue_behind(&mut self, node: usize, handler: usize) -> Result<(), RunStop> {
         let Some(waiting) = self.nodes.get(node) else {
             return Ok(());
         };
@@ -239,23 +244,23 @@ impl<'a> Run<'a> {
     }
 
     /// Where a procedure begins.
-    pub fn target(&self, procedure: usize) -> u16 {
+    pub fn target(&self, procedure: usize) -> CodePoint {
         match self.procedures.get(procedure) {
-            Some(procedure) => procedure.key.target,
+            Some(procedure) => procedure.key.point(),
             None => START,
         }
     }
 
     /// The place of a node.
-    pub fn place_of(&self, node: usize) -> Option<Place> {
+    pub fn place_of(&self, node: usize) -> Option<TargetPlace> {
         let key = self.nodes.get(node)?.key;
-        Some(Place {
+        Some(TargetPlace {
             target: self.target(key.procedure),
-            address: key.address,
+            point: key.point(),
         })
     }
 
-    /// The numbers of the nodes at an address of a procedure.
+    /// The numbers of the nodes at a point of a procedure's code.
     pub fn nodes_at(&self, spot: Spot) -> &[usize] {
         match self.at.get(&spot) {
             Some(nodes) => nodes.as_slice(),
@@ -263,11 +268,17 @@ impl<'a> Run<'a> {
         }
     }
 
-    /// The bytes of the instruction at an address of a procedure, where they are known in its first node.
+    /// Where an address is that an instruction at a node calls.
+    pub fn point_from(&self, node: usize, address: u16) -> Option<CodePoint> {
+        let ctl = &self.nodes.get(node)?.state.core().ctl;
+        Some(CodePoint::of(self.rom, ctl, address))
+    }
+
+    /// The bytes of the instruction at a spot, where they are known in its first node.
     pub fn bytes_at(&self, spot: Spot) -> Option<[u8; 3]> {
         let number = self.nodes_at(spot).first()?;
         let node = self.nodes.get(*number)?;
-        known_bytes(self.rom, &node.state, spot.address)
+        known_bytes(self.rom, &node.state, spot.point.address)
     }
 
     /// Whether a register has one value alone in a node.

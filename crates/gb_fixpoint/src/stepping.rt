@@ -1,9 +1,9 @@
 //! One step: a node's instruction is executed, and the interrupts come that may come.
 
 use crate::cause::Cause;
-use crate::refusals::{Standing, refusal};
+use crate::refusals::{AtInstruction, refusal};
 use crate::register_set::RegisterSet;
-use crate::stop::Stop;
+use crate::stop::RunStop;
 use crate::tracking::keep_tracked;
 use crate::types::Run;
 use gb_ops::op::Op;
@@ -14,7 +14,7 @@ const RETURN_WORD: usize = 2;
 
 impl<'a> Run<'a> {
     /// Executes the instruction at a node, and dispatches each interrupt that may come there.
-    pub(crate) fn step(&mut self, number: usize) -> Result<(), Stop> {
+    pub(crate) fn step(&mut self, number: usize) -> Result<(), RunStop> {
         let row = self.instruction_at(number)?;
         let Some(node) = self.nodes.get(number) else {
             return Ok(());
@@ -24,7 +24,7 @@ impl<'a> Run<'a> {
         let stack = self.stack_of(procedure);
         let ways = successors_of(stack, self.rom, row, address, &state);
         self.ask_behind(procedure, &ways)?;
-        let standing = Standing {
+        let standing = AtInstruction {
             stack,
             state: &state,
             address,
@@ -45,7 +45,7 @@ impl<'a> Run<'a> {
     }
 
     /// RETI of a handler that goes on at a word which it has pushed: no rule is against it, but no one means it.
-    fn refuse_return(&self, number: usize, op: Op, ways: &Successors<'_>) -> Result<(), Stop> {
+    fn refuse_return(&self, number: usize, op: Op, ways: &Successors<'_>) -> Result<(), RunStop> {
         let Some(node) = self.nodes.get(number) else {
             return Ok(());
         };
@@ -67,14 +67,14 @@ impl<'a> Run<'a> {
     }
 
     /// Goes on by one way.
-    fn follow(&mut self, number: usize, way: Option<Successor<'_>>) -> Result<(), Stop> {
+    fn follow(&mut self, number: usize, way: Option<Successor<'_>>) -> Result<(), RunStop> {
         match way {
             Some(successor) => self.go_on(number, &successor),
             None => Ok(()),
         }
     }
 
-    fn go_on(&mut self, number: usize, successor: &Successor<'_>) -> Result<(), Stop> {
+    fn go_on(&mut self, number: usize, successor: &Successor<'_>) -> Result<(), RunStop> {
         match successor.target {
             Target::Lost => {
                 let cause = Cause::ReturnToUnknown;
@@ -86,7 +86,7 @@ impl<'a> Run<'a> {
     }
 
     /// Goes on where a known address follows.
-    fn go_on_in(&mut self, number: usize, successor: &Successor<'_>) -> Result<(), Stop> {
+    fn go_on_in(&mut self, number: usize, successor: &Successor<'_>) -> Result<(), RunStop> {
         let mut state = successor.state();
         match successor.target {
             Target::At(address) => self.flow(number, address, &mut state),
@@ -98,7 +98,7 @@ impl<'a> Run<'a> {
     }
 
     /// A node's procedure returns in a state.
-    fn leave(&mut self, number: usize, state: &mut Abs) -> Result<(), Stop> {
+    fn leave(&mut self, number: usize, state: &mut Abs) -> Result<(), RunStop> {
         let Some(node) = self.nodes.get(number) else {
             return Ok(());
         };

@@ -6,10 +6,10 @@ use crate::joining::{join, join_all_relations, join_cells, join_core, join_items
 use crate::linking::with_links;
 use crate::relating::without_boxes;
 use arrayvec::ArrayVec;
-use gb_domain::pairs::{Bounds, PairFacts, Pairs};
 use gb_ops::registers::Registers;
-use gb_product::reduced::reduced;
-use gb_verify::{Abs, Cell, Core, Relations, Rules, Val, any, cell_at, covers};
+use gb_verify::{
+    Abs, Bounds, Cell, Core, PairFacts, Pairs, Relations, Rules, Val, any, cell_at, covers, reduced,
+};
 use std::collections::BTreeSet;
 
 /// The values at which growing bounds stop: 0, 255 and some more.
@@ -19,7 +19,7 @@ pub struct Steps {
     below: [u8; 256],
     /// The least step that is at least a value.
     above: [u8; 256],
-    /// The same of a pair's high byte, for which the areas' ends are steps too.
+    /// The steps of a pair's high byte, for which the areas' ends are steps too.
     high_below: [u8; 256],
     high_above: [u8; 256],
 }
@@ -35,11 +35,11 @@ const AREAS: [u8; 11] = [
 pub enum Growth {
     /// Both are joined.
     Joined,
-    /// The same, and links are looked for that hold in both.
+    /// Bounds grow to hold both, and links that hold in both are looked for.
     Linked,
     /// Bounds that grow go on to the next step.
     Widened,
-    /// The same, and nothing more is known of pairs than their bytes.
+    /// Bounds that grow go on to the next step, and of pairs nothing is known but their bytes.
     WidenedWithoutPairs,
 }
 
@@ -52,7 +52,7 @@ fn marks(points: &BTreeSet<u8>) -> [bool; 256] {
     marks
 }
 
-/// The same marks, with those of the areas' ends: the last page of one, and the first page of the next.
+/// The marks with those of the areas' ends: the last page of one, and the first page of the next.
 fn with_areas(marks: &[bool; 256]) -> [bool; 256] {
     let mut marks = *marks;
     for first in AREAS {

@@ -1,6 +1,7 @@
 //! What a run is made of: nodes, procedures, and what refinement asks of them.
 
 use crate::cause::Failure;
+use crate::code_point::CodePoint;
 use crate::configuration::Configuration;
 use crate::keys::{NodeKey, ProcedureKey};
 use crate::ranges::RangeSet;
@@ -9,26 +10,26 @@ use gb_verify::{Abs, Rom};
 use std::alloc::Global;
 use std::collections::{BTreeMap, BTreeSet, HashMap, HashSet};
 
-/// An address of a procedure.
+/// A point of a procedure's code.
 #[derive(Clone, Copy, PartialEq, Eq, PartialOrd, Ord, Hash)]
 pub struct Spot {
     /// The number of the procedure.
     pub procedure: usize,
-    pub address: u16,
+    pub point: CodePoint,
 }
 
-/// A way on inside a procedure, from an address to the next.
+/// A way on inside a procedure, from a point of its code to the next.
 #[derive(Clone, Copy, PartialEq, Eq, PartialOrd, Ord, Hash)]
 pub struct Edge {
     /// The number of the procedure.
     pub procedure: usize,
-    pub from: u16,
-    pub to: u16,
+    pub from: CodePoint,
+    pub to: CodePoint,
 }
 
 /// A procedure calls another one, or is interrupted by it.
 #[derive(Clone, Copy, PartialEq, Eq, PartialOrd, Ord, Hash)]
-pub struct Call {
+pub struct CallSite {
     /// The caller's number.
     pub caller: usize,
     /// The callee's number.
@@ -85,9 +86,9 @@ pub(crate) struct Turn {
     pub handler: usize,
 }
 
-/// A set of states at an address of a procedure.
+/// A set of states at a point of a procedure's code.
 #[derive(Drop)]
-pub struct Node {
+pub struct RunNode {
     pub key: NodeKey,
     pub state: Abs,
     /// How often its state grew.
@@ -99,9 +100,19 @@ pub struct Node {
     pub(crate) is_queued: bool,
 }
 
+impl RunNode {
+    /// Where it is.
+    pub fn spot(&self) -> Spot {
+        Spot {
+            procedure: self.key.procedure,
+            point: self.key.point(),
+        }
+    }
+}
+
 /// A procedure: main, or what is called at a target or dispatched, in states of one key.
 #[derive(Drop)]
-pub struct Procedure {
+pub struct RunProcedure {
     pub key: ProcedureKey,
     /// The number of its first node, once it was entered.
     pub entry: Option<usize>,
@@ -124,10 +135,10 @@ pub struct Procedure {
 pub struct Run<'a> {
     pub rom: &'a Rom<'a>,
     pub configuration: &'a Configuration,
-    pub nodes: Vec<Node>,
+    pub nodes: Vec<RunNode>,
     /// Procedure 0 is main.
-    pub procedures: Vec<Procedure>,
-    /// The numbers of the nodes at an address of a procedure.
+    pub procedures: Vec<RunProcedure>,
+    /// The numbers of the nodes at a point of a procedure's code.
     pub at: HashMap<Spot, Vec<usize>>,
     pub edges: BTreeSet<Edge>,
     /// Targets of backward ways.
@@ -146,7 +157,7 @@ pub struct Run<'a> {
     pub switches: BTreeSet<Spot>,
     /// Stores of A, which isn't known, to tracked cells.
     pub stores: BTreeSet<CellStore>,
-    pub calls: BTreeSet<Call>,
+    pub calls: BTreeSet<CallSite>,
     /// Where widening stops: the configuration's points, and the values that were compared with or loaded.
     pub points: BTreeSet<u8>,
     /// What LD SP,n16 loads, once it was met.
@@ -173,7 +184,7 @@ pub struct Run<'a> {
     /// The addresses behind inlined calls.
     pub(crate) returns: BTreeSet<u16>,
     /// Calls that close a cycle of procedures.
-    pub(crate) cyclic: BTreeSet<Call>,
+    pub(crate) cyclic: BTreeSet<CallSite>,
     pub(crate) queue: BTreeSet<Turn>,
     pub(crate) widening: Steps,
     /// Where the widening of single cells stops.

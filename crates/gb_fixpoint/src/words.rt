@@ -2,7 +2,7 @@
 //! return leads.
 
 use crate::limits::WORDS;
-use crate::stop::Stop;
+use crate::stop::RunStop;
 use crate::types::{PlacedWord, Run};
 use arrayvec::ArrayVec;
 use gb_ops::registers::Registers;
@@ -85,7 +85,7 @@ impl<'a> Run<'a> {
         state: &Abs,
         is_keyed: bool,
         counted: u64,
-    ) -> Result<usize, Stop> {
+    ) -> Result<usize, RunStop> {
         let has_none = self.returns.is_empty() && !is_keyed && counted == 0;
         if self.rules() == Rules::Simple || has_none {
             return Ok(0);

@@ -41,16 +41,16 @@ fn ends_carry(op: Op) -> bool {
 
 /// Whether the carry is read at a spot, or on the only way from there before it is another one.
 pub(crate) fn is_carry_read(run: &Run<'_>, ways: &Ways, spot: Spot) -> bool {
-    let mut address = spot.address;
+    let mut point = spot.point;
     for _ in 0..CARRIED {
-        let here = Spot { address, ..spot };
+        let here = Spot { point, ..spot };
         match op_at(run, here) {
             Some(op) if reads_carry(op) => return true,
             Some(op) if !ends_carry(op) => {}
             _ => return false,
         }
-        match ways.only_behind(address) {
-            Some(behind) => address = behind,
+        match ways.only_behind(point) {
+            Some(behind) => point = behind,
             None => return false,
         }
     }

@@ -4,9 +4,10 @@ use crate::plan::{Edit, Plan, number_of, unless_taken_back};
 use crate::sources::{copied, high_registers, pointer_of, sources, stacked, without};
 use crate::spots::{has_entry, is_known, op_at, open_at, pointed_at, pointed_by};
 use crate::ways::Ways;
+use gb_fixpoint::code_point::CodePoint;
 use gb_fixpoint::limits::SPOTS;
 use gb_fixpoint::register_set::RegisterSet;
-use gb_fixpoint::types::{Node, Run, Spot};
+use gb_fixpoint::types::{Run, RunNode, Spot};
 use gb_ops::op::{AluOp, Indirect, Op, Operand, Register, StackPair};
 use std::alloc::{AllocError, Global};
 use std::collections::{BTreeMap, BTreeSet};
@@ -34,16 +35,16 @@ enum Sources {
 
 /// A search back from registers to the cells that they were loaded from: over joins, calls, and PUSH with POP.
 #[derive(Drop)]
-struct Search {
+struct CellSearch {
     alloc: Global,
     by: Sources,
     cells: BTreeSet<u16>,
-    seen: BTreeSet<(Spot, u32)>,
+    seen: BTreeSet<(Spot, u64)>,
     left: Vec<Question>,
     ways: BTreeMap<usize, Ways>,
 }
 
-impl Search {
+impl CellSearch {
     fn ask(&mut self, spot: Spot, wanted: RegisterSet) -> Result<(), AllocError> {
         if !wanted.is_empty() {
             self.left.push(Question { spot, wanted })?;
@@ -51,14 +52,14 @@ impl Search {
         Ok(())
     }
 
-    /// The spots before one, in its procedure.
-    fn spots_before(&mut self, run: &Run<'_>, spot: Spot) -> Result<Vec<u16>, AllocError> {
+    /// The points before a spot, in its procedure.
+    fn points_before(&mut self, run: &Run<'_>, spot: Spot) -> Result<Vec<CodePoint>, AllocError> {
         if !self.ways.contains_key(&spot.procedure) {
             let ways = Ways::of(self.alloc, run, spot.procedure)?;
             self.ways.insert(spot.procedure, ways)?;
         }
         match self.ways.get(&spot.procedure) {
-            Some(ways) => ways.before(spot.address),
+            Some(ways) => ways.before(spot.point),
             None => Ok(Vec::new(self.alloc)),
         }
     }
@@ -78,11 +79,7 @@ impl Search {
         }
         for site in procedure.sites.iter() {
             if let Some(node) = run.nodes.get(*site) {
-                let caller = Spot {
-                    procedure: node.key.procedure,
-                    address: node.key.address,
-                };
-                self.ask(caller, wanted)?;
+                self.ask(node.spot(), wanted)?;
             }
         }
         Ok(())
@@ -165,12 +162,9 @@ impl Search {
         }
         self.ask(pop, rest)?;
         for node in &run.nodes {
-            let push = Spot {
-                procedure: node.key.procedure,
-                address: node.key.address,
-            };
+            let push = node.spot();
             if push.procedure != pop.procedure
-                || !Search::may_take(run, pop, node.state.items().len())
+                || !CellSearch::may_take(run, pop, node.state.items().len())
             {
                 continue;
             }
@@ -238,10 +232,10 @@ impl Search {
             return Ok(());
         }
         self.ask_callers(run, spot, open)?;
-        for address in &self.spots_before(run, spot)? {
+        for point in &self.points_before(run, spot)? {
             let before = Spot {
                 procedure: spot.procedure,
-                address: *address,
+                point: *point,
             };
             self.step_back(run, before, &open)?;
         }
@@ -257,7 +251,7 @@ fn cells_behind(
     wanted: &RegisterSet,
     by: Sources,
 ) -> Result<BTreeSet<u16>, AllocError> {
-    let mut search = Search {
+    let mut search = CellSearch {
         alloc,
         by,
         cells: BTreeSet::new(alloc),
@@ -272,18 +266,14 @@ fn cells_behind(
         };
         search.answer(run, question)?;
     }
-    let Search { cells, .. } = search;
+    let CellSearch { cells, .. } = search;
     Ok(cells)
 }
 
 /// The register that a node's instruction stores, and the address where, if it is one.
-fn stored_by(run: &Run<'_>, node: &Node) -> Option<(Register, u16)> {
-    let spot = Spot {
-        procedure: node.key.procedure,
-        address: node.key.address,
-    };
+fn stored_by(run: &Run<'_>, node: &RunNode) -> Option<(Register, u16)> {
     let hl = (Register::H, Register::L);
-    match op_at(run, spot)? {
+    match op_at(run, node.spot())? {
         Op::Load(Operand::AtHl, Operand::Register(from)) => Some((from, pointed_by(node, hl)?)),
         Op::StoreA(Indirect::Bc) => {
             Some((Register::A, pointed_by(node, (Register::B, Register::C))?))
@@ -300,7 +290,7 @@ fn stored_by(run: &Run<'_>, node: &Node) -> Option<(Register, u16)> {
 
 /// A register that isn't known where it is stored.
 #[derive(Clone, Copy, PartialEq, Eq)]
-pub(crate) struct Stored {
+pub(crate) struct StoredCell {
     pub spot: Spot,
     pub register: Register,
 }
@@ -311,7 +301,7 @@ pub(crate) fn unknown_stores(
     run: &Run<'_>,
     spot: Spot,
     wanted: &RegisterSet,
-) -> Result<Vec<Stored>, AllocError> {
+) -> Result<Vec<StoredCell>, AllocError> {
     let cells = cells_behind(alloc, run, spot, wanted, Sources::Unknown)?;
     let mut stores = Vec::new(alloc);
     for node in &run.nodes {
@@ -319,11 +309,8 @@ pub(crate) fn unknown_stores(
             && cells.contains(&cell)
             && !is_known(node, register)
         {
-            let spot = Spot {
-                procedure: node.key.procedure,
-                address: node.key.address,
-            };
-            let store = Stored { spot, register };
+            let spot = node.spot();
+            let store = StoredCell { spot, register };
             if !stores.contains(&store) {
                 stores.push(store)?;
             }
@@ -343,7 +330,7 @@ pub(crate) fn key_cells(
     plan_of_cells(alloc, run, &cells)
 }
 
-/// The same of registers that are known, since they were told apart value by value.
+/// Makes key cells of the cells that known registers came from: they were told apart value by value.
 pub(crate) fn key_all_cells(
     alloc: Global,
     run: &Run<'_>,

@@ -3,15 +3,15 @@
 use crate::cells::{key_cells, pointer_cells, unknown_stores};
 use crate::loops::pointers_read;
 use crate::plan::{Edit, Plan, unless_taken_back};
-use crate::plans::{Trouble, plan_loops, plan_near};
+use crate::plans::{FailurePoint, plan_loops, plan_near};
 use crate::ways::Ways;
 use gb_fixpoint::register_set::RegisterSet;
-use gb_fixpoint::types::{Procedure, Run, Spot};
+use gb_fixpoint::types::{Run, RunProcedure, Spot};
 use gb_fixpoint::{Rules, cell_at};
 use std::alloc::{AllocError, Global};
 
 /// Whether a procedure is entered with a cell known, and left with several values in it.
-fn joins_cell(run: &Run<'_>, procedure: &Procedure, cell: u16) -> bool {
+fn joins_cell(run: &Run<'_>, procedure: &RunProcedure, cell: u16) -> bool {
     let Some(exit) = &procedure.exit else {
         return false;
     };
@@ -38,7 +38,7 @@ pub(crate) fn part_exits(alloc: Global, run: &Run<'_>) -> Result<Option<Plan>, A
     for cell in run.configuration.key_cells.iter() {
         for procedure in &run.procedures {
             if joins_cell(run, procedure, *cell) {
-                target = Some(procedure.key.target);
+                target = Some(procedure.key.point());
             }
         }
     }
@@ -67,7 +67,7 @@ pub(crate) fn plan_stored(
         }
     }
     for store in &stores {
-        let trouble = Trouble {
+        let trouble = FailurePoint {
             wanted: RegisterSet::of(&[store.register]),
             is_jump: false,
             is_kept_in_ram: true,

@@ -6,7 +6,8 @@ use crate::spots::{op_at, open_at, place_of, value_of};
 use crate::waiting::place_at_hl;
 use crate::ways::{Loop, Ways};
 use gb_fixpoint::Rules;
-use gb_fixpoint::configuration::Place;
+use gb_fixpoint::code_point::CodePoint;
+use gb_fixpoint::configuration::TargetPlace;
 use gb_fixpoint::limits::COUNTER;
 use gb_fixpoint::register_set::{REGISTERS, RegisterSet};
 use gb_fixpoint::types::{Run, Spot};
@@ -14,19 +15,19 @@ use gb_ops::op::{Op, Operand, Register};
 use std::alloc::{AllocError, Global};
 use std::collections::HashMap;
 
-/// Whether all addresses of a loop are keyed.
-fn is_keyed(run: &Run<'_>, target: u16, around: &Loop) -> bool {
-    around.iter().all(|address| run.configuration.keyed.contains(&Place {
+/// Whether all points of a loop are keyed.
+fn is_keyed(run: &Run<'_>, target: CodePoint, around: &Loop) -> bool {
+    around.iter().all(|point| run.configuration.keyed.contains(&TargetPlace {
         target,
-        address: *address,
+        point: *point,
     }))
 }
 
-/// Whether all addresses of a loop are paged.
-fn is_paged(run: &Run<'_>, target: u16, around: &Loop) -> bool {
-    around.iter().all(|address| run.configuration.paged.contains(&Place {
+/// Whether all points of a loop are paged.
+fn is_paged(run: &Run<'_>, target: CodePoint, around: &Loop) -> bool {
+    around.iter().all(|point| run.configuration.paged.contains(&TargetPlace {
         target,
-        address: *address,
+        point: *point,
     }))
 }
 
@@ -69,10 +70,10 @@ fn key_without_pages(
 ) -> Result<Option<Plan>, AllocError> {
     let target = run.target(procedure);
     let mut plan = Plan::key_all(alloc, run, ways, procedure, around)?;
-    for address in around.iter() {
-        plan.add(Edit::Unpage(Place {
+    for point in around.iter() {
+        plan.add(Edit::Unpage(TargetPlace {
             target,
-            address: *address,
+            point: *point,
         }))?;
     }
     Ok(unless_taken_back(run, plan))
@@ -108,10 +109,10 @@ fn split_counter(
     around: &Loop,
 ) -> Result<Option<Plan>, AllocError> {
     let heads = ways.heads(around)?;
-    for address in around.iter() {
+    for point in around.iter() {
         let spot = Spot {
             procedure,
-            address: *address,
+            point: *point,
         };
         let Some(register) = counter_at(run, spot) else {
             continue;
@@ -119,7 +120,7 @@ fn split_counter(
         for head in &heads {
             let spot = Spot {
                 procedure,
-                address: *head,
+                point: *head,
             };
             let place = place_of(run, spot);
             let is_split = split_at(run.configuration, place).contains(register);
@@ -139,14 +140,14 @@ fn counters_of(
     inner: Option<&Loop>,
 ) -> RegisterSet {
     let mut counters = RegisterSet::empty();
-    for address in around.iter() {
+    for point in around.iter() {
         let is_inside = match inner {
-            Some(inner) => inner.contains(address),
+            Some(inner) => inner.contains(point),
             None => false,
         };
         let spot = Spot {
             procedure,
-            address: *address,
+            point: *point,
         };
         if !is_inside && let Some(register) = counter_at(run, spot) {
             counters.insert(register);
@@ -157,15 +158,15 @@ fn counters_of(
 
 /// Whether a register is told apart so at each place of a loop.
 fn is_told(
-    told: &HashMap<Place, RegisterSet>,
-    target: u16,
+    told: &HashMap<TargetPlace, RegisterSet>,
+    target: CodePoint,
     around: &Loop,
     register: Register,
 ) -> bool {
-    around.iter().all(|address| {
-        let place = Place {
+    around.iter().all(|point| {
+        let place = TargetPlace {
             target,
-            address: *address,
+            point: *point,
         };
         registers_at(told, place).contains(register)
     })
@@ -174,16 +175,16 @@ fn is_told(
 /// One edit at each place of a loop.
 fn at_all(
     alloc: Global,
-    target: u16,
+    target: CodePoint,
     around: &Loop,
     register: Register,
     is_peeled: bool,
 ) -> Result<Plan, AllocError> {
     let mut plan = Plan::new(alloc);
-    for address in around.iter() {
-        let place = Place {
+    for point in around.iter() {
+        let place = TargetPlace {
             target,
-            address: *address,
+            point: *point,
         };
         plan.add(if is_peeled {
             Edit::Peel(place, register)
@@ -195,11 +196,11 @@ fn at_all(
 }
 
 /// Whether a register may be 0 and more in a node where a loop is entered: a counter that began at 0, or ends there.
-fn may_be_zero(run: &Run<'_>, procedure: usize, heads: &[u16], register: Register) -> bool {
+fn may_be_zero(run: &Run<'_>, procedure: usize, heads: &[CodePoint], register: Register) -> bool {
     for head in heads {
         let spot = Spot {
             procedure,
-            address: *head,
+            point: *head,
         };
         for number in run.nodes_at(spot) {
             if let Some(node) = run.nodes.get(*number) {
@@ -215,10 +216,10 @@ fn may_be_zero(run: &Run<'_>, procedure: usize, heads: &[u16], register: Registe
 
 /// Whether a loop changes a register by counting alone: A is mostly counted on its way from and to RAM, and no counter then.
 fn is_only_counted(run: &Run<'_>, procedure: usize, around: &Loop, register: Register) -> bool {
-    around.iter().all(|address| {
+    around.iter().all(|point| {
         let spot = Spot {
             procedure,
-            address: *address,
+            point: *point,
         };
         match op_at(run, spot) {
             Some(Op::Increment(Operand::Register(_)) | Op::Decrement(Operand::Register(_))) => true,
@@ -278,10 +279,10 @@ fn count_rounds(
 /// The bytes of the stack that a loop counts where they are, a bit for each by its place.
 fn items_counted(run: &Run<'_>, procedure: usize, around: &Loop) -> u64 {
     let mut items: u64 = 0;
-    for address in around.iter() {
+    for point in around.iter() {
         let spot = Spot {
             procedure,
-            address: *address,
+            point: *point,
         };
         if let Some(Op::Increment(Operand::AtHl) | Op::Decrement(Operand::AtHl)) = op_at(run, spot)
             && let Some(place) = place_at_hl(run, spot)
@@ -297,10 +298,10 @@ fn items_counted(run: &Run<'_>, procedure: usize, around: &Loop) -> u64 {
 /// The registers but A that a loop counts up or down.
 fn registers_counted(run: &Run<'_>, procedure: usize, around: &Loop) -> RegisterSet {
     let mut counted = RegisterSet::empty();
-    for address in around.iter() {
+    for point in around.iter() {
         let spot = Spot {
             procedure,
-            address: *address,
+            point: *point,
         };
         if let Some(
             Op::Increment(Operand::Register(register)) | Op::Decrement(Operand::Register(register)),
@@ -326,10 +327,10 @@ fn count_items(
     let registers = registers_counted(run, procedure, around);
     let mut plan = Plan::new(alloc);
     let mut is_new = false;
-    for address in around.iter() {
-        let place = Place {
+    for point in around.iter() {
+        let place = TargetPlace {
             target,
-            address: *address,
+            point: *point,
         };
         if run.configuration.items_at(place) & items != items {
             plan.add(Edit::CountItems(place, items))?;
@@ -355,17 +356,17 @@ pub(crate) fn pointers_read(
     spot: Spot,
 ) -> Result<RegisterSet, AllocError> {
     let mut pointers = RegisterSet::empty();
-    let loops = ways.loops(spot.address)?;
+    let loops = ways.loops(spot.point)?;
     let Some(around) = loops.first() else {
         return Ok(pointers);
     };
     if ways.is_endless(around) {
         return Ok(pointers);
     }
-    for address in around.iter() {
+    for point in around.iter() {
         let spot = Spot {
             procedure: spot.procedure,
-            address: *address,
+            point: *point,
         };
         if let Some(op) = op_at(run, spot)
             && let Some((high, low)) = pointer_of(op, &RegisterSet::all())
@@ -380,10 +381,10 @@ pub(crate) fn pointers_read(
 /// The registers that no instruction of a loop changes.
 fn unwritten(run: &Run<'_>, procedure: usize, around: &Loop) -> RegisterSet {
     let mut kept = RegisterSet::all();
-    for address in around.iter() {
+    for point in around.iter() {
         let spot = Spot {
             procedure,
-            address: *address,
+            point: *point,
         };
         if let Some(op) = op_at(run, spot) {
             let changed = written(op);
@@ -397,9 +398,9 @@ fn unwritten(run: &Run<'_>, procedure: usize, around: &Loop) -> RegisterSet {
     kept
 }
 
-/// Whether a register isn't known behind the instruction at an address.
-fn is_open(run: &Run<'_>, procedure: usize, address: u16, register: Register) -> bool {
-    let spot = Spot { procedure, address };
+/// Whether a register isn't known behind the instruction at a point.
+fn is_open(run: &Run<'_>, procedure: usize, point: CodePoint, register: Register) -> bool {
+    let spot = Spot { procedure, point };
     let Some(op) = op_at(run, spot) else {
         return true;
     };
@@ -411,10 +412,10 @@ fn is_open(run: &Run<'_>, procedure: usize, address: u16, register: Register) ->
 
 /// Whether an instruction of a loop looks at the page of HL or DE, or counts it.
 fn tests_page(run: &Run<'_>, procedure: usize, around: &Loop) -> bool {
-    around.iter().any(|address| {
+    around.iter().any(|point| {
         let spot = Spot {
             procedure,
-            address: *address,
+            point: *point,
         };
         matches!(
             op_at(run, spot),
@@ -473,21 +474,21 @@ fn edits_of_outer(
     let kept = unwritten(run, procedure, innermost);
     let mut plan = Plan::new(alloc);
     let mut is_new = false;
-    for address in around.iter() {
-        let place = Place {
+    for point in around.iter() {
+        let place = TargetPlace {
             target,
-            address: *address,
+            point: *point,
         };
         if run.configuration.keyed.contains(&place) {
             continue;
         }
-        if !innermost.contains(address) || !has_pointer(&kept) {
+        if !innermost.contains(point) || !has_pointer(&kept) {
             plan.key(
                 run,
                 ways,
                 Spot {
                     procedure,
-                    address: *address,
+                    point: *point,
                 },
             )?;
             is_new = true;
@@ -575,7 +576,7 @@ pub(crate) fn refine_loops(
     with_endless: bool,
 ) -> Result<Option<Plan>, AllocError> {
     let target = run.target(spot.procedure);
-    let loops = ways.loops(spot.address)?;
+    let loops = ways.loops(spot.point)?;
     if let Some(plan) = refine_counters(alloc, run, ways, spot.procedure, loops.as_slice())? {
         return Ok(Some(plan));
     }

@@ -4,7 +4,8 @@ use crate::carries::is_carry_read;
 use crate::spots::place_of;
 use crate::ways::Ways;
 use gb_fixpoint::Rules;
-use gb_fixpoint::configuration::{Configuration, Place};
+use gb_fixpoint::code_point::CodePoint;
+use gb_fixpoint::configuration::{Configuration, TargetPlace};
 use gb_fixpoint::register_set::{REGISTERS, RegisterSet};
 use gb_fixpoint::types::{Run, Spot};
 use gb_ops::op::Register;
@@ -15,27 +16,27 @@ use std::collections::{BTreeSet, HashMap};
 #[derive(Clone, Copy, PartialEq, Eq)]
 pub enum Edit {
     /// The known registers become part of the key at a place.
-    Key(Place),
+    Key(TargetPlace),
     /// Beside them the carry becomes part of the key at a place.
-    Carry(Place),
+    Carry(TargetPlace),
     /// H and D are taken value by value at a place.
-    Page(Place),
+    Page(TargetPlace),
     /// They no longer are.
-    Unpage(Place),
+    Unpage(TargetPlace),
     /// A register is taken value by value at a place.
-    Split(Place, Register),
+    Split(TargetPlace, Register),
     /// The procedures at a target are parted by registers.
-    Part(u16, RegisterSet),
+    Part(CodePoint, RegisterSet),
     /// A cell becomes part of every key.
     Cell(u16),
     /// A register's known values become part of the key at a place.
-    Count(Place, Register),
+    Count(TargetPlace, Register),
     /// Whether a register is 0 becomes part of the key at a place.
-    Peel(Place, Register),
+    Peel(TargetPlace, Register),
     /// The known values of some bytes of the stack become part of the key at a place.
-    CountItems(Place, u64),
+    CountItems(TargetPlace, u64),
     /// Calls of a target are followed in their callers.
-    Inline(u16),
+    Inline(CodePoint),
 }
 
 /// Changes that are made together.
@@ -81,23 +82,23 @@ impl Plan {
         number
     }
 
-    /// All addresses are paged, in the procedures that begin at a target.
+    /// All points are paged, in the procedures that begin at a target.
     pub(crate) fn page_all(
         alloc: Global,
-        target: u16,
-        addresses: &BTreeSet<u16>,
+        target: CodePoint,
+        points: &BTreeSet<CodePoint>,
     ) -> Result<Plan, AllocError> {
         let mut plan = Plan::new(alloc);
-        for address in addresses.iter() {
-            plan.add(Edit::Page(Place {
+        for point in points.iter() {
+            plan.add(Edit::Page(TargetPlace {
                 target,
-                address: *address,
+                point: *point,
             }))?;
         }
         Ok(plan)
     }
 
-    /// An address is keyed. By the rules of version 3 the carry is part of the key where it is read from there on.
+    /// A point is keyed. By the rules of version 3 the carry is part of the key where it is read from there on.
     pub(crate) fn key(&mut self, run: &Run<'_>, ways: &Ways, spot: Spot) -> Result<(), AllocError> {
         let place = place_of(run, spot);
         self.add(Edit::Key(place))?;
@@ -107,22 +108,22 @@ impl Plan {
         Ok(())
     }
 
-    /// All addresses are keyed, in a procedure and those that begin where it does.
+    /// All points are keyed, in a procedure and those that begin where it does.
     pub(crate) fn key_all(
         alloc: Global,
         run: &Run<'_>,
         ways: &Ways,
         procedure: usize,
-        addresses: &BTreeSet<u16>,
+        points: &BTreeSet<CodePoint>,
     ) -> Result<Plan, AllocError> {
         let mut plan = Plan::new(alloc);
-        for address in addresses.iter() {
+        for point in points.iter() {
             plan.key(
                 run,
                 ways,
                 Spot {
                     procedure,
-                    address: *address,
+                    point: *point,
                 },
             )?;
         }
@@ -130,7 +131,7 @@ impl Plan {
     }
 
     /// The places that it keys, where it splits no register: these can be taken back later.
-    pub fn loose_keys(&self) -> Result<Vec<Place>, AllocError> {
+    pub fn loose_keys(&self) -> Result<Vec<TargetPlace>, AllocError> {
         let mut keys = Vec::new(self.alloc);
         for edit in &self.edits {
             match edit {
@@ -169,8 +170,8 @@ pub(crate) fn unless_taken_back(run: &Run<'_>, plan: Plan) -> Option<Plan> {
 }
 
 /// A set of registers as a number.
-pub(crate) fn number_of(set: &RegisterSet) -> u32 {
-    let mut number: u32 = 0;
+pub(crate) fn number_of(set: &RegisterSet) -> u64 {
+    let mut number: u64 = 0;
     for register in REGISTERS {
         number = number.wrapping_mul(2);
         if set.contains(register) {
@@ -181,30 +182,21 @@ pub(crate) fn number_of(set: &RegisterSet) -> u32 {
 }
 
 /// A change as numbers.
-fn parts_of(edit: Edit) -> [u64; 3] {
+fn parts_of(edit: Edit) -> [u64; 4] {
     let (kind, place, more) = match edit {
         Edit::Key(place) => (0, place, 0),
         Edit::Page(place) => (1, place, 0),
         Edit::Split(place, register) => (2, place, number_of(&RegisterSet::of(&[register]))),
         Edit::Count(place, register) => (3, place, number_of(&RegisterSet::of(&[register]))),
         Edit::Peel(place, register) => (4, place, number_of(&RegisterSet::of(&[register]))),
-        Edit::CountItems(place, items) => return [parts_of_place(5, place), items, 0],
-        Edit::Part(target, registers) => return [
-            6,
-            u64::from(target),
-            u64::from(number_of(&registers)),
-        ],
-        Edit::Cell(cell) => return [7, u64::from(cell), 0],
-        Edit::Inline(target) => return [8, u64::from(target), 0],
+        Edit::CountItems(place, items) => (5, place, items),
+        Edit::Part(target, registers) => return [6, target.number(), number_of(&registers), 0],
+        Edit::Cell(cell) => return [7, u64::from(cell), 0, 0],
+        Edit::Inline(target) => return [8, target.number(), 0, 0],
         Edit::Carry(place) => (9, place, 0),
         Edit::Unpage(place) => (10, place, 0),
     };
-    [parts_of_place(kind, place), u64::from(more), 0]
-}
-
-/// A kind and a place as a number.
-fn parts_of_place(kind: u64, place: Place) -> u64 {
-    kind << 32 | u64::from(place.target) << 16 | u64::from(place.address)
+    [kind, place.target.number(), place.point.number(), more]
 }
 
 /// Makes a change.
@@ -254,7 +246,10 @@ fn apply_edit(edit: Edit, configuration: &mut Configuration) -> Result<(), Alloc
 }
 
 /// The registers of a place.
-pub(crate) fn registers_at(registers: &HashMap<Place, RegisterSet>, place: Place) -> RegisterSet {
+pub(crate) fn registers_at(
+    registers: &HashMap<TargetPlace, RegisterSet>,
+    place: TargetPlace,
+) -> RegisterSet {
     match registers.get(&place) {
         Some(registers) => *registers,
         None => RegisterSet::empty(),
@@ -262,12 +257,12 @@ pub(crate) fn registers_at(registers: &HashMap<Place, RegisterSet>, place: Place
 }
 
 /// The registers that are taken value by value at a place.
-pub(crate) fn split_at(configuration: &Configuration, place: Place) -> RegisterSet {
+pub(crate) fn split_at(configuration: &Configuration, place: TargetPlace) -> RegisterSet {
     registers_at(&configuration.split, place)
 }
 
 /// The registers by which the procedures at a target are parted.
-pub fn parted_by(configuration: &Configuration, target: u16) -> RegisterSet {
+pub fn parted_by(configuration: &Configuration, target: CodePoint) -> RegisterSet {
     match configuration.parted.get(&target) {
         Some(registers) => *registers,
         None => RegisterSet::empty(),

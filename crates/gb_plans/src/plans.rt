@@ -4,24 +4,25 @@ use crate::cells::{key_all_cells, key_cells};
 use crate::kept::{part_exits, plan_kept, plan_stored, plan_written};
 use crate::loops::refine_loops;
 use crate::plan::{Edit, Plan, parted_by, unless_taken_back};
-use crate::slices::{By, Sought, slice, slice_through_loop, slice_to_call};
+use crate::slices::{SliceBy, SliceGoal, slice, slice_through_loop, slice_to_call};
 use crate::sources::high_registers;
 use crate::spots::{is_known, place_of, value_of};
 use crate::ways::Ways;
 use gb_fixpoint::Rules;
 use gb_fixpoint::cause::{Cause, Failure, StackMisuse};
+use gb_fixpoint::code_point::CodePoint;
 use gb_fixpoint::limits::{
     ALL_VALUES, CALL_KINDS, CALL_VALUES, CALLERS, DEAR_STEPS, FEW_VALUES, VISITS,
 };
 use gb_fixpoint::register_set::{REGISTERS, RegisterSet};
-use gb_fixpoint::types::{Procedure, Run, Spot};
+use gb_fixpoint::types::{Run, RunProcedure, Spot};
 use gb_ops::op::Register;
 use std::alloc::{AllocError, Global};
 use std::collections::BTreeSet;
 
 /// What is too wide, and where.
 #[derive(Clone, Copy, PartialEq, Eq)]
-pub(crate) struct Trouble {
+pub(crate) struct FailurePoint {
     pub(crate) wanted: RegisterSet,
     /// The failure is JP HL's: then only values from a table may be told apart.
     pub(crate) is_jump: bool,
@@ -69,7 +70,7 @@ fn part(
 fn is_known_by_calls(
     alloc: Global,
     run: &Run<'_>,
-    procedure: &Procedure,
+    procedure: &RunProcedure,
     register: Register,
 ) -> Result<bool, AllocError> {
     let mut values = BTreeSet::new(alloc);
@@ -86,7 +87,7 @@ fn is_known_by_calls(
 }
 
 /// The registers that a procedure's first node doesn't know.
-fn unknown_at_entry(run: &Run<'_>, procedure: &Procedure) -> RegisterSet {
+fn unknown_at_entry(run: &Run<'_>, procedure: &RunProcedure) -> RegisterSet {
     let mut unknown = RegisterSet::empty();
     let Some(entry) = procedure.entry else {
         return unknown;
@@ -170,15 +171,11 @@ fn refine_all(alloc: Global, run: &Run<'_>, number: usize) -> Result<Option<Plan
     let mut is_keyed = true;
     for node in &run.nodes {
         if node.key.procedure == number {
-            let spot = Spot {
-                procedure: number,
-                address: node.key.address,
-            };
-            let place = place_of(run, spot);
+            let place = place_of(run, node.spot());
             let has_key = run.configuration.keyed.contains(&place);
             is_keyed = is_keyed && has_key;
             is_paged = is_paged && (has_key || run.configuration.paged.contains(&place));
-            all.insert(node.key.address)?;
+            all.insert(node.key.point())?;
         }
     }
     if is_keyed {
@@ -200,13 +197,13 @@ fn slice_to(
     run: &Run<'_>,
     ways: &Ways,
     spot: Spot,
-    trouble: &Trouble,
-    (most, by): (u32, By),
+    trouble: &FailurePoint,
+    (most, by): (u32, SliceBy),
 ) -> Result<Option<Plan>, AllocError> {
     if trouble.wanted.is_empty() {
         return Ok(None);
     }
-    let sought = Sought {
+    let sought = SliceGoal {
         wanted: trouble.wanted,
         most,
         by,
@@ -221,16 +218,16 @@ fn slice_to_page(
     run: &Run<'_>,
     ways: &Ways,
     spot: Spot,
-    trouble: &Trouble,
+    trouble: &FailurePoint,
 ) -> Result<Option<Plan>, AllocError> {
     if trouble.is_kept_in_ram {
         return Ok(None);
     }
-    let page = Trouble {
+    let page = FailurePoint {
         wanted: high_registers(&trouble.wanted),
         ..*trouble
     };
-    slice_to(alloc, run, ways, spot, &page, (FEW_VALUES, By::Any))
+    slice_to(alloc, run, ways, spot, &page, (FEW_VALUES, SliceBy::Any))
 }
 
 /// What is tried nearest to a spot, in this order.
@@ -270,10 +267,14 @@ fn try_near(
     run: &Run<'_>,
     ways: &Ways,
     spot: Spot,
-    trouble: &Trouble,
+    trouble: &FailurePoint,
     near: Near,
 ) -> Result<Option<Plan>, AllocError> {
-    let by = if trouble.is_jump { By::Table } else { By::Any };
+    let by = if trouble.is_jump {
+        SliceBy::Table
+    } else {
+        SliceBy::Any
+    };
     match near {
         Near::Calls => {
             let joined = joined_by_calls(alloc, run, spot.procedure)?;
@@ -286,7 +287,7 @@ fn try_near(
         Near::Through | Near::Call | Near::Page | Near::WideSlice if trouble.is_jump => Ok(None),
         Near::Through => slice_through_loop(alloc, run, ways, spot, &trouble.wanted),
         Near::Call => {
-            let sought = Sought {
+            let sought = SliceGoal {
                 wanted: trouble.wanted,
                 most: FEW_VALUES,
                 by,
@@ -294,7 +295,7 @@ fn try_near(
             slice_to_call(alloc, run, ways, spot, &sought)
         }
         Near::Page => slice_to_page(alloc, run, ways, spot, trouble),
-        Near::WideSlice => slice_to(alloc, run, ways, spot, trouble, (ALL_VALUES, By::Any)),
+        Near::WideSlice => slice_to(alloc, run, ways, spot, trouble, (ALL_VALUES, SliceBy::Any)),
     }
 }
 
@@ -303,7 +304,7 @@ pub(crate) fn plan_near(
     alloc: Global,
     run: &Run<'_>,
     spot: Spot,
-    trouble: &Trouble,
+    trouble: &FailurePoint,
 ) -> Result<Option<Plan>, AllocError> {
     let ways = Ways::of(alloc, run, spot.procedure)?;
     for near in NEAR {
@@ -320,11 +321,18 @@ fn plan_jump(
     run: &Run<'_>,
     ways: &Ways,
     spot: Spot,
-    trouble: &Trouble,
+    trouble: &FailurePoint,
 ) -> Result<Option<Plan>, AllocError> {
     match key_cells(alloc, run, spot, &trouble.wanted)? {
         Some(plan) => Ok(Some(plan)),
-        None => slice_to(alloc, run, ways, spot, trouble, (FEW_VALUES, By::Index)),
+        None => slice_to(
+            alloc,
+            run,
+            ways,
+            spot,
+            trouble,
+            (FEW_VALUES, SliceBy::Index),
+        ),
     }
 }
 
@@ -333,7 +341,7 @@ fn plan_in(
     alloc: Global,
     run: &Run<'_>,
     spot: Spot,
-    trouble: &Trouble,
+    trouble: &FailurePoint,
 ) -> Result<Option<Plan>, AllocError> {
     if let Some(plan) = plan_near(alloc, run, spot, trouble)? {
         return Ok(Some(plan));
@@ -362,10 +370,7 @@ fn callers_of(alloc: Global, run: &Run<'_>, number: usize) -> Result<Vec<Spot>, 
     if !procedure.key.is_handler {
         for site in procedure.sites.iter() {
             if let Some(node) = run.nodes.get(*site) {
-                callers.push(Spot {
-                    procedure: node.key.procedure,
-                    address: node.key.address,
-                })?;
+                callers.push(node.spot())?;
             }
         }
     }
@@ -377,7 +382,7 @@ fn plan_at(
     alloc: Global,
     run: &Run<'_>,
     spot: Spot,
-    trouble: &Trouble,
+    trouble: &FailurePoint,
 ) -> Result<Option<Plan>, AllocError> {
     let mut seen = BTreeSet::new(alloc);
     let mut left = Vec::new(alloc);
@@ -423,10 +428,10 @@ fn plan_code(alloc: Global, run: &Run<'_>, byte: u16) -> Result<Option<Plan>, Al
     if let Some(plan) = plan_loops(alloc, run, &run.killers)? {
         return Ok(Some(plan));
     }
-    let sought = Sought {
+    let sought = SliceGoal {
         wanted: RegisterSet::of(&[Register::A]),
         most: ALL_VALUES,
-        by: By::Any,
+        by: SliceBy::Any,
     };
     let mut is_stored = false;
     for store in run.stores.iter() {
@@ -465,7 +470,7 @@ fn plan_bank(alloc: Global, run: &Run<'_>) -> Result<Option<Plan>, AllocError> {
             }
         }
     }
-    let trouble = Trouble {
+    let trouble = FailurePoint {
         wanted: a,
         is_jump: false,
         is_kept_in_ram: false,
@@ -544,7 +549,7 @@ fn plan_pointer(
             _ => Ok(None),
         };
     }
-    let trouble = Trouble {
+    let trouble = FailurePoint {
         wanted,
         is_jump: failure.cause == Cause::JumpHl,
         is_kept_in_ram,
@@ -589,10 +594,10 @@ fn plan_exact(
     if !is_tried || inline_plan(alloc, run, failure)?.is_some() {
         return Ok(None);
     }
-    let few = Sought {
+    let few = SliceGoal {
         wanted: failure.registers,
         most: FEW_VALUES,
-        by: By::First,
+        by: SliceBy::First,
     };
     if let Some(plan) = slice(alloc, run, &ways, spot, &few)? {
         return Ok(Some(plan));
@@ -603,7 +608,7 @@ fn plan_exact(
     if let Some(plan) = part_exits(alloc, run)? {
         return Ok(Some(plan));
     }
-    let all = Sought {
+    let all = SliceGoal {
         most: ALL_VALUES,
         ..few
     };
@@ -629,7 +634,7 @@ fn may_be_inlined(cause: Cause) -> bool {
 }
 
 /// Where RST 38 calls itself, in ROM that is filled with FF.
-const PADDING: u16 = 0x38;
+pub(crate) const PADDING: u16 = 0x38;
 
 /// The procedure of a failure is followed in its callers, by the rules of version 3, where it isn't yet.
 pub fn inline_plan(
@@ -644,10 +649,12 @@ pub fn inline_plan(
         return Ok(None);
     };
     let target = match failure.cause {
-        Cause::Recursion { target } => target,
-        _ => procedure.key.target,
+        Cause::Recursion { target } => CodePoint::of(run.rom, &node.state.core().ctl, target),
+        _ => procedure.key.point(),
     };
-    let is_callee = node.key.procedure != 0 && !procedure.key.is_handler && target != PADDING;
+    let is_callee = node.key.procedure != 0
+        && !procedure.key.is_handler
+        && target.address != PADDING;
     if run.rules() == Rules::Simple
         || !is_callee
         || !may_be_inlined(failure.cause)
@@ -669,17 +676,14 @@ pub fn plan_for(
     let Some(node) = run.nodes.get(failure.node) else {
         return Ok(None);
     };
-    let spot = Spot {
-        procedure: node.key.procedure,
-        address: node.key.address,
-    };
+    let spot = node.spot();
     match failure.cause {
         Cause::Recursion { .. } => plan_recursion(alloc, run, spot.procedure),
         Cause::Bank => plan_bank(alloc, run),
         Cause::Unreadable { byte } => match plan_code(alloc, run, byte)? {
             Some(plan) => Ok(Some(plan)),
             None => {
-                let trouble = Trouble {
+                let trouble = FailurePoint {
                     wanted: RegisterSet::empty(),
                     is_jump: false,
                     is_kept_in_ram: false,

@@ -7,7 +7,8 @@ use crate::spots::{has_entry, narrower, op_at, open_at, place_of, points_to_rom,
 use crate::waiting::{Waiting, may_change_stack};
 use crate::ways::{Loop, Ways};
 use gb_fixpoint::Rules;
-use gb_fixpoint::configuration::Place;
+use gb_fixpoint::code_point::CodePoint;
+use gb_fixpoint::configuration::TargetPlace;
 use gb_fixpoint::limits::{ALL_VALUES, FEW_VALUES, LONG_SLICE, PAIRS, SLICE, SOURCES};
 use gb_fixpoint::register_set::{REGISTERS, RegisterSet};
 use gb_fixpoint::types::{Run, Spot};
@@ -16,17 +17,17 @@ use std::alloc::{AllocError, Global};
 
 /// What is sought.
 #[derive(Clone, Copy, PartialEq, Eq)]
-pub(crate) struct Sought {
+pub(crate) struct SliceGoal {
     /// The registers that are to be known.
     pub(crate) wanted: RegisterSet,
     /// The most values that a register is split into.
     pub(crate) most: u32,
-    pub(crate) by: By,
+    pub(crate) by: SliceBy,
 }
 
 /// Which values are told apart.
 #[derive(Clone, Copy, PartialEq, Eq)]
-pub(crate) enum By {
+pub(crate) enum SliceBy {
     /// All.
     Any,
     /// Those by which a table in ROM is read, or that are compared: a jump by others leads into what is no code.
@@ -39,12 +40,12 @@ pub(crate) enum By {
     Loop,
 }
 
-/// A register that may be split at an address, and how many addresses from there on are to be keyed.
+/// A register that may be split at a point, and how many points from there on are to be keyed.
 #[derive(Clone, Copy, PartialEq, Eq)]
 struct Cut {
     width: u32,
     keyed: usize,
-    address: u16,
+    point: CodePoint,
     register: Register,
 }
 
@@ -52,7 +53,7 @@ struct Cut {
 #[derive(Drop)]
 struct Walk {
     procedure: usize,
-    at: u16,
+    at: CodePoint,
     wanted: RegisterSet,
     /// The bytes of the stack that are to be known as well.
     waiting: Waiting,
@@ -62,12 +63,12 @@ struct Walk {
     is_behind_sum: bool,
     /// A number is compared with a wanted register behind, so that each value's way is known there.
     is_compared: bool,
-    /// The addresses so far, the last instruction first.
-    chain: Vec<u16>,
+    /// The points so far, the last instruction first.
+    chain: Vec<CodePoint>,
     /// Whether it went through a loop by which wanted registers are lost.
     is_through: bool,
     /// What is called right before, where the wanted registers come from there.
-    callee: Option<u16>,
+    callee: Option<CodePoint>,
     /// The best register to split alone, and the best of two.
     one: Option<Cut>,
     two: Option<Cut>,
@@ -77,17 +78,17 @@ impl Walk {
     fn spot(&self) -> Spot {
         Spot {
             procedure: self.procedure,
-            address: self.at,
+            point: self.at,
         }
     }
 
     /// Whether a register is split at a place already.
-    fn is_split(run: &Run<'_>, place: Place, register: Register) -> bool {
+    fn is_split(run: &Run<'_>, place: TargetPlace, register: Register) -> bool {
         split_at(run.configuration, place).contains(register)
     }
 
     /// One register alone is open: it may be split here.
-    fn note_one(&mut self, run: &Run<'_>, open: &RegisterSet, most: u32, by: By) {
+    fn note_one(&mut self, run: &Run<'_>, open: &RegisterSet, most: u32, by: SliceBy) {
         let Some(register) = first(open) else { return };
         let width = width_at(run, self.spot(), register);
         if width > most || Walk::is_split(run, place_of(run, self.spot()), register) {
@@ -95,17 +96,19 @@ impl Walk {
         }
         let is_better = match self.one {
             None => true,
-            Some(cut) => by == By::First || width < cut.width,
+            Some(cut) => by == SliceBy::First || width < cut.width,
         };
         // What was told apart beside another register isn't bounded earlier.
-        if by == By::First && !split_at(run.configuration, place_of(run, self.spot())).is_empty() {
+        if by == SliceBy::First
+            && !split_at(run.configuration, place_of(run, self.spot())).is_empty()
+        {
             return;
         }
         if is_better {
             self.one = Some(Cut {
                 width,
                 keyed: self.chain.len(),
-                address: self.at,
+                point: self.at,
                 register,
             });
         }
@@ -127,14 +130,14 @@ impl Walk {
             self.two = Some(Cut {
                 width,
                 keyed: self.chain.len(),
-                address: self.at,
+                point: self.at,
                 register,
             });
         }
     }
 
-    /// Looks at the address at hand; whether it is worth while to go on.
-    fn look(&mut self, run: &Run<'_>, sought: &Sought) -> bool {
+    /// Looks at the point at hand; whether it is worth while to go on.
+    fn look(&mut self, run: &Run<'_>, sought: &SliceGoal) -> bool {
         let spot = self.spot();
         let open = open_at(run, spot, &self.wanted, false);
         if run.nodes_at(spot).is_empty() {
@@ -144,18 +147,18 @@ impl Walk {
             return true;
         }
         if open.is_empty() {
-            return sought.by == By::First && !self.wanted.is_empty();
+            return sought.by == SliceBy::First && !self.wanted.is_empty();
         }
         let is_wanted = match sought.by {
-            By::Any | By::First => true,
-            By::Loop => self.is_through,
-            By::Table => self.is_behind_table,
-            By::Index => self.is_behind_table || self.is_behind_sum,
+            SliceBy::Any | SliceBy::First => true,
+            SliceBy::Loop => self.is_through,
+            SliceBy::Table => self.is_behind_table,
+            SliceBy::Index => self.is_behind_table || self.is_behind_sum,
         };
         let may_split = is_wanted && !has_entry(run, spot);
         match count(&open) {
             1 if may_split => self.note_one(run, &open, self.most(sought), sought.by),
-            2 if may_split && sought.by != By::First && sought.by != By::Loop => {
+            2 if may_split && sought.by != SliceBy::First && sought.by != SliceBy::Loop => {
                 self.note_two(run, &open)
             }
             _ => {}
@@ -164,7 +167,7 @@ impl Walk {
     }
 
     /// The most values that a register is split into: a comparison leaves few of all of them.
-    fn most(&self, sought: &Sought) -> u32 {
+    fn most(&self, sought: &SliceGoal) -> u32 {
         if self.is_compared {
             ALL_VALUES.max(sought.most)
         } else {
@@ -189,19 +192,19 @@ impl Walk {
         }
     }
 
-    /// The address before, where there is just one. A loop that leaves the wanted registers as they are, as one that waits, is
+    /// The point before, where there is just one. A loop that leaves the wanted registers as they are, as one that waits, is
     /// passed by where it is entered; so is one that loses them, where that is sought.
-    fn address_before(
+    fn point_before(
         &mut self,
         run: &Run<'_>,
         ways: &Ways,
-        by: By,
-    ) -> Result<Option<u16>, AllocError> {
+        by: SliceBy,
+    ) -> Result<Option<CodePoint>, AllocError> {
         if let Some(before) = ways.only_before(self.at) {
             return Ok(Some(before));
         }
         match self.before_wait(run, ways)? {
-            None if by == By::Loop => self.before_losing_loop(run, ways),
+            None if by == SliceBy::Loop => self.before_losing_loop(run, ways),
             before => Ok(before),
         }
     }
@@ -212,7 +215,7 @@ impl Walk {
         &mut self,
         run: &Run<'_>,
         ways: &Ways,
-    ) -> Result<Option<u16>, AllocError> {
+    ) -> Result<Option<CodePoint>, AllocError> {
         let Some((around, before)) = ways.entered_loop(self.at)? else {
             return Ok(None);
         };
@@ -220,7 +223,7 @@ impl Walk {
         if self
             .chain
             .first()
-            .is_some_and(|address| around.contains(address))
+            .is_some_and(|point| around.contains(point))
         {
             return Ok(None);
         }
@@ -240,25 +243,25 @@ impl Walk {
         Ok(Some(before))
     }
 
-    /// A loop's addresses become part of the chain.
+    /// A loop's points become part of the chain.
     fn add_loop(&mut self, around: &Loop) -> Result<(), AllocError> {
-        for address in around.iter() {
-            if !self.chain.contains(address) {
-                self.chain.push(*address)?;
+        for point in around.iter() {
+            if !self.chain.contains(point) {
+                self.chain.push(*point)?;
             }
         }
         Ok(())
     }
 
     /// Before a loop that leaves the wanted registers as they are: its addresses are keyed with the others.
-    fn before_wait(&mut self, run: &Run<'_>, ways: &Ways) -> Result<Option<u16>, AllocError> {
+    fn before_wait(&mut self, run: &Run<'_>, ways: &Ways) -> Result<Option<CodePoint>, AllocError> {
         let Some((around, before)) = ways.entered_loop(self.at)? else {
             return Ok(None);
         };
-        for address in around.iter() {
+        for point in around.iter() {
             let spot = Spot {
                 procedure: self.procedure,
-                address: *address,
+                point: *point,
             };
             match op_at(run, spot) {
                 Some(op) if self.is_left_by(op) => {}
@@ -280,9 +283,9 @@ impl Walk {
         alloc: Global,
         run: &Run<'_>,
         ways: &Ways,
-        by: By,
+        by: SliceBy,
     ) -> Result<bool, AllocError> {
-        let Some(before) = self.address_before(run, ways, by)? else {
+        let Some(before) = self.point_before(run, ways, by)? else {
             return Ok(false);
         };
         if self.chain.contains(&before) {
@@ -290,19 +293,19 @@ impl Walk {
         }
         let spot = Spot {
             procedure: self.procedure,
-            address: before,
+            point: before,
         };
         let Some(op) = op_at(run, spot) else {
             return Ok(false);
         };
         let open = self.open_here(alloc, run, by)?;
-        let wanted = if is_inlined_call(op, self.at) {
+        let wanted = if is_inlined_call(op, self.at.address) {
             open
         } else {
             match self.waiting.before(run, spot, &open)? {
                 Some(wanted) => wanted,
                 None => {
-                    self.callee = called_by(op);
+                    self.callee = callee_at(run, spot, op);
                     return Ok(false);
                 }
             }
@@ -325,17 +328,17 @@ impl Walk {
         &mut self,
         alloc: Global,
         run: &Run<'_>,
-        by: By,
+        by: SliceBy,
     ) -> Result<RegisterSet, AllocError> {
         let here = self.spot();
-        if by == By::First {
+        if by == SliceBy::First {
             return Ok(self.wanted);
         }
         self.waiting.keep_open(alloc, run, here)?;
         Ok(open_at(run, here, &self.wanted, true))
     }
 
-    /// The register is split, and the addresses from there on are keyed.
+    /// The register is split, and the points from there on are keyed.
     fn plan(&self, alloc: Global, run: &Run<'_>, ways: &Ways) -> Result<Option<Plan>, AllocError> {
         let target = run.target(self.procedure);
         let cut = match (self.one, self.two) {
@@ -343,25 +346,25 @@ impl Walk {
             (None, None) => return Ok(None),
         };
         let mut plan = Plan::new(alloc);
-        for address in self.chain.iter().take(cut.keyed) {
+        for point in self.chain.iter().take(cut.keyed) {
             plan.key(
                 run,
                 ways,
                 Spot {
                     procedure: self.procedure,
-                    address: *address,
+                    point: *point,
                 },
             )?;
         }
-        let place = Place {
+        let place = TargetPlace {
             target,
-            address: cut.address,
+            point: cut.point,
         };
         plan.add(Edit::Split(place, cut.register))?;
         Ok(unless_taken_back(run, plan))
     }
 
-    /// The addresses are keyed, as far as they aren't yet, and what is called before them is followed here.
+    /// The points are keyed, as far as they aren't yet, and what is called before them is followed here.
     fn plan_of_ways(
         &self,
         alloc: Global,
@@ -370,10 +373,10 @@ impl Walk {
     ) -> Result<Option<Plan>, AllocError> {
         let mut plan = Plan::new(alloc);
         let mut is_new = false;
-        for address in &self.chain {
+        for point in &self.chain {
             let spot = Spot {
                 procedure: self.procedure,
-                address: *address,
+                point: *point,
             };
             if !run.configuration.keyed.contains(&place_of(run, spot)) {
                 plan.key(run, ways, spot)?;
@@ -397,10 +400,10 @@ impl Walk {
 /// The registers that a loop's instructions may change.
 fn written_in(run: &Run<'_>, procedure: usize, around: &Loop) -> RegisterSet {
     let mut changed = RegisterSet::empty();
-    for address in around.iter() {
+    for point in around.iter() {
         let spot = Spot {
             procedure,
-            address: *address,
+            point: *point,
         };
         if let Some(op) = op_at(run, spot) {
             changed = changed.union(&written(op));
@@ -418,10 +421,10 @@ fn computed_from(
 ) -> Option<RegisterSet> {
     let mut all = *computed;
     for _ in 0..SOURCES {
-        for address in around.iter() {
+        for point in around.iter() {
             let spot = Spot {
                 procedure,
-                address: *address,
+                point: *point,
             };
             let op = op_at(run, spot)?;
             all = all.union(&sources(op, &all)?);
@@ -439,6 +442,20 @@ fn called_by(op: Op) -> Option<u16> {
     }
 }
 
+/// What an instruction at a spot calls that isn't followed there yet: of several banks the first that its nodes show.
+fn callee_at(run: &Run<'_>, spot: Spot, op: Op) -> Option<CodePoint> {
+    let address = called_by(op)?;
+    let mut callee = None;
+    for number in run.nodes_at(spot) {
+        let point = run.point_from(*number, address)?;
+        if !run.configuration.inlined.contains(&point) {
+            return Some(point);
+        }
+        callee = Some(point);
+    }
+    callee
+}
+
 /// Whether an instruction is a call that leads to an address itself: an inlined call changes no register on its way in.
 fn is_inlined_call(op: Op, at: u16) -> bool {
     match op {
@@ -454,13 +471,13 @@ fn walk_back(
     run: &Run<'_>,
     ways: &Ways,
     spot: Spot,
-    sought: &Sought,
+    sought: &SliceGoal,
 ) -> Result<Walk, AllocError> {
     let mut chain = Vec::new(alloc);
-    chain.push(spot.address)?;
+    chain.push(spot.point)?;
     let mut walk = Walk {
         procedure: spot.procedure,
-        at: spot.address,
+        at: spot.point,
         wanted: sought.wanted,
         waiting: Waiting::new(alloc),
         is_behind_table: false,
@@ -472,7 +489,7 @@ fn walk_back(
         one: None,
         two: None,
     };
-    let most = if sought.by == By::Loop {
+    let most = if sought.by == SliceBy::Loop {
         LONG_SLICE
     } else {
         SLICE
@@ -491,7 +508,7 @@ pub(crate) fn slice(
     run: &Run<'_>,
     ways: &Ways,
     spot: Spot,
-    sought: &Sought,
+    sought: &SliceGoal,
 ) -> Result<Option<Plan>, AllocError> {
     let walk = walk_back(alloc, run, ways, spot, sought)?;
     walk.plan(alloc, run, ways)
@@ -509,10 +526,10 @@ pub(crate) fn slice_through_loop(
     if run.rules() == Rules::Simple || wanted.is_empty() {
         return Ok(None);
     }
-    let sought = Sought {
+    let sought = SliceGoal {
         wanted: *wanted,
         most: FEW_VALUES,
-        by: By::Loop,
+        by: SliceBy::Loop,
     };
     slice(alloc, run, ways, spot, &sought)
 }
@@ -524,7 +541,7 @@ pub(crate) fn slice_to_call(
     run: &Run<'_>,
     ways: &Ways,
     spot: Spot,
-    sought: &Sought,
+    sought: &SliceGoal,
 ) -> Result<Option<Plan>, AllocError> {
     if run.rules() == Rules::Simple || sought.wanted.is_empty() {
         return Ok(None);

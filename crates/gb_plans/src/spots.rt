@@ -2,19 +2,19 @@
 
 use crate::sources;
 use gb_fixpoint::Val;
-use gb_fixpoint::configuration::Place;
+use gb_fixpoint::configuration::TargetPlace;
 use gb_fixpoint::register_set::{REGISTERS, RegisterSet};
-use gb_fixpoint::types::{Node, Run, Spot};
+use gb_fixpoint::types::{Run, RunNode, Spot};
 use gb_ops::decode::decode;
 use gb_ops::op::{Op, Register};
 
 /// The value of a register at a node.
-pub fn value_of(node: &Node, register: Register) -> Val {
+pub fn value_of(node: &RunNode, register: Register) -> Val {
     node.state.core().registers.get(register)
 }
 
 /// Whether a register has one value alone at a node.
-pub fn is_known(node: &Node, register: Register) -> bool {
+pub fn is_known(node: &RunNode, register: Register) -> bool {
     let val = value_of(node, register);
     val.lo == val.hi
 }
@@ -25,10 +25,10 @@ fn size_of_val(val: Val) -> u32 {
 }
 
 /// The place of a spot.
-pub fn place_of(run: &Run<'_>, spot: Spot) -> Place {
-    Place {
+pub fn place_of(run: &Run<'_>, spot: Spot) -> TargetPlace {
+    TargetPlace {
         target: run.target(spot.procedure),
-        address: spot.address,
+        point: spot.point,
     }
 }
 
@@ -52,7 +52,7 @@ pub fn points_to_rom(run: &Run<'_>, spot: Spot, high: Register) -> bool {
 }
 
 /// The address in a pair at a node, where it is known.
-pub fn pointed_by(node: &Node, pair: (Register, Register)) -> Option<u16> {
+pub fn pointed_by(node: &RunNode, pair: (Register, Register)) -> Option<u16> {
     let high = value_of(node, pair.0);
     let low = value_of(node, pair.1);
     if high.lo == high.hi && low.lo == low.hi {

@@ -1,19 +1,20 @@
 //! The ways inside one procedure, and the loops that they make.
 
+use gb_fixpoint::code_point::CodePoint;
 use gb_fixpoint::limits::NESTING;
 use gb_fixpoint::types::Run;
 use std::alloc::{AllocError, Global};
 use std::collections::BTreeSet;
 
-/// A way on from an address to the next.
+/// A way on from a point of code to the next.
 #[derive(Clone, Copy, PartialEq, Eq)]
 struct Way {
-    from: u16,
-    to: u16,
+    from: CodePoint,
+    to: CodePoint,
 }
 
 impl Way {
-    /// The same way backwards.
+    /// This way, walked backwards.
     fn turned(self) -> Way {
         Way {
             from: self.to,
@@ -29,10 +30,10 @@ enum Direction {
     Back,
 }
 
-/// The addresses of a loop.
-pub type Loop = BTreeSet<u16>;
+/// The points of a loop.
+pub type Loop = BTreeSet<CodePoint>;
 
-/// The ways inside one procedure, but for those from an address to itself.
+/// The ways inside one procedure, but for those from a point to itself.
 #[derive(Drop)]
 pub struct Ways {
     alloc: Global,
@@ -54,11 +55,11 @@ impl Ways {
         Ok(Ways { alloc, ways })
     }
 
-    /// The address before, where there is just one.
-    pub fn only_before(&self, address: u16) -> Option<u16> {
+    /// The point before, where there is just one.
+    pub fn only_before(&self, point: CodePoint) -> Option<CodePoint> {
         let mut before = None;
         for way in &self.ways {
-            if way.to == address {
+            if way.to == point {
                 if before.is_some() {
                     return None;
                 }
@@ -68,11 +69,11 @@ impl Ways {
         before
     }
 
-    /// The address behind, where there is just one.
-    pub fn only_behind(&self, address: u16) -> Option<u16> {
+    /// The point behind, where there is just one.
+    pub fn only_behind(&self, point: CodePoint) -> Option<CodePoint> {
         let mut behind = None;
         for way in &self.ways {
-            if way.from == address {
+            if way.from == point {
                 if behind.is_some() {
                     return None;
                 }
@@ -82,29 +83,29 @@ impl Ways {
         behind
     }
 
-    /// The addresses before.
-    pub fn before(&self, address: u16) -> Result<Vec<u16>, AllocError> {
+    /// The points before.
+    pub fn before(&self, point: CodePoint) -> Result<Vec<CodePoint>, AllocError> {
         let mut before = Vec::new(self.alloc);
         for way in &self.ways {
-            if way.to == address {
+            if way.to == point {
                 before.push(way.from)?;
             }
         }
         Ok(before)
     }
 
-    /// What is reached from an address in one step or more, inside of some addresses if they are given.
+    /// What is reached from a point in one step or more, inside of some points if they are given.
     fn reached(
         &self,
-        from: u16,
+        from: CodePoint,
         direction: Direction,
         inside: &Option<Loop>,
     ) -> Result<Loop, AllocError> {
         let mut seen = BTreeSet::new(self.alloc);
         let mut left = Vec::new(self.alloc);
         left.push(from)?;
-        // Each address is taken once.
-        for _ in 0..0x10001 {
+        // Each point is taken once, and all but the first are some way's end.
+        for _ in 0..=self.ways.len() {
             let Some(at) = left.pop() else { break };
             for way in &self.ways {
                 let way = match direction {
@@ -113,7 +114,7 @@ impl Ways {
                 };
                 let is_inside = match inside {
                     None => true,
-                    Some(addresses) => addresses.contains(&way.to),
+                    Some(points) => points.contains(&way.to),
                 };
                 if way.from == at && is_inside && seen.insert(way.to)? {
                     left.push(way.to)?;
@@ -123,13 +124,17 @@ impl Ways {
         Ok(seen)
     }
 
-    /// The greatest loop around an address, inside of some addresses if they are given.
-    fn loop_around(&self, address: u16, inside: &Option<Loop>) -> Result<Option<Loop>, AllocError> {
-        let onwards = self.reached(address, Direction::Onwards, inside)?;
-        if !onwards.contains(&address) {
+    /// The greatest loop around a point, inside of some points if they are given.
+    fn loop_around(
+        &self,
+        point: CodePoint,
+        inside: &Option<Loop>,
+    ) -> Result<Option<Loop>, AllocError> {
+        let onwards = self.reached(point, Direction::Onwards, inside)?;
+        if !onwards.contains(&point) {
             return Ok(None);
         }
-        let back = self.reached(address, Direction::Back, inside)?;
+        let back = self.reached(point, Direction::Back, inside)?;
         let mut around = BTreeSet::new(self.alloc);
         for reached in onwards.iter() {
             if back.contains(reached) {
@@ -139,30 +144,30 @@ impl Ways {
         Ok(Some(around))
     }
 
-    /// Whether an address of a loop is entered from outside of it.
-    fn is_head(&self, around: &Loop, address: u16) -> bool {
+    /// Whether a point of a loop is entered from outside of it.
+    fn is_head(&self, around: &Loop, point: CodePoint) -> bool {
         self.ways
             .iter()
-            .any(|way| way.to == address && !around.contains(&way.from))
+            .any(|way| way.to == point && !around.contains(&way.from))
     }
 
-    /// The addresses of a loop where it is entered.
-    pub fn heads(&self, around: &Loop) -> Result<Vec<u16>, AllocError> {
+    /// The points of a loop where it is entered.
+    pub fn heads(&self, around: &Loop) -> Result<Vec<CodePoint>, AllocError> {
         let mut heads = Vec::new(self.alloc);
-        for address in around.iter() {
-            if self.is_head(around, *address) {
-                heads.push(*address)?;
+        for point in around.iter() {
+            if self.is_head(around, *point) {
+                heads.push(*point)?;
             }
         }
         Ok(heads)
     }
 
-    /// The addresses of a loop but for those where it is entered, or but for the first where it is never entered.
+    /// The points of a loop but for those where it is entered, or but for the first where it is never entered.
     fn without_heads(&self, around: &Loop) -> Result<Loop, AllocError> {
         let mut inner = BTreeSet::new(self.alloc);
-        for address in around.iter() {
-            if !self.is_head(around, *address) {
-                inner.insert(*address)?;
+        for point in around.iter() {
+            if !self.is_head(around, *point) {
+                inner.insert(*point)?;
             }
         }
         if inner.len() == around.len() {
@@ -171,17 +176,17 @@ impl Ways {
         Ok(inner)
     }
 
-    /// The loops around an address, the innermost first.
-    pub fn loops(&self, address: u16) -> Result<Vec<Loop>, AllocError> {
+    /// The loops around a point, the innermost first.
+    pub fn loops(&self, point: CodePoint) -> Result<Vec<Loop>, AllocError> {
         let mut loops = Vec::new(self.alloc);
         let mut inside: Option<Loop> = None;
         for _ in 0..NESTING {
-            let Some(around) = self.loop_around(address, &inside)? else {
+            let Some(around) = self.loop_around(point, &inside)? else {
                 break;
             };
             let inner = self.without_heads(&around)?;
             loops.push(around)?;
-            if !inner.contains(&address) {
+            if !inner.contains(&point) {
                 break;
             }
             inside = Some(inner);
@@ -190,11 +195,11 @@ impl Ways {
         Ok(loops)
     }
 
-    /// The only address outside of a loop from which an address is reached.
-    fn only_entry(&self, around: &Loop, address: u16) -> Option<u16> {
+    /// The only point outside of a loop from which a point is reached.
+    fn only_entry(&self, around: &Loop, point: CodePoint) -> Option<CodePoint> {
         let mut outside = None;
         for way in &self.ways {
-            if way.to == address && !around.contains(&way.from) {
+            if way.to == point && !around.contains(&way.from) {
                 if outside.is_some() {
                     return None;
                 }
@@ -204,15 +209,15 @@ impl Ways {
         outside
     }
 
-    /// The innermost loop around an address, where that is its only head and is entered from one address alone; and that one.
-    pub fn entered_loop(&self, address: u16) -> Result<Option<(Loop, u16)>, AllocError> {
-        let mut loops = self.loops(address)?;
+    /// The innermost loop around a point, where that is its only head and is entered from one point alone; and that one.
+    pub fn entered_loop(&self, point: CodePoint) -> Result<Option<(Loop, CodePoint)>, AllocError> {
+        let mut loops = self.loops(point)?;
         loops.truncate(1);
         let Some(around) = loops.pop() else {
             return Ok(None);
         };
         let heads = self.heads(&around)?;
-        Ok(match self.only_entry(&around, address) {
+        Ok(match self.only_entry(&around, point) {
             Some(before) if heads.len() == 1 => Some((around, before)),
             _ => None,
         })

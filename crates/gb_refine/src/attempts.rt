@@ -2,11 +2,11 @@
 //! and 2, by which states are told apart otherwise. So nothing is lost that these rules certify. Both are tried with few
 //! nodes first, since an edit that leads into very many is mostly one that doesn't help.
 
-use crate::rounds::{Limits, Made, Progress, Refinement};
+use crate::rounds::{Made, Refinement, SearchLimits, SearchProgress};
 use crate::shrink::shrink;
 use gb_draft::limits::FEW_NODES;
 use gb_draft::{Rom, Rules};
-use gb_reports::Obstacle;
+use gb_reports::Finding;
 use std::alloc::{AllocError, Global};
 
 /// The attempts so far.
@@ -14,9 +14,9 @@ use std::alloc::{AllocError, Global};
 struct Attempts<'a> {
     alloc: Global,
     rom: &'a Rom<'a>,
-    limits: Limits,
-    /// What is in the way by the rules that are tried first.
-    obstacles: Vec<Obstacle>,
+    limits: SearchLimits,
+    /// The findings by the rules that are tried first.
+    findings: Vec<Finding>,
 }
 
 impl<'a> Attempts<'a> {
@@ -29,13 +29,13 @@ impl<'a> Attempts<'a> {
     }
 
     /// A certificate by some rules with so many nodes; whether more nodes might lead further where there is none.
-    fn attempt<P: Progress>(
+    fn attempt<P: SearchProgress>(
         &mut self,
         rules: Rules,
         nodes: usize,
         progress: &mut P,
     ) -> Result<Attempted, AllocError> {
-        let limits = Limits {
+        let limits = SearchLimits {
             nodes,
             ..self.limits
         };
@@ -44,8 +44,8 @@ impl<'a> Attempts<'a> {
             Made::Certificate(bytes) => {
                 Ok(Attempted::Certificate(shrink(&refinement, bytes, progress)?))
             }
-            Made::Obstacles(obstacles) => {
-                self.keep(rules, obstacles);
+            Made::Findings(findings) => {
+                self.keep(rules, findings);
                 Ok(Attempted::Nothing {
                     is_limited: refinement.is_limited,
                 })
@@ -53,15 +53,15 @@ impl<'a> Attempts<'a> {
         }
     }
 
-    /// What is in the way is kept by the first rules alone.
-    fn keep(&mut self, rules: Rules, obstacles: Vec<Obstacle>) {
+    /// Findings are kept by the first rules alone.
+    fn keep(&mut self, rules: Rules, findings: Vec<Finding>) {
         if rules == Rules::Extended || !self.are_wanted(Rules::Extended) {
-            self.obstacles = obstacles;
+            self.findings = findings;
         }
     }
 
     /// Certificates by both rules with so many nodes, where they might lead further than before.
-    fn attempt_all<P: Progress>(
+    fn attempt_all<P: SearchProgress>(
         &mut self,
         nodes: usize,
         before: Limited,
@@ -84,7 +84,7 @@ impl<'a> Attempts<'a> {
     }
 
     /// All attempts.
-    fn make<P: Progress>(mut self, progress: &mut P) -> Result<Made, AllocError> {
+    fn make<P: SearchProgress>(mut self, progress: &mut P) -> Result<Made, AllocError> {
         let nodes = self.limits.nodes;
         let few = nodes.min(FEW_NODES);
         match self.attempt_all(few, Limited::both(), progress)? {
@@ -97,8 +97,8 @@ impl<'a> Attempts<'a> {
                 }
             }
         }
-        let Attempts { obstacles, .. } = self;
-        Ok(Made::Obstacles(obstacles))
+        let Attempts { findings, .. } = self;
+        Ok(Made::Findings(findings))
     }
 }
 
@@ -140,18 +140,18 @@ impl Limited {
 }
 
 /// A certificate by the rules that the limits name, or else by those of version 3 and then by those of versions 1 and 2.
-/// Where there is none, what is in the way by the first rules is told.
-pub(crate) fn made_certificate<P: Progress>(
+/// Where there is none, the findings by the first rules.
+pub(crate) fn made_certificate<P: SearchProgress>(
     alloc: Global,
     rom: &Rom<'_>,
-    limits: Limits,
+    limits: SearchLimits,
     progress: &mut P,
 ) -> Result<Made, AllocError> {
     let attempts = Attempts {
         alloc,
         rom,
         limits,
-        obstacles: Vec::new(alloc),
+        findings: Vec::new(alloc),
     };
     attempts.make(progress)
 }

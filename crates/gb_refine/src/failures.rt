@@ -1,8 +1,8 @@
 //! What there is to tell of failures.
 
-use gb_draft::{Cause, Failure, Place, Run, Spot};
+use gb_draft::{Cause, Failure, Run, TargetPlace};
 use gb_plans::pointer_cells;
-use gb_reports::{Obstacle, Standing};
+use gb_reports::{Finding, InstructionFinding};
 use std::alloc::{AllocError, Global};
 use std::collections::BTreeSet;
 
@@ -11,8 +11,8 @@ pub(crate) fn told(
     alloc: Global,
     run: &Run<'_>,
     failure: &Failure,
-) -> Result<Option<Standing>, AllocError> {
-    match Standing::of(alloc, run, failure)? {
+) -> Result<Option<InstructionFinding>, AllocError> {
+    match InstructionFinding::of(alloc, run, failure)? {
         Some(mut standing) => {
             add_kept_in(alloc, run, failure, &mut standing.kept_in)?;
             Ok(Some(standing))
@@ -34,11 +34,7 @@ fn add_kept_in(
     if failure.cause == Cause::JumpHl {
         return Ok(());
     }
-    let spot = Spot {
-        procedure: node.key.procedure,
-        address: node.key.address,
-    };
-    let cells = pointer_cells(alloc, run, spot, &failure.registers)?;
+    let cells = pointer_cells(alloc, run, node.spot(), &failure.registers)?;
     add_cells(&cells, kept_in)
 }
 
@@ -53,13 +49,13 @@ fn add_cells(cells: &BTreeSet<u16>, kept_in: &mut Vec<u16>) -> Result<(), AllocE
 pub(crate) fn add_failures(
     alloc: Global,
     run: &Run<'_>,
-    place: Place,
+    place: TargetPlace,
     is_too_large: bool,
-    obstacles: &mut Vec<Obstacle>,
+    findings: &mut Vec<Finding>,
 ) -> Result<(), AllocError> {
     for failure in &run.failures {
         if run.place_of(failure.node) == Some(place) {
-            add_failure(alloc, run, failure, is_too_large, obstacles)?;
+            add_failure(alloc, run, failure, is_too_large, findings)?;
         }
     }
     Ok(())
@@ -71,26 +67,26 @@ pub(crate) fn add_failure(
     run: &Run<'_>,
     failure: &Failure,
     is_too_large: bool,
-    obstacles: &mut Vec<Obstacle>,
+    findings: &mut Vec<Finding>,
 ) -> Result<(), AllocError> {
     if let Some(mut standing) = told(alloc, run, failure)? {
         standing.is_too_large = is_too_large;
-        obstacles.push(Obstacle::Standing(standing))?;
+        findings.push(Finding::Instruction(standing))?;
     }
     Ok(())
 }
 
-/// An obstacle is told, unless it follows from those before it.
-pub(crate) fn tell(obstacle: Obstacle, told: &mut Vec<Obstacle>) -> Result<(), AllocError> {
-    if !is_consequence(told, &obstacle) {
-        told.push(obstacle)?;
+/// An finding is told, unless it follows from those before it.
+pub(crate) fn tell(finding: Finding, told: &mut Vec<Finding>) -> Result<(), AllocError> {
+    if !is_consequence(told, &finding) {
+        told.push(finding)?;
     }
     Ok(())
 }
 
-/// Whether an obstacle mostly follows from those before it: the same procedure is entered again elsewhere, or padding is run.
-fn is_consequence(told: &[Obstacle], obstacle: &Obstacle) -> bool {
-    let Obstacle::Standing(standing) = obstacle else {
+/// Whether an finding mostly follows from those before it: the same procedure is entered again elsewhere, or padding is run.
+fn is_consequence(told: &[Finding], finding: &Finding) -> bool {
+    let Finding::Instruction(standing) = finding else {
         return false;
     };
     match standing.cause {
@@ -100,10 +96,10 @@ fn is_consequence(told: &[Obstacle], obstacle: &Obstacle) -> bool {
     }
 }
 
-/// Whether one of the obstacles is a failure with this cause.
-fn has_cause(told: &[Obstacle], cause: Cause) -> bool {
-    for obstacle in told {
-        if let Obstacle::Standing(standing) = obstacle
+/// Whether one of the findings is a failure with this cause.
+fn has_cause(told: &[Finding], cause: Cause) -> bool {
+    for finding in told {
+        if let Finding::Instruction(standing) = finding
             && standing.cause == cause
         {
             return true;

@@ -6,16 +6,16 @@ use crate::rounds::{
 };
 use crate::written::{is_accepted, written};
 use gb_draft::limits::{DEAR_STEPS, EDITS, EDITS_OF_KEPT, OBSTACLES, STEPS_BACK};
-use gb_draft::{Cause, Failure, Outcome, Place, Rules, Run, find_needs};
+use gb_draft::{Cause, CodePoint, Failure, Rules, Run, RunEnd, TargetPlace, find_needs};
 use gb_ops::machine::Region;
-use gb_plans::{Plan, inline_plan, plan_for};
-use gb_reports::{Crowd, Obstacle, Standing};
+use gb_plans::{Plan, inline_plan, plan_for, targets_to_follow};
+use gb_reports::{Crowd, Finding, InstructionFinding};
 use std::alloc::{AllocError, Global};
 use std::collections::BTreeSet;
 
-/// What stands in the way for good, and nothing else.
-fn end_by(alloc: Global, obstacle: Obstacle) -> Result<Lesson, AllocError> {
-    Ok(Lesson::End(alone(alloc, obstacle)?))
+/// One finding that nothing helps against, and nothing else.
+fn end_by(alloc: Global, finding: Finding) -> Result<Lesson, AllocError> {
+    Ok(Lesson::End(alone(alloc, finding)?))
 }
 
 impl<'a> Refinement<'a> {
@@ -25,7 +25,7 @@ impl<'a> Refinement<'a> {
         if is_in_ram(region) {
             Ok(Lesson::Change(Change::Region(region)))
         } else {
-            end_by(self.alloc, Obstacle::NoStack { sp })
+            end_by(self.alloc, Finding::NoStack { sp })
         }
     }
 
@@ -49,7 +49,7 @@ impl<'a> Refinement<'a> {
     }
 
     /// How often a place was refined for a reason.
-    pub(crate) fn edits_at(&self, place: Place, reason: u8) -> u32 {
+    pub(crate) fn edits_at(&self, place: TargetPlace, reason: u8) -> u32 {
         match self.tried.get(&Tried { place, reason }) {
             Some(count) => *count,
             None => 0,
@@ -57,25 +57,25 @@ impl<'a> Refinement<'a> {
     }
 
     /// The failures of a run at places that were given up, in the order in which they were met, and one more.
-    fn standing(&self, run: &Run<'_>, last: Option<&Failure>) -> Result<Vec<Obstacle>, AllocError> {
-        let mut obstacles = Vec::new(self.alloc);
-        self.add_standing(run, last, &mut obstacles)?;
-        obstacles.truncate(OBSTACLES);
-        Ok(obstacles)
+    fn standing(&self, run: &Run<'_>, last: Option<&Failure>) -> Result<Vec<Finding>, AllocError> {
+        let mut findings = Vec::new(self.alloc);
+        self.add_standing(run, last, &mut findings)?;
+        findings.truncate(OBSTACLES);
+        Ok(findings)
     }
 
     fn add_standing(
         &self,
         run: &Run<'_>,
         last: Option<&Failure>,
-        obstacles: &mut Vec<Obstacle>,
+        findings: &mut Vec<Finding>,
     ) -> Result<(), AllocError> {
         for place in &self.given_up {
             let is_too_large = self.too_large.contains(place);
-            add_failures(self.alloc, run, *place, is_too_large, obstacles)?;
+            add_failures(self.alloc, run, *place, is_too_large, findings)?;
         }
         match last {
-            Some(failure) => add_failure(self.alloc, run, failure, false, obstacles),
+            Some(failure) => add_failure(self.alloc, run, failure, false, findings),
             None => Ok(()),
         }
     }
@@ -85,7 +85,7 @@ impl<'a> Refinement<'a> {
         &self,
         run: &Run<'_>,
         failure: &Failure,
-        place: Place,
+        place: TargetPlace,
     ) -> Result<Lesson, AllocError> {
         let is_last = self.given_up.len() + 1 >= OBSTACLES;
         if is_last || self.configuration.given_up.contains(&place) {
@@ -96,7 +96,7 @@ impl<'a> Refinement<'a> {
     }
 
     /// Whether a place's pointer is kept in RAM, as its failure was first met.
-    fn is_kept_in_ram(&self, place: Place) -> bool {
+    fn is_kept_in_ram(&self, place: TargetPlace) -> bool {
         match self.first.get(&place) {
             Some(standing) => !standing.kept_in.is_empty(),
             None => false,
@@ -121,14 +121,14 @@ impl<'a> Refinement<'a> {
 
     /// A call of a circle of procedures that were followed in their callers, where these push without an end: the first that was
     /// met and leads back, as that of a loop from within does, or else the first.
-    fn recursion_behind(&self, failure: &Failure) -> Option<Place> {
+    fn recursion_behind(&self, failure: &Failure) -> Option<TargetPlace> {
         if failure.cause != Cause::PushesTooMany {
             return None;
         }
         let mut first = None;
         for place in &self.circles {
             match self.followed_at(*place) {
-                Some(target) if target <= place.address => return Some(*place),
+                Some(target) if target <= place.point.address => return Some(*place),
                 Some(_) if first.is_none() => first = Some(*place),
                 _ => {}
             }
@@ -137,12 +137,16 @@ impl<'a> Refinement<'a> {
     }
 
     /// What is called at a place, where it runs already and is followed in its callers.
-    fn followed_at(&self, place: Place) -> Option<u16> {
-        match self.first.get(&place)?.cause {
-            Cause::Recursion { target } if self.configuration.inlined.contains(&target) => {
-                Some(target)
-            }
-            _ => None,
+    fn followed_at(&self, place: TargetPlace) -> Option<u16> {
+        let standing = self.first.get(&place)?;
+        let Cause::Recursion { target } = standing.cause else {
+            return None;
+        };
+        let point = CodePoint::of(self.rom(), &standing.state.core().ctl, target);
+        if self.configuration.inlined.contains(&point) {
+            Some(target)
+        } else {
+            None
         }
     }
 
@@ -158,7 +162,7 @@ impl<'a> Refinement<'a> {
             return Ok(Lesson::EndAt(place));
         }
         match told(self.alloc, run, failure)? {
-            Some(obstacle) => self.learn_mending(run, failure, place, obstacle),
+            Some(finding) => self.learn_mending(run, failure, place, finding),
             None => self.give_up(run, failure, place),
         }
     }
@@ -168,16 +172,16 @@ impl<'a> Refinement<'a> {
         &self,
         run: &Run<'_>,
         failure: &Failure,
-        place: Place,
-        obstacle: Standing,
+        place: TargetPlace,
+        finding: InstructionFinding,
     ) -> Result<Lesson, AllocError> {
-        let is_kept = !obstacle.kept_in.is_empty() || self.is_kept_in_ram(place);
+        let is_kept = !finding.kept_in.is_empty() || self.is_kept_in_ram(place);
         match self.plan_or_inline(run, failure, place, is_kept)? {
             Some(plan) => Ok(Lesson::Change(Change::Mend(Mending {
                 place,
                 reason: failure.cause.reason().number(),
                 plan,
-                obstacle,
+                finding,
             }))),
             None => self.give_up(run, failure, place),
         }
@@ -188,7 +192,7 @@ impl<'a> Refinement<'a> {
         &self,
         run: &Run<'_>,
         failure: &Failure,
-        place: Place,
+        place: TargetPlace,
         is_kept: bool,
     ) -> Result<Option<Plan>, AllocError> {
         let most = if is_kept { EDITS_OF_KEPT } else { EDITS };
@@ -204,7 +208,7 @@ impl<'a> Refinement<'a> {
         &self,
         run: &Run<'_>,
         failure: &Failure,
-        place: Place,
+        place: TargetPlace,
         is_kept: bool,
     ) -> Result<Option<Plan>, AllocError> {
         match self.plan_at(run, failure, place, is_kept)? {
@@ -220,8 +224,8 @@ impl<'a> Refinement<'a> {
         }
         match find_needs(self.alloc, run)? {
             Some(procedure) => {
-                let target = run.target(procedure);
-                end_by(self.alloc, Obstacle::Recursion { target })
+                let target = run.target(procedure).address;
+                end_by(self.alloc, Finding::Recursion { target })
             }
             None => self.learn_needs(run),
         }
@@ -257,7 +261,7 @@ impl<'a> Refinement<'a> {
     /// The stack needs more than there is room for.
     fn end_too_deep(&self, bytes: usize) -> Result<Lesson, AllocError> {
         let region = self.configuration.region;
-        end_by(self.alloc, Obstacle::StackTooDeep { bytes, region })
+        end_by(self.alloc, Finding::StackTooDeep { bytes, region })
     }
 
     /// Where a run's stack reached below the region, by the rules of version 3, the region reaches further down first.
@@ -284,21 +288,37 @@ impl<'a> Refinement<'a> {
     fn learn_certificate(&self, run: &Run<'_>) -> Result<Lesson, AllocError> {
         match written(self.alloc, run, self.configuration.region)? {
             Some(bytes) => Ok(Lesson::Certificate(bytes)),
-            None => end_by(self.alloc, Obstacle::Refused),
+            None => end_by(self.alloc, Finding::Internal),
         }
     }
 
     /// What a run teaches.
-    pub(crate) fn learn(&self, run: &mut Run<'_>, outcome: Outcome) -> Result<Lesson, AllocError> {
+    pub(crate) fn learn(&self, run: &mut Run<'_>, outcome: RunEnd) -> Result<Lesson, AllocError> {
         if let Some(lesson) = self.deepening(run)? {
             return Ok(lesson);
         }
         match outcome {
-            Outcome::Wanted(wish) => Ok(Lesson::Change(Change::Wish(wish, self.news(run)?))),
-            Outcome::TooLarge => Ok(Lesson::TooLarge(Crowd::of(self.alloc, run)?)),
-            Outcome::StackSet { sp } => self.learn_stack(sp),
-            Outcome::Failed(failure) => self.learn_failed(run, &failure),
-            Outcome::Finished => self.learn_finished(run),
+            RunEnd::Wanted(wish) => Ok(Lesson::Change(Change::Wish(wish, self.news(run)?))),
+            RunEnd::TooLarge => Ok(Lesson::TooLarge(Crowd::of(self.alloc, run)?)),
+            RunEnd::Crowded => self.learn_crowded(run),
+            RunEnd::StackSet { sp } => self.learn_stack(sp),
+            RunEnd::Failed(failure) => self.learn_failed(run, &failure),
+            RunEnd::Finished => self.learn_finished(run),
+        }
+    }
+
+    /// There would be too many procedures: some are followed in their callers, where that is cheap. Where the last edit
+    /// was for a pointer that is kept in RAM, they are parted by its values, of which following would only make more.
+    fn learn_crowded(&self, run: &Run<'_>) -> Result<Lesson, AllocError> {
+        let is_kept = match &self.before {
+            Some(before) => self.is_kept_in_ram(before.place),
+            None => false,
+        };
+        let targets = targets_to_follow(self.alloc, run)?;
+        if is_kept || targets.is_empty() {
+            Ok(Lesson::TooLarge(Crowd::of(self.alloc, run)?))
+        } else {
+            Ok(Lesson::Change(Change::Follow(targets)))
         }
     }
 
@@ -372,7 +392,7 @@ fn region_of(bytes: usize, last: u16) -> Option<Region> {
 }
 
 /// Whether a node was first reached from a place within a few steps.
-fn comes_from(run: &Run<'_>, number: usize, place: Place) -> bool {
+fn comes_from(run: &Run<'_>, number: usize, place: TargetPlace) -> bool {
     let mut at = Some(number);
     for _ in 0..STEPS_BACK {
         let Some(number) = at else { return false };

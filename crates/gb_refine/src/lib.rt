@@ -1,7 +1,7 @@
 //! The refinement of certificates' maker: runs of the fixpoint, one after another, each under a finer configuration where
 //! the one before failed.
 //!
-//! `make` gives a certificate, or what is in the way. Nothing here is trusted: who uses it has the certificate checked. Read
+//! `make` gives a certificate, or the findings. Nothing here is trusted: who uses it has the certificate checked. Read
 //! `attempts`, by which rules it is tried, then `rounds` and `learning`, over gb_plans, which says what to refine after a
 //! failure; `tracking` chooses the memory cells that are kept, and `shrink` takes back what a certificate doesn't need.
 #![tactic(auto)]
@@ -16,25 +16,26 @@ mod written;
 
 use attempts::made_certificate;
 use gb_draft::Rom;
-pub use rounds::{Limits, Made, Progress};
+pub use rounds::{Made, SearchLimits, SearchProgress};
 use std::alloc::{AllocError, Global};
 
 // What lies below, for the crates above.
 pub use gb_draft::Rules;
 pub use gb_reports::{
-    Listing, Obstacle, Standing, SymbolFault, Symbols, Told, explain, obstacle_json,
+    Finding, FindingPart, InstructionFinding, Listing, ShownFinding, ShownPart, SymbolFault,
+    SymbolFaultKind, Symbols, explain, finding_json,
 };
 
-/// A certificate of a cartridge, or what is in the way. The certificate isn't checked as a last step: that is left to who
-/// calls.
+/// A certificate of a cartridge, or why there is none. The certificate isn't checked as a last step: that is left to the
+/// caller.
 ///
 /// # Errors
 ///
 /// Where memory ran out.
-pub fn make<P: Progress>(
+pub fn make<P: SearchProgress>(
     alloc: Global,
     rom: &Rom<'_>,
-    limits: Limits,
+    limits: SearchLimits,
     progress: &mut P,
 ) -> Result<Made, AllocError> {
     let made = made_certificate(alloc, rom, limits, progress)?;

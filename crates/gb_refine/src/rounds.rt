@@ -5,10 +5,10 @@ use crate::tracking::Cells;
 use gb_draft::limits::{
     ALL_STEPS, FEW_NODES, OBSTACLES, STEPS_A_NODE, TAKEN_BACK, TAKEN_BACK_OF_MANY,
 };
-use gb_draft::{Cause, Configuration, Place, Rom, Rules, Run, Wish};
+use gb_draft::{Cause, CodePoint, Configuration, Rom, Rules, Run, TargetPlace, Wish};
 use gb_ops::machine::Region;
 use gb_plans::Plan;
-use gb_reports::{Crowd, Obstacle, Standing};
+use gb_reports::{Crowd, Finding, InstructionFinding, Spent};
 use std::alloc::{AllocError, Global};
 use std::collections::{BTreeMap, BTreeSet};
 
@@ -16,7 +16,7 @@ use std::collections::{BTreeMap, BTreeSet};
 pub(crate) const WORD: usize = 2;
 
 /// What is told while certificates are made.
-pub trait Progress {
+pub trait SearchProgress {
     /// A round begins.
     fn round(&mut self, number: u32);
 
@@ -32,7 +32,7 @@ pub trait Progress {
 
 /// What the maker may use.
 #[derive(Clone, Copy, PartialEq, Eq)]
-pub struct Limits {
+pub struct SearchLimits {
     /// The most nodes of a run.
     pub nodes: usize,
     /// The most rounds.
@@ -48,15 +48,15 @@ pub struct Limits {
 pub enum Made {
     /// A certificate that the checker accepts.
     Certificate(Vec<u8>),
-    /// What is in the way, the likeliest cause first.
-    Obstacles(Vec<Obstacle>),
+    /// Why there is none, the likeliest cause first.
+    Findings(Vec<Finding>),
 }
 
 /// An edit that may have to be taken back: what was before it, and the failure that it was to mend.
 #[derive(Drop)]
 pub(crate) struct Before {
     pub(crate) configuration: Configuration,
-    pub(crate) place: Place,
+    pub(crate) place: TargetPlace,
     pub(crate) cause: Cause,
     /// The number of the plan.
     plan: u64,
@@ -65,7 +65,7 @@ pub(crate) struct Before {
 /// A place and a reason, by whose number edits are counted.
 #[derive(Clone, Copy, PartialEq, Eq, PartialOrd, Ord)]
 pub(crate) struct Tried {
-    pub(crate) place: Place,
+    pub(crate) place: TargetPlace,
     pub(crate) reason: u8,
 }
 
@@ -86,10 +86,10 @@ impl News {
 /// Something is to be refined; the failure stands otherwise.
 #[derive(Drop)]
 pub(crate) struct Mending {
-    pub(crate) place: Place,
+    pub(crate) place: TargetPlace,
     pub(crate) reason: u8,
     pub(crate) plan: Plan,
-    pub(crate) obstacle: Standing,
+    pub(crate) finding: InstructionFinding,
 }
 
 /// What is to be done otherwise in the next round.
@@ -106,8 +106,10 @@ pub(crate) enum Change {
     Mend(Mending),
     /// Some things are to be refined at once, and more cells and values are to be known.
     MendAll(Vec<Mending>, News),
+    /// The calls of these targets are followed, so that there are fewer procedures.
+    Follow(Vec<CodePoint>),
     /// The failure stands; runs go on elsewhere.
-    GiveUp(Place),
+    GiveUp(TargetPlace),
     /// The last edit led into what is no code, so it was none that helps.
     TakeBack,
 }
@@ -118,10 +120,10 @@ pub(crate) enum Lesson {
     Change(Change),
     /// The run was too large.
     TooLarge(Crowd),
-    /// What stands in the way for good.
-    End(Vec<Obstacle>),
-    /// What was first met at a place stands in the way for good.
-    EndAt(Place),
+    /// Nothing helps against these findings.
+    End(Vec<Finding>),
+    /// Nothing helps against what was first met at a place.
+    EndAt(TargetPlace),
     /// A certificate, which no one has checked yet.
     Certificate(Vec<u8>),
     /// A certificate that the checker accepts, with a stack region that reaches further down than the run's.
@@ -133,25 +135,25 @@ pub(crate) enum Lesson {
 pub(crate) struct Refinement<'a> {
     pub(crate) alloc: Global,
     rom: &'a Rom<'a>,
-    pub(crate) limits: Limits,
+    pub(crate) limits: SearchLimits,
     pub(crate) configuration: Configuration,
     pub(crate) cells: Cells,
     /// Loops that were keyed, which shrinking may take back.
-    pub(crate) keyed_loops: Vec<Vec<Place>>,
+    pub(crate) keyed_loops: Vec<Vec<TargetPlace>>,
     pub(crate) before: Option<Before>,
     /// The failures at places that were refined, as they were first met.
-    pub(crate) first: BTreeMap<Place, Standing>,
+    pub(crate) first: BTreeMap<TargetPlace, InstructionFinding>,
     /// The calls of procedures that may run already, in the order in which they were met.
-    pub(crate) circles: Vec<Place>,
+    pub(crate) circles: Vec<TargetPlace>,
     pub(crate) tried: BTreeMap<Tried, u32>,
     /// Where failures stand, in the order in which they were met.
-    pub(crate) given_up: Vec<Place>,
+    pub(crate) given_up: Vec<TargetPlace>,
     /// How many plans were taken back.
     taken_back: u32,
     /// Where a finer configuration made the run too large.
-    pub(crate) too_large: BTreeSet<Place>,
-    /// How many procedures began at each address in the last run.
-    pub(crate) targets: BTreeMap<u16, usize>,
+    pub(crate) too_large: BTreeSet<TargetPlace>,
+    /// How many procedures began at each point of code in the last run.
+    pub(crate) targets: BTreeMap<CodePoint, usize>,
     /// The nodes and the steps of the last run.
     pub(crate) nodes: usize,
     pub(crate) steps: u64,
@@ -167,7 +169,7 @@ pub(crate) struct Refinement<'a> {
 /// The first configuration.
 fn first_configuration(
     alloc: Global,
-    limits: &Limits,
+    limits: &SearchLimits,
     rules: Rules,
 ) -> Result<Configuration, AllocError> {
     let mut configuration = Configuration::new(alloc, rules)?;
@@ -180,16 +182,16 @@ fn first_configuration(
     Ok(configuration)
 }
 
-/// One obstacle alone.
-pub(crate) fn alone(alloc: Global, obstacle: Obstacle) -> Result<Vec<Obstacle>, AllocError> {
-    let mut obstacles = Vec::new(alloc);
-    obstacles.push(obstacle)?;
-    Ok(obstacles)
+/// One finding alone.
+pub(crate) fn alone(alloc: Global, finding: Finding) -> Result<Vec<Finding>, AllocError> {
+    let mut findings = Vec::new(alloc);
+    findings.push(finding)?;
+    Ok(findings)
 }
 
-/// One obstacle is told at the end.
-fn end_alone(alloc: Global, obstacle: Obstacle) -> Result<Made, AllocError> {
-    Ok(Made::Obstacles(alone(alloc, obstacle)?))
+/// One finding is told at the end.
+fn end_alone(alloc: Global, finding: Finding) -> Result<Made, AllocError> {
+    Ok(Made::Findings(alone(alloc, finding)?))
 }
 
 impl<'a> Refinement<'a> {
@@ -197,7 +199,7 @@ impl<'a> Refinement<'a> {
     pub(crate) fn new(
         alloc: Global,
         rom: &'a Rom<'a>,
-        limits: Limits,
+        limits: SearchLimits,
         rules: Rules,
     ) -> Result<Refinement<'a>, AllocError> {
         Ok(Refinement {
@@ -224,7 +226,7 @@ impl<'a> Refinement<'a> {
     }
 
     /// One round; something where it is the last one.
-    pub(crate) fn round<P: Progress>(
+    pub(crate) fn round<P: SearchProgress>(
         &mut self,
         progress: &mut P,
     ) -> Result<Option<Made>, AllocError> {
@@ -232,13 +234,13 @@ impl<'a> Refinement<'a> {
         self.apply(lesson)
     }
 
-    fn lesson<P: Progress>(&mut self, progress: &mut P) -> Result<Lesson, AllocError> {
+    fn lesson<P: SearchProgress>(&mut self, progress: &mut P) -> Result<Lesson, AllocError> {
         // A copy, since the run is still asked while what it teaches is written down.
         let configuration = self.configuration.clone()?;
         self.lesson_under(&configuration, progress)
     }
 
-    fn lesson_under<P: Progress>(
+    fn lesson_under<P: SearchProgress>(
         &mut self,
         configuration: &Configuration,
         progress: &mut P,
@@ -248,7 +250,7 @@ impl<'a> Refinement<'a> {
     }
 
     /// Runs, and learns from where it stops.
-    fn lesson_of<P: Progress>(
+    fn lesson_of<P: SearchProgress>(
         &mut self,
         run: &mut Run<'_>,
         progress: &mut P,
@@ -267,7 +269,7 @@ impl<'a> Refinement<'a> {
     /// Something is refined; what was before is kept.
     fn refine(&mut self, mending: Mending) -> Result<(), AllocError> {
         let number = mending.plan.number();
-        self.keep_before(mending.place, mending.obstacle.cause, number)?;
+        self.keep_before(mending.place, mending.finding.cause, number)?;
         self.mend(mending)
     }
 
@@ -290,22 +292,23 @@ impl<'a> Refinement<'a> {
         self.make_edit(&mending.plan)?;
         // Beside this one another plan may help that didn't before.
         self.configuration.taken_back = BTreeSet::new(self.alloc);
-        let Mending {
-            place,
-            obstacle,
-            ..
-        } = mending;
-        self.keep_first(place, obstacle)
+        let Mending { place, finding, .. } = mending;
+        self.keep_first(place, finding)
     }
 
-    fn count_edit(&mut self, place: Place, reason: u8) -> Result<(), AllocError> {
+    fn count_edit(&mut self, place: TargetPlace, reason: u8) -> Result<(), AllocError> {
         let count = self.edits_at(place, reason);
         self.tried
             .insert(Tried { place, reason }, count.saturating_add(1))?;
         Ok(())
     }
 
-    fn keep_before(&mut self, place: Place, cause: Cause, plan: u64) -> Result<(), AllocError> {
+    fn keep_before(
+        &mut self,
+        place: TargetPlace,
+        cause: Cause,
+        plan: u64,
+    ) -> Result<(), AllocError> {
         let configuration = self.configuration.clone()?;
         self.before = Some(Before {
             configuration,
@@ -325,19 +328,23 @@ impl<'a> Refinement<'a> {
     }
 
     /// A failure is kept as it was first met.
-    fn keep_first(&mut self, place: Place, obstacle: Standing) -> Result<(), AllocError> {
+    fn keep_first(
+        &mut self,
+        place: TargetPlace,
+        finding: InstructionFinding,
+    ) -> Result<(), AllocError> {
         if !self.first.contains_key(&place) {
-            if let Cause::Recursion { .. } = obstacle.cause {
+            if let Cause::Recursion { .. } = finding.cause {
                 self.circles.push(place)?;
             }
-            self.first.insert(place, obstacle)?;
+            self.first.insert(place, finding)?;
         }
         Ok(())
     }
 
     /// The last edit is taken back. Another one is tried in its place, as long as fewer than so many were taken back; else the
     /// failure that it was to mend stands. Without an edit nothing is changed.
-    fn take_back(&mut self, most: u32) -> Result<Option<Place>, AllocError> {
+    fn take_back(&mut self, most: u32) -> Result<Option<TargetPlace>, AllocError> {
         match self.before.take() {
             Some(before) => {
                 let place = before.place;
@@ -383,59 +390,59 @@ impl<'a> Refinement<'a> {
                 self.too_large.insert(place)?;
                 Ok(None)
             }
-            Some(place) => Ok(Some(self.end_at(place, Obstacle::TooLarge(crowd))?)),
-            None => Ok(Some(end_alone(self.alloc, Obstacle::TooLarge(crowd))?)),
+            Some(place) => Ok(Some(self.end_at(place, Finding::TooLarge(crowd))?)),
+            None => Ok(Some(end_alone(self.alloc, Finding::TooLarge(crowd))?)),
         }
     }
 
-    /// The failure at a place is told, as it was first met, and another obstacle.
-    fn end_at(&mut self, place: Place, other: Obstacle) -> Result<Made, AllocError> {
+    /// The failure at a place is told, as it was first met, and another finding.
+    fn end_at(&mut self, place: TargetPlace, other: Finding) -> Result<Made, AllocError> {
         match self.first.remove(&place) {
             Some(standing) => {
-                let mut obstacles = alone(self.alloc, Obstacle::Standing(standing))?;
-                obstacles.push(other)?;
-                Ok(Made::Obstacles(obstacles))
+                let mut findings = alone(self.alloc, Finding::Instruction(standing))?;
+                findings.push(other)?;
+                Ok(Made::Findings(findings))
             }
             None => end_alone(self.alloc, other),
         }
     }
 
     /// The failure at a place is told alone, as it was first met.
-    fn end_as_first(&mut self, place: Place) -> Result<Made, AllocError> {
+    fn end_as_first(&mut self, place: TargetPlace) -> Result<Made, AllocError> {
         match self.first.remove(&place) {
-            Some(standing) => end_alone(self.alloc, Obstacle::Standing(standing)),
-            None => end_alone(self.alloc, Obstacle::Refused),
+            Some(standing) => end_alone(self.alloc, Finding::Instruction(standing)),
+            None => end_alone(self.alloc, Finding::Internal),
         }
     }
 
-    /// An obstacle as it was first met, where its pointer is kept in RAM: later ones are told apart value by value.
-    fn as_first_met(&mut self, obstacle: Obstacle) -> Obstacle {
-        match obstacle {
-            Obstacle::Standing(last) => match self.first.remove(&last.place) {
+    /// An finding as it was first met, where its pointer is kept in RAM: later ones are told apart value by value.
+    fn as_first_met(&mut self, finding: Finding) -> Finding {
+        match finding {
+            Finding::Instruction(last) => match self.first.remove(&last.place) {
                 Some(mut first) if !first.kept_in.is_empty() => {
                     first.is_too_large = last.is_too_large;
-                    Obstacle::Standing(first)
+                    Finding::Instruction(first)
                 }
-                _ => Obstacle::Standing(last),
+                _ => Finding::Instruction(last),
             },
             other => other,
         }
     }
 
-    /// The obstacles that are told at the end.
-    fn end(&mut self, obstacles: Vec<Obstacle>) -> Result<Made, AllocError> {
+    /// The findings that are reported at the end.
+    fn end(&mut self, findings: Vec<Finding>) -> Result<Made, AllocError> {
         let mut told = Vec::new(self.alloc);
-        self.tell_all(obstacles, &mut told)?;
-        Ok(Made::Obstacles(told))
+        self.tell_all(findings, &mut told)?;
+        Ok(Made::Findings(told))
     }
 
     fn tell_all(
         &mut self,
-        obstacles: Vec<Obstacle>,
-        told: &mut Vec<Obstacle>,
+        findings: Vec<Finding>,
+        told: &mut Vec<Finding>,
     ) -> Result<(), AllocError> {
-        for obstacle in obstacles {
-            let first = self.as_first_met(obstacle);
+        for finding in findings {
+            let first = self.as_first_met(finding);
             tell(first, told)?;
         }
         Ok(())
@@ -455,7 +462,7 @@ impl<'a> Refinement<'a> {
     }
 
     /// A failure at a place stands.
-    fn stand(&mut self, place: Place) -> Result<(), AllocError> {
+    fn stand(&mut self, place: TargetPlace) -> Result<(), AllocError> {
         self.given_up.push(place)?;
         self.configuration.given_up.insert(place)?;
         Ok(())
@@ -469,7 +476,7 @@ impl<'a> Refinement<'a> {
                 Ok(None)
             }
             Lesson::TooLarge(crowd) => self.shrink_back(crowd),
-            Lesson::End(obstacles) => Ok(Some(self.end(obstacles)?)),
+            Lesson::End(findings) => Ok(Some(self.end(findings)?)),
             Lesson::EndAt(place) => Ok(Some(self.end_as_first(place)?)),
             Lesson::Certificate(bytes) => Ok(Some(Made::Certificate(bytes))),
             Lesson::Deeper(region, bytes) => {
@@ -493,6 +500,7 @@ impl<'a> Refinement<'a> {
                 self.track(&news)?;
                 self.refine_all(mendings)
             }
+            Change::Follow(targets) => self.follow(&targets),
             Change::GiveUp(place) => self.stand(place),
             Change::TakeBack => {
                 self.take_back(TAKEN_BACK_OF_MANY)?;
@@ -518,6 +526,14 @@ impl<'a> Refinement<'a> {
         }
     }
 
+    /// Calls of these targets are followed in their callers.
+    fn follow(&mut self, targets: &[CodePoint]) -> Result<(), AllocError> {
+        for target in targets {
+            self.configuration.inline(*target)?;
+        }
+        Ok(())
+    }
+
     fn set_region(&mut self, region: Region) -> Result<(), AllocError> {
         self.configuration.is_stack_seen = true;
         self.deepen(region)
@@ -541,7 +557,7 @@ impl<'a> Refinement<'a> {
     }
 
     /// A failure that was met and isn't told otherwise: the one to be mended last, or else the first by its place.
-    fn unmended(&mut self) -> Option<Place> {
+    fn unmended(&mut self) -> Option<TargetPlace> {
         let last = self.before.take().map(|before| before.place);
         match last {
             Some(place) if self.first.contains_key(&place) => Some(place),
@@ -550,26 +566,26 @@ impl<'a> Refinement<'a> {
     }
 
     /// There were more rounds than allowed, or they took too long: a failure that was to be mended is told.
-    fn out_of_rounds(&mut self, rounds: u32) -> Result<Made, AllocError> {
-        let rounds = Obstacle::Rounds { rounds };
+    fn out_of_rounds(&mut self, rounds: u32, spent: Spent) -> Result<Made, AllocError> {
+        let finding = Finding::OutOfRounds { rounds, spent };
         match self.unmended() {
-            Some(place) => self.end_at(place, rounds),
-            None => end_alone(self.alloc, rounds),
+            Some(place) => self.end_at(place, finding),
+            None => end_alone(self.alloc, finding),
         }
     }
 
     /// Rounds, until there is a certificate or nothing more helps.
-    pub(crate) fn make<P: Progress>(&mut self, progress: &mut P) -> Result<Made, AllocError> {
+    pub(crate) fn make<P: SearchProgress>(&mut self, progress: &mut P) -> Result<Made, AllocError> {
         for round in 0..self.limits.rounds {
             progress.round(round.saturating_add(1));
             if let Some(made) = self.round(progress)? {
                 return Ok(made);
             }
             if self.spent > self.most_steps() {
-                return self.out_of_rounds(round.saturating_add(1));
+                return self.out_of_rounds(round.saturating_add(1), Spent::Steps);
             }
         }
-        self.out_of_rounds(self.limits.rounds)
+        self.out_of_rounds(self.limits.rounds, Spent::Rounds)
     }
 
     pub(crate) fn alloc(&self) -> Global {
@@ -606,11 +622,11 @@ fn pairs_of(run: &Run<'_>) -> u64 {
     pairs
 }
 
-/// How many procedures of a run begin at each address.
-fn targets_of(alloc: Global, run: &Run<'_>) -> Result<BTreeMap<u16, usize>, AllocError> {
+/// How many procedures of a run begin at each point of code.
+fn targets_of(alloc: Global, run: &Run<'_>) -> Result<BTreeMap<CodePoint, usize>, AllocError> {
     let mut targets = BTreeMap::new(alloc);
     for procedure in &run.procedures {
-        let count = targets.entry(procedure.key.target)?.or_insert(0usize);
+        let count = targets.entry(procedure.key.point())?.or_insert(0usize);
         *count = count.saturating_add(1);
     }
     Ok(targets)

@@ -1,20 +1,20 @@
 //! Shrinking: what a certificate doesn't need is taken back while the checker accepts what is left.
 
-use crate::rounds::{Progress, Refinement};
+use crate::rounds::{Refinement, SearchProgress};
 use crate::written::{is_accepted, written};
 use gb_draft::limits::{SHRINK_ATTEMPTS, SHRINK_STEPS, SPARE_NODES, STEPS_A_PAIR};
-use gb_draft::{Configuration, Outcome, Place, REGISTERS, Rom, Run, find_needs};
+use gb_draft::{CodePoint, Configuration, REGISTERS, Rom, Run, RunEnd, TargetPlace, find_needs};
 use gb_ops::op::Register;
 use gb_plans::{parted_by, without};
 use std::alloc::{AllocError, Global};
 
 /// What is taken back by halves.
 #[derive(Clone, Copy, PartialEq, Eq)]
-enum Kind {
-    /// The procedures at an address needn't be parted by the bank.
-    Flat,
+enum Spare {
+    /// The procedures at a target needn't be parted by the bank.
+    Parting(CodePoint),
     /// A cell needn't be tracked.
-    Cell,
+    Cell(u16),
 }
 
 /// The certificate of one run, if it is clean and the checker accepts it.
@@ -43,26 +43,25 @@ fn accepted(
 
 /// Whether a run ends with no failure, and its procedures' needs are found.
 fn is_clean(alloc: Global, run: &mut Run<'_>) -> Result<bool, AllocError> {
-    if run.run()? != Outcome::Finished || !run.failures.is_empty() {
+    if run.run()? != RunEnd::Finished || !run.failures.is_empty() {
         return Ok(false);
     }
     Ok(find_needs(alloc, run)?.is_none())
 }
 
-/// The configuration without something at these addresses.
+/// The configuration without these.
 fn without_some(
     configuration: &Configuration,
-    kind: Kind,
-    addresses: &[u16],
+    spare: &[Spare],
 ) -> Result<Configuration, AllocError> {
     let mut coarser = configuration.clone()?;
-    for address in addresses {
-        match kind {
-            Kind::Flat => {
-                coarser.flat.insert(*address)?;
+    for one in spare {
+        match one {
+            Spare::Parting(target) => {
+                coarser.flat.insert(*target)?;
             }
-            Kind::Cell => {
-                coarser.tracked.remove(address);
+            Spare::Cell(cell) => {
+                coarser.tracked.remove(cell);
             }
         }
     }
@@ -91,49 +90,49 @@ impl Shrinking<'_> {
     /// Procedures needn't be parted by the bank.
     fn flatten(&mut self, refinement: &Refinement<'_>) -> Result<(), AllocError> {
         let targets = crowded(refinement)?;
-        self.by_halves(Kind::Flat, &targets)
+        self.by_halves(&targets)
     }
 
     /// Cells needn't be tracked.
     fn untrack(&mut self, refinement: &Refinement<'_>) -> Result<(), AllocError> {
         let cells = loose_cells(refinement)?;
-        self.by_halves(Kind::Cell, &cells)
+        self.by_halves(&cells)
     }
 
-    /// Takes something back at all addresses, else at each half of them, and so on.
-    fn by_halves(&mut self, kind: Kind, addresses: &[u16]) -> Result<(), AllocError> {
+    /// Takes all of these back, else each half of them, and so on.
+    fn by_halves(&mut self, spare: &[Spare]) -> Result<(), AllocError> {
         let mut left = Vec::new(self.alloc);
-        left.push(addresses)?;
-        self.by_parts(kind, &mut left)
+        left.push(spare)?;
+        self.by_parts(&mut left)
     }
 
-    fn by_parts(&mut self, kind: Kind, left: &mut Vec<&[u16]>) -> Result<(), AllocError> {
+    fn by_parts(&mut self, left: &mut Vec<&[Spare]>) -> Result<(), AllocError> {
         for _ in 0..2 * SHRINK_ATTEMPTS {
             let Some(part) = left.pop() else { break };
             if part.is_empty() || self.attempts == 0 {
                 continue;
             }
-            if !self.try_without(kind, part)? && part.len() > 1 {
+            if !self.try_without(part)? && part.len() > 1 {
                 push_halves(part, left)?;
             }
         }
         Ok(())
     }
 
-    fn try_without(&mut self, kind: Kind, addresses: &[u16]) -> Result<bool, AllocError> {
-        let coarser = without_some(&self.configuration, kind, addresses)?;
+    fn try_without(&mut self, spare: &[Spare]) -> Result<bool, AllocError> {
+        let coarser = without_some(&self.configuration, spare)?;
         self.try_coarser(coarser)
     }
 
     /// Loops that were keyed needn't be.
-    fn loops(&mut self, loops: &[Vec<Place>]) -> Result<(), AllocError> {
+    fn loops(&mut self, loops: &[Vec<TargetPlace>]) -> Result<(), AllocError> {
         for places in loops {
             self.try_unkeyed(places)?;
         }
         Ok(())
     }
 
-    fn try_unkeyed(&mut self, places: &[Place]) -> Result<bool, AllocError> {
+    fn try_unkeyed(&mut self, places: &[TargetPlace]) -> Result<bool, AllocError> {
         if self.attempts == 0 {
             return Ok(false);
         }
@@ -150,7 +149,7 @@ impl Shrinking<'_> {
         self.registers_at(&targets)
     }
 
-    fn registers_at(&mut self, targets: &[u16]) -> Result<(), AllocError> {
+    fn registers_at(&mut self, targets: &[CodePoint]) -> Result<(), AllocError> {
         for target in targets {
             for register in REGISTERS {
                 self.try_unparted(*target, register)?;
@@ -159,7 +158,7 @@ impl Shrinking<'_> {
         Ok(())
     }
 
-    fn try_unparted(&mut self, target: u16, register: Register) -> Result<bool, AllocError> {
+    fn try_unparted(&mut self, target: CodePoint, register: Register) -> Result<bool, AllocError> {
         let registers = parted_by(&self.configuration, target);
         if self.attempts == 0 || !registers.contains(register) {
             return Ok(false);
@@ -196,7 +195,7 @@ impl Shrinking<'_> {
     }
 }
 
-fn push_halves<'p>(part: &'p [u16], left: &mut Vec<&'p [u16]>) -> Result<(), AllocError> {
+fn push_halves<'p>(part: &'p [Spare], left: &mut Vec<&'p [Spare]>) -> Result<(), AllocError> {
     let (first, second) = part.split_at(part.len() / 2);
     left.push(first)?;
     left.push(second)?;
@@ -204,7 +203,10 @@ fn push_halves<'p>(part: &'p [u16], left: &mut Vec<&'p [u16]>) -> Result<(), All
 }
 
 /// The targets whose procedures are parted by registers.
-fn parted_targets(alloc: Global, configuration: &Configuration) -> Result<Vec<u16>, AllocError> {
+fn parted_targets(
+    alloc: Global,
+    configuration: &Configuration,
+) -> Result<Vec<CodePoint>, AllocError> {
     let mut targets = Vec::new(alloc);
     for target in configuration.parted.keys() {
         targets.push(*target)?;
@@ -212,30 +214,30 @@ fn parted_targets(alloc: Global, configuration: &Configuration) -> Result<Vec<u1
     Ok(targets)
 }
 
-/// The addresses outside the switched bank at which several procedures begin.
-fn crowded(refinement: &Refinement<'_>) -> Result<Vec<u16>, AllocError> {
+/// The targets outside the switched bank at which several procedures begin.
+fn crowded(refinement: &Refinement<'_>) -> Result<Vec<Spare>, AllocError> {
     let mut crowded = Vec::new(refinement.alloc());
     for (target, count) in refinement.targets.iter() {
-        if *count > 1 && !(0x4000 <= *target && *target < 0x8000) {
-            crowded.push(*target)?;
+        if *count > 1 && !(0x4000 <= target.address && target.address < 0x8000) {
+            crowded.push(Spare::Parting(*target))?;
         }
     }
     Ok(crowded)
 }
 
 /// The tracked cells that aren't part of keys.
-fn loose_cells(refinement: &Refinement<'_>) -> Result<Vec<u16>, AllocError> {
+fn loose_cells(refinement: &Refinement<'_>) -> Result<Vec<Spare>, AllocError> {
     let mut cells = Vec::new(refinement.alloc());
     for cell in refinement.configuration.tracked.iter() {
         if !refinement.configuration.key_cells.contains(cell) {
-            cells.push(*cell)?;
+            cells.push(Spare::Cell(*cell))?;
         }
     }
     Ok(cells)
 }
 
 /// A smaller certificate than the one at hand, if there is one within some attempts.
-pub(crate) fn shrink<P: Progress>(
+pub(crate) fn shrink<P: SearchProgress>(
     refinement: &Refinement<'_>,
     best: Vec<u8>,
     progress: &mut P,

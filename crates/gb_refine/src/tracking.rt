@@ -1,4 +1,4 @@
-//! Which memory cells are tracked: at most 32, code and what keys go by first.
+//! Which memory cells are tracked: at most 64 by the rules of version 3, 32 by the others; code and what keys go by first.
 
 use gb_draft::{Configuration, Run, is_ram};
 use gb_ops::machine::Region;

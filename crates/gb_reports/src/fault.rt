@@ -10,9 +10,9 @@ pub enum SymbolFaultKind {
     NotText,
     /// The file has none of the formats.
     NoFormat,
-    /// A line has no bank, address and name, as the format wants them.
+    /// A line lacks the bank, the address or the name that the format asks for.
     Line,
-    /// The file tells of no source's line.
+    /// The file names no line of a source.
     NoLines,
     Memory,
 }
@@ -30,7 +30,7 @@ impl SymbolFault {
         SymbolFault { kind, line: 0 }
     }
 
-    /// Want of memory, in no line.
+    /// There isn't enough memory.
     fn memory() -> SymbolFault {
         SymbolFault::of(SymbolFaultKind::Memory)
     }
@@ -52,20 +52,20 @@ impl fmt::Display for SymbolFault {
     fn fmt<W: fmt::Write>(&self, f: &mut fmt::Formatter<W>) -> fmt::Result {
         let line = self.line;
         match self.kind {
-            SymbolFaultKind::NotText => write!(f, "it is no file of symbols: it is not text"),
+            SymbolFaultKind::NotText => write!(f, "not a file of symbols: it isn't text"),
             SymbolFaultKind::NoFormat => write!(
                 f,
-                "it is no file of symbols: no line is BB:AAAA NAME (RGBDS .sym), DEF NAME 0xADDR (SDCC .noi), or belongs to an SDCC .map"
+                "not a file of symbols: use an RGBDS .sym (`rgblink -n`), or an SDCC .noi or .map"
             ),
             SymbolFaultKind::Line => write!(
                 f,
-                "line {line} has no bank, address and name as the lines before it"
+                "line {line} doesn't have a bank, an address and a name like the lines before it"
             ),
             SymbolFaultKind::NoLines => write!(
                 f,
-                "it has no lines of sources: none is L:C$FILE$N..:ADDR or L:A$MODULE$N:ADDR (SDCC .cdb), or a module's with its address and bytes (SDCC .rst)"
+                "no source lines: use an SDCC .cdb (`lcc -debug`, `sdcc --debug`) or .rst"
             ),
-            SymbolFaultKind::Memory => write!(f, "memory ran out"),
+            SymbolFaultKind::Memory => write!(f, "not enough memory"),
         }
     }
 }

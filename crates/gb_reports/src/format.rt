@@ -15,7 +15,7 @@ pub enum Format {
 
 /// A name at a bank and an address, as a line says.
 #[derive(Clone, Copy, PartialEq, Eq)]
-pub(crate) struct Named<'a> {
+pub(crate) struct NamedAddress<'a> {
     pub(crate) bank: u16,
     pub(crate) address: u16,
     pub(crate) name: &'a str,
@@ -23,8 +23,8 @@ pub(crate) struct Named<'a> {
 
 /// What a line is.
 #[derive(Clone, Copy, PartialEq, Eq)]
-pub(crate) enum Line<'a> {
-    Symbol(Named<'a>),
+pub(crate) enum SymbolLine<'a> {
+    Symbol(NamedAddress<'a>),
     /// Nothing of interest: a comment, an empty line, or a directive of another kind.
     Other,
     /// Not a line of this format.
@@ -48,10 +48,10 @@ fn hexadecimal(digits: &str) -> Option<u32> {
 }
 
 /// A name at a number that has the bank above its low sixteen bits.
-fn named_at<'a>(number: u32, name: &'a str) -> Option<Named<'a>> {
+fn named_at<'a>(number: u32, name: &'a str) -> Option<NamedAddress<'a>> {
     let bank = u16::try_from(number >> 16).ok()?;
     let address = u16::try_from(number & 0xFFFF).ok()?;
-    Some(Named {
+    Some(NamedAddress {
         bank,
         address,
         name,
@@ -59,7 +59,7 @@ fn named_at<'a>(number: u32, name: &'a str) -> Option<Named<'a>> {
 }
 
 /// A bank and an address, as `01:4000`. A bank in words, as RGBDS writes `BOOT`, is bank 0.
-fn banked<'a>(place: &str, name: &'a str) -> Option<Named<'a>> {
+fn banked<'a>(place: &str, name: &'a str) -> Option<NamedAddress<'a>> {
     let (bank, address) = place.split_once(':')?;
     let bank = if bank == "BOOT" {
         0
@@ -67,14 +67,14 @@ fn banked<'a>(place: &str, name: &'a str) -> Option<Named<'a>> {
         u16::try_from(hexadecimal(bank)?).ok()?
     };
     let address = u16::try_from(hexadecimal(address)?).ok()?;
-    Some(Named {
+    Some(NamedAddress {
         bank,
         address,
         name,
     })
 }
 
-/// The next word and the one behind it.
+/// The next word and the one after it.
 fn two_words<'a>(words: &mut SplitWhitespace<'a>) -> Option<(&'a str, &'a str)> {
     let first = words.next()?;
     let second = words.next()?;
@@ -82,62 +82,62 @@ fn two_words<'a>(words: &mut SplitWhitespace<'a>) -> Option<(&'a str, &'a str)> 
 }
 
 /// A line of an RGBDS file.
-fn sym_line<'a>(line: &'a str) -> Line<'a> {
+fn sym_line<'a>(line: &'a str) -> SymbolLine<'a> {
     let line = without_comment(line).trim();
     if line.is_empty() {
-        return Line::Other;
+        return SymbolLine::Other;
     }
     let mut words = line.split_whitespace();
     let Some((place, name)) = two_words(&mut words) else {
-        return Line::Wrong;
+        return SymbolLine::Wrong;
     };
     match banked(place, name) {
-        Some(named) => Line::Symbol(named),
-        None => Line::Wrong,
+        Some(named) => SymbolLine::Symbol(named),
+        None => SymbolLine::Wrong,
     }
 }
 
 /// A line of an SDCC `.noi` file; other directives than DEF name no symbol.
-fn noi_line<'a>(line: &'a str) -> Line<'a> {
+fn noi_line<'a>(line: &'a str) -> SymbolLine<'a> {
     let mut words = line.split_whitespace();
     match words.next() {
-        None => return Line::Other,
-        Some(word) if word != "DEF" => return Line::Other,
+        None => return SymbolLine::Other,
+        Some(word) if word != "DEF" => return SymbolLine::Other,
         Some(_) => {}
     }
     let Some((name, number)) = two_words(&mut words) else {
-        return Line::Wrong;
+        return SymbolLine::Wrong;
     };
     let digits = match number.strip_prefix("0x") {
         Some(digits) => digits,
         None => number,
     };
     match hexadecimal(digits).and_then(|number| named_at(number, name)) {
-        Some(named) => Line::Symbol(named),
-        None => Line::Wrong,
+        Some(named) => SymbolLine::Symbol(named),
+        None => SymbolLine::Wrong,
     }
 }
 
 /// A line of an SDCC `.map` file: most are headings and names of files.
-fn map_line<'a>(line: &'a str) -> Line<'a> {
+fn map_line<'a>(line: &'a str) -> SymbolLine<'a> {
     let mut words = line.split_whitespace();
     let Some((first, second)) = two_words(&mut words) else {
-        return Line::Other;
+        return SymbolLine::Other;
     };
     let (digits, name) = if first == "C:" || first == "D:" {
         match words.next() {
             Some(third) => (second, third),
-            None => return Line::Other,
+            None => return SymbolLine::Other,
         }
     } else {
         (first, second)
     };
     if digits.len() < 4 {
-        return Line::Other;
+        return SymbolLine::Other;
     }
     match hexadecimal(digits).and_then(|number| named_at(number, name)) {
-        Some(named) => Line::Symbol(named),
-        None => Line::Other,
+        Some(named) => SymbolLine::Symbol(named),
+        None => SymbolLine::Other,
     }
 }
 
@@ -150,17 +150,17 @@ fn is_the_linkers(name: &str) -> bool {
         || name.starts_with(".__.")
 }
 
-/// A line of SDCC's linker, which tells of no symbol where the name is its own.
-fn of_authors(line: Line<'_>) -> Line<'_> {
+/// A line of SDCC's linker, which names no symbol where the name is its own.
+fn of_authors(line: SymbolLine<'_>) -> SymbolLine<'_> {
     match line {
-        Line::Symbol(named) if is_the_linkers(named.name) => Line::Other,
+        SymbolLine::Symbol(named) if is_the_linkers(named.name) => SymbolLine::Other,
         other => other,
     }
 }
 
 impl Format {
     /// What a line is in this format.
-    pub(crate) fn line<'a>(self, line: &'a str) -> Line<'a> {
+    pub(crate) fn line<'a>(self, line: &'a str) -> SymbolLine<'a> {
         match self {
             Format::RgbdsSym => sym_line(line),
             Format::SdccNoi => of_authors(noi_line(line)),
@@ -168,20 +168,20 @@ impl Format {
         }
     }
 
-    /// The format of a text, by its first line that tells; an empty one, or one of comments alone, is RGBDS's.
+    /// The format of a text, by its first line that shows it; an empty one, or one of comments alone, is RGBDS's.
     pub fn of(text: &str) -> Option<Format> {
         let mut is_blank = true;
         for line in text.lines() {
             if line.contains("Global Defined In Module") {
                 return Some(Format::SdccMap);
             }
-            if let Line::Symbol(_) = noi_line(line) {
+            if let SymbolLine::Symbol(_) = noi_line(line) {
                 return Some(Format::SdccNoi);
             }
             match sym_line(line) {
-                Line::Symbol(_) => return Some(Format::RgbdsSym),
-                Line::Other => {}
-                Line::Wrong => is_blank = false,
+                SymbolLine::Symbol(_) => return Some(Format::RgbdsSym),
+                SymbolLine::Other => {}
+                SymbolLine::Wrong => is_blank = false,
             }
         }
         if is_blank {

@@ -2,7 +2,7 @@
 
 use gb_fixpoint::cause::Cause;
 use gb_fixpoint::keys::ControllerKey;
-use gb_fixpoint::types::{Procedure, Run};
+use gb_fixpoint::types::{Run, RunProcedure};
 use std::alloc::{AllocError, Global};
 
 /// Whether what may be wrong of the controller is another at an exit than at the entry: the bank that is shown, or the gate.
@@ -17,7 +17,7 @@ fn is_switched(cause: Cause, entry: &ControllerKey, exit: &ControllerKey) -> boo
 }
 
 /// Whether a procedure is a handler that may return with another bank or gate than it was entered with, whichever may be wrong.
-fn may_switch(run: &Run<'_>, procedure: &Procedure, cause: Cause) -> bool {
+fn may_switch(run: &Run<'_>, procedure: &RunProcedure, cause: Cause) -> bool {
     let Some(exit) = &procedure.exit else {
         return false;
     };
@@ -28,8 +28,8 @@ fn may_switch(run: &Run<'_>, procedure: &Procedure, cause: Cause) -> bool {
         return false;
     };
     let before = ControllerKey::of(&entry.state.core().ctl);
-    let behind = ControllerKey::of(&exit.core().ctl);
-    procedure.key.is_handler && is_switched(cause, &before, &behind)
+    let after = ControllerKey::of(&exit.core().ctl);
+    procedure.key.is_handler && is_switched(cause, &before, &after)
 }
 
 /// Where the handlers begin that may return with another bank or gate, if that may be what is wrong.

@@ -1,22 +1,23 @@
-//! Obstacles as JSON: one object for each, on a line of its own.
+//! Findings as JSON: one object for each, on a line of its own.
 
 use crate::Symbols;
-use crate::advice::Advice;
-use crate::happening::Happening;
+use crate::chain::{CallChain, EnteredRoutine, Root};
+use crate::finding::{Finding, InstructionFinding};
 use crate::lines::SourceLine;
-use crate::object::{Object, pair};
-use crate::obstacle::{Obstacle, Standing};
+use crate::object::{JsonObject, pair};
 use crate::path::{Path, Segment, Start};
-use crate::state::{gate_text, ime_text};
-use crate::told::Other;
-use crate::topic::{advice_on, standing_advice};
-use gb_fixpoint::{Abs, Cell, Val};
+use crate::problem::Problem;
+use crate::shown::ShownOther;
+use crate::state::ime_text;
+use crate::topic::{advice_on, instruction_advice};
+use gb_explain::{Advice, interrupt_at};
+use gb_fixpoint::{Abs, Cell, May, Val};
 use gb_ops::registers::Registers;
 use serde_json::Value;
 use std::alloc::{AllocError, Global};
 
 /// The registers, each with its least and greatest value.
-fn put_registers(object: &mut Object, registers: &Registers<Val>) -> Result<(), AllocError> {
+fn put_registers(object: &mut JsonObject, registers: &Registers<Val>) -> Result<(), AllocError> {
     object.put_val("a", registers.a)?;
     object.put_val("b", registers.b)?;
     object.put_val("c", registers.c)?;
@@ -28,14 +29,14 @@ fn put_registers(object: &mut Object, registers: &Registers<Val>) -> Result<(), 
 
 /// The registers as an object.
 fn registers_json(alloc: Global, registers: &Registers<Val>) -> Result<Value, AllocError> {
-    let mut object = Object::new(alloc);
+    let mut object = JsonObject::new(alloc);
     put_registers(&mut object, registers)?;
     Ok(object.finish())
 }
 
 /// A cell that is known.
 fn cell_json(alloc: Global, cell: Cell) -> Result<Value, AllocError> {
-    let mut object = Object::new(alloc);
+    let mut object = JsonObject::new(alloc);
     object.put_address("address", cell.address)?;
     object.put_val("value", cell.val)?;
     Ok(object.finish())
@@ -57,15 +58,24 @@ fn cells_json(alloc: Global, cells: &[Cell]) -> Result<Value, AllocError> {
 }
 
 /// A state's registers and cells.
-fn put_values(object: &mut Object, state: &Abs) -> Result<(), AllocError> {
+fn put_values(object: &mut JsonObject, state: &Abs) -> Result<(), AllocError> {
     let registers = registers_json(object.alloc, &state.core().registers)?;
     object.put("registers", registers)?;
     let cells = cells_json(object.alloc, state.cells())?;
     object.put("cells", cells)
 }
 
+/// What the gate of cartridge RAM may be.
+fn gate_text(gate: May) -> &'static str {
+    match (gate.clear, gate.set) {
+        (true, false) => "closed",
+        (false, true) => "open",
+        _ => "open or closed",
+    }
+}
+
 /// A state's registers, cells, banks, bytes on the stack, interrupts and gate.
-fn put_state(object: &mut Object, state: &Abs) -> Result<(), AllocError> {
+fn put_state(object: &mut JsonObject, state: &Abs) -> Result<(), AllocError> {
     let core = state.core();
     let ctl = core.ctl;
     put_values(object, state)?;
@@ -77,7 +87,7 @@ fn put_state(object: &mut Object, state: &Abs) -> Result<(), AllocError> {
 
 /// A state.
 fn state_json(alloc: Global, state: &Abs) -> Result<Value, AllocError> {
-    let mut object = Object::new(alloc);
+    let mut object = JsonObject::new(alloc);
     put_state(&mut object, state)?;
     Ok(object.finish())
 }
@@ -92,7 +102,7 @@ fn start_text(start: Start) -> &'static str {
 }
 
 /// Where a path begins: how, and at which address.
-fn put_start(object: &mut Object, start: Start) -> Result<(), AllocError> {
+fn put_start(object: &mut JsonObject, start: Start) -> Result<(), AllocError> {
     object.put_text("by", start_text(start))?;
     match start {
         Start::PowerUp => Ok(()),
@@ -105,7 +115,7 @@ fn put_start(object: &mut Object, start: Start) -> Result<(), AllocError> {
 
 /// The start of a path.
 fn start_json(alloc: Global, start: Start) -> Result<Value, AllocError> {
-    let mut object = Object::new(alloc);
+    let mut object = JsonObject::new(alloc);
     put_start(&mut object, start)?;
     Ok(object.finish())
 }
@@ -131,7 +141,7 @@ fn segments_json(alloc: Global, segments: &[Segment]) -> Result<Value, AllocErro
 }
 
 /// A path: its start, and the addresses that were gone through.
-fn put_path(object: &mut Object, path: &Path) -> Result<(), AllocError> {
+fn put_path(object: &mut JsonObject, path: &Path) -> Result<(), AllocError> {
     let start = start_json(object.alloc, path.start)?;
     object.put("start", start)?;
     let segments = segments_json(object.alloc, &path.segments)?;
@@ -141,14 +151,14 @@ fn put_path(object: &mut Object, path: &Path) -> Result<(), AllocError> {
 
 /// A path.
 fn path_json(alloc: Global, path: &Path) -> Result<Value, AllocError> {
-    let mut object = Object::new(alloc);
+    let mut object = JsonObject::new(alloc);
     put_path(&mut object, path)?;
     Ok(object.finish())
 }
 
 /// The symbol of an address, or null.
 fn put_symbol(
-    object: &mut Object,
+    object: &mut JsonObject,
     symbols: &Symbols<'_>,
     bank: Option<u16>,
     address: u16,
@@ -164,94 +174,162 @@ fn put_symbol(
 }
 
 /// The author's line, or null.
-fn put_line(object: &mut Object, line: Option<SourceLine<'_>>) -> Result<(), AllocError> {
+fn put_line(object: &mut JsonObject, line: Option<SourceLine<'_>>) -> Result<(), AllocError> {
     match line {
         Some(line) => object.put_shown("line", &line),
         None => object.put("line", Value::Null),
     }
 }
 
-/// Where a failure stands.
+/// Where a finding is.
 fn put_place(
-    object: &mut Object,
-    standing: &Standing,
+    object: &mut JsonObject,
+    finding: &InstructionFinding,
     symbols: &Symbols<'_>,
 ) -> Result<(), AllocError> {
-    object.put_address("address", standing.address)?;
-    match standing.bank {
+    object.put_address("address", finding.address)?;
+    match finding.bank {
         Some(bank) => object.put_address("bank", bank)?,
         None => object.put("bank", Value::Null)?,
     }
-    put_symbol(object, symbols, standing.bank, standing.address)?;
-    put_line(object, standing.line(symbols))
+    put_symbol(object, symbols, finding.bank, finding.address)?;
+    put_line(object, finding.line(symbols))
 }
 
 /// What fails.
-fn put_problem(object: &mut Object, standing: &Standing) -> Result<(), AllocError> {
-    object.put_shown("code", &standing.code)?;
-    object.put_shown("problem", &Happening(standing))?;
-    object.put_number("reason", u64::from(standing.cause.reason().number()))
+fn put_problem(
+    object: &mut JsonObject,
+    finding: &InstructionFinding,
+    symbols: &Symbols<'_>,
+) -> Result<(), AllocError> {
+    object.put_shown("code", &finding.code)?;
+    object.put_shown("problem", &Problem { finding, symbols })?;
+    object.put_number("reason", u64::from(finding.cause.reason().number()))
 }
 
-/// The rule that is broken, and what usually mends it.
-fn put_advice(object: &mut Object, advice: Advice) -> Result<(), AllocError> {
-    object.put_text("rule", advice.rule)?;
-    object.put_text("remedy", advice.remedy)
+/// Why it matters, how to fix it, and the section of the documents.
+fn put_advice(object: &mut JsonObject, advice: Advice) -> Result<(), AllocError> {
+    object.put_text("rule", advice.problem)?;
+    object.put_text("remedy", advice.remedy)?;
+    object.put_text("anchor", advice.anchor)
 }
 
 /// In what state, and on which way.
-fn put_history(object: &mut Object, standing: &Standing) -> Result<(), AllocError> {
-    let state = state_json(object.alloc, &standing.state)?;
+fn put_history(object: &mut JsonObject, finding: &InstructionFinding) -> Result<(), AllocError> {
+    let state = state_json(object.alloc, &finding.state)?;
     object.put("state", state)?;
-    let path = path_json(object.alloc, &standing.path)?;
+    let path = path_json(object.alloc, &finding.path)?;
     object.put("path", path)
 }
 
+/// The name of what a chain of calls begins with.
+fn root_text(root: Root) -> &'static str {
+    match root {
+        Root::PowerUp => "power-up",
+        Root::Interrupt { vector } => interrupt_at(vector).unwrap_or("interrupt"),
+    }
+}
+
+/// A call: where, and of what.
+fn call_json(
+    alloc: Global,
+    call: &EnteredRoutine,
+    symbols: &Symbols<'_>,
+) -> Result<Value, AllocError> {
+    let mut object = JsonObject::new(alloc);
+    object.put_address("from", call.from)?;
+    object.put_address("target", call.target)?;
+    put_symbol(&mut object, symbols, call.bank, call.target)?;
+    Ok(object.finish())
+}
+
+/// Adds the calls of a chain.
+fn gather_calls(
+    alloc: Global,
+    calls: &[EnteredRoutine],
+    symbols: &Symbols<'_>,
+    values: &mut Vec<Value>,
+) -> Result<(), AllocError> {
+    for call in calls {
+        values.push(call_json(alloc, call, symbols)?)?;
+    }
+    Ok(())
+}
+
+/// The calls of a chain, the outermost first.
+fn calls_json(
+    alloc: Global,
+    calls: &[EnteredRoutine],
+    symbols: &Symbols<'_>,
+) -> Result<Value, AllocError> {
+    let mut values = Vec::new(alloc);
+    gather_calls(alloc, calls, symbols, &mut values)?;
+    Ok(Value::Array(values))
+}
+
+/// A chain of calls, with what it begins with.
+fn put_chain(
+    object: &mut JsonObject,
+    chain: &CallChain,
+    symbols: &Symbols<'_>,
+) -> Result<(), AllocError> {
+    let alloc = object.alloc;
+    let calls = calls_json(alloc, &chain.calls, symbols)?;
+    let mut inner = JsonObject::new(alloc);
+    inner.put_text("root", root_text(chain.root))?;
+    inner.put("calls", calls)?;
+    object.put("call_chain", inner.finish())
+}
+
 /// In what state, on which way, and what else may be the cause.
-fn put_circumstances(object: &mut Object, standing: &Standing) -> Result<(), AllocError> {
-    put_history(object, standing)?;
-    object.put_addresses("kept_in", &standing.kept_in)?;
-    object.put_addresses("switching", &standing.switching)?;
-    object.put_flag("too_large", standing.is_too_large)
+fn put_circumstances(
+    object: &mut JsonObject,
+    finding: &InstructionFinding,
+) -> Result<(), AllocError> {
+    put_history(object, finding)?;
+    object.put_addresses("kept_in", &finding.kept_in)?;
+    object.put_addresses("switching", &finding.switching)?;
+    object.put_flag("too_large", finding.is_too_large)
 }
 
 /// A failure at an instruction.
-fn put_standing(
-    object: &mut Object,
-    standing: &Standing,
+fn put_instruction(
+    object: &mut JsonObject,
+    finding: &InstructionFinding,
     symbols: &Symbols<'_>,
 ) -> Result<(), AllocError> {
-    put_place(object, standing, symbols)?;
-    put_problem(object, standing)?;
-    put_advice(object, standing_advice(standing))?;
-    put_circumstances(object, standing)
+    put_place(object, finding, symbols)?;
+    put_problem(object, finding, symbols)?;
+    put_advice(object, instruction_advice(finding))?;
+    put_chain(object, &finding.chain, symbols)?;
+    put_circumstances(object, finding)
 }
 
-/// An obstacle.
-fn put_obstacle(
-    object: &mut Object,
-    obstacle: &Obstacle,
+/// A finding.
+fn put_finding(
+    object: &mut JsonObject,
+    finding: &Finding,
     symbols: &Symbols<'_>,
 ) -> Result<(), AllocError> {
-    if let Obstacle::Standing(standing) = obstacle {
-        return put_standing(object, standing, symbols);
+    if let Finding::Instruction(finding) = finding {
+        return put_instruction(object, finding, symbols);
     }
-    put_line(object, obstacle.line(symbols))?;
-    object.put_shown("problem", &Other { obstacle, symbols })?;
-    put_advice(object, advice_on(obstacle))
+    put_line(object, finding.line(symbols))?;
+    object.put_shown("problem", &ShownOther { finding, symbols })?;
+    put_advice(object, advice_on(finding))
 }
 
-/// The JSON of an obstacle, in one line without its end.
+/// The JSON of a finding, in one line without its end.
 ///
 /// # Errors
 ///
 /// Where memory ran out.
-pub fn obstacle_json(
+pub fn finding_json(
     alloc: Global,
-    obstacle: &Obstacle,
+    finding: &Finding,
     symbols: &Symbols<'_>,
 ) -> Result<String, AllocError> {
-    let mut object = Object::new(alloc);
-    put_obstacle(&mut object, obstacle, symbols)?;
+    let mut object = JsonObject::new(alloc);
+    put_finding(&mut object, finding, symbols)?;
     object.finish().to_string(alloc)
 }

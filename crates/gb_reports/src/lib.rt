@@ -1,42 +1,46 @@
-//! What is told of certificates and of what stands in their way: symbols of other tools' files, listings, and
-//! obstacles: where, by which rule, in what state, on which way it was reached, and what usually mends it.
+//! What authors read of certificates and of findings: symbols of other tools' files, listings, and findings: where, what can go
+//! wrong, how the code gets there, what is known there, and how to fix it.
 //!
 //! Read `symbols` with `format` and `lines`; then `listing`, with `state` and `named` for states and addresses as a person reads
-//! them; then `obstacle`, which takes what is to be told from a run, `topic` and `advice` (all texts of rules and of
-//! what mends them stand there), `happening` and `told` (lines for a person), `object` and `json`. Of the texts nothing
-//! is promised.
+//! them; then `finding`, which takes what there is to report from a run, with `path`, `chain` and `crowd`; then `shown`, the lines
+//! for a person, with `problem`, `reached`, `known` and `topic`, which chooses the texts that gb_explain has; at last `json` with
+//! `object`. Of the texts nothing is promised.
 #![tactic(auto)]
 
-mod advice;
+mod chain;
 mod crowd;
 mod fault;
+mod finding;
 mod format;
 mod handlers;
-mod happening;
 mod json;
+mod known;
 mod lines;
 mod listing;
 mod named;
 mod object;
-mod obstacle;
 mod path;
+mod problem;
+mod reached;
+mod shown;
 mod state;
 mod symbols;
-mod told;
 mod topic;
 
-pub use crowd::Crowd;
+pub use chain::{CallChain, EnteredRoutine, Root};
+pub use crowd::{Crowd, Multiplied, ReachedLimit};
 pub use fault::{SymbolFault, SymbolFaultKind};
+pub use finding::{Finding, InstructionFinding, Spent};
 pub use format::Format;
-pub use json::obstacle_json;
+pub use json::finding_json;
 pub use lines::SourceLine;
 pub use listing::Listing;
-pub use object::Object;
-pub use obstacle::{Obstacle, Standing};
+pub use object::JsonObject;
 pub use path::{Path, Segment, Start};
+pub use shown::{FindingPart, ShownFinding, ShownPart};
 pub use state::{ShownCell, ShownFlags, ShownRegisters, fmt_core};
-pub use symbols::{Place, Symbol, Symbols};
-pub use told::{Part, Told, ToldPart};
+pub use symbols::{Symbol, SymbolOffset, Symbols};
 
 // What lies below, for the crates above.
-pub use gb_explain::{Code, Explanation, explain};
+pub use gb_explain::{Code, Explanation, explain, interrupt_at};
+pub use gb_fixpoint::{Abs, Cell, Cert, NodeRef, Range, Rom, Verdict, known_bank};

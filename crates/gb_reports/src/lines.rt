@@ -10,7 +10,7 @@ use std::{fmt, str};
 enum Language {
     /// The name is a file's, as `game.c`.
     C,
-    /// The name is a module's: its file is called so, with `.asm` behind it.
+    /// The name is a module's: its file has that name and `.asm`.
     Assembler,
     /// The name is that of a file that a module's file includes.
     Included,
@@ -45,7 +45,7 @@ struct Mark<'a> {
 
 /// The lines of all sources.
 #[derive(Drop)]
-pub(crate) struct Lines<'a> {
+pub(crate) struct SourceLines<'a> {
     marks: Vec<Mark<'a>>,
 }
 
@@ -70,7 +70,7 @@ fn source_line<'a>(record: &'a str) -> Option<SourceLine<'a>> {
     })
 }
 
-/// The address of a line's code, as `L:A$game$57:14000` says; the bank stands above the low sixteen bits.
+/// The address of a line's code, as `L:A$game$57:14000` says; the bank is above the low sixteen bits.
 fn mark_of<'a>(line: &'a str) -> Option<Mark<'a>> {
     let (record, digits) = line.strip_prefix("L:")?.rsplit_once(':')?;
     let number = u32::from_str_radix(digits.trim(), 16).ok()?;
@@ -81,7 +81,7 @@ fn mark_of<'a>(line: &'a str) -> Option<Mark<'a>> {
     })
 }
 
-/// Where a listing's source begins in each line, behind the address, the bytes and the number.
+/// Where a listing's source begins in each line, after the address, the bytes and the number.
 const LISTED_SOURCE: usize = 40;
 
 /// A line of a listing: its number, the source, and the bank and the address of its code, if there is some.
@@ -123,22 +123,22 @@ fn named_by<'a>(source: &'a str, directive: &str) -> Option<&'a str> {
     Some(name.trim().trim_start_matches('"').trim_end_matches('"'))
 }
 
-/// The files that a listing goes through: those that are included begin with their own line 1, and the line behind them has the
+/// The files that a listing goes through: those that are included begin with their own line 1, and the line after them has the
 /// next number of the file before.
 #[derive(Drop)]
-struct Files<'a> {
+struct NamedFiles<'a> {
     /// The file at hand, with its last line.
     at: SourceLine<'a>,
-    /// Those that go on behind it.
+    /// Those that go on after it.
     before: Vec<SourceLine<'a>>,
     /// What the last line includes.
     included: Option<&'a str>,
 }
 
-impl<'a> Files<'a> {
+impl<'a> NamedFiles<'a> {
     /// A listing begins.
-    fn new(alloc: Global) -> Files<'a> {
-        Files {
+    fn new(alloc: Global) -> NamedFiles<'a> {
+        NamedFiles {
             at: SourceLine {
                 language: Language::Assembler,
                 name: "",
@@ -191,7 +191,7 @@ fn add_listed<'a>(
     text: &'a str,
     marks: &mut Vec<Mark<'a>>,
 ) -> Result<(), SymbolFault> {
-    let mut files = Files::new(alloc);
+    let mut files = NamedFiles::new(alloc);
     for line in text.lines() {
         let Some(line) = listed_line(line) else {
             continue
@@ -210,20 +210,20 @@ fn add_listed<'a>(
     Ok(())
 }
 
-impl<'a> Lines<'a> {
+impl<'a> SourceLines<'a> {
     /// No lines.
-    pub(crate) fn none(alloc: Global) -> Lines<'a> {
-        Lines {
+    pub(crate) fn none(alloc: Global) -> SourceLines<'a> {
+        SourceLines {
             marks: Vec::new(alloc),
         }
     }
 
-    /// Reads a file's bytes. What tells of no line is left out.
+    /// Reads a file's bytes. What names no line is left out.
     ///
     /// # Errors
     ///
-    /// Where the file isn't text or tells of no line, and where memory ran out.
-    pub(crate) fn parse(alloc: Global, bytes: &'a [u8]) -> Result<Lines<'a>, SymbolFault> {
+    /// Where the file isn't text or names no line, and where memory ran out.
+    pub(crate) fn parse(alloc: Global, bytes: &'a [u8]) -> Result<SourceLines<'a>, SymbolFault> {
         let Ok(text) = str::from_utf8(bytes) else {
             return Err(SymbolFault::of(SymbolFaultKind::NotText));
         };
@@ -239,7 +239,7 @@ impl<'a> Lines<'a> {
         if marks.is_empty() {
             Err(SymbolFault::of(SymbolFaultKind::NoLines))
         } else {
-            Ok(Lines { marks })
+            Ok(SourceLines { marks })
         }
     }
 

@@ -2,7 +2,7 @@
 //! listings can be compared line by line.
 
 use crate::Symbols;
-use crate::named::Named;
+use crate::named::ListedAddress;
 use crate::state::{ShownCell, ShownFlags, ShownRegisters, fmt_core};
 use gb_explain::Code;
 use gb_fixpoint::{Abs, Cell, Cert, NodeRef, Range, Rom};
@@ -101,7 +101,7 @@ fn fmt_at<W: fmt::Write>(
     } else {
         None
     };
-    let place = Named {
+    let place = ListedAddress {
         symbols: listing.symbols,
         bank,
         address,

@@ -3,35 +3,86 @@
 use crate::Symbols;
 use std::fmt;
 
-/// An address with its bank, where one is shown there, and its symbol, where there is one.
+/// An address with its bank, where one is mapped there, and then its symbol, where there is one: `00:0150 (Main)`.
 #[derive(Clone, Copy)]
-pub struct Named<'a> {
+pub struct ListedAddress<'a> {
     pub symbols: &'a Symbols<'a>,
     pub bank: Option<u16>,
     pub address: u16,
 }
 
-impl Named<'_> {
-    /// The symbol behind the address, if there is one. RAM's addresses have bank 0.
-    fn fmt_symbol<W: fmt::Write>(&self, f: &mut fmt::Formatter<W>) -> fmt::Result {
-        let bank = match self.bank {
-            Some(bank) => bank,
-            None => 0,
-        };
-        match self.symbols.place(bank, self.address) {
-            Some(place) => write!(f, " ({place})"),
-            None => Ok(()),
+/// A symbol with how far after it the address is, and then the address, as RGBDS writes it: `Main+$3 (00:0153)`. Without a symbol
+/// it is the address alone.
+#[derive(Clone, Copy)]
+pub(crate) struct ShownAddress<'a> {
+    pub(crate) symbols: &'a Symbols<'a>,
+    pub(crate) bank: Option<u16>,
+    pub(crate) address: u16,
+}
+
+/// A label for an address, or else the address: `Main`, `Main+$3` or `00:0153`.
+#[derive(Clone, Copy)]
+pub(crate) struct ShownLabel<'a> {
+    pub(crate) symbols: &'a Symbols<'a>,
+    pub(crate) bank: Option<u16>,
+    pub(crate) address: u16,
+}
+
+/// An address with its bank, where one is mapped there.
+#[derive(Clone, Copy)]
+struct BankAddress {
+    bank: Option<u16>,
+    address: u16,
+}
+
+impl fmt::Display for BankAddress {
+    fn fmt<W: fmt::Write>(&self, f: &mut fmt::Formatter<W>) -> fmt::Result {
+        let address = self.address;
+        match self.bank {
+            Some(bank) => write!(f, "{bank:02X}:{address:04X}"),
+            None => write!(f, "${address:04X}"),
         }
     }
 }
 
-impl fmt::Display for Named<'_> {
+impl fmt::Display for ListedAddress<'_> {
     fn fmt<W: fmt::Write>(&self, f: &mut fmt::Formatter<W>) -> fmt::Result {
-        let address = self.address;
-        if let Some(bank) = self.bank {
-            write!(f, "{bank:02X}:")?;
+        let at = BankAddress {
+            bank: self.bank,
+            address: self.address,
+        };
+        // RAM's symbols have bank 0.
+        match self.symbols.place(self.bank.unwrap_or(0), self.address) {
+            Some(symbol) => write!(f, "{at} ({symbol})"),
+            None => write!(f, "{at}"),
         }
-        write!(f, "{address:04X}")?;
-        self.fmt_symbol(f)
+    }
+}
+
+impl fmt::Display for ShownAddress<'_> {
+    fn fmt<W: fmt::Write>(&self, f: &mut fmt::Formatter<W>) -> fmt::Result {
+        let at = BankAddress {
+            bank: self.bank,
+            address: self.address,
+        };
+        match self.symbols.place(self.bank.unwrap_or(0), self.address) {
+            Some(symbol) => write!(f, "{symbol} ({at})"),
+            None => write!(f, "{at}"),
+        }
+    }
+}
+
+impl fmt::Display for ShownLabel<'_> {
+    fn fmt<W: fmt::Write>(&self, f: &mut fmt::Formatter<W>) -> fmt::Result {
+        match self.symbols.place(self.bank.unwrap_or(0), self.address) {
+            Some(symbol) => write!(f, "{symbol}"),
+            None => {
+                let at = BankAddress {
+                    bank: self.bank,
+                    address: self.address,
+                };
+                write!(f, "{at}")
+            }
+        }
     }
 }

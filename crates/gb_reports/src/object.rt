@@ -7,15 +7,15 @@ use std::fmt;
 
 /// An object that isn't whole yet.
 #[derive(Drop)]
-pub struct Object {
+pub struct JsonObject {
     pub alloc: Global,
     members: Map<String, Value>,
 }
 
-impl Object {
+impl JsonObject {
     /// No member yet.
-    pub fn new(alloc: Global) -> Object {
-        Object {
+    pub fn new(alloc: Global) -> JsonObject {
+        JsonObject {
             alloc,
             members: Map::new(alloc),
         }
@@ -75,7 +75,7 @@ impl Object {
 
     /// The whole object.
     pub fn finish(self) -> Value {
-        let Object { members, .. } = self;
+        let JsonObject { members, .. } = self;
         Value::Object(members)
     }
 }

@@ -1,7 +1,7 @@
 //! The way by which a node was first reached.
 
 use gb_fixpoint::known_bank;
-use gb_fixpoint::types::{Node, Run};
+use gb_fixpoint::types::{Run, RunNode};
 use std::alloc::{AllocError, Global};
 
 /// The most segments of a path that are kept: the last ones.
@@ -34,7 +34,7 @@ pub struct Path {
 }
 
 /// The bank that a node's state shows at its address, where it is known; RAM has none.
-pub(crate) fn bank_of(run: &Run<'_>, node: &Node) -> Option<u16> {
+pub(crate) fn bank_of(run: &Run<'_>, node: &RunNode) -> Option<u16> {
     let address = node.key.address;
     if address < 0x8000 {
         known_bank(run.rom, &node.state.core().ctl, address)
@@ -44,7 +44,7 @@ pub(crate) fn bank_of(run: &Run<'_>, node: &Node) -> Option<u16> {
 }
 
 /// Whether a procedure handles an interrupt.
-fn is_handler(run: &Run<'_>, number: usize) -> bool {
+pub(crate) fn is_handler(run: &Run<'_>, number: usize) -> bool {
     match run.procedures.get(number) {
         Some(procedure) => procedure.key.is_handler,
         None => false,
@@ -52,12 +52,12 @@ fn is_handler(run: &Run<'_>, number: usize) -> bool {
 }
 
 /// A node, if there is one by that number.
-fn node_at<'a>(run: &'a Run<'_>, number: Option<usize>) -> Option<&'a Node> {
+pub(crate) fn node_at<'a>(run: &'a Run<'_>, number: Option<usize>) -> Option<&'a RunNode> {
     run.nodes.get(number?)
 }
 
 /// Where the procedure of a first node was entered from.
-fn start_of(run: &Run<'_>, entry: &Node) -> Start {
+fn start_of(run: &Run<'_>, entry: &RunNode) -> Start {
     let target = entry.key.address;
     let Some(from) = node_at(run, entry.via) else {
         return Start::PowerUp;
@@ -70,7 +70,7 @@ fn start_of(run: &Run<'_>, entry: &Node) -> Start {
     }
 }
 
-/// Adds an address behind a path that is gathered backwards: the last segment begins at it, or a new one.
+/// Adds an address to a path that is gathered backwards: the last segment begins at it, or a new one.
 fn add_before(segments: &mut Vec<Segment>, address: u16) -> Result<(), AllocError> {
     if let Some(segment) = segments.last_mut() {
         if address < segment.first && segment.first - address <= 3 {

@@ -55,9 +55,9 @@ pub fn ime_text(ime: ImeSet) -> &'static str {
 /// What the gate of cartridge RAM may be.
 pub fn gate_text(gate: May) -> &'static str {
     match (gate.clear, gate.set) {
-        (true, false) => "closed",
-        (false, true) => "open",
-        _ => "open or closed",
+        (true, false) => "disabled",
+        (false, true) => "enabled",
+        _ => "enabled or disabled",
     }
 }
 
@@ -128,12 +128,12 @@ fn fmt_bytes<W: fmt::Write>(state: &Abs, f: &mut fmt::Formatter<W>) -> fmt::Resu
     write!(f, ", bytes on the stack: {bytes}")
 }
 
-/// How long an OAM transfer may still run, if one may.
+/// How long OAM DMA may still run, if it may.
 fn fmt_bound<W: fmt::Write>(bound: u8, f: &mut fmt::Formatter<W>) -> fmt::Result {
     if bound == 0 {
         Ok(())
     } else {
-        write!(f, ", up to {bound} cycles of an OAM transfer left")
+        write!(f, ", up to {bound} M-cycles of OAM DMA left")
     }
 }
 
@@ -149,7 +149,7 @@ fn fmt_cells<W: fmt::Write>(cells: &[Cell], f: &mut fmt::Formatter<W>) -> fmt::R
     Ok(())
 }
 
-/// A whole state in some lines, each behind a margin, the last without its end.
+/// A whole state in some lines, each after a margin, the last without its end.
 #[derive(Clone, Copy)]
 pub struct ShownState<'a>(pub &'a Abs);
 

@@ -1,8 +1,8 @@
-//! The symbols of a file, and which of them an address belongs to; beside them the author's lines.
+//! The symbols of a file, and which of them an address belongs to, and the author's lines.
 
 use crate::fault::{SymbolFault, SymbolFaultKind};
-use crate::format::{Format, Line, Named};
-use crate::lines::{Lines, SourceLine};
+use crate::format::{Format, NamedAddress, SymbolLine};
+use crate::lines::{SourceLine, SourceLines};
 use std::alloc::Global;
 use std::{fmt, str};
 
@@ -14,21 +14,21 @@ pub struct Symbol<'a> {
     pub name: &'a str,
 }
 
-/// An address told by a symbol: its name, and how far behind it the address lies.
+/// An address by a symbol: its name, and how far after it the address is.
 #[derive(Clone, Copy, PartialEq, Eq)]
-pub struct Place<'a> {
+pub struct SymbolOffset<'a> {
     pub name: &'a str,
     pub offset: u16,
 }
 
-impl fmt::Display for Place<'_> {
+impl fmt::Display for SymbolOffset<'_> {
     fn fmt<W: fmt::Write>(&self, f: &mut fmt::Formatter<W>) -> fmt::Result {
         let name = self.name;
         let offset = self.offset;
         if offset == 0 {
             write!(f, "{name}")
         } else {
-            write!(f, "{name}+{offset:X}")
+            write!(f, "{name}+${offset:X}")
         }
     }
 }
@@ -42,10 +42,10 @@ pub struct Symbols<'a> {
     /// One for each address, in the order of their keys, and these keys.
     symbols: Vec<Symbol<'a>>,
     keys: Vec<u32>,
-    lines: Lines<'a>,
+    lines: SourceLines<'a>,
 }
 
-/// The first address of the part of memory in which an address lies; a symbol tells nothing of addresses in other parts.
+/// The first address of the part of memory in which an address lies; a symbol says nothing of addresses in other parts.
 fn part_of(address: u16) -> u16 {
     match address {
         0x0000..=0x3FFF => 0x0000,
@@ -60,7 +60,7 @@ fn part_of(address: u16) -> u16 {
     }
 }
 
-/// In which order symbols stand: by bank, which counts for 4000-7FFF alone, and address.
+/// The order of symbols: by bank, which counts for 4000-7FFF alone, and address.
 fn key_of(bank: u16, address: u16) -> u32 {
     let shown = if part_of(address) == 0x4000 { bank } else { 0 };
     u32::from(shown) << 16 | u32::from(address)
@@ -92,7 +92,7 @@ fn ordered<'a>(
         count: found.len(),
         symbols,
         keys,
-        lines: Lines::none(alloc),
+        lines: SourceLines::none(alloc),
     })
 }
 
@@ -104,7 +104,7 @@ impl<'a> Symbols<'a> {
             count: 0,
             symbols: Vec::new(alloc),
             keys: Vec::new(alloc),
-            lines: Lines::none(alloc),
+            lines: SourceLines::none(alloc),
         }
     }
 
@@ -123,8 +123,8 @@ impl<'a> Symbols<'a> {
         let mut symbols = Vec::new(alloc);
         for (number, line) in text.lines().enumerate() {
             match format.line(line) {
-                Line::Symbol(
-                    Named {
+                SymbolLine::Symbol(
+                    NamedAddress {
                         bank,
                         address,
                         name,
@@ -134,8 +134,8 @@ impl<'a> Symbols<'a> {
                     address,
                     name,
                 })?,
-                Line::Other => {}
-                Line::Wrong => {
+                SymbolLine::Other => {}
+                SymbolLine::Wrong => {
                     return Err(SymbolFault {
                         kind: SymbolFaultKind::Line,
                         line: number.saturating_add(1),
@@ -150,9 +150,9 @@ impl<'a> Symbols<'a> {
     ///
     /// # Errors
     ///
-    /// Where the file isn't text or tells of no line, and where memory ran out; no lines are known then.
+    /// Where the file isn't text or names no line, and where memory ran out; no lines are known then.
     pub fn add_lines(&mut self, alloc: Global, bytes: &'a [u8]) -> Result<(), SymbolFault> {
-        self.lines = Lines::parse(alloc, bytes)?;
+        self.lines = SourceLines::parse(alloc, bytes)?;
         Ok(())
     }
 
@@ -179,7 +179,7 @@ impl<'a> Symbols<'a> {
 
     /// The last symbol at or before an address in the same part of memory. The bank counts for 4000-7FFF alone; of symbols at
     /// one address the first counts.
-    pub fn place(&self, bank: u16, address: u16) -> Option<Place<'a>> {
+    pub fn place(&self, bank: u16, address: u16) -> Option<SymbolOffset<'a>> {
         let key = key_of(bank, address);
         let place = match self.keys.binary_search(&key) {
             Ok(place) => place,
@@ -190,7 +190,7 @@ impl<'a> Symbols<'a> {
         if !is_same_part || symbol_key(symbol) >> 16 != key >> 16 {
             return None;
         }
-        Some(Place {
+        Some(SymbolOffset {
             name: symbol.name,
             offset: address.checked_sub(symbol.address)?,
         })

@@ -1,15 +1,19 @@
-//! Which texts an obstacle gets.
+//! Which texts a finding gets, and which fix fits its code.
 
-use crate::advice::{self, Advice};
-use crate::obstacle::{Obstacle, Standing};
+use crate::chain::Root;
+use crate::crowd::{Crowd, ReachedLimit};
+use crate::finding::{Finding, InstructionFinding, Spent};
+use crate::problem::{is_echo, meets_stack};
+use gb_explain::advice::{self, Advice};
+use gb_explain::interrupt_at;
 use gb_fixpoint::Span;
 use gb_fixpoint::cause::{Cause, StackMisuse, TransferMisuse};
-use gb_ops::op::{Op, Pair};
+use gb_ops::op::{Indirect, Op, Pair};
 
 /// LD SP,n16 outside main: of the stack's own address, or of another one.
-fn set_advice(standing: &Standing) -> Advice {
-    match standing.op {
-        Some(Op::LoadPair(Pair::Sp, sp)) if sp != standing.region.last.wrapping_add(1) => {
+fn set_advice(finding: &InstructionFinding) -> Advice {
+    match finding.op {
+        Some(Op::LoadPair(Pair::Sp, sp)) if sp != finding.region.last.wrapping_add(1) => {
             advice::STACK_BORROWED
         }
         _ => advice::STACK_SET_IN_CALLEE,
@@ -17,18 +21,17 @@ fn set_advice(standing: &Standing) -> Advice {
 }
 
 /// A misuse of the stack.
-fn stack_advice(standing: &Standing, misuse: StackMisuse) -> Advice {
+fn stack_advice(finding: &InstructionFinding, misuse: StackMisuse) -> Advice {
     match misuse {
         StackMisuse::NotSet => advice::STACK_NOT_SET,
-        StackMisuse::PopsReturnWord => advice::POPS_RETURN_WORD,
+        StackMisuse::PopsReturnWord | StackMisuse::TakesTooMany => advice::POPS_TOO_MUCH,
         StackMisuse::Moved | StackMisuse::SetByHl => advice::STACK_MOVED,
-        StackMisuse::TakesTooMany => advice::POPS_RETURN_WORD,
-        StackMisuse::SetInCallee => set_advice(standing),
+        StackMisuse::SetInCallee => set_advice(finding),
         StackMisuse::SetAgain(_) => advice::STACK_SET_AGAIN,
     }
 }
 
-/// Something during an OAM transfer.
+/// Something during OAM DMA.
 fn transfer_advice(misuse: TransferMisuse) -> Advice {
     match misuse {
         TransferMisuse::Code => advice::TRANSFER_CODE,
@@ -39,56 +42,104 @@ fn transfer_advice(misuse: TransferMisuse) -> Advice {
     }
 }
 
-/// A store: by a pointer that is kept in RAM, over the stack, by another pointer, or to an address that is named.
-fn store_advice(standing: &Standing, span: Span) -> Advice {
-    let region = standing.region;
-    if !standing.kept_in.is_empty() {
-        advice::KEPT_POINTER
-    } else if 0xC000 <= span.first && span.may_meet(region.first, region.last) {
-        advice::CLEARS_STACK
-    } else if !standing.registers.is_empty() {
+/// Whether an instruction moves its pointer, as in a loop that copies or clears.
+fn moves_pointer(op: Option<Op>) -> bool {
+    matches!(
+        op,
+        Some(
+            Op::StoreA(Indirect::HlIncrement | Indirect::HlDecrement)
+                | Op::LoadA(Indirect::HlIncrement | Indirect::HlDecrement)
+        )
+    )
+}
+
+/// A store by a pointer without a bound.
+fn pointer_advice(finding: &InstructionFinding) -> Advice {
+    if moves_pointer(finding.op) {
+        advice::POINTER_OF_LOOP
+    } else {
         advice::POINTER
+    }
+}
+
+/// A store: by a pointer that comes from RAM, over the stack, by another pointer, or to an address that is named.
+fn store_advice(finding: &InstructionFinding, span: Span) -> Advice {
+    if !finding.kept_in.is_empty() {
+        advice::KEPT_POINTER
+    } else if meets_stack(span, finding.region) {
+        advice::CLEARS_STACK
+    } else if is_echo(span) {
+        advice::STORE_TO_ECHO
+    } else if !finding.registers.is_empty() {
+        pointer_advice(finding)
     } else {
         advice::STORE
     }
 }
 
 /// An access to cartridge RAM: where there is none, by a pointer, or by an address that is named.
-fn cartridge_advice(standing: &Standing) -> Advice {
-    if standing.has_open_gate() {
+fn cartridge_advice(finding: &InstructionFinding) -> Advice {
+    if finding.has_open_gate() {
         advice::NO_CARTRIDGE_RAM
-    } else if standing.registers.is_empty() {
+    } else if finding.registers.is_empty() {
         advice::GATE_CLOSED
+    } else if moves_pointer(finding.op) {
+        advice::LOOP_TO_CARTRIDGE_RAM
     } else {
         advice::POINTER_TO_CARTRIDGE_RAM
     }
 }
 
-/// An OAM transfer from cartridge RAM.
-fn copy_advice(standing: &Standing) -> Advice {
-    if standing.has_open_gate() {
+/// OAM DMA from cartridge RAM.
+fn copy_advice(finding: &InstructionFinding) -> Advice {
+    if finding.has_open_gate() {
         advice::NO_CARTRIDGE_RAM
     } else {
         advice::COPIES_CARTRIDGE_RAM
     }
 }
 
+/// A bank that isn't known.
+fn bank_advice(finding: &InstructionFinding) -> Advice {
+    if finding.switching.is_empty() {
+        advice::BANK
+    } else {
+        advice::BANK_NOT_RESTORED
+    }
+}
+
+/// Padding that is executed: after an interrupt without a handler, or after a wrong jump.
+fn padding_advice(finding: &InstructionFinding) -> Advice {
+    match finding.chain.root {
+        Root::Interrupt { .. } => advice::NO_HANDLER,
+        Root::PowerUp => advice::PADDING,
+    }
+}
+
+/// A routine that can start again while it runs.
+fn recursion_advice(target: u16) -> Advice {
+    match interrupt_at(target) {
+        Some(_) => advice::HANDLER_REENTERED,
+        None => advice::RECURSION,
+    }
+}
+
 /// A failure at an instruction.
-pub(crate) fn standing_advice(standing: &Standing) -> Advice {
-    match standing.cause {
+pub(crate) fn instruction_advice(finding: &InstructionFinding) -> Advice {
+    match finding.cause {
         Cause::Area => advice::AREA,
-        Cause::Bank => advice::BANK,
+        Cause::Bank => bank_advice(finding),
         Cause::Unreadable { .. } => advice::PATCHED_CODE,
         Cause::UndefinedOpcode { .. } => advice::UNDEFINED_OPCODE,
         Cause::Stop => advice::STOP,
         Cause::Halt => advice::HALT,
-        Cause::Stack(misuse) => stack_advice(standing, misuse),
-        Cause::PushesTooMany => advice::PUSHES_TOO_MANY,
-        Cause::Recursion { target: 0x38 } => advice::PADDING,
-        Cause::Recursion { .. } => advice::RECURSION,
-        Cause::Store { span } => store_advice(standing, span),
-        Cause::CartridgeRam { .. } => cartridge_advice(standing),
-        Cause::CopiesCartridgeRam { .. } => copy_advice(standing),
+        Cause::Stack(misuse) => stack_advice(finding, misuse),
+        Cause::PushesTooMany => advice::PUSHES_TOO_MUCH,
+        Cause::Recursion { target: 0x38 } => padding_advice(finding),
+        Cause::Recursion { target } => recursion_advice(target),
+        Cause::Store { span } => store_advice(finding, span),
+        Cause::CartridgeRam { .. } => cartridge_advice(finding),
+        Cause::CopiesCartridgeRam { .. } => copy_advice(finding),
         Cause::OamTransfer(misuse) => transfer_advice(misuse),
         Cause::JumpHl => advice::JUMP_HL,
         Cause::ReturnInMain => advice::RETURN_IN_MAIN,
@@ -98,15 +149,31 @@ pub(crate) fn standing_advice(standing: &Standing) -> Advice {
     }
 }
 
-/// The texts of an obstacle.
-pub(crate) fn advice_on(obstacle: &Obstacle) -> Advice {
-    match obstacle {
-        Obstacle::Standing(standing) => standing_advice(standing),
-        Obstacle::TooLarge(_) => advice::TOO_LARGE,
-        Obstacle::NoStack { .. } => advice::NO_STACK,
-        Obstacle::StackTooDeep { .. } => advice::STACK_TOO_DEEP,
-        Obstacle::Recursion { .. } => advice::RECURSION,
-        Obstacle::Rounds { .. } => advice::ROUNDS,
-        Obstacle::Refused => advice::REFUSED,
+/// A limit that was reached.
+fn limit_advice(crowd: &Crowd) -> Advice {
+    match crowd.limit {
+        ReachedLimit::Nodes(_) => advice::TOO_MANY_NODES,
+        ReachedLimit::Procedures => advice::TOO_MANY_PROCEDURES,
+        ReachedLimit::Steps => advice::TOO_MANY_STEPS,
+    }
+}
+
+/// The texts of a finding.
+pub(crate) fn advice_on(finding: &Finding) -> Advice {
+    match finding {
+        Finding::Instruction(finding) => instruction_advice(finding),
+        Finding::TooLarge(crowd) => limit_advice(crowd),
+        Finding::NoStack { .. } => advice::NO_STACK,
+        Finding::StackTooDeep { .. } => advice::STACK_TOO_DEEP,
+        Finding::Recursion { target } => recursion_advice(*target),
+        Finding::OutOfRounds {
+            spent: Spent::Rounds,
+            ..
+        } => advice::OUT_OF_ROUNDS,
+        Finding::OutOfRounds {
+            spent: Spent::Steps,
+            ..
+        } => advice::OUT_OF_STEPS,
+        Finding::Internal => advice::INTERNAL,
     }
 }

@@ -1,33 +1,33 @@
-//! What stands in the way of a certificate.
+//! What `certify` reports where it makes no certificate.
 
+use crate::chain::{CallChain, op_of};
 use crate::crowd::Crowd;
 use crate::handlers::switching_handlers;
 use crate::lines::SourceLine;
 use crate::path::{Path, Start, bank_of};
 use crate::symbols::Symbols;
 use gb_explain::Code;
+use gb_fixpoint::Abs;
 use gb_fixpoint::cause::{Cause, Failure};
-use gb_fixpoint::configuration::Place;
+use gb_fixpoint::configuration::TargetPlace;
 use gb_fixpoint::register_set::RegisterSet;
-use gb_fixpoint::types::{Node, Run};
-use gb_fixpoint::{Abs, known_bytes};
-use gb_ops::decode::decode;
+use gb_fixpoint::types::Run;
 use gb_ops::machine::Region;
 use gb_ops::op::Op;
 use std::alloc::{AllocError, Global};
 
 /// A failure at an instruction.
 #[derive(Drop)]
-pub struct Standing {
+pub struct InstructionFinding {
     pub cause: Cause,
-    /// The registers that the access or the jump went by.
+    /// The registers that hold the address of the access or the jump.
     pub registers: RegisterSet,
-    /// The cells in which the pointer is kept that the access went by, where that is so.
+    /// The bytes of RAM from which that address was loaded, where it was.
     pub kept_in: Vec<u16>,
-    /// Where the handlers begin that may return with another bank or gate, where that may be what is wrong.
+    /// Where the handlers begin that may return with another bank or gate, where that may be the cause.
     pub switching: Vec<u16>,
     /// The address, in the procedures that begin at another one.
-    pub place: Place,
+    pub place: TargetPlace,
     pub address: u16,
     /// The bank shown there, where it is known.
     pub bank: Option<u16>,
@@ -37,48 +37,52 @@ pub struct Standing {
     pub state: Abs,
     pub region: Region,
     pub path: Path,
-    /// States were told apart further here, and the certificate became too large.
+    /// The calls from power-up or an interrupt to here.
+    pub chain: CallChain,
+    /// States were told apart further here, and a limit was reached.
     pub is_too_large: bool,
 }
 
-/// What stands in the way of a certificate.
+/// What was used up by rounds of refinement.
+#[derive(Clone, Copy, PartialEq, Eq)]
+pub enum Spent {
+    /// All rounds.
+    Rounds,
+    /// The steps of all rounds together.
+    Steps,
+}
+
+/// Why no certificate could be made.
 #[derive(Drop)]
-pub enum Obstacle {
+pub enum Finding {
     /// A failure at an instruction.
-    Standing(Standing),
-    /// There are more nodes, procedures or steps than allowed.
+    Instruction(InstructionFinding),
+    /// A limit of nodes, procedures or steps was reached.
     TooLarge(Crowd),
-    /// LD SP,n16 leaves no room for a stack in work RAM or high RAM.
+    /// LD SP,n16 leaves no room for a stack in WRAM or HRAM.
     NoStack { sp: u16 },
     /// The stack needs more bytes than there is room for.
     StackTooDeep { bytes: usize, region: Region },
     /// A procedure may be running when it is called.
     Recursion { target: u16 },
-    /// States were told apart further so many times, and it wasn't enough.
-    Rounds { rounds: u32 },
+    /// So many rounds of refinement weren't enough.
+    OutOfRounds { rounds: u32, spent: Spent },
     /// A certificate was made that the checker refuses.
-    Refused,
+    Internal,
 }
 
-/// The instruction of a node, where it is known.
-fn op_of(run: &Run<'_>, node: &Node) -> Option<Op> {
-    let bytes = known_bytes(run.rom, &node.state, node.key.address)?;
-    let row = decode(&bytes)?;
-    Some(row.op)
-}
-
-impl Obstacle {
+impl Finding {
     /// The author's line, of a failure at an instruction; where a certificate gets too large, that with most nodes.
     pub fn line<'a>(&self, symbols: &Symbols<'a>) -> Option<SourceLine<'a>> {
         match self {
-            Obstacle::Standing(standing) => standing.line(symbols),
-            Obstacle::TooLarge(crowd) => crowd.line(symbols),
+            Finding::Instruction(finding) => finding.line(symbols),
+            Finding::TooLarge(crowd) => crowd.line(symbols),
             _ => None,
         }
     }
 }
 
-impl Standing {
+impl InstructionFinding {
     /// Whether cartridge RAM's gate is known to be open there.
     pub(crate) fn has_open_gate(&self) -> bool {
         !self.state.core().ctl.gate.clear
@@ -102,23 +106,23 @@ impl Standing {
         last
     }
 
-    /// What there is to tell of a run's failure.
+    /// What there is to report of a run's failure.
     pub fn of(
         alloc: Global,
         run: &Run<'_>,
         failure: &Failure,
-    ) -> Result<Option<Standing>, AllocError> {
+    ) -> Result<Option<InstructionFinding>, AllocError> {
         let Some(node) = run.nodes.get(failure.node) else {
             return Ok(None);
         };
         let switching = switching_handlers(alloc, run, failure.cause)?;
         let path = Path::to(alloc, run, failure.node)?;
+        let chain = CallChain::to(alloc, run, failure.node)?;
         let address = node.key.address;
-        let place = Place {
-            target: run.target(node.key.procedure),
-            address,
+        let Some(place) = run.place_of(failure.node) else {
+            return Ok(None);
         };
-        Ok(Some(Standing {
+        Ok(Some(InstructionFinding {
             cause: failure.cause,
             registers: failure.registers,
             kept_in: Vec::new(alloc),
@@ -131,6 +135,7 @@ impl Standing {
             state: node.state.copied(),
             region: run.configuration.region,
             path,
+            chain,
             is_too_large: false,
         }))
     }

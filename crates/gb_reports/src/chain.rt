@@ -1,0 +1,216 @@
+//! The calls on the way to a node: from power-up, or from the interrupt that leads there.
+
+use crate::path::{bank_of, is_handler, node_at};
+use gb_explain::interrupt_at;
+use gb_fixpoint::known_bytes;
+use gb_fixpoint::types::{Run, RunNode};
+use gb_ops::decode::decode;
+use gb_ops::op::Op;
+use std::alloc::{AllocError, Global};
+
+/// What a chain of calls begins with.
+#[derive(Clone, Copy)]
+pub enum Root {
+    PowerUp,
+    /// The interrupt whose handler begins at this vector.
+    Interrupt { vector: u16 },
+}
+
+/// A routine that was entered on the way.
+#[derive(Clone, Copy)]
+pub struct EnteredRoutine {
+    /// Where it was called, and the bank mapped there, where it is known.
+    pub from: u16,
+    pub from_bank: Option<u16>,
+    /// Where it begins, and the bank mapped there, where it is known.
+    pub target: u16,
+    pub bank: Option<u16>,
+}
+
+/// The calls that lead to a node, the outermost first.
+#[derive(Drop)]
+pub struct CallChain {
+    pub root: Root,
+    pub calls: Vec<EnteredRoutine>,
+}
+
+/// How a node is reached from the one before it.
+#[derive(Clone, Copy)]
+enum Move {
+    /// By a call.
+    Call,
+    /// By an interrupt.
+    Dispatch,
+    /// By the return of a routine that was followed in its caller.
+    Return,
+    /// By the next instruction, or a jump.
+    On,
+}
+
+/// The instruction of a node, where it is known.
+pub(crate) fn op_of(run: &Run<'_>, node: &RunNode) -> Option<Op> {
+    let bytes = known_bytes(run.rom, &node.state, node.key.address)?;
+    let row = decode(&bytes)?;
+    Some(row.op)
+}
+
+/// Whether an address isn't that of the next instruction.
+fn is_far(from: u16, to: u16) -> bool {
+    to <= from || to - from > 3
+}
+
+/// Whether an instruction calls an address.
+fn is_call_of(op: Option<Op>, address: u16) -> bool {
+    match op {
+        Some(Op::Call(target) | Op::CallIf(_, target)) => target == address,
+        Some(Op::Restart(target)) => u16::from(target) == address,
+        _ => false,
+    }
+}
+
+/// Whether an instruction may return: SDCC's routines that clean up their arguments do so by JP HL.
+fn is_return(op: Option<Op>) -> bool {
+    matches!(
+        op,
+        Some(Op::Return | Op::ReturnIf(_) | Op::ReturnFromInterrupt | Op::JumpHl)
+    )
+}
+
+/// How a node that begins no procedure is reached.
+fn move_within(run: &Run<'_>, before: &RunNode, address: u16) -> Move {
+    let op = op_of(run, before);
+    if is_call_of(op, address) {
+        Move::Call
+    } else if !is_far(before.key.address, address) {
+        Move::On
+    } else if is_return(op) {
+        Move::Return
+    } else if interrupt_at(address).is_some() {
+        Move::Dispatch
+    } else {
+        Move::On
+    }
+}
+
+fn move_of(run: &Run<'_>, before: &RunNode, node: &RunNode) -> Move {
+    if !node.key.is_entry {
+        return move_within(run, before, node.key.address);
+    }
+    if is_handler(run, node.key.procedure) {
+        Move::Dispatch
+    } else {
+        Move::Call
+    }
+}
+
+fn entered_by(run: &Run<'_>, before: &RunNode, node: &RunNode) -> EnteredRoutine {
+    EnteredRoutine {
+        from: before.key.address,
+        from_bank: bank_of(run, before),
+        target: node.key.address,
+        bank: bank_of(run, node),
+    }
+}
+
+/// The address that a call pushes.
+fn return_address(op: Option<Op>, from: u16) -> u16 {
+    match op {
+        Some(Op::Restart(_)) => from.wrapping_add(1),
+        _ => from.wrapping_add(3),
+    }
+}
+
+/// The calls that lead to a node, the innermost first, while they are gathered.
+#[derive(Drop)]
+struct Gathering<'a, 'r> {
+    run: &'a Run<'r>,
+    calls: Vec<EnteredRoutine>,
+    /// Where routines that were followed in their callers have returned to since.
+    returns: Vec<u16>,
+}
+
+impl<'a, 'r> Gathering<'a, 'r> {
+    /// Whether a call's routine has returned again; then it isn't on the way.
+    fn has_returned(&mut self, before: &RunNode) -> bool {
+        let back = return_address(op_of(self.run, before), before.key.address);
+        self.forget(back)
+    }
+
+    /// Whether the handler of an interrupt has returned again to where it came.
+    fn has_resumed(&mut self, before: &RunNode) -> bool {
+        self.forget(before.key.address)
+    }
+
+    /// Whether there was a return to an address; that one and what came after it are forgotten.
+    fn forget(&mut self, back: u16) -> bool {
+        match self.returns.iter().position(|address| *address == back) {
+            Some(place) => {
+                self.returns.truncate(place);
+                true
+            }
+            None => false,
+        }
+    }
+
+    /// A call, unless its routine has returned again.
+    fn add(&mut self, before: &RunNode, node: &RunNode) -> Result<(), AllocError> {
+        if node.key.is_entry {
+            self.returns.clear();
+        } else if self.has_returned(before) {
+            return Ok(());
+        }
+        self.calls.push(entered_by(self.run, before, node))?;
+        Ok(())
+    }
+
+    /// Goes back over a node; something where the chain begins with it.
+    fn go_back(&mut self, before: &RunNode, node: &RunNode) -> Result<Option<Root>, AllocError> {
+        let address = node.key.address;
+        match move_of(self.run, before, node) {
+            Move::On => Ok(None),
+            Move::Return => {
+                self.returns.push(address)?;
+                Ok(None)
+            }
+            Move::Call => {
+                self.add(before, node)?;
+                Ok(None)
+            }
+            Move::Dispatch if !node.key.is_entry && self.has_resumed(before) => Ok(None),
+            Move::Dispatch => Ok(Some(Root::Interrupt { vector: address })),
+        }
+    }
+
+    /// Goes back from a node to what its chain begins with.
+    fn gather(&mut self, number: usize) -> Result<Root, AllocError> {
+        let mut at = Some(number);
+        for _ in 0..=self.run.nodes.len() {
+            let Some(node) = node_at(self.run, at) else {
+                break;
+            };
+            let Some(before) = node_at(self.run, node.via) else {
+                break;
+            };
+            if let Some(root) = self.go_back(before, node)? {
+                return Ok(root);
+            }
+            at = node.via;
+        }
+        Ok(Root::PowerUp)
+    }
+}
+
+impl CallChain {
+    /// The calls that lead to a node.
+    pub(crate) fn to(alloc: Global, run: &Run<'_>, number: usize) -> Result<CallChain, AllocError> {
+        let mut gathering = Gathering {
+            run,
+            calls: Vec::new(alloc),
+            returns: Vec::new(alloc),
+        };
+        let root = gathering.gather(number)?;
+        let Gathering { mut calls, .. } = gathering;
+        calls.reverse();
+        Ok(CallChain { root, calls })
+    }
+}

@@ -1,0 +1,421 @@
+//! A finding as lines for a person.
+
+use crate::Symbols;
+use crate::crowd::{Count, Crowd, ReachedLimit};
+use crate::finding::{Finding, InstructionFinding, Spent};
+use crate::known::ShownKnown;
+use crate::named::ShownAddress;
+use crate::problem::{Addresses, Problem, fmt_recursion};
+use crate::reached::{ShownPassed, ShownReached};
+use crate::state::ShownState;
+use crate::topic::{advice_on, instruction_advice};
+use gb_explain::interrupt_at;
+use gb_ops::machine::Region;
+use std::fmt;
+
+/// A finding as lines for a person, the last without its end.
+#[derive(Clone, Copy)]
+pub struct ShownFinding<'a> {
+    pub finding: &'a Finding,
+    pub symbols: &'a Symbols<'a>,
+}
+
+/// Addresses one after another.
+fn fmt_addresses<W: fmt::Write>(
+    addresses: &[u16],
+    symbols: &Symbols<'_>,
+    f: &mut fmt::Formatter<W>,
+) -> fmt::Result {
+    let mut before = " ";
+    for address in addresses {
+        let address = ShownAddress {
+            symbols: &*symbols,
+            bank: None,
+            address: *address,
+        };
+        write!(f, "{before}{address}")?;
+        before = ", ";
+    }
+    Ok(())
+}
+
+/// The handlers that don't restore what they switch.
+fn fmt_handlers<W: fmt::Write>(handlers: &[u16], f: &mut fmt::Formatter<W>) -> fmt::Result {
+    for handler in handlers {
+        let name = interrupt_at(*handler).unwrap_or("an interrupt");
+        write!(
+            f,
+            " The handler of {name} may return with another bank or RAM state."
+        )?;
+    }
+    Ok(())
+}
+
+/// What else is known of the cause.
+fn fmt_notes<W: fmt::Write>(
+    finding: &InstructionFinding,
+    symbols: &Symbols<'_>,
+    f: &mut fmt::Formatter<W>,
+) -> fmt::Result {
+    if finding.is_too_large {
+        write!(f, " Splitting the states here further goes over a limit.")?;
+    }
+    if !finding.kept_in.is_empty() {
+        write!(f, " The pointer comes from RAM, at")?;
+        fmt_addresses(&finding.kept_in, symbols, f)?;
+        write!(f, ".")?;
+    }
+    fmt_handlers(&finding.switching, f)
+}
+
+/// Where it is: the label, the address and the instruction.
+fn fmt_place<W: fmt::Write>(
+    finding: &InstructionFinding,
+    symbols: &Symbols<'_>,
+    f: &mut fmt::Formatter<W>,
+) -> fmt::Result {
+    let place = ShownAddress {
+        symbols: &*symbols,
+        bank: finding.bank,
+        address: finding.address,
+    };
+    let code = finding.code;
+    write!(f, "{place}: {code}")
+}
+
+/// What can go wrong at an instruction.
+fn fmt_instruction_problem<W: fmt::Write>(
+    finding: &InstructionFinding,
+    symbols: &Symbols<'_>,
+    f: &mut fmt::Formatter<W>,
+) -> fmt::Result {
+    let problem = Problem {
+        finding: &*finding,
+        symbols: &*symbols,
+    };
+    write!(f, "{problem}")?;
+    fmt_notes(finding, symbols, f)
+}
+
+/// How the code gets there.
+fn fmt_reached<W: fmt::Write>(
+    finding: &InstructionFinding,
+    symbols: &Symbols<'_>,
+    f: &mut fmt::Formatter<W>,
+) -> fmt::Result {
+    let reached = ShownReached {
+        finding: &*finding,
+        symbols: &*symbols,
+    };
+    let passed = ShownPassed {
+        finding: &*finding,
+        symbols: &*symbols,
+    };
+    write!(f, "\n  Reached by: {reached}{passed}")
+}
+
+/// What is known there.
+fn fmt_known<W: fmt::Write>(
+    finding: &InstructionFinding,
+    symbols: &Symbols<'_>,
+    f: &mut fmt::Formatter<W>,
+) -> fmt::Result {
+    let known = ShownKnown {
+        finding: &*finding,
+        symbols: &*symbols,
+    };
+    write!(f, "{known}")
+}
+
+/// A failure at an instruction, up to what is known there.
+fn fmt_instruction<W: fmt::Write>(
+    finding: &InstructionFinding,
+    symbols: &Symbols<'_>,
+    f: &mut fmt::Formatter<W>,
+) -> fmt::Result {
+    let why = instruction_advice(finding).problem;
+    fmt_place(finding, symbols, f)?;
+    write!(f, "\n  ")?;
+    fmt_instruction_problem(finding, symbols, f)?;
+    write!(f, "\n  {why}")?;
+    fmt_reached(finding, symbols, f)?;
+    fmt_known(finding, symbols, f)
+}
+
+/// What there is to say of a finding that is at no single instruction.
+#[derive(Clone, Copy)]
+pub(crate) struct ShownOther<'a> {
+    pub(crate) finding: &'a Finding,
+    pub(crate) symbols: &'a Symbols<'a>,
+}
+
+impl fmt::Display for ShownOther<'_> {
+    fn fmt<W: fmt::Write>(&self, f: &mut fmt::Formatter<W>) -> fmt::Result {
+        fmt_other(self.finding, self.symbols, f)
+    }
+}
+
+/// Which limit was reached.
+fn fmt_limit<W: fmt::Write>(crowd: &Crowd, f: &mut fmt::Formatter<W>) -> fmt::Result {
+    let Crowd {
+        nodes,
+        procedures,
+        limit,
+        ..
+    } = crowd;
+    match limit {
+        ReachedLimit::Nodes(most) => write!(
+            f,
+            "The analysis reached the limit of {most} nodes, with {procedures} copies of routines."
+        ),
+        ReachedLimit::Procedures => write!(
+            f,
+            "The analysis reached the limit of 255 copies of routines, with {nodes} nodes."
+        ),
+        ReachedLimit::Steps => write!(
+            f,
+            "The analysis reached its limit of steps, with {nodes} nodes and {procedures} copies of routines."
+        ),
+    }
+}
+
+/// Counts at addresses.
+fn fmt_counts<W: fmt::Write>(
+    counts: &[Count],
+    symbols: &Symbols<'_>,
+    f: &mut fmt::Formatter<W>,
+) -> fmt::Result {
+    let mut before = " ";
+    for count in counts {
+        let address = ShownAddress {
+            symbols: &*symbols,
+            bank: None,
+            address: count.address,
+        };
+        let count = count.count;
+        write!(f, "{before}{count} at {address}")?;
+        before = ", ";
+    }
+    Ok(())
+}
+
+/// What multiplies the nodes of the first address.
+fn fmt_multiplied<W: fmt::Write>(
+    crowd: &Crowd,
+    symbols: &Symbols<'_>,
+    f: &mut fmt::Formatter<W>,
+) -> fmt::Result {
+    let Some(multiplied) = crowd.multiplied else {
+        return Ok(());
+    };
+    let values = multiplied.values;
+    match (multiplied.register, multiplied.cell) {
+        (Some(register), _) => {
+            let name = register.name();
+            write!(
+                f,
+                "\n  What multiplies them: {name} has {values} values there."
+            )
+        }
+        (None, Some(address)) => {
+            let at = ShownAddress {
+                symbols: &*symbols,
+                bank: None,
+                address,
+            };
+            write!(
+                f,
+                "\n  What multiplies them: {at} has {values} values there."
+            )
+        }
+        (None, None) => Ok(()),
+    }
+}
+
+/// A run that was too large.
+fn fmt_crowd<W: fmt::Write>(
+    crowd: &Crowd,
+    symbols: &Symbols<'_>,
+    f: &mut fmt::Formatter<W>,
+) -> fmt::Result {
+    fmt_limit(crowd, f)?;
+    write!(f, "\n  Most nodes:")?;
+    fmt_counts(&crowd.crowded, symbols, f)?;
+    fmt_multiplied(crowd, symbols, f)?;
+    write!(f, "\n  Most copies of routines:")?;
+    fmt_counts(&crowd.entered, symbols, f)
+}
+
+/// A stack that needs more bytes than there is room for.
+fn fmt_deep<W: fmt::Write>(bytes: usize, region: Region, f: &mut fmt::Formatter<W>) -> fmt::Result {
+    let addresses = Addresses::of_region(region);
+    let end = region.last;
+    write!(
+        f,
+        "The stack needs {bytes} bytes, which don't fit below ${end:04X}. The analysis got to {addresses}."
+    )
+}
+
+/// What was used up.
+fn spent_text(spent: Spent) -> &'static str {
+    match spent {
+        Spent::Rounds => "the limit of rounds",
+        Spent::Steps => "the limit of steps",
+    }
+}
+
+/// A finding that is at no single instruction.
+fn fmt_other<W: fmt::Write>(
+    finding: &Finding,
+    symbols: &Symbols<'_>,
+    f: &mut fmt::Formatter<W>,
+) -> fmt::Result {
+    match finding {
+        Finding::Instruction(_) => Ok(()),
+        Finding::TooLarge(crowd) => fmt_crowd(crowd, symbols, f),
+        Finding::NoStack { sp } => {
+            let sp = *sp;
+            write!(f, "`ld sp, ${sp:04X}` leaves no room for a stack.")
+        }
+        Finding::StackTooDeep { bytes, region } => fmt_deep(*bytes, *region, f),
+        Finding::Recursion { target } => fmt_recursion(*target, symbols, f),
+        Finding::OutOfRounds { rounds, spent } => {
+            let (rounds, limit) = (*rounds, spent_text(*spent));
+            write!(
+                f,
+                "Gave up after {rounds} rounds of refinement, at {limit}."
+            )
+        }
+        Finding::Internal => write!(f, "certify made a certificate that the checker rejects."),
+    }
+}
+
+/// How to fix it, and where the documents say more.
+fn fmt_fix<W: fmt::Write>(finding: &Finding, f: &mut fmt::Formatter<W>) -> fmt::Result {
+    let remedy = advice_on(finding).remedy;
+    write!(f, "\n  Fix: {remedy}\n  ")?;
+    fmt_more(finding, f)
+}
+
+/// A finding up to its fix.
+fn fmt_body<W: fmt::Write>(
+    finding: &Finding,
+    symbols: &Symbols<'_>,
+    f: &mut fmt::Formatter<W>,
+) -> fmt::Result {
+    if let Finding::Instruction(finding) = finding {
+        return fmt_instruction(finding, symbols, f);
+    }
+    let why = advice_on(finding).problem;
+    fmt_other(finding, symbols, f)?;
+    write!(f, "\n  {why}")
+}
+
+impl fmt::Display for ShownFinding<'_> {
+    fn fmt<W: fmt::Write>(&self, f: &mut fmt::Formatter<W>) -> fmt::Result {
+        fmt_body(self.finding, self.symbols, f)?;
+        fmt_fix(self.finding, f)
+    }
+}
+
+/// A part of what is said of a finding.
+#[derive(Clone, Copy, PartialEq, Eq)]
+pub enum FindingPart {
+    /// Label, address and instruction; nothing where it is at no instruction.
+    Place,
+    /// What can go wrong.
+    Problem,
+    /// Why that matters on the console.
+    Why,
+    /// How the code gets there; nothing where it is at no instruction.
+    Reached,
+    /// How to fix it.
+    Remedy,
+    /// The rule's number and the section of the documents.
+    More,
+    /// The whole state, in lines, each after a margin; nothing where it is at no instruction.
+    State,
+}
+
+/// A part of what is said of a finding, by itself.
+#[derive(Clone, Copy)]
+pub struct ShownPart<'a> {
+    pub finding: &'a Finding,
+    pub symbols: &'a Symbols<'a>,
+    pub part: FindingPart,
+}
+
+/// What can go wrong.
+fn fmt_problem<W: fmt::Write>(
+    finding: &Finding,
+    symbols: &Symbols<'_>,
+    f: &mut fmt::Formatter<W>,
+) -> fmt::Result {
+    match finding {
+        Finding::Instruction(finding) => fmt_instruction_problem(finding, symbols, f),
+        _ => fmt_other(finding, symbols, f),
+    }
+}
+
+/// A text of its advice.
+fn text_of(finding: &Finding, part: FindingPart) -> &'static str {
+    let advice = advice_on(finding);
+    match part {
+        FindingPart::Why => advice.problem,
+        FindingPart::Remedy => advice.remedy,
+        _ => "",
+    }
+}
+
+/// The rule's number, where it is at an instruction, and the section.
+fn fmt_more<W: fmt::Write>(finding: &Finding, f: &mut fmt::Formatter<W>) -> fmt::Result {
+    let anchor = advice_on(finding).anchor;
+    if let Finding::Instruction(finding) = finding {
+        let rule = finding.cause.reason().number();
+        write!(f, "Rule {rule}. ")?;
+    }
+    write!(f, "More: docs/FINDINGS.md#{anchor}")
+}
+
+/// A part that only a finding at an instruction has.
+fn fmt_part_at<W: fmt::Write>(
+    finding: &InstructionFinding,
+    symbols: &Symbols<'_>,
+    part: FindingPart,
+    f: &mut fmt::Formatter<W>,
+) -> fmt::Result {
+    match part {
+        FindingPart::Place => fmt_place(finding, symbols, f),
+        FindingPart::Reached => {
+            let reached = ShownReached {
+                finding: &*finding,
+                symbols: &*symbols,
+            };
+            write!(f, "{reached}")
+        }
+        FindingPart::State => {
+            let state = ShownState(&finding.state);
+            write!(f, "{state}")
+        }
+        _ => Ok(()),
+    }
+}
+
+impl fmt::Display for ShownPart<'_> {
+    fn fmt<W: fmt::Write>(&self, f: &mut fmt::Formatter<W>) -> fmt::Result {
+        match self.part {
+            FindingPart::Problem => fmt_problem(self.finding, self.symbols, f),
+            FindingPart::Why | FindingPart::Remedy => {
+                let text = text_of(self.finding, self.part);
+                write!(f, "{text}")
+            }
+            FindingPart::More => fmt_more(self.finding, f),
+            FindingPart::Place | FindingPart::Reached | FindingPart::State => match self.finding {
+                Finding::Instruction(finding) => {
+                    fmt_part_at(finding, self.symbols, self.part, f)
+                }
+                _ => Ok(()),
+            },
+        }
+    }
+}
