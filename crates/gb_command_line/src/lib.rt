@@ -1,5 +1,5 @@
-//! What both programs do alike: the words behind a program's name, its statuses, the verdict's line, and what a person is told
-//! on standard error. Who tells it gives the program's name.
+//! What both programs do alike: the words after a program's name, its statuses, the verdict's line, and what they say on
+//! standard error. The caller gives the program's name.
 //!
 //! Read `status` first, then `messages`; `words` has the words as text, and what becomes of those that can't be read.
 #![tactic(auto)]
@@ -7,6 +7,8 @@
 pub mod messages;
 pub mod status;
 pub mod words;
+
+pub use status::Status;
 
 // What lies below, for the crates above.
 pub use gb_cert_place::{Cert, CertFault};

@@ -1,4 +1,4 @@
-//! The words behind a program's name, and what a person is told where they can't be read.
+//! The words after a program's name, and what is said where they can't be read.
 
 ghost use Rattle.std.specs.Prelude.{◌≡◌};
 ghost use Rattle.gb_command_line.specs.declared.status.Status.TheVariants as status;
@@ -11,7 +11,7 @@ use gb_files::Trouble;
 use std::rt::Env;
 use std::{env, io};
 
-/// The words behind the program's name; none where one of them is not UTF-8.
+/// The words after the program's name; none where one of them is not UTF-8.
 ///
 /// # Errors
 ///
@@ -40,6 +40,7 @@ pub fn tell_words<R: Eprint>(rt: &R, text: &str) -> Status
 /// Prints what `clap` says is wrong with the words, or the help that was asked for.
 pub fn explain<R: Print + Eprint>(rt: &R, program: &str, error: &Error) -> Status {
     if error.kind() == ErrorKind::OutOfMemory {
+        let _ = eprintln!(rt; "{program}: not enough memory to read the command line");
         return complain(rt, Trouble::Memory);
     }
     if error.use_stderr() {

@@ -1,13 +1,13 @@
-//! Finds what is in the way of calls.
+//! Finds what a certificate lacks for calls.
 
 ghost use Rattle.std.specs.Prelude.{◌<◌, ◌≤◌, length, IfSome};
 
 use crate::Differences;
-use crate::covering::{Near, back_finding, nearer, way_hindrance};
-use crate::obstacle::{Behind, Claim, Finding, Hindrance, Obstacle, Uncallable, Way};
-use gb_abs::{Abs, Rules, Setting};
+use crate::covering::{NearGap, back_gaps, nearer, way_gap};
+use crate::gap::{After, Claim, Gap, GapKind, Gaps, GoesOn, Uncallable};
 use gb_verify::{
-    Cert, Successor, Target, are_ranges_inside, callee_at, enter, ranges_of, setting_of, taken_by,
+    Abs, Cert, Rules, Setting, Successor, Target, are_ranges_inside, callee_at, enter, ranges_of,
+    setting_of, taken_by,
 };
 
 /// The node where a procedure begins, if that has the address.
@@ -54,11 +54,11 @@ fn wrong_base(
 }
 
 /// A procedure that takes more items over than its caller has. It is farther than each that doesn't.
-fn taking_too_many(procedure: u8, address: u16, count: usize, held: usize) -> Near {
-    Near {
+fn taking_too_many(procedure: u8, address: u16, count: usize, held: usize) -> NearGap {
+    NearGap {
         procedure,
         distance: u32::MAX,
-        hindrance: Hindrance::plain(Obstacle::Uncallable(Uncallable::Items {
+        gap: Gap::plain(GapKind::Uncallable(Uncallable::Items {
             procedure,
             address,
             count,
@@ -68,8 +68,8 @@ fn taking_too_many(procedure: u8, address: u16, count: usize, held: usize) -> Ne
 }
 
 /// How near a procedure that begins at the node comes to be entered at its address from these states; at distance 0
-/// nothing is in the way.
-fn near_entry(cert: &Cert<'_>, setting: Setting, procedure: u8, node: u32, state: &Abs) -> Near
+/// nothing is missing.
+fn near_entry(cert: &Cert<'_>, setting: Setting, procedure: u8, node: u32, state: &Abs) -> NearGap
     requires { node < length cert.now.nodes }
 {
     let entry = cert.node(node);
@@ -83,16 +83,16 @@ fn near_entry(cert: &Cert<'_>, setting: Setting, procedure: u8, node: u32, state
     let differences = Differences::of(setting.rules, &entered, &claimed);
     let below = held.saturating_sub(count);
     match wrong_base(cert, setting, procedure, address, below) {
-        Some(base) if differences.count == 0 => Near {
+        Some(base) if differences.count == 0 => NearGap {
             procedure,
             distance: 1,
-            hindrance: Hindrance::plain(Obstacle::Uncallable(base)),
+            gap: Gap::plain(GapKind::Uncallable(base)),
         },
-        _ => Near {
+        _ => NearGap {
             procedure,
             distance: differences.count,
-            hindrance: Hindrance {
-                obstacle: Obstacle::Uncallable(Uncallable::Entry { procedure, address }),
+            gap: Gap {
+                kind: GapKind::Uncallable(Uncallable::Entry { procedure, address }),
                 compared: Some((Claim::Node(node), differences)),
             },
         },
@@ -100,7 +100,7 @@ fn near_entry(cert: &Cert<'_>, setting: Setting, procedure: u8, node: u32, state
 }
 
 /// The procedure but main that begins at an address and comes nearest to be entered there from these states.
-fn nearest_entry(cert: &Cert<'_>, setting: Setting, address: u16, state: &Abs) -> Option<Near> {
+fn nearest_entry(cert: &Cert<'_>, setting: Setting, address: u16, state: &Abs) -> Option<NearGap> {
     let mut nearest = None;
     for procedure in 1..cert.procedures() {
         if let Some(node) = entry_at(cert, procedure, address) {
@@ -125,65 +125,65 @@ pub(crate) fn entered_at(
 }
 
 /// What there is at an address where no procedure is entered from these states.
-fn entry_hindrance(cert: &Cert<'_>, setting: Setting, address: u16, state: &Abs) -> Hindrance {
+fn entry_gap(cert: &Cert<'_>, setting: Setting, address: u16, state: &Abs) -> Gap {
     match nearest_entry(cert, setting, address, state) {
-        None => Hindrance::plain(Obstacle::Uncallable(Uncallable::NoProcedure { address })),
-        Some(near) => near.hindrance,
+        None => Gap::plain(GapKind::Uncallable(Uncallable::NoProcedure { address })),
+        Some(near) => near.gap,
     }
 }
 
-/// What is in the way where no procedure is entered from these states, which aren't covered at the address in the same
+/// What is missing where no procedure is entered from these states, which aren't covered at the address in the same
 /// procedure either.
-pub(crate) fn inlined_finding(
+pub(crate) fn inlined_gaps(
     cert: &Cert<'_>,
     setting: Setting,
     procedure: u8,
     address: u16,
     state: &Abs,
-) -> Option<Finding> {
-    let way = Way {
-        behind: Behind::Inlined(procedure),
+) -> Option<Gaps> {
+    let way = GoesOn {
+        after: After::Inlined(procedure),
         address,
     };
-    let second = way_hindrance(cert, procedure, way, state)?;
-    Some(Finding {
+    let second = way_gap(cert, procedure, way, state)?;
+    Some(Gaps {
         interrupt: None,
-        first: entry_hindrance(cert, setting, address, state),
+        first: entry_gap(cert, setting, address, state),
         second: Some(second),
     })
 }
 
-/// What there is where a call leads: behind its callee, or where no procedure is entered.
-pub(crate) fn called_finding(
+/// What is missing where a call leads: after its callee, or where no procedure is entered.
+pub(crate) fn called_gaps(
     cert: &Cert<'_>,
     procedure: u8,
     address: u16,
     successor: &Successor<'_>,
-) -> Option<Finding> {
+) -> Option<Gaps> {
     let setting = setting_of(cert, procedure);
     let state = successor.state();
     match callee_at(cert, setting, successor) {
         Some(callee) => {
-            let way = Way {
-                behind: Behind::Call(callee),
+            let way = GoesOn {
+                after: After::Call(callee),
                 address: successor.next,
             };
-            back_finding(cert, procedure, callee, way, &state)
+            back_gaps(cert, procedure, callee, way, &state)
         }
         None if setting.rules == Rules::Extended => {
-            inlined_finding(cert, setting, procedure, address, &state)
+            inlined_gaps(cert, setting, procedure, address, &state)
         }
         None => None,
     }
 }
 
 /// The range of a callee that lies in none of its caller's. By the rules of version 3 main's callees may have any.
-pub(crate) fn range_finding(
+pub(crate) fn range_gaps(
     cert: &Cert<'_>,
     setting: Setting,
     procedure: u8,
     callee: u8,
-) -> Option<Finding> {
+) -> Option<Gaps> {
     if setting.rules == Rules::Extended && setting.is_main {
         return None;
     }
@@ -191,7 +191,7 @@ pub(crate) fn range_finding(
     let inner = ranges_of(cert, callee);
     for range in inner.as_slice() {
         if !are_ranges_inside(&[*range], outer.as_slice()) {
-            return Some(Finding::plain(Obstacle::Uncallable(Uncallable::Range {
+            return Some(Gaps::plain(GapKind::Uncallable(Uncallable::Range {
                 callee,
                 range: *range,
                 procedure,
@@ -201,19 +201,19 @@ pub(crate) fn range_finding(
     None
 }
 
-/// What is in the way of a call. By the rules of version 3 it may do without a callee.
-pub(crate) fn callee_finding(
+/// What is missing of a call. By the rules of version 3 it may do without a callee.
+pub(crate) fn callee_gaps(
     cert: &Cert<'_>,
     procedure: u8,
     successor: &Successor<'_>,
-) -> Option<Finding> {
+) -> Option<Gaps> {
     let Target::Call(address) = successor.target else {
         return None;
     };
     let setting = setting_of(cert, procedure);
     match callee_at(cert, setting, successor) {
-        Some(callee) => range_finding(cert, setting, procedure, callee),
-        None if setting.rules == Rules::Simple => Some(Finding::of(entry_hindrance(
+        Some(callee) => range_gaps(cert, setting, procedure, callee),
+        None if setting.rules == Rules::Simple => Some(Gaps::of(entry_gap(
             cert,
             setting,
             address,

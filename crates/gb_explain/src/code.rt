@@ -1,9 +1,8 @@
 //! What is known of a node's instruction.
 
-use gb_abs::Abs;
 use gb_ops::decode::decode;
 use gb_spelling::Spelling;
-use gb_verify::{Rom, known_byte, known_bytes};
+use gb_verify::{Abs, Rom, known_byte, known_bytes};
 use std::fmt;
 
 /// What is known of the instruction at an address. It prints the instruction, or says what isn't known.
@@ -38,11 +37,8 @@ impl fmt::Display for Code {
         match *self {
             Code::Instruction(spelling) => write!(f, "{spelling}"),
             Code::Undefined(opcode) => write!(f, "undefined opcode ${opcode:02X}"),
-            Code::Begins(opcode) => write!(
-                f,
-                "${opcode:02X}, and bytes behind it that are not known"
-            ),
-            Code::Unknown => write!(f, "bytes that are not known"),
+            Code::Begins(opcode) => write!(f, "${opcode:02X} and unknown bytes"),
+            Code::Unknown => write!(f, "unknown bytes"),
         }
     }
 }

@@ -2,10 +2,9 @@
 
 ghost use Rattle.std.specs.Prelude.{◌<◌};
 
-use crate::obstacle::{Amount, Finding, Obstacle, TooDeep};
-use gb_abs::{Abs, Rules};
+use crate::gap::{Amount, GapKind, Gaps, TooDeep};
 use gb_ops::op::{Op, Pair};
-use gb_verify::{Cert, Successor, callee_at, need_of, setting_of, taken_by};
+use gb_verify::{Abs, Cert, Rules, Successor, callee_at, need_of, setting_of, taken_by};
 
 /// So many bytes that are held, where they are more than the procedure needs or than a state can hold.
 pub(crate) fn held_too_deep(
@@ -34,7 +33,7 @@ pub(crate) fn held_too_deep(
 }
 
 /// The bytes of a caller that wait below a callee, of so many that it holds, and how many the return address takes
-/// beside them. By the rules of version 3 it is among those that are held and that the callee takes over.
+/// besides. By the rules of version 3 it is among those that are held and that the callee takes over.
 fn waiting_below(rules: Rules, cert: &Cert<'_>, held: usize, callee: u8) -> (usize, usize) {
     match rules {
         Rules::Simple => (held, 2),
@@ -67,7 +66,7 @@ pub(crate) fn called_too_deep(
     })
 }
 
-/// How many bytes are held behind an instruction that puts some on, or adds a number to SP.
+/// How many bytes are held after an instruction that puts some on, or adds a number to SP.
 fn bytes_after(op: Op, held: usize) -> Option<usize>
     requires { held < 65536 }
 {
@@ -80,9 +79,9 @@ fn bytes_after(op: Op, held: usize) -> Option<usize>
     }
 }
 
-/// How many bytes are held behind an instruction that may hold too many by itself. By the rules of versions 1 and 2
+/// How many bytes are held after an instruction that may hold too many by itself. By the rules of versions 1 and 2
 /// that is PUSH alone: a call's return address is no item.
-fn bytes_behind(rules: Rules, op: Op, held: usize) -> Option<usize>
+fn bytes_left(rules: Rules, op: Op, held: usize) -> Option<usize>
     requires { held < 65536 }
 {
     match (rules, op) {
@@ -93,31 +92,27 @@ fn bytes_behind(rules: Rules, op: Op, held: usize) -> Option<usize>
 }
 
 /// The bytes that an instruction leaves on the stack, where they are too many.
-pub(crate) fn moved_finding(
+pub(crate) fn moved_gaps(
     cert: &Cert<'_>,
     procedure: u8,
     state: &Abs,
     op: Op,
     taken: &Option<Successor<'_>>,
-) -> Option<Finding> {
+) -> Option<Gaps> {
     let rules = setting_of(cert, procedure).rules;
     if rules == Rules::Extended && taken.is_none() {
         return None;
     }
-    let bytes = bytes_behind(rules, op, state.items().len())?;
+    let bytes = bytes_left(rules, op, state.items().len())?;
     let deep = held_too_deep(rules, cert, procedure, bytes)?;
-    Some(Finding::plain(Obstacle::TooDeep(deep)))
+    Some(Gaps::plain(GapKind::TooDeep(deep)))
 }
 
 /// What a call would need, where it is too much.
-pub(crate) fn call_finding(
-    cert: &Cert<'_>,
-    procedure: u8,
-    successor: &Successor<'_>,
-) -> Option<Finding> {
+pub(crate) fn call_gaps(cert: &Cert<'_>, procedure: u8, successor: &Successor<'_>) -> Option<Gaps> {
     let setting = setting_of(cert, procedure);
     let callee = callee_at(cert, setting, successor)?;
     let held = successor.state().items().len();
     let deep = called_too_deep(setting.rules, cert, procedure, held, callee)?;
-    Some(Finding::plain(Obstacle::TooDeep(deep)))
+    Some(Gaps::plain(GapKind::TooDeep(deep)))
 }

@@ -1,14 +1,13 @@
-//! A part of a state that another state doesn't stand for.
+//! A part of a state that another state doesn't cover.
 
 use crate::together::fmt_relations;
-use gb_abs::{ImeSet, May, Origin, Val};
-use gb_domain::relations::Relations;
 use gb_ops::op::Register;
+use gb_verify::{ImeSet, May, Origin, Relations, Val};
 use std::fmt;
 
 /// A part of a state.
 #[derive(Clone, Copy)]
-pub enum Part {
+pub enum StatePart {
     Register(Register),
     InterruptEnable,
     Zero,
@@ -47,10 +46,10 @@ pub enum Part {
 
 /// What is known of a part.
 #[derive(Clone, Copy)]
-pub enum Known {
+pub enum KnownPart {
     /// The least and the greatest byte.
     Bytes(u8, u8),
-    /// A value, told with what it is a copy of.
+    /// A value, with what it is a copy of.
     Copy(Val),
     Flag(May),
     Gate(May),
@@ -65,19 +64,18 @@ pub enum Known {
     Together(Relations),
 }
 
-/// A part of a state that another doesn't stand for. What is left there is the first state's, what is
-/// claimed the other's.
+/// A part of a state that another doesn't cover. What is left there is the first state's, what is claimed the other's.
 #[derive(Clone, Copy)]
-pub struct Difference {
-    pub part: Part,
-    pub left: Known,
-    pub claimed: Known,
+pub struct StateDifference {
+    pub part: StatePart,
+    pub left: KnownPart,
+    pub claimed: KnownPart,
 }
 
 /// What a value is a copy of.
 fn origin_text(origin: Option<Origin>) -> &'static str {
     match origin {
-        None => "no copy",
+        None => "not a copy",
         Some(Origin::A) => "A at entry",
         Some(Origin::B) => "B at entry",
         Some(Origin::C) => "C at entry",
@@ -87,50 +85,50 @@ fn origin_text(origin: Option<Origin>) -> &'static str {
         Some(Origin::L) => "L at entry",
         Some(Origin::F) => "F at entry",
         Some(Origin::Ie) => "IE at entry",
-        Some(Origin::ReturnHigh) => "high byte of the return word",
-        Some(Origin::ReturnLow) => "low byte of the return word",
+        Some(Origin::ReturnHigh) => "high byte of the return address",
+        Some(Origin::ReturnLow) => "low byte of the return address",
     }
 }
 
-impl Part {
+impl StatePart {
     /// Its name; of what has a number the name before it.
     fn name(self) -> &'static str {
         match self {
-            Part::Register(register) => register.name(),
-            Part::InterruptEnable => "IE",
-            Part::Zero => "flag Z",
-            Part::Subtract => "flag N",
-            Part::HalfCarry => "flag H",
-            Part::Carry => "flag C",
-            Part::Flags => "F",
-            Part::Ime => "IME",
-            Part::TransferBound => "transfer bound",
-            Part::Bank => "bank",
-            Part::Second => "second register",
-            Part::Gate => "gate",
-            Part::Mode => "mode",
-            Part::Controller => "controller",
-            Part::Stack => "stack",
-            Part::Test => "test",
-            Part::Together => "known together:",
-            Part::Words => "words on the stack",
-            Part::HighByte(_) => "high byte of word",
-            Part::LowByte(_) => "low byte of word",
-            Part::Items => "items on the stack",
-            Part::Item(_) => "item",
-            Part::Cell(_) => "cell",
+            StatePart::Register(register) => register.name(),
+            StatePart::InterruptEnable => "IE",
+            StatePart::Zero => "flag Z",
+            StatePart::Subtract => "flag N",
+            StatePart::HalfCarry => "flag H",
+            StatePart::Carry => "flag C",
+            StatePart::Flags => "F",
+            StatePart::Ime => "IME",
+            StatePart::TransferBound => "OAM DMA time",
+            StatePart::Bank => "bank",
+            StatePart::Second => "second bank register",
+            StatePart::Gate => "cartridge RAM",
+            StatePart::Mode => "mode",
+            StatePart::Controller => "controller",
+            StatePart::Stack => "SP",
+            StatePart::Test => "A compared with",
+            StatePart::Together => "known together",
+            StatePart::Words => "words on the stack",
+            StatePart::HighByte(_) => "high byte of word",
+            StatePart::LowByte(_) => "low byte of word",
+            StatePart::Items => "bytes on the stack",
+            StatePart::Item(_) => "stack byte",
+            StatePart::Cell(_) => "byte",
         }
     }
 }
 
-impl fmt::Display for Part {
+impl fmt::Display for StatePart {
     fn fmt<W: fmt::Write>(&self, f: &mut fmt::Formatter<W>) -> fmt::Result {
         let name = self.name();
         match *self {
-            Part::HighByte(number) | Part::LowByte(number) | Part::Item(number) => {
+            StatePart::HighByte(number) | StatePart::LowByte(number) | StatePart::Item(number) => {
                 write!(f, "{name} {number}")
             }
-            Part::Cell(address) => write!(f, "{name} {address:04X}"),
+            StatePart::Cell(address) => write!(f, "{name} ${address:04X}"),
             _ => write!(f, "{name}"),
         }
     }
@@ -147,9 +145,9 @@ fn flag_text(flag: May) -> &'static str {
 
 fn gate_text(gate: May) -> &'static str {
     match (gate.clear, gate.set) {
-        (true, true) => "open or closed",
-        (true, false) => "closed",
-        (false, true) => "open",
+        (true, true) => "enabled or disabled",
+        (true, false) => "disabled",
+        (false, true) => "enabled",
         (false, false) => "none",
     }
 }
@@ -169,38 +167,38 @@ fn ime_text(ime: ImeSet) -> &'static str {
 
 fn fmt_bytes<W: fmt::Write>(lo: u8, hi: u8, f: &mut fmt::Formatter<W>) -> fmt::Result {
     if lo == hi {
-        write!(f, "{lo:02X}")
+        write!(f, "${lo:02X}")
     } else {
-        write!(f, "{lo:02X}..{hi:02X}")
+        write!(f, "${lo:02X}..${hi:02X}")
     }
 }
 
 fn fmt_banks<W: fmt::Write>(lo: u16, hi: u16, f: &mut fmt::Formatter<W>) -> fmt::Result {
     if lo == hi {
-        write!(f, "{lo:03X}")
+        write!(f, "${lo:02X}")
     } else {
-        write!(f, "{lo:03X}..{hi:03X}")
+        write!(f, "${lo:02X}..${hi:02X}")
     }
 }
 
-impl fmt::Display for Known {
+impl fmt::Display for KnownPart {
     fn fmt<W: fmt::Write>(&self, f: &mut fmt::Formatter<W>) -> fmt::Result {
         match *self {
-            Known::Bytes(lo, hi) => fmt_bytes(lo, hi, f),
-            Known::Copy(val) => {
+            KnownPart::Bytes(lo, hi) => fmt_bytes(lo, hi, f),
+            KnownPart::Copy(val) => {
                 fmt_bytes(val.lo, val.hi, f)?;
                 write!(f, " ({})", origin_text(val.origin))
             }
-            Known::Flag(flag) => write!(f, "{}", flag_text(flag)),
-            Known::Gate(gate) => write!(f, "{}", gate_text(gate)),
-            Known::Ime(ime) => write!(f, "{}", ime_text(ime)),
-            Known::Count(count) => write!(f, "{count}"),
-            Known::Banks(lo, hi) => fmt_banks(lo, hi, f),
-            Known::Kept(is_kept) => write!(f, "{}", if is_kept { "kept" } else { "not kept" }),
-            Known::Set(is_set) => write!(f, "{}", if is_set { "set" } else { "not set" }),
-            Known::Test(None) => write!(f, "none"),
-            Known::Test(Some(value)) => write!(f, "{value:02X}"),
-            Known::Together(relations) => fmt_relations(&relations, f),
+            KnownPart::Flag(flag) => write!(f, "{}", flag_text(flag)),
+            KnownPart::Gate(gate) => write!(f, "{}", gate_text(gate)),
+            KnownPart::Ime(ime) => write!(f, "{}", ime_text(ime)),
+            KnownPart::Count(count) => write!(f, "{count}"),
+            KnownPart::Banks(lo, hi) => fmt_banks(lo, hi, f),
+            KnownPart::Kept(is_kept) => write!(f, "{}", if is_kept { "kept" } else { "not kept" }),
+            KnownPart::Set(is_set) => write!(f, "{}", if is_set { "set" } else { "not set" }),
+            KnownPart::Test(None) => write!(f, "none"),
+            KnownPart::Test(Some(value)) => write!(f, "${value:02X}"),
+            KnownPart::Together(relations) => fmt_relations(&relations, f),
         }
     }
 }

@@ -1,20 +1,18 @@
 //! What there is to say of a refused node.
 
 ghost use Rattle.std.specs.Prelude.{◌≡◌, ◌<◌, length, slice_get, Some};
-ghost use Rattle.gb_abs.specs.Below.gb_domain.Types.{Node};
+ghost use Rattle.gb_verify.specs.Below.gb_domain.Types.{Node};
 
-use crate::advice::advice_on;
 use crate::code::Code;
-use crate::finding::finding_of;
-use crate::obstacle::Finding;
-use gb_abs::Rules;
-use gb_abs::reason::Reason;
-use gb_verify::{Cert, Rom};
+use crate::gap::Gaps;
+use crate::gaps::gaps_of;
+use crate::reasons::advice_on;
+use gb_verify::{Cert, Reason, Rom};
 use std::fmt;
 
-/// A refused node with its place, its instruction and the reason. It prints three lines, the last without its end: the
-/// place and the instruction, what is wrong, and what usually mends it. Where the reason has to do with the stack's depth,
-/// with other nodes, with procedures or, in version 3, with interrupts, some lines follow on what is in the way.
+/// A refused node with its place, its instruction and the reason. It prints some lines, the last without its end: the place and
+/// the instruction, what is wrong, what the certificate lacks where that has to do with the stack's depth, other nodes,
+/// procedures or, in version 3, interrupts, how to fix it, and the rule's number with its section of the documents.
 #[derive(Clone, Copy)]
 pub struct Explanation {
     pub node: u32,
@@ -23,11 +21,9 @@ pub struct Explanation {
     /// The bank that the certificate claims to be shown at the address.
     pub bank: u16,
     pub code: Code,
-    /// By which rules the certificate is taken on.
-    pub rules: Rules,
     pub reason: Reason,
-    /// What is in the way, where the reason has to do with more than the instruction.
-    pub finding: Option<Finding>,
+    /// What the certificate lacks, where the reason has to do with more than the instruction.
+    pub gaps: Option<Gaps>,
 }
 
 impl Explanation {
@@ -48,34 +44,48 @@ impl Explanation {
             address,
             bank: node.bank(),
             code: Code::at(rom, &state, address),
-            rules: Rules::of(cert.version()),
             reason,
-            finding: finding_of(rom, cert, &node, reason),
+            gaps: gaps_of(rom, cert, &node, reason),
         }
+    }
+}
+
+/// The node's place and its instruction, and what is wrong.
+fn fmt_node<W: fmt::Write>(explanation: &Explanation, f: &mut fmt::Formatter<W>) -> fmt::Result {
+    let Explanation {
+        node,
+        procedure,
+        address,
+        bank,
+        code,
+        reason,
+        ..
+    } = *explanation;
+    let problem = advice_on(reason).problem;
+    write!(
+        f,
+        "node {node}, procedure {procedure}, {bank:02X}:{address:04X}: {code}\n  {problem}"
+    )
+}
+
+/// What the certificate lacks, if that is known.
+fn fmt_gaps<W: fmt::Write>(gaps: Option<Gaps>, f: &mut fmt::Formatter<W>) -> fmt::Result {
+    match gaps {
+        None => Ok(()),
+        Some(gaps) => write!(f, "\n{gaps}"),
     }
 }
 
 impl fmt::Display for Explanation {
     fn fmt<W: fmt::Write>(&self, f: &mut fmt::Formatter<W>) -> fmt::Result {
-        let Explanation {
-            node,
-            procedure,
-            address,
-            bank,
-            code,
-            rules,
-            reason,
-            finding,
-        } = *self;
-        let advice = advice_on(reason, rules);
+        let advice = advice_on(self.reason);
+        let (remedy, anchor) = (advice.remedy, advice.anchor);
+        let rule = self.reason.number();
+        fmt_node(self, f)?;
+        fmt_gaps(self.gaps, f)?;
         write!(
             f,
-            "node {node}: procedure {procedure}, address {address:04X}, bank {bank:03X}: {code}\n"
-        )?;
-        write!(f, "{}\n{}", advice.problem, advice.remedy)?;
-        match finding {
-            None => Ok(()),
-            Some(finding) => write!(f, "\n{finding}"),
-        }
+            "\n  Fix: {remedy}\n  Rule {rule}. More: docs/FINDINGS.md#{anchor}"
+        )
     }
 }

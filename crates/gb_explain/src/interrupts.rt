@@ -1,12 +1,12 @@
-//! Finds what is in the way of interrupts, by the rules of version 3.
+//! Finds what a certificate lacks for interrupts, by the rules of version 3.
 
-use crate::calls::{entered_at, inlined_finding, range_finding};
-use crate::covering::back_finding;
+use crate::calls::{entered_at, inlined_gaps, range_gaps};
+use crate::covering::back_gaps;
 use crate::depth::{called_too_deep, held_too_deep};
-use crate::obstacle::{Behind, Finding, Obstacle, TooDeep, Way};
-use gb_abs::reason::Reason;
-use gb_abs::{Abs, Rules, Setting};
-use gb_verify::{Cert, NodeRef, left_by_dispatch, may_come, setting_of};
+use crate::gap::{After, GapKind, Gaps, GoesOn, TooDeep};
+use gb_verify::{
+    Abs, Cert, NodeRef, Reason, Rules, Setting, left_by_dispatch, may_come, setting_of,
+};
 
 /// The vector of interrupt 0; those of the others follow it, 8 bytes apart (Memory map: jump vectors).
 const FIRST_VECTOR: u16 = 0x40;
@@ -36,7 +36,7 @@ impl<'a> Dispatch<'a> {
     }
 }
 
-/// The bytes that a dispatch would hold, or that a handler would need beside them, where they are too many.
+/// The bytes that a dispatch would hold, or that a handler would need besides, where they are too many.
 fn dispatch_too_deep(cert: &Cert<'_>, dispatch: &Dispatch<'_>) -> Option<TooDeep> {
     let Dispatch {
         setting,
@@ -54,40 +54,35 @@ fn dispatch_too_deep(cert: &Cert<'_>, dispatch: &Dispatch<'_>) -> Option<TooDeep
     called_too_deep(rules, cert, procedure, held, handler)
 }
 
-fn deep_finding(cert: &Cert<'_>, dispatch: &Dispatch<'_>) -> Option<Finding> {
+fn deep_gaps(cert: &Cert<'_>, dispatch: &Dispatch<'_>) -> Option<Gaps> {
     if !dispatch.state.core().stack_set {
         return None;
     }
     let deep = dispatch_too_deep(cert, dispatch)?;
-    Some(Finding::plain(Obstacle::TooDeep(deep)))
+    Some(Gaps::plain(GapKind::TooDeep(deep)))
 }
 
-/// What is in the way of a handler that is entered: its ranges, or what the procedure goes on with behind it.
-fn handler_finding(
-    cert: &Cert<'_>,
-    dispatch: &Dispatch<'_>,
-    left: &Abs,
-    handler: u8,
-) -> Option<Finding> {
+/// What is missing of a handler that is entered: its ranges, or what the procedure goes on with after it.
+fn handler_gaps(cert: &Cert<'_>, dispatch: &Dispatch<'_>, left: &Abs, handler: u8) -> Option<Gaps> {
     let Dispatch {
         setting,
         procedure,
         address,
         ..
     } = *dispatch;
-    let outside = range_finding(cert, setting, procedure, handler);
+    let outside = range_gaps(cert, setting, procedure, handler);
     if outside.is_some() {
         return outside;
     }
-    let way = Way {
-        behind: Behind::Handler(handler),
+    let way = GoesOn {
+        after: After::Handler(handler),
         address,
     };
-    back_finding(cert, procedure, handler, way, left)
+    back_gaps(cert, procedure, handler, way, left)
 }
 
-/// What is in the way of a dispatch that isn't provided for.
-fn unhandled_finding(cert: &Cert<'_>, dispatch: &Dispatch<'_>) -> Option<Finding> {
+/// What is missing of a dispatch that isn't provided for.
+fn unhandled_gaps(cert: &Cert<'_>, dispatch: &Dispatch<'_>) -> Option<Gaps> {
     let Dispatch {
         setting,
         procedure,
@@ -95,32 +90,32 @@ fn unhandled_finding(cert: &Cert<'_>, dispatch: &Dispatch<'_>) -> Option<Finding
         ..
     } = *dispatch;
     if !state.core().stack_set {
-        return Some(Finding::plain(Obstacle::StackNotSet));
+        return Some(Gaps::plain(GapKind::StackNotSet));
     }
     let vector = dispatch.vector();
     let left = dispatch.left();
     match entered_at(cert, setting, vector, &left) {
-        Some(handler) => handler_finding(cert, dispatch, &left, handler),
-        None => inlined_finding(cert, setting, procedure, vector, &left),
+        Some(handler) => handler_gaps(cert, dispatch, &left, handler),
+        None => inlined_gaps(cert, setting, procedure, vector, &left),
     }
 }
 
-/// What is in the way of a dispatch, by the reason.
-fn dispatch_finding(cert: &Cert<'_>, reason: Reason, dispatch: &Dispatch<'_>) -> Option<Finding> {
+/// What is missing of a dispatch, by the reason.
+fn dispatch_gaps(cert: &Cert<'_>, reason: Reason, dispatch: &Dispatch<'_>) -> Option<Gaps> {
     match reason {
-        Reason::Depth => deep_finding(cert, dispatch),
-        Reason::Interrupt => unhandled_finding(cert, dispatch),
+        Reason::Depth => deep_gaps(cert, dispatch),
+        Reason::Interrupt => unhandled_gaps(cert, dispatch),
         _ => None,
     }
 }
 
-/// What is in the way of the first interrupt that may come at a node in these states and against which the reason is.
-pub(crate) fn interrupt_finding(
+/// What is missing of the first interrupt that may come at a node in these states and against which the reason is.
+pub(crate) fn interrupt_gaps(
     cert: &Cert<'_>,
     node: &NodeRef<'_>,
     reason: Reason,
     state: &Abs,
-) -> Option<Finding> {
+) -> Option<Gaps> {
     let procedure = node.procedure();
     let setting = setting_of(cert, procedure);
     if setting.rules == Rules::Simple {
@@ -135,10 +130,10 @@ pub(crate) fn interrupt_finding(
             interrupt,
         };
         if may_come(interrupt, state.core()) {
-            if let Some(finding) = dispatch_finding(cert, reason, &dispatch) {
-                return Some(Finding {
+            if let Some(gaps) = dispatch_gaps(cert, reason, &dispatch) {
+                return Some(Gaps {
                     interrupt: Some(interrupt),
-                    ..finding
+                    ..gaps
                 });
             }
         }

@@ -1,12 +1,13 @@
-//! What there is to say to a person of a refused certificate: the node with its place and its instruction, what is
-//! wrong with it, what usually mends that, and, where other nodes or procedures have to do with it, what is in the way.
+//! Why a certificate is refused, for a person: the node with its place and its instruction, what is wrong with it, how to
+//! fix that, and, where other nodes or procedures have to do with it, what the certificate lacks there.
 //!
-//! Read `refusal`, then `explanation`, and `finding`, which finds what is in the way, with `depth`, `covering`, `calls`,
-//! `returns` and `interrupts`; `differences` tells the parts of a state that another state doesn't stand for. All texts
-//! stand in `advice`, `told`, `difference` and `together`. Of the texts nothing is promised but by tests.
+//! Read `refusal`, then `explanation`, and `gaps`, which finds what the certificate lacks, with `depth`, `covering`, `calls`,
+//! `returns` and `interrupts`; `differences` has the parts of a state that another state doesn't cover. `advice` has the texts of
+//! all findings, those of gb_reports too, `reasons` which of them each reason gets, `told`, `difference` and `together` the
+//! texts of gaps, and `vectors` the interrupts' names. Of the texts nothing is promised but by tests.
 #![tactic(auto)]
 
-mod advice;
+pub mod advice;
 mod calls;
 mod code;
 mod covering;
@@ -14,20 +15,23 @@ mod depth;
 mod difference;
 mod differences;
 mod explanation;
-mod finding;
+mod gap;
+mod gaps;
 mod interrupts;
-mod obstacle;
+mod reasons;
 mod refusal;
 mod returns;
 mod together;
 mod told;
+mod vectors;
 
+pub use advice::Advice;
 pub use code::Code;
-pub use difference::{Difference, Known, Part};
+pub use difference::{KnownPart, StateDifference, StatePart};
 pub use differences::Differences;
 pub use explanation::Explanation;
-pub use obstacle::{
-    Amount, Behind, Claim, Finding, Hindrance, Obstacle, TooDeep, Uncallable, Uncovered,
-    Unreturnable, Way,
+pub use gap::{
+    After, Amount, Claim, Gap, GapKind, Gaps, GoesOn, TooDeep, Uncallable, Uncovered, Unreturnable,
 };
 pub use refusal::explain;
+pub use vectors::{interrupt_at, interrupt_name};

@@ -1,17 +1,17 @@
-//! Finds what is in the way of returns.
+//! Finds what a certificate lacks for returns.
 
 use crate::Differences;
-use crate::obstacle::{Amount, Claim, Finding, Hindrance, Obstacle, Unreturnable};
-use gb_abs::{Abs, Halves, Rules, Setting};
-use gb_product::covering::covers;
-use gb_verify::{Cert, Successor, Target, exit_of, setting_of};
+use crate::gap::{Amount, Claim, Gap, GapKind, Gaps, Unreturnable};
+use gb_verify::{
+    Abs, Cert, Halves, Rules, Setting, Successor, Target, covers, exit_of, setting_of,
+};
 
-fn plain(unreturnable: Unreturnable) -> Finding {
-    Finding::plain(Obstacle::Unreturnable(unreturnable))
+fn plain(unreturnable: Unreturnable) -> Gaps {
+    Gaps::plain(GapKind::Unreturnable(unreturnable))
 }
 
-/// What is in the way of an exit. By the rules of versions 1 and 2 nothing may be held then.
-fn exit_finding(rules: Rules, procedure: u8, state: &Abs, exit: &Abs) -> Option<Finding> {
+/// What is missing of an exit. By the rules of versions 1 and 2 nothing may be held then.
+fn exit_gaps(rules: Rules, procedure: u8, state: &Abs, exit: &Abs) -> Option<Gaps> {
     let held = state.items().len();
     if rules == Rules::Simple && held != 0 {
         return Some(plain(Unreturnable::Held {
@@ -21,32 +21,32 @@ fn exit_finding(rules: Rules, procedure: u8, state: &Abs, exit: &Abs) -> Option<
     if covers(state, exit) {
         return None;
     }
-    Some(Finding::of(Hindrance {
-        obstacle: Obstacle::Unreturnable(Unreturnable::Exit { procedure }),
+    Some(Gaps::of(Gap {
+        kind: GapKind::Unreturnable(Unreturnable::Exit { procedure }),
         compared: Some((Claim::Exit, Differences::of(rules, state, exit))),
     }))
 }
 
-/// What is in the way where the procedure returns.
-fn back_finding(
+/// What is missing where the procedure returns.
+fn back_gaps(
     cert: &Cert<'_>,
     setting: Setting,
     procedure: u8,
     successor: &Successor<'_>,
-) -> Option<Finding> {
+) -> Option<Gaps> {
     if setting.is_main {
         return Some(plain(Unreturnable::Main));
     }
     match exit_of(cert, procedure) {
         None => Some(plain(Unreturnable::NoExit { procedure })),
-        Some(exit) => exit_finding(setting.rules, procedure, &successor.state(), &exit),
+        Some(exit) => exit_gaps(setting.rules, procedure, &successor.state(), &exit),
     }
 }
 
-/// What is in the way of a return from these states that leads nowhere.
-fn lost_finding(setting: Setting, state: &Abs) -> Finding {
+/// What is missing of a return from these states that leads nowhere.
+fn lost_gaps(setting: Setting, state: &Abs) -> Gaps {
     if !state.core().stack_set {
-        return Finding::plain(Obstacle::StackNotSet);
+        return Gaps::plain(GapKind::StackNotSet);
     }
     let items = state.items();
     match items {
@@ -63,17 +63,17 @@ fn lost_finding(setting: Setting, state: &Abs) -> Finding {
     }
 }
 
-/// What is in the way of a return from these states.
-pub(crate) fn return_finding(
+/// What is missing of a return from these states.
+pub(crate) fn return_gaps(
     cert: &Cert<'_>,
     procedure: u8,
     state: &Abs,
     successor: &Successor<'_>,
-) -> Option<Finding> {
+) -> Option<Gaps> {
     let setting = setting_of(cert, procedure);
     match successor.target {
-        Target::Return => back_finding(cert, setting, procedure, successor),
-        Target::Lost => Some(lost_finding(setting, state)),
+        Target::Return => back_gaps(cert, setting, procedure, successor),
+        Target::Lost => Some(lost_gaps(setting, state)),
         Target::At(_) | Target::Call(_) | Target::Main(_) | Target::Unknown => None,
     }
 }

@@ -1,10 +1,8 @@
 //! What is known of several parts of a state together, as a person reads it.
 
-use gb_domain::pairs::{Link, Other, PairFacts, WordPair};
-use gb_domain::places::{OneByte, Test};
-use gb_domain::relations::Relations;
 use gb_ops::op::Register;
 use gb_ops::registers::Registers;
+use gb_verify::{Link, OneByte, Other, PairFacts, Relations, Test, WordPair};
 use std::fmt;
 
 /// All registers.
@@ -18,7 +16,7 @@ const REGISTERS: [Register; 7] = [
     Register::L,
 ];
 
-/// What stands between two facts.
+/// What separates two facts.
 const BETWEEN: &str = "; ";
 
 /// What the flags' test compares a byte with, if it compares.
@@ -76,7 +74,7 @@ fn other_name(other: Other) -> &'static str {
     }
 }
 
-/// Tells the places of a byte, and answers what stands before the next fact.
+/// Prints the places of a byte, and answers what separates them from the next fact.
 fn fmt_places<W: fmt::Write>(
     byte: &OneByte,
     f: &mut fmt::Formatter<W>,
@@ -89,7 +87,7 @@ fn fmt_places<W: fmt::Write>(
         }
     }
     if let Some(address) = byte.address {
-        write!(f, "{before}{address:04X}")?;
+        write!(f, "{before}${address:04X}")?;
         before = " = ";
     }
     Ok(if before == "" { "" } else { BETWEEN })
@@ -98,18 +96,18 @@ fn fmt_places<W: fmt::Write>(
 fn fmt_test<W: fmt::Write>(test: Option<Test>, f: &mut fmt::Formatter<W>) -> fmt::Result {
     match test {
         None => Ok(()),
-        Some(Test::Compare(value)) => write!(f, " compared with {value:02X}"),
-        Some(Test::Bits(bits)) => write!(f, " tested by {bits:02X}"),
+        Some(Test::Compare(value)) => write!(f, " compared with ${value:02X}"),
+        Some(Test::Bits(bits)) => write!(f, " tested by ${bits:02X}"),
     }
 }
 
 fn fmt_link<W: fmt::Write>(pair: &str, link: Link, f: &mut fmt::Formatter<W>) -> fmt::Result {
     let Link { other, factor, sum } = link;
     let other = other_name(other);
-    write!(f, "{pair} + {factor:04X} * {other} = {sum:04X}")
+    write!(f, "{pair} + ${factor:04X} * {other} = ${sum:04X}")
 }
 
-/// Tells what is known of a pair behind this text, and answers what stands before the next fact.
+/// Prints what is known of a pair after this text, and answers what separates it from the next fact.
 fn fmt_pair<W: fmt::Write>(
     before: &'static str,
     pair: WordPair,
@@ -122,7 +120,7 @@ fn fmt_pair<W: fmt::Write>(
     if is_bounded(facts) {
         write!(
             f,
-            "{before}{pair} {:04X}..{:04X}",
+            "{before}{pair} ${:04X}..${:04X}",
             bounds.first, bounds.last
         )?;
         before = BETWEEN;
@@ -135,7 +133,7 @@ fn fmt_pair<W: fmt::Write>(
     Ok(before)
 }
 
-/// Tells all that is known together.
+/// Prints all that is known together.
 pub(crate) fn fmt_relations<W: fmt::Write>(
     relations: &Relations,
     f: &mut fmt::Formatter<W>,

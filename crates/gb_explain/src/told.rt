@@ -1,12 +1,12 @@
-//! The texts of what is in the way.
+//! The texts of gaps.
 
-use crate::difference::Known;
-use crate::obstacle::{
-    Amount, Behind, Claim, Finding, Hindrance, Obstacle, TooDeep, Uncallable, Uncovered,
-    Unreturnable, Way,
+use crate::difference::KnownPart;
+use crate::gap::{
+    After, Amount, Claim, Gap, GapKind, Gaps, GoesOn, TooDeep, Uncallable, Uncovered, Unreturnable,
 };
-use crate::{Difference, Differences};
-use gb_abs::Halves;
+use crate::vectors::interrupt_name;
+use crate::{Differences, StateDifference};
+use gb_verify::Halves;
 use std::fmt;
 
 impl Amount {
@@ -23,11 +23,10 @@ impl Amount {
         if self.count() == 1 { "is" } else { "are" }
     }
 
-    /// What it does while a callee runs.
+    /// What waits on the stack while a callee runs.
     fn waits(self) -> &'static str {
         match self {
-            Amount::Words(1) => "is held, 1 is the return address",
-            Amount::Words(_) => "are held, 1 is the return address",
+            Amount::Words(_) => "and the return address wait",
             Amount::Bytes(1) => "waits",
             Amount::Bytes(_) => "wait",
         }
@@ -40,35 +39,23 @@ impl fmt::Display for Amount {
     }
 }
 
-impl Way {
-    /// What stands between it and a node.
-    fn joint(self) -> &'static str {
-        match self.behind {
-            Behind::Inlined(_) => ":",
-            Behind::Instruction | Behind::Call(_) | Behind::Handler(_) | Behind::Restart => {
-                ", where"
-            }
-        }
-    }
-}
-
-impl fmt::Display for Way {
+impl fmt::Display for GoesOn {
     fn fmt<W: fmt::Write>(&self, f: &mut fmt::Formatter<W>) -> fmt::Result {
-        let Way { behind, address } = *self;
-        match behind {
-            Behind::Instruction => write!(f, "It goes on at {address:04X}"),
-            Behind::Call(callee) => write!(
+        let GoesOn { after, address } = *self;
+        match after {
+            After::Instruction => write!(f, "The program goes on at ${address:04X}"),
+            After::Call(callee) => write!(
                 f,
-                "Behind its call of procedure {callee} it goes on at {address:04X}"
+                "After its call of procedure {callee}, the program goes on at ${address:04X}"
             ),
-            Behind::Handler(handler) => write!(
+            After::Handler(handler) => write!(
                 f,
-                "Behind procedure {handler} it goes on at {address:04X}"
+                "After the handler, procedure {handler}, the program goes on at ${address:04X}"
             ),
-            Behind::Restart => write!(f, "Main begins anew at {address:04X}"),
-            Behind::Inlined(procedure) => write!(
+            After::Restart => write!(f, "Main starts again at ${address:04X}"),
+            After::Inlined(procedure) => write!(
                 f,
-                "and this state is not covered there in procedure {procedure} either"
+                "Procedure {procedure} could go on there itself, and doesn't cover this state"
             ),
         }
     }
@@ -83,12 +70,12 @@ impl fmt::Display for TooDeep {
                 need,
             } => write!(
                 f,
-                "{held} would be held, and procedure {procedure} has {}",
+                "{held} would be on the stack, and procedure {procedure} may use {}",
                 need.count()
             ),
             TooDeep::State { held, room } => write!(
                 f,
-                "{held} would be held, and a state holds {} at most",
+                "{held} would be on the stack, and a node can have {}",
                 room.count()
             ),
             TooDeep::Callee {
@@ -100,7 +87,7 @@ impl fmt::Display for TooDeep {
                 need,
             } => write!(
                 f,
-                "{waiting} {}, procedure {callee} needs {}: {}, and procedure {procedure} has {}",
+                "{waiting} {}, procedure {callee} needs {}: {} in all, and procedure {procedure} may use {}",
                 waiting.waits(),
                 wanted.count(),
                 sum.count(),
@@ -110,12 +97,16 @@ impl fmt::Display for TooDeep {
     }
 }
 
-fn fmt_no_node<W: fmt::Write>(way: Way, procedure: u8, f: &mut fmt::Formatter<W>) -> fmt::Result {
-    match way.behind {
-        Behind::Restart => write!(f, "{way}, where no node of it stands"),
-        Behind::Inlined(_) => write!(f, "{way}: it has no node"),
-        Behind::Instruction | Behind::Call(_) | Behind::Handler(_) => {
-            write!(f, "{way}, where procedure {procedure} has no node")
+fn fmt_no_node<W: fmt::Write>(
+    goes_on: GoesOn,
+    procedure: u8,
+    f: &mut fmt::Formatter<W>,
+) -> fmt::Result {
+    match goes_on.after {
+        After::Inlined(_) => write!(f, "{goes_on}: it has no node there"),
+        After::Restart => write!(f, "{goes_on}, and has no node there"),
+        After::Instruction | After::Call(_) | After::Handler(_) => {
+            write!(f, "{goes_on}, and procedure {procedure} has no node there")
         }
     }
 }
@@ -125,27 +116,23 @@ impl fmt::Display for Uncovered {
         match *self {
             Uncovered::NoNode { way, procedure } => fmt_no_node(way, procedure, f),
             Uncovered::Node { way, node } => {
-                let joint = way.joint();
-                write!(f, "{way}{joint} node {node} comes nearest, but:")
+                write!(f, "{way}. Node {node} is nearest, but differs:")
             }
             Uncovered::Overfull { way } => {
-                write!(
-                    f,
-                    "{way} with more bytes on the stack than the 255 of a state"
-                )
+                write!(f, "{way} with more than 255 bytes on the stack")
             }
         }
     }
 }
 
-/// How a base has to lie to that of the caller, if that is known.
+/// How the base is wrong: so many bytes below that of the caller, if that is known.
 fn fmt_below<W: fmt::Write>(below: Option<usize>, f: &mut fmt::Formatter<W>) -> fmt::Result {
     match below {
-        None => write!(f, "and the caller's base is not known"),
-        Some(0) => write!(f, "which is not the caller's base"),
+        None => write!(f, "and its caller's base is unknown"),
+        Some(0) => write!(f, "which isn't its caller's base"),
         Some(bytes) => {
             let bytes = Amount::Bytes(bytes);
-            write!(f, "which is not {bytes} below the caller's base")
+            write!(f, "which isn't {bytes} below its caller's base")
         }
     }
 }
@@ -156,18 +143,18 @@ fn fmt_begins<W: fmt::Write>(
     address: u16,
     f: &mut fmt::Formatter<W>,
 ) -> fmt::Result {
-    write!(f, "Procedure {procedure} begins at {address:04X}")
+    write!(f, "Procedure {procedure} begins at ${address:04X}")
 }
 
 impl fmt::Display for Uncallable {
     fn fmt<W: fmt::Write>(&self, f: &mut fmt::Formatter<W>) -> fmt::Result {
         match *self {
             Uncallable::NoProcedure { address } => {
-                write!(f, "No procedure but main begins at {address:04X}")
+                write!(f, "No procedure but main begins at ${address:04X}")
             }
             Uncallable::Entry { procedure, address } => {
                 fmt_begins(procedure, address, f)?;
-                write!(f, ", but:")
+                write!(f, ", but its first node differs:")
             }
             Uncallable::Items {
                 procedure,
@@ -176,7 +163,10 @@ impl fmt::Display for Uncallable {
                 held,
             } => {
                 fmt_begins(procedure, address, f)?;
-                write!(f, " with {count} items, and the caller has {held}")
+                write!(
+                    f,
+                    " and takes {count} bytes of its caller's stack, which has {held}"
+                )
             }
             Uncallable::Base {
                 procedure,
@@ -185,7 +175,7 @@ impl fmt::Display for Uncallable {
                 below,
             } => {
                 fmt_begins(procedure, address, f)?;
-                write!(f, " with the base {base:04X}, ")?;
+                write!(f, " with base ${base:04X}, ")?;
                 fmt_below(below, f)
             }
             Uncallable::Range {
@@ -194,36 +184,38 @@ impl fmt::Display for Uncallable {
                 procedure,
             } => write!(
                 f,
-                "Procedure {callee} may write {:04X}-{:04X}, which lies in no range of procedure {procedure}",
+                "Procedure {callee} may write ${:04X}-${:04X}, which is in no range of procedure {procedure}",
                 range.first, range.last
             ),
         }
     }
 }
 
-/// A word that says nothing.
+/// A word that is popped and says nothing.
 fn fmt_lost<W: fmt::Write>(word: Halves, is_main: bool, f: &mut fmt::Formatter<W>) -> fmt::Result {
     let beginning = if is_main {
-        "This is main, which nothing has called, and the word that is popped is not known"
+        "Nothing called main, and the address that it pops is unknown"
     } else {
-        "The word that is popped is neither the return word nor known"
+        "The address that is popped is neither the return address nor known"
     };
-    let (high, low) = (Known::Copy(word.high), Known::Copy(word.low));
-    write!(
-        f,
-        "{beginning}: its high byte is {high}, its low byte {low}"
-    )
+    let (high, low) = (KnownPart::Copy(word.high), KnownPart::Copy(word.low));
+    write!(f, "{beginning}: high byte {high}, low byte {low}")
 }
 
 impl fmt::Display for Unreturnable {
     fn fmt<W: fmt::Write>(&self, f: &mut fmt::Formatter<W>) -> fmt::Result {
         match *self {
-            Unreturnable::Main => write!(f, "This is main, which nothing has called"),
+            Unreturnable::Main => write!(f, "This is main, and nothing called it"),
             Unreturnable::NoExit { procedure } => {
-                write!(f, "Procedure {procedure} is said not to return")
+                write!(
+                    f,
+                    "By the certificate, procedure {procedure} doesn't return"
+                )
             }
-            Unreturnable::Held { held } => write!(f, "{held} {} still held", held.verb()),
-            Unreturnable::Exit { procedure } => write!(f, "Procedure {procedure} returns, but:"),
+            Unreturnable::Held { held } => write!(f, "{held} {} still on the stack", held.verb()),
+            Unreturnable::Exit { procedure } => {
+                write!(f, "Procedure {procedure} returns, but its exit differs:")
+            }
             Unreturnable::NoWord { held } => {
                 write!(
                     f,
@@ -236,14 +228,14 @@ impl fmt::Display for Unreturnable {
     }
 }
 
-impl fmt::Display for Obstacle {
+impl fmt::Display for GapKind {
     fn fmt<W: fmt::Write>(&self, f: &mut fmt::Formatter<W>) -> fmt::Result {
         match *self {
-            Obstacle::TooDeep(obstacle) => write!(f, "{obstacle}"),
-            Obstacle::Uncovered(obstacle) => write!(f, "{obstacle}"),
-            Obstacle::Uncallable(obstacle) => write!(f, "{obstacle}"),
-            Obstacle::Unreturnable(obstacle) => write!(f, "{obstacle}"),
-            Obstacle::StackNotSet => write!(f, "The stack is not set"),
+            GapKind::TooDeep(kind) => write!(f, "{kind}"),
+            GapKind::Uncovered(kind) => write!(f, "{kind}"),
+            GapKind::Uncallable(kind) => write!(f, "{kind}"),
+            GapKind::Unreturnable(kind) => write!(f, "{kind}"),
+            GapKind::StackNotSet => write!(f, "SP isn't set"),
         }
     }
 }
@@ -257,7 +249,7 @@ impl fmt::Display for Claim {
     }
 }
 
-/// A line for each part that differs, as many as are told, and how many more there are.
+/// A line for each of the first parts that differ, and how many more there are.
 fn fmt_differences<W: fmt::Write>(
     claim: Claim,
     differences: &Differences,
@@ -265,24 +257,24 @@ fn fmt_differences<W: fmt::Write>(
 ) -> fmt::Result {
     for told in &differences.first {
         if let Some(difference) = *told {
-            let Difference {
+            let StateDifference {
                 part,
                 left,
                 claimed,
             } = difference;
-            write!(f, "\n{part} {left}, {claim} has {claimed}")?;
+            write!(f, "\n    {part}: {left}; {claim} has {claimed}")?;
         }
     }
     match differences.more() {
         0 => Ok(()),
-        1 => write!(f, "\nand 1 part more"),
-        more => write!(f, "\nand {more} parts more"),
+        1 => write!(f, "\n    and 1 more difference"),
+        more => write!(f, "\n    and {more} more differences"),
     }
 }
 
-impl fmt::Display for Hindrance {
+impl fmt::Display for Gap {
     fn fmt<W: fmt::Write>(&self, f: &mut fmt::Formatter<W>) -> fmt::Result {
-        write!(f, "{}", self.obstacle)?;
+        write!(f, "  {}", self.kind)?;
         match &self.compared {
             None => Ok(()),
             Some((claim, differences)) => fmt_differences(*claim, differences, f),
@@ -290,10 +282,11 @@ impl fmt::Display for Hindrance {
     }
 }
 
-impl fmt::Display for Finding {
+impl fmt::Display for Gaps {
     fn fmt<W: fmt::Write>(&self, f: &mut fmt::Formatter<W>) -> fmt::Result {
         if let Some(interrupt) = self.interrupt {
-            write!(f, "Interrupt {interrupt} may come here:\n")?;
+            let name = interrupt_name(interrupt);
+            write!(f, "  {name} can fire here:\n")?;
         }
         write!(f, "{}", self.first)?;
         match &self.second {

@@ -133,12 +133,12 @@ pub(crate) fn runs_beyond(
 
 /// The differences, as they are found.
 #[derive(Drop)]
-struct Found {
+struct FoundPair {
     alloc: Global,
     all: Vec<Difference>,
 }
 
-impl Found {
+impl FoundPair {
     fn add(&mut self, difference: Difference) -> Result<(), AllocError> {
         self.all.push(difference)?;
         Ok(())
@@ -268,7 +268,7 @@ pub fn differences(
     old: &Keyed<'_>,
     new: &Keyed<'_>,
 ) -> Result<Vec<Difference>, AllocError> {
-    let mut found = Found {
+    let mut found = FoundPair {
         alloc,
         all: Vec::new(alloc),
     };
@@ -276,7 +276,7 @@ pub fn differences(
     found.add_procedures(old, new)?;
     found.add_gone(old, new)?;
     found.add_banks(old.outline.banks.as_slice(), new.outline.banks.as_slice())?;
-    let Found { all, .. } = found;
+    let FoundPair { all, .. } = found;
     Ok(all)
 }
 

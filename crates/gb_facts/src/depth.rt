@@ -1,8 +1,8 @@
 //! How deep the stack gets.
 
 use crate::facts::Facts;
-use crate::link::{By, Link};
-use crate::procedure::Procedure;
+use crate::link::{CallLink, EnteredBy};
+use crate::procedure::ProcedureFacts;
 use std::alloc::{AllocError, Global};
 
 /// Whether the stack is known to get no deeper. A certificate that is refused may have procedures that call one another in a
@@ -15,19 +15,19 @@ pub enum Bound {
 
 /// A step of the way to the greatest depth: a procedure, and the link by which it goes on, or none where it holds the most itself.
 #[derive(Clone, Copy, PartialEq, Eq)]
-pub struct Step {
+pub struct StackStep {
     pub procedure: u8,
-    pub link: Option<Link>,
+    pub link: Option<CallLink>,
 }
 
 /// What a procedure's depth is, if there is one by that number.
-fn depth_of(procedures: &[Procedure], number: u8) -> Option<u32> {
+fn depth_of(procedures: &[ProcedureFacts], number: u8) -> Option<u32> {
     let procedure = procedures.get(usize::from(number))?;
     Some(procedure.depth)
 }
 
 /// Makes a caller as deep as a link makes it, and answers whether it was less deep.
-fn deepen(procedures: &mut Vec<Procedure>, place: usize, link: &Link) -> bool {
+fn deepen(procedures: &mut Vec<ProcedureFacts>, place: usize, link: &CallLink) -> bool {
     let Some(callee) = link.callee else {
         return false;
     };
@@ -47,10 +47,10 @@ fn deepen(procedures: &mut Vec<Procedure>, place: usize, link: &Link) -> bool {
 }
 
 /// Whether what a link enters runs in a handler.
-fn is_handled(procedures: &[Procedure], link: &Link) -> bool {
+fn is_handled(procedures: &[ProcedureFacts], link: &CallLink) -> bool {
     match link.by {
-        By::Interrupt(_) => true,
-        By::Call => match procedures.get(usize::from(link.caller)) {
+        EnteredBy::Interrupt(_) => true,
+        EnteredBy::Call => match procedures.get(usize::from(link.caller)) {
             Some(caller) => caller.is_in_handler,
             None => false,
         },
@@ -58,7 +58,7 @@ fn is_handled(procedures: &[Procedure], link: &Link) -> bool {
 }
 
 /// Says of a callee that it may run in a handler, where the link leads there, and answers whether that is new.
-fn tell_handler(procedures: &mut Vec<Procedure>, link: &Link) -> bool {
+fn tell_handler(procedures: &mut Vec<ProcedureFacts>, link: &CallLink) -> bool {
     let Some(callee) = link.callee else {
         return false;
     };
@@ -75,7 +75,7 @@ fn tell_handler(procedures: &mut Vec<Procedure>, link: &Link) -> bool {
 }
 
 /// Follows each link once, and answers whether something changed.
-fn follow(procedures: &mut Vec<Procedure>, links: &[Link]) -> bool {
+fn follow(procedures: &mut Vec<ProcedureFacts>, links: &[CallLink]) -> bool {
     let mut has_changed = false;
     for (place, link) in links.iter().enumerate() {
         let is_deeper = deepen(procedures, place, link);
@@ -89,7 +89,7 @@ fn follow(procedures: &mut Vec<Procedure>, links: &[Link]) -> bool {
 
 /// Finds each procedure's depth, and which may run in handlers: links are followed until nothing changes. No way goes through
 /// more procedures than there are, but where some call one another in a circle.
-pub(crate) fn settle(procedures: &mut Vec<Procedure>, links: &[Link]) -> Bound {
+pub(crate) fn settle(procedures: &mut Vec<ProcedureFacts>, links: &[CallLink]) -> Bound {
     for _ in 0..=procedures.len() {
         if !follow(procedures, links) {
             return Bound::Known;
@@ -99,7 +99,11 @@ pub(crate) fn settle(procedures: &mut Vec<Procedure>, links: &[Link]) -> Bound {
 }
 
 /// The step that a procedure's deepest way begins with.
-pub fn steps_from(procedures: &[Procedure], links: &[Link], number: u8) -> Option<Step> {
+pub fn steps_from(
+    procedures: &[ProcedureFacts],
+    links: &[CallLink],
+    number: u8,
+) -> Option<StackStep> {
     let procedure = procedures.get(usize::from(number))?;
     let link = match procedure.deepest {
         Some(place) => match links.get(place) {
@@ -108,7 +112,7 @@ pub fn steps_from(procedures: &[Procedure], links: &[Link], number: u8) -> Optio
         },
         None => None,
     };
-    Some(Step {
+    Some(StackStep {
         procedure: number,
         link,
     })

@@ -1,9 +1,9 @@
 //! All facts, and how they are gathered.
 
 use crate::code::{CodeMap, CodeRun};
-use crate::depth::{Bound, Step, settle, steps_from};
-use crate::link::{Link, Links, add_links};
-use crate::procedure::{Procedure, all_declared, count_node};
+use crate::depth::{Bound, StackStep, settle, steps_from};
+use crate::link::{CallLink, Links, add_links};
+use crate::procedure::{ProcedureFacts, all_declared, count_node};
 use gb_ops::machine::Region;
 use gb_verify::check::check;
 use gb_verify::verdict::Verdict;
@@ -23,9 +23,9 @@ pub struct Facts {
     /// Where certified code lies, in order of bank and address.
     pub code: Vec<CodeRun>,
     /// The procedures, by their numbers.
-    pub procedures: Vec<Procedure>,
+    pub procedures: Vec<ProcedureFacts>,
     /// Calls and interrupts, in order of callers.
-    pub links: Vec<Link>,
+    pub links: Vec<CallLink>,
     /// Whether the procedures' depths are known.
     pub bound: Bound,
 }
@@ -34,7 +34,7 @@ pub struct Facts {
 #[derive(Drop)]
 struct Gathered {
     map: CodeMap,
-    procedures: Vec<Procedure>,
+    procedures: Vec<ProcedureFacts>,
     links: Links,
 }
 
@@ -103,7 +103,7 @@ impl Facts {
     }
 
     /// The step that a procedure's deepest way begins with; the next one is that of the link's callee.
-    pub fn step(&self, procedure: u8) -> Option<Step> {
+    pub fn step(&self, procedure: u8) -> Option<StackStep> {
         steps_from(self.procedures.as_slice(), self.links.as_slice(), procedure)
     }
 

@@ -19,10 +19,14 @@ mod target;
 
 pub use code::{CodeRun, length_at};
 pub use comparison::{Difference, Key, Keyed, Side, differences, is_same_way};
-pub use depth::{Bound, Step, steps_from, way_from};
+pub use depth::{Bound, StackStep, steps_from, way_from};
 pub use facts::Facts;
 pub use interrupt::{INTERRUPTS, Interrupt};
-pub use link::{By, Link};
+pub use link::{CallLink, EnteredBy};
 pub use outline::{Outline, Sketch};
-pub use procedure::{Exit, Peak, Procedure};
+pub use procedure::{Exit, Peak, ProcedureFacts};
 pub use target::target_of;
+
+// What lies below, for the crates above.
+pub use gb_verify::verdict::Verdict;
+pub use gb_verify::{Cert, Rom};

@@ -1,28 +1,27 @@
 //! Calls and interrupts: from which procedure into which.
 
 use crate::interrupt::{INTERRUPTS, Interrupt};
-use gb_calls::interrupts::handler;
 use gb_ops::decode::decode;
 use gb_verify::{
-    Abs, Cert, NodeRef, Rom, Rules, Successor, Target, callee_at, known_bytes, may_come,
+    Abs, Cert, NodeRef, Rom, Rules, Successor, Target, callee_at, handler, known_bytes, may_come,
     setting_of, stack_of, successors_of, taken_by,
 };
 use std::alloc::{AllocError, Global};
 
 /// By what another procedure is entered.
 #[derive(Clone, Copy, PartialEq, Eq)]
-pub enum By {
+pub enum EnteredBy {
     Call,
     Interrupt(Interrupt),
 }
 
 /// A procedure enters another one, from some of its nodes.
 #[derive(Clone, Copy, PartialEq, Eq)]
-pub struct Link {
+pub struct CallLink {
     pub caller: u8,
     /// Which is entered; none where the caller goes on itself at the address, as version 3 allows.
     pub callee: Option<u8>,
-    pub by: By,
+    pub by: EnteredBy,
     /// From how many nodes.
     pub nodes: u32,
     /// The most bytes that wait on the stack below the callee's own, and the first node from which so many do.
@@ -33,18 +32,18 @@ pub struct Link {
 /// The links of a certificate, as they are gathered: those of one caller stand together.
 #[derive(Drop)]
 pub(crate) struct Links {
-    all: Vec<Link>,
+    all: Vec<CallLink>,
     /// Where those of the last caller begin.
     first: usize,
 }
 
 /// Whether two links lead from the same procedure into the same one, by the same.
-fn is_same(old: &Link, new: &Link) -> bool {
+fn is_same(old: &CallLink, new: &CallLink) -> bool {
     old.caller == new.caller && old.callee == new.callee && old.by == new.by
 }
 
 /// Where in a list a link with the same ends stands.
-fn place_of(links: &[Link], new: &Link) -> Option<usize> {
+fn place_of(links: &[CallLink], new: &CallLink) -> Option<usize> {
     for (place, old) in links.iter().enumerate() {
         if is_same(old, new) {
             return Some(place);
@@ -53,13 +52,13 @@ fn place_of(links: &[Link], new: &Link) -> Option<usize> {
     None
 }
 
-/// The same link from one more node.
-fn joined(old: Link, new: Link) -> Link {
+/// A link that one more node has.
+fn joined(old: CallLink, new: CallLink) -> CallLink {
     let nodes = old.nodes.saturating_add(1);
     if old.waiting < new.waiting {
-        Link { nodes, ..new }
+        CallLink { nodes, ..new }
     } else {
-        Link { nodes, ..old }
+        CallLink { nodes, ..old }
     }
 }
 
@@ -71,7 +70,7 @@ impl Links {
         }
     }
 
-    pub(crate) fn finish(self) -> Vec<Link> {
+    pub(crate) fn finish(self) -> Vec<CallLink> {
         self.all
     }
 
@@ -86,7 +85,7 @@ impl Links {
         }
     }
 
-    fn add(&mut self, link: Link) -> Result<(), AllocError> {
+    fn add(&mut self, link: CallLink) -> Result<(), AllocError> {
         self.begin(link.caller);
         let own = self.all.get(self.first..).unwrap_or(&[]);
         let place = place_of(own, &link);
@@ -120,7 +119,7 @@ fn waiting_in_call(cert: &Cert<'_>, held: u16, callee: Option<u8>) -> u16 {
     }
 }
 
-/// The same below a handler: the state is the one before the dispatch.
+/// The bytes that wait below a handler: the state is the one before the dispatch.
 fn waiting_in_dispatch(cert: &Cert<'_>, held: u16, callee: Option<u8>) -> u16 {
     let pushed = held.saturating_add(2);
     match Rules::of(cert.version()) {
@@ -130,17 +129,22 @@ fn waiting_in_dispatch(cert: &Cert<'_>, held: u16, callee: Option<u8>) -> u16 {
 }
 
 /// The call that a successor is.
-fn call_of(cert: &Cert<'_>, caller: u8, node: u32, way: &Option<Successor<'_>>) -> Option<Link> {
+fn call_of(
+    cert: &Cert<'_>,
+    caller: u8,
+    node: u32,
+    way: &Option<Successor<'_>>,
+) -> Option<CallLink> {
     let Some(successor) = way else { return None };
     let Target::Call(_) = successor.target else {
         return None;
     };
     let callee = callee_at(cert, setting_of(cert, caller), successor);
     let held = successor.state().items().len() as u16;
-    Some(Link {
+    Some(CallLink {
         caller,
         callee,
-        by: By::Call,
+        by: EnteredBy::Call,
         nodes: 1,
         waiting: waiting_in_call(cert, held, callee),
         node,
@@ -154,7 +158,7 @@ fn call_at(
     number: u32,
     node: &NodeRef<'_>,
     state: &Abs,
-) -> Option<Link> {
+) -> Option<CallLink> {
     let bytes = known_bytes(rom, state, node.address())?;
     let row = decode(&bytes)?;
     let caller = node.procedure();
@@ -169,7 +173,7 @@ fn interrupt_at(
     node: &NodeRef<'_>,
     state: &Abs,
     interrupt: Interrupt,
-) -> Option<Link> {
+) -> Option<CallLink> {
     let bit = interrupt.bit();
     if !may_come(bit, state.core()) {
         return None;
@@ -177,10 +181,10 @@ fn interrupt_at(
     let caller = node.procedure();
     let setting = setting_of(cert, caller);
     let callee = handler(cert, setting, bit, node.address(), state);
-    Some(Link {
+    Some(CallLink {
         caller,
         callee,
-        by: By::Interrupt(interrupt),
+        by: EnteredBy::Interrupt(interrupt),
         nodes: 1,
         waiting: waiting_in_dispatch(cert, state.items().len() as u16, callee),
         node: number,

@@ -25,7 +25,7 @@ pub struct Peak {
 
 /// A procedure, by its place in the certificate.
 #[derive(Drop)]
-pub struct Procedure {
+pub struct ProcedureFacts {
     /// Its first node, and where that lies.
     pub entry: u32,
     pub address: u16,
@@ -88,7 +88,7 @@ pub(crate) fn place_of(cert: &Cert<'_>, number: u32) -> (u16, u16) {
 }
 
 /// What the certificate says of a procedure, before its nodes are looked at.
-fn declared(cert: &Cert<'_>, number: u8) -> Option<Procedure> {
+fn declared(cert: &Cert<'_>, number: u8) -> Option<ProcedureFacts> {
     if number >= cert.procedures() {
         return None;
     }
@@ -99,7 +99,7 @@ fn declared(cert: &Cert<'_>, number: u8) -> Option<Procedure> {
         Some(state) => Some(Exit::of(&state)),
         None => None,
     };
-    Some(Procedure {
+    Some(ProcedureFacts {
         entry,
         address,
         bank,
@@ -118,7 +118,10 @@ fn declared(cert: &Cert<'_>, number: u8) -> Option<Procedure> {
 }
 
 /// The procedures of a certificate, before its nodes are looked at.
-pub(crate) fn all_declared(alloc: Global, cert: &Cert<'_>) -> Result<Vec<Procedure>, AllocError> {
+pub(crate) fn all_declared(
+    alloc: Global,
+    cert: &Cert<'_>,
+) -> Result<Vec<ProcedureFacts>, AllocError> {
     let mut procedures = Vec::new(alloc);
     for number in 0..cert.procedures() {
         if let Some(procedure) = declared(cert, number) {
@@ -130,7 +133,7 @@ pub(crate) fn all_declared(alloc: Global, cert: &Cert<'_>) -> Result<Vec<Procedu
 
 /// Counts a node of its procedure, with the bytes that it holds.
 pub(crate) fn count_node(
-    procedures: &mut Vec<Procedure>,
+    procedures: &mut Vec<ProcedureFacts>,
     number: u32,
     node: &NodeRef<'_>,
     state: &Abs,

@@ -5,12 +5,12 @@ use crate::escaped::Escaped;
 use crate::interrupts::interrupt_text;
 use gb_facts::{Difference, Interrupt, Side};
 use gb_ops::machine::Region;
-use gb_verify::Range;
+use gb_reports::Range;
 use std::fmt;
 
 /// A difference in a line, without its end.
 #[derive(Clone, Copy)]
-struct Line<'a> {
+struct ChangeLine<'a> {
     changes: &'a Changes,
     difference: Difference,
 }
@@ -25,7 +25,7 @@ fn fmt_region<W: fmt::Write>(
     let (old_first, old_last) = (before.first, before.last);
     write!(
         f,
-        "the stack’s region: {first:04X}-{last:04X}, before {old_first:04X}-{old_last:04X}"
+        "stack area: ${first:04X}-${last:04X} (was ${old_first:04X}-${old_last:04X})"
     )
 }
 
@@ -51,9 +51,9 @@ fn fmt_need<W: fmt::Write>(
     f: &mut fmt::Formatter<W>,
 ) -> fmt::Result {
     if place == 0 {
-        write!(f, "the stack: {now} bytes in all, before {before}")
+        write!(f, "stack: {now} bytes in all (was {before})")
     } else {
-        write!(f, "{name}: {now} bytes of stack, before {before}")
+        write!(f, "{name}: {now} bytes of stack (was {before})")
     }
 }
 
@@ -66,8 +66,8 @@ fn fmt_writes<W: fmt::Write>(
 ) -> fmt::Result {
     let (first, last) = (range.first, range.last);
     match side {
-        Side::New => write!(f, "{name}: may write {first:04X}-{last:04X}, not before"),
-        Side::Gone => write!(f, "{name}: no longer writes {first:04X}-{last:04X}"),
+        Side::New => write!(f, "{name}: can now write ${first:04X}-${last:04X}"),
+        Side::Gone => write!(f, "{name}: no longer writes ${first:04X}-${last:04X}"),
     }
 }
 
@@ -80,19 +80,16 @@ fn fmt_coming<W: fmt::Write>(
 ) -> fmt::Result {
     let interrupt = interrupt_text(interrupt);
     match side {
-        Side::New => write!(
-            f,
-            "{name}: the {interrupt} interrupt may come in it, not before"
-        ),
-        Side::Gone => write!(f, "{name}: the {interrupt} interrupt no longer comes in it"),
+        Side::New => write!(f, "{name}: {interrupt} can now interrupt it"),
+        Side::Gone => write!(f, "{name}: {interrupt} no longer interrupts it"),
     }
 }
 
 /// A bank.
 fn fmt_bank<W: fmt::Write>(side: Side, bank: u16, f: &mut fmt::Formatter<W>) -> fmt::Result {
     match side {
-        Side::New => write!(f, "bank {bank:02X}: code is reached, not before"),
-        Side::Gone => write!(f, "bank {bank:02X}: no code is reached any more"),
+        Side::New => write!(f, "bank {bank:02X}: has code that is reached now"),
+        Side::Gone => write!(f, "bank {bank:02X}: has no code that is reached any more"),
     }
 }
 
@@ -104,7 +101,7 @@ pub(crate) fn name_of<'a>(changes: &'a Changes, side: Side, place: usize) -> &'a
     }
 }
 
-impl fmt::Display for Line<'_> {
+impl fmt::Display for ChangeLine<'_> {
     fn fmt<W: fmt::Write>(&self, f: &mut fmt::Formatter<W>) -> fmt::Result {
         let changes = self.changes;
         match self.difference {
@@ -128,16 +125,16 @@ impl fmt::Display for Line<'_> {
     }
 }
 
-/// The procedures of a way, one behind the other.
+/// The procedures of the deepest call chain.
 #[derive(Clone, Copy)]
-struct Way<'a>(&'a Build);
+struct DeepestCalls<'a>(&'a Build);
 
-impl fmt::Display for Way<'_> {
+impl fmt::Display for DeepestCalls<'_> {
     fn fmt<W: fmt::Write>(&self, f: &mut fmt::Formatter<W>) -> fmt::Result {
         for (step, place) in self.0.way.iter().enumerate() {
             let name = self.0.name(*place);
             if step > 0 {
-                write!(f, ", ")?;
+                write!(f, " -> ")?;
             }
             write!(f, "{name}")?;
         }
@@ -145,19 +142,18 @@ impl fmt::Display for Way<'_> {
     }
 }
 
-/// The deepest way, now and before, without an end of the line.
+/// The deepest call chain, now and before, without an end of the line.
 #[derive(Clone, Copy)]
-struct Ways<'a>(&'a Changes);
+struct DeepestChange<'a>(&'a Changes);
 
-impl fmt::Display for Ways<'_> {
+impl fmt::Display for DeepestChange<'_> {
     fn fmt<W: fmt::Write>(&self, f: &mut fmt::Formatter<W>) -> fmt::Result {
-        let now = Way(&self.0.now);
-        let before = Way(&self.0.before);
-        write!(f, "the deepest way: {now}")?;
+        let now = DeepestCalls(&self.0.now);
+        let before = DeepestCalls(&self.0.before);
         if self.0.before.way.is_empty() {
-            Ok(())
+            write!(f, "deepest call chain: {now}")
         } else {
-            write!(f, "; before: {before}")
+            write!(f, "deepest call chain: {now} (was {before})")
         }
     }
 }
@@ -166,14 +162,17 @@ impl fmt::Display for Changes {
     /// A line for each difference, each with its end.
     fn fmt<W: fmt::Write>(&self, f: &mut fmt::Formatter<W>) -> fmt::Result {
         if self.is_none() {
-            return write!(f, "nothing that is compared has changed\n");
+            return write!(
+                f,
+                "no changes in stack, routines, RAM writes, interrupts or banks\n"
+            );
         }
         if self.has_way() {
-            let ways = Ways(self);
+            let ways = DeepestChange(self);
             write!(f, "{ways}\n")?;
         }
         for difference in &self.differences {
-            let line = Line {
+            let line = ChangeLine {
                 changes: self,
                 difference: *difference,
             };

@@ -1,9 +1,8 @@
-//! What a new certificate changed beside an older one, as plain data with names; `changed` has its words, `json` its object.
+//! What a new certificate changed since an older one, as plain data with names; `changed` has its words, `json` its object.
 
 use crate::names::{Address, usual_name};
 use gb_facts::{Difference, Facts, Key, Keyed, Outline, Sketch, differences, is_same_way};
-use gb_reports::Symbols;
-use gb_verify::{Cert, Rom};
+use gb_reports::{Cert, Rom, Symbols};
 use std::alloc::{AllocError, Global};
 use std::fmt;
 
@@ -60,7 +59,7 @@ impl fmt::Display for SketchName<'_, '_> {
     }
 }
 
-/// The symbol that stands at a sketch's first address.
+/// The symbol at a sketch's first address.
 fn symbol_at<'s>(sketch: &Sketch, symbols: Option<&Symbols<'s>>) -> Option<&'s str> {
     let place = symbols?.place(sketch.bank, sketch.address)?;
     if place.offset == 0 {
@@ -172,7 +171,7 @@ fn compare<'x>(
     })
 }
 
-/// The same, where each sketch gets its key. A symbol is one only where both builds have their symbols.
+/// Compares two builds, and gives each sketch its key. A symbol is one only where both builds have their symbols.
 fn compare_by<'x>(
     alloc: Global,
     before: &'x Build,
@@ -186,7 +185,7 @@ fn compare_by<'x>(
 }
 
 impl Changes {
-    /// What a certificate changed beside an older one.
+    /// What a certificate changed since an older one.
     ///
     /// # Errors
     ///
@@ -225,7 +224,7 @@ impl Changes {
         self.differences.is_empty() && self.is_same_way
     }
 
-    /// Whether the deepest way is to be told: how deep it is, or through which procedures it goes, is otherwise.
+    /// Whether the deepest call chain is to be shown: its depth or its procedures changed.
     pub(crate) fn has_way(&self) -> bool {
         !self.is_same_way || self.before.outline.need() != self.now.outline.need()
     }

@@ -5,7 +5,7 @@ use crate::changes::{Build, Changes};
 use crate::interrupts::interrupt_text;
 use gb_facts::{Difference, Side};
 use gb_ops::machine::Region;
-use gb_reports::Object;
+use gb_reports::JsonObject;
 use serde_json::Value;
 use std::alloc::{AllocError, Global};
 
@@ -19,14 +19,14 @@ fn side_text(side: Side) -> &'static str {
 
 /// A region.
 fn region_json(alloc: Global, region: Region) -> Result<Value, AllocError> {
-    let mut object = Object::new(alloc);
+    let mut object = JsonObject::new(alloc);
     object.put_address("first", region.first)?;
     object.put_address("last", region.last)?;
     Ok(object.finish())
 }
 
 /// What is otherwise of the stack's region.
-fn put_region(object: &mut Object, before: Region, now: Region) -> Result<(), AllocError> {
+fn put_region(object: &mut JsonObject, before: Region, now: Region) -> Result<(), AllocError> {
     let alloc = object.alloc;
     object.put_text("of", "region")?;
     object.put("before", region_json(alloc, before)?)?;
@@ -34,7 +34,12 @@ fn put_region(object: &mut Object, before: Region, now: Region) -> Result<(), Al
 }
 
 /// What is otherwise, and on which side, of which procedure.
-fn put_subject(object: &mut Object, of: &str, side: Side, name: &str) -> Result<(), AllocError> {
+fn put_subject(
+    object: &mut JsonObject,
+    of: &str,
+    side: Side,
+    name: &str,
+) -> Result<(), AllocError> {
     object.put_text("of", of)?;
     object.put_text("side", side_text(side))?;
     object.put_text("procedure", name)
@@ -42,7 +47,7 @@ fn put_subject(object: &mut Object, of: &str, side: Side, name: &str) -> Result<
 
 /// A difference's members.
 fn put_difference(
-    object: &mut Object,
+    object: &mut JsonObject,
     changes: &Changes,
     difference: Difference,
 ) -> Result<(), AllocError> {
@@ -85,7 +90,7 @@ fn difference_json(
     changes: &Changes,
     difference: Difference,
 ) -> Result<Value, AllocError> {
-    let mut object = Object::new(alloc);
+    let mut object = JsonObject::new(alloc);
     put_difference(&mut object, changes, difference)?;
     Ok(object.finish())
 }
@@ -113,7 +118,7 @@ fn way_json(alloc: Global, build: &Build) -> Result<Value, AllocError> {
 
 /// One of both certificates: the bytes of stack that it allows, and its deepest way.
 fn build_json(alloc: Global, build: &Build) -> Result<Value, AllocError> {
-    let mut object = Object::new(alloc);
+    let mut object = JsonObject::new(alloc);
     object.put_address("stack", build.outline.need())?;
     object.put("way", way_json(alloc, build)?)?;
     Ok(object.finish())
@@ -121,7 +126,7 @@ fn build_json(alloc: Global, build: &Build) -> Result<Value, AllocError> {
 
 /// What a new certificate changed.
 pub(crate) fn changes_value(alloc: Global, changes: &Changes) -> Result<Value, AllocError> {
-    let mut object = Object::new(alloc);
+    let mut object = JsonObject::new(alloc);
     object.put_flag("is_changed", !changes.is_none())?;
     object.put("before", build_json(alloc, &changes.before)?)?;
     object.put("now", build_json(alloc, &changes.now)?)?;

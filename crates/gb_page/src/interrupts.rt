@@ -1,15 +1,15 @@
-//! Where each interrupt may come.
+//! Where each interrupt can fire.
 
 use crate::names::ProcedureLink;
 use crate::page::Page;
-use gb_facts::{By, Facts, INTERRUPTS, Interrupt, Link};
+use gb_facts::{CallLink, EnteredBy, Facts, INTERRUPTS, Interrupt};
 use std::fmt;
 
 /// An interrupt's name.
 pub fn interrupt_text(interrupt: Interrupt) -> &'static str {
     match interrupt {
         Interrupt::VBlank => "VBlank",
-        Interrupt::Lcd => "LCD",
+        Interrupt::Lcd => "STAT",
         Interrupt::Timer => "timer",
         Interrupt::Serial => "serial",
         Interrupt::Joypad => "joypad",
@@ -17,8 +17,8 @@ pub fn interrupt_text(interrupt: Interrupt) -> &'static str {
 }
 
 /// Whether a link is by this interrupt.
-fn is_by(link: &Link, interrupt: Interrupt) -> bool {
-    link.by == By::Interrupt(interrupt)
+fn is_by(link: &CallLink, interrupt: Interrupt) -> bool {
+    link.by == EnteredBy::Interrupt(interrupt)
 }
 
 /// At how many nodes an interrupt may come.
@@ -65,7 +65,7 @@ fn fmt_handlers<W: fmt::Write>(
         }
     }
     if is_inlined(page.facts, interrupt) {
-        write!(f, "in the procedure itself")?;
+        write!(f, "inside the routine itself")?;
     }
     Ok(())
 }
@@ -103,10 +103,10 @@ fn fmt_interrupt<W: fmt::Write>(
     let nodes = nodes_of(page.facts, interrupt);
     write!(
         f,
-        "<tr><td>{name}</td><td><code>{vector:04X}</code></td><td class=\"number\">{nodes}</td><td>"
+        "<tr><td>{name}</td><td><code>${vector:04X}</code></td><td class=\"number\">{nodes}</td><td>"
     )?;
     if nodes == 0 {
-        return write!(f, "</td><td class=\"quiet\">never comes</td></tr>\n");
+        return write!(f, "</td><td class=\"quiet\">never fires</td></tr>\n");
     }
     fmt_handlers(page, interrupt, f)?;
     write!(f, "</td><td>")?;
@@ -115,9 +115,9 @@ fn fmt_interrupt<W: fmt::Write>(
 }
 
 /// Whether a link is an interrupt inside of a handler.
-fn is_nested(facts: &Facts, link: &Link) -> bool {
+fn is_nested(facts: &Facts, link: &CallLink) -> bool {
     match (link.by, facts.procedures.get(usize::from(link.caller))) {
-        (By::Interrupt(_), Some(caller)) => caller.is_in_handler,
+        (EnteredBy::Interrupt(_), Some(caller)) => caller.is_in_handler,
         _ => false,
     }
 }
@@ -132,7 +132,7 @@ fn fmt_nested<W: fmt::Write>(
         if !is_nested(page.facts, link) {
             continue;
         }
-        if let By::Interrupt(interrupt) = link.by {
+        if let EnteredBy::Interrupt(interrupt) = link.by {
             let name = ProcedureLink {
                 page,
                 number: link.caller,
@@ -152,7 +152,7 @@ fn fmt_nesting<W: fmt::Write>(
 ) -> fmt::Result {
     write!(
         f,
-        "<p>Interrupts inside of handlers, or of what they call: "
+        "<p>Interrupts inside handlers or the routines that they call: "
     )?;
     if fmt_nested(page, f)? == 0 {
         write!(f, "none, so handlers don’t nest.")?;
@@ -167,7 +167,7 @@ pub fn fmt_interrupts<W: fmt::Write>(
 ) -> fmt::Result {
     write!(
         f,
-        "<section id=\"interrupts\"><h2>Interrupts</h2>\n<div class=\"wide\"><table><thead><tr><th>interrupt</th><th>vector</th><th class=\"number\">nodes</th><th>handler</th><th>may come in (at so many nodes)</th></tr></thead><tbody>\n"
+        "<section id=\"interrupts\"><h2>Interrupts</h2>\n<div class=\"wide\"><table><thead><tr><th>interrupt</th><th>vector</th><th class=\"number\">nodes</th><th>handler</th><th>can fire in (number of nodes)</th></tr></thead><tbody>\n"
     )?;
     for interrupt in INTERRUPTS {
         fmt_interrupt(page, *interrupt, f)?;

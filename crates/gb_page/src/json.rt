@@ -3,10 +3,8 @@
 use crate::compared::changes_value;
 use crate::page::Extras;
 use crate::stack::by_text;
-use gb_facts::{Bound, CodeRun, Exit, Facts, Link, Procedure};
-use gb_reports::{Object, Symbols};
-use gb_verify::verdict::Verdict;
-use gb_verify::{Cert, Range, Rom};
+use gb_facts::{Bound, CallLink, CodeRun, Exit, Facts, ProcedureFacts};
+use gb_reports::{Cert, JsonObject, Range, Rom, Symbols, Verdict};
 use serde_json::Value;
 use std::alloc::{AllocError, Global};
 
@@ -23,7 +21,7 @@ fn refused_json(alloc: Global, verdict: Verdict) -> Result<Value, AllocError> {
     let Verdict::Refused { node, reason } = verdict else {
         return Ok(Value::Null);
     };
-    let mut object = Object::new(alloc);
+    let mut object = JsonObject::new(alloc);
     object.put_number("node", u64::from(node))?;
     object.put_number("reason", u64::from(reason.number()))?;
     Ok(object.finish())
@@ -40,7 +38,7 @@ fn used(facts: &Facts) -> Option<u64> {
 
 /// The stack: its region, its bytes, and how many of them are ever used.
 fn stack_json(alloc: Global, facts: &Facts) -> Result<Value, AllocError> {
-    let mut object = Object::new(alloc);
+    let mut object = JsonObject::new(alloc);
     object.put_address("first", facts.region.first)?;
     object.put_address("last", facts.region.last)?;
     object.put_number("room", u64::from(facts.room()))?;
@@ -54,7 +52,7 @@ fn code_json(alloc: Global, run: CodeRun) -> Result<Value, AllocError> {
         Some(bank) => Value::from(u64::from(bank)),
         None => Value::Null,
     };
-    let mut object = Object::new(alloc);
+    let mut object = JsonObject::new(alloc);
     object.put("bank", bank)?;
     object.put_address("first", run.first)?;
     object.put_address("last", run.last)?;
@@ -72,7 +70,7 @@ fn all_code(alloc: Global, facts: &Facts) -> Result<Value, AllocError> {
 
 /// A range of RAM.
 fn range_json(alloc: Global, range: Range) -> Result<Value, AllocError> {
-    let mut object = Object::new(alloc);
+    let mut object = JsonObject::new(alloc);
     object.put_address("first", range.first)?;
     object.put_address("last", range.last)?;
     Ok(object.finish())
@@ -88,7 +86,7 @@ fn ranges_json(alloc: Global, ranges: &[Range]) -> Result<Value, AllocError> {
 }
 
 /// Which registers an exit gives back as they were.
-fn put_kept(object: &mut Object, exit: &Exit) -> Result<(), AllocError> {
+fn put_kept(object: &mut JsonObject, exit: &Exit) -> Result<(), AllocError> {
     let registers = exit.registers;
     object.put_flag("a", registers.a)?;
     object.put_flag("f", exit.flags)?;
@@ -107,15 +105,15 @@ fn exit_json(alloc: Global, exit: Option<Exit>) -> Result<Value, AllocError> {
     let Some(exit) = exit else {
         return Ok(Value::Null);
     };
-    let mut object = Object::new(alloc);
+    let mut object = JsonObject::new(alloc);
     put_kept(&mut object, &exit)?;
     Ok(object.finish())
 }
 
-/// Where a procedure begins, and what stands there by the symbols.
+/// Where a procedure begins, and its symbol.
 fn put_place(
-    object: &mut Object,
-    procedure: &Procedure,
+    object: &mut JsonObject,
+    procedure: &ProcedureFacts,
     symbols: &Symbols<'_>,
 ) -> Result<(), AllocError> {
     object.put_address("bank", procedure.bank)?;
@@ -127,7 +125,7 @@ fn put_place(
 }
 
 /// The bytes of stack that a procedure holds itself, with all that it enters, and that it is allowed.
-fn put_depth(object: &mut Object, procedure: &Procedure) -> Result<(), AllocError> {
+fn put_depth(object: &mut JsonObject, procedure: &ProcedureFacts) -> Result<(), AllocError> {
     object.put_number("own", u64::from(procedure.own.bytes))?;
     object.put_number("depth", u64::from(procedure.depth))?;
     object.put_number("need", u64::from(procedure.need))
@@ -136,12 +134,12 @@ fn put_depth(object: &mut Object, procedure: &Procedure) -> Result<(), AllocErro
 /// A procedure.
 fn procedure_json(
     alloc: Global,
-    procedure: &Procedure,
+    procedure: &ProcedureFacts,
     symbols: &Symbols<'_>,
 ) -> Result<Value, AllocError> {
     let writes = ranges_json(alloc, procedure.ranges.as_slice())?;
     let keeps = exit_json(alloc, procedure.exit)?;
-    let mut object = Object::new(alloc);
+    let mut object = JsonObject::new(alloc);
     put_place(&mut object, procedure, symbols)?;
     object.put_number("entry", u64::from(procedure.entry))?;
     object.put_number("nodes", u64::from(procedure.nodes))?;
@@ -166,12 +164,12 @@ fn all_procedures(
 }
 
 /// A call or an interrupt.
-fn link_json(alloc: Global, link: &Link) -> Result<Value, AllocError> {
+fn link_json(alloc: Global, link: &CallLink) -> Result<Value, AllocError> {
     let callee = match link.callee {
         Some(callee) => Value::from(u64::from(callee)),
         None => Value::Null,
     };
-    let mut object = Object::new(alloc);
+    let mut object = JsonObject::new(alloc);
     object.put_number("caller", u64::from(link.caller))?;
     object.put("callee", callee)?;
     object.put_text("by", by_text(link.by))?;
@@ -200,7 +198,7 @@ fn changes_or_null(alloc: Global, extras: Extras<'_>) -> Result<Value, AllocErro
 
 /// The members of the whole.
 fn put_facts(
-    object: &mut Object,
+    object: &mut JsonObject,
     facts: &Facts,
     symbols: &Symbols<'_>,
     extras: Extras<'_>,
@@ -229,7 +227,7 @@ pub fn facts_json(
     extras: Extras<'_>,
 ) -> Result<String, AllocError> {
     let facts = Facts::of(alloc, rom, cert)?;
-    let mut object = Object::new(alloc);
+    let mut object = JsonObject::new(alloc);
     put_facts(&mut object, &facts, symbols, extras)?;
     object.finish().to_string(alloc)
 }

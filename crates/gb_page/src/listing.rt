@@ -2,10 +2,10 @@
 
 use crate::node::fmt_node;
 use crate::page::Page;
-use gb_facts::Procedure;
+use gb_facts::ProcedureFacts;
 use std::fmt;
 
-/// The first of a procedure's nodes, which stand together: those before it are counted.
+/// The first of a procedure's nodes, which follow one another: those before it are counted.
 fn first_of(page: &Page<'_, '_, '_, '_>, number: u8) -> u32 {
     let mut first = 0u32;
     for (place, procedure) in page.facts.procedures.iter().enumerate() {
@@ -35,7 +35,7 @@ fn fmt_nodes<W: fmt::Write>(
 pub fn fmt_listing<W: fmt::Write>(
     page: &Page<'_, '_, '_, '_>,
     number: u8,
-    procedure: &Procedure,
+    procedure: &ProcedureFacts,
     f: &mut fmt::Formatter<W>,
 ) -> fmt::Result {
     let nodes = procedure.nodes;
@@ -43,7 +43,7 @@ pub fn fmt_listing<W: fmt::Write>(
     let after = first.saturating_add(nodes);
     write!(
         f,
-        "<details class=\"listing\"><summary>Its listing, {nodes} nodes</summary>\n"
+        "<details class=\"listing\"><summary>Listing, {nodes} nodes</summary>\n"
     )?;
     fmt_nodes(page, first, after, f)?;
     write!(f, "</details>\n")

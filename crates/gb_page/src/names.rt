@@ -2,8 +2,8 @@
 
 use crate::escaped::Escaped;
 use crate::page::Page;
-use gb_facts::Procedure;
-use gb_reports::{Place, Symbols};
+use gb_facts::ProcedureFacts;
+use gb_reports::{SymbolOffset, Symbols};
 use std::fmt;
 
 /// An address with its bank, where one is shown there.
@@ -20,23 +20,23 @@ impl fmt::Display for Address {
         if address < 0x8000 {
             write!(f, "{bank:02X}:{address:04X}")
         } else {
-            write!(f, "{address:04X}")
+            write!(f, "${address:04X}")
         }
     }
 }
 
-/// A symbol, and how far behind it an address lies.
+/// A symbol, and how far after it an address is.
 #[derive(Clone, Copy)]
-struct ShownPlace<'a>(Place<'a>);
+struct ShownSymbol<'a>(SymbolOffset<'a>);
 
-impl fmt::Display for ShownPlace<'_> {
+impl fmt::Display for ShownSymbol<'_> {
     fn fmt<W: fmt::Write>(&self, f: &mut fmt::Formatter<W>) -> fmt::Result {
         let name = Escaped(self.0.name);
         let offset = self.0.offset;
         if offset == 0 {
             write!(f, "{name}")
         } else {
-            write!(f, "{name}+{offset:X}")
+            write!(f, "{name}+${offset:X}")
         }
     }
 }
@@ -52,7 +52,7 @@ impl fmt::Display for SymbolAt<'_, '_> {
     fn fmt<W: fmt::Write>(&self, f: &mut fmt::Formatter<W>) -> fmt::Result {
         match self.symbols.place(self.at.bank, self.at.address) {
             Some(place) => {
-                let place = ShownPlace(place);
+                let place = ShownSymbol(place);
                 write!(f, "{place}")
             }
             None => Ok(()),
@@ -60,12 +60,12 @@ impl fmt::Display for SymbolAt<'_, '_> {
     }
 }
 
-/// What a procedure is called where no symbol stands at its first address.
+/// The name of a procedure without a symbol at its first address.
 pub(crate) fn usual_name(number: u8, address: u16) -> Option<&'static str> {
     match (number, address) {
         (0, _) => Some("main"),
         (_, 0x40) => Some("VBlank handler"),
-        (_, 0x48) => Some("LCD handler"),
+        (_, 0x48) => Some("STAT handler"),
         (_, 0x50) => Some("timer handler"),
         (_, 0x58) => Some("serial handler"),
         (_, 0x60) => Some("joypad handler"),
@@ -77,13 +77,13 @@ pub(crate) fn usual_name(number: u8, address: u16) -> Option<&'static str> {
 fn fmt_unnamed<W: fmt::Write>(
     number: u8,
     at: Address,
-    before: Option<Place<'_>>,
+    before: Option<SymbolOffset<'_>>,
     f: &mut fmt::Formatter<W>,
 ) -> fmt::Result {
     match (usual_name(number, at.address), before) {
         (Some(text), _) => write!(f, "{text}"),
         (None, Some(place)) => {
-            let place = ShownPlace(place);
+            let place = ShownSymbol(place);
             write!(f, "{place}")
         }
         (None, None) => write!(f, "{at}"),
@@ -94,7 +94,7 @@ fn fmt_unnamed<W: fmt::Write>(
 fn fmt_name<W: fmt::Write>(
     symbols: &Symbols<'_>,
     number: u8,
-    procedure: &Procedure,
+    procedure: &ProcedureFacts,
     f: &mut fmt::Formatter<W>,
 ) -> fmt::Result {
     let at = Address {

@@ -3,8 +3,7 @@
 use crate::names::{Address, SymbolAt};
 use crate::page::Page;
 use gb_facts::target_of;
-use gb_reports::{Code, ShownCell, ShownFlags, ShownRegisters, fmt_core};
-use gb_verify::{Abs, Cell, NodeRef};
+use gb_reports::{Abs, Cell, Code, NodeRef, ShownCell, ShownFlags, ShownRegisters, fmt_core};
 use std::fmt;
 
 /// The instruction, which leads to where it jumps or calls, if that is listed.
@@ -31,14 +30,14 @@ fn fmt_cells<W: fmt::Write>(cells: &[Cell], f: &mut fmt::Formatter<W>) -> fmt::R
     Ok(())
 }
 
-/// What is known where the node stands.
+/// What is known at a node.
 fn fmt_state<W: fmt::Write>(state: &Abs, f: &mut fmt::Formatter<W>) -> fmt::Result {
     let registers = ShownRegisters(state);
     let flags = ShownFlags(state.core().flags);
     let held = state.items().len();
     write!(f, "<span class=\"state\">{registers} {flags}; ")?;
     fmt_core(state.core(), f)?;
-    write!(f, ", bytes held {held}")?;
+    write!(f, ", {held} bytes on the stack")?;
     if !state.cells().is_empty() {
         write!(f, ";")?;
         fmt_cells(state.cells(), f)?;

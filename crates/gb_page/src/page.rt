@@ -11,19 +11,17 @@ use crate::stack::fmt_stack;
 use crate::style::STYLE;
 use crate::verdict::{fmt_verdict, refusal_of};
 use gb_facts::Facts;
-use gb_reports::Symbols;
-use gb_verify::verdict::Verdict;
-use gb_verify::{Cert, Rom};
+use gb_reports::{Cert, Rom, Symbols, Verdict};
 use std::alloc::{AllocError, Global};
 use std::{fmt, str};
 
 /// The most nodes that are listed, where nothing else is said.
 const LISTED: u32 = 20_000;
 
-/// What is told besides a certificate's own facts, where it is at hand.
+/// What is shown besides a certificate's own facts, where it is at hand.
 #[derive(Clone, Copy)]
 pub struct Extras<'a> {
-    /// What it changed beside an older one.
+    /// What it changed since an older one.
     pub changes: Option<&'a Changes>,
     /// The console's screen after 120 frames.
     pub screen: Option<&'a Screen>,
@@ -65,7 +63,7 @@ impl Page<'_, '_, '_, '_> {
         }
     }
 
-    /// Whether a node stands in the listing: the first of them, and the refused one.
+    /// Whether a node is in the listing: the first of them, and the refused one.
     pub(crate) fn is_listed(&self, node: u32) -> bool {
         node < self.facts.nodes && (node < self.extras.listed || self.is_refused(node))
     }
@@ -89,7 +87,7 @@ fn title_of<'r>(rom: &Rom<'r>) -> &'r str {
     }
 }
 
-/// What stands before all parts; the title begins with the kind of the page.
+/// What comes before all parts; the title begins with the kind of the page.
 pub(crate) fn fmt_head<W: fmt::Write>(
     kind: &str,
     rom: &Rom<'_>,
@@ -123,7 +121,7 @@ fn fmt_contents<W: fmt::Write>(extras: Extras<'_>, f: &mut fmt::Formatter<W>) ->
     fmt_extra_contents(extras, f)?;
     write!(
         f,
-        "<a href=\"#stack\">Stack</a> <a href=\"#interrupts\">Interrupts</a> <a href=\"#rom\">ROM</a> <a href=\"#ram\">RAM</a> <a href=\"#procedures\">Procedures</a></nav>\n"
+        "<a href=\"#stack\">Stack</a> <a href=\"#interrupts\">Interrupts</a> <a href=\"#rom\">ROM</a> <a href=\"#ram\">RAM</a> <a href=\"#procedures\">Routines</a></nav>\n"
     )
 }
 
@@ -131,7 +129,7 @@ fn fmt_contents<W: fmt::Write>(extras: Extras<'_>, f: &mut fmt::Formatter<W>) ->
 fn fmt_changes<W: fmt::Write>(changed: &str, f: &mut fmt::Formatter<W>) -> fmt::Result {
     write!(
         f,
-        "<section id=\"changes\"><h2>Changes</h2>\n<p>What is otherwise than in the older certificate.</p>\n<ul>\n"
+        "<section id=\"changes\"><h2>Changes</h2>\n<p>What changed since the older certificate.</p>\n<ul>\n"
     )?;
     for line in changed.lines() {
         let line = Escaped(line);
@@ -154,7 +152,7 @@ fn fmt_extras<W: fmt::Write>(
     Ok(())
 }
 
-/// What stands behind all parts.
+/// What comes after all parts.
 pub(crate) fn fmt_end<W: fmt::Write>(f: &mut fmt::Formatter<W>) -> fmt::Result {
     write!(f, "</main>\n</body>\n</html>\n")
 }
@@ -176,7 +174,7 @@ impl fmt::Display for Page<'_, '_, '_, '_> {
 
 /// The texts on a certificate that are made before its page.
 #[derive(Drop)]
-struct Texts {
+struct PageTexts {
     refusal: String,
     changed: String,
 }
@@ -196,7 +194,7 @@ fn shown<'x>(
     cert: &'x Cert<'_>,
     symbols: &'x Symbols<'_>,
     facts: &'x Facts,
-    texts: &'x Texts,
+    texts: &'x PageTexts,
     extras: Extras<'x>,
 ) -> Result<String, AllocError> {
     let page = Page {
@@ -211,7 +209,7 @@ fn shown<'x>(
     format!(in alloc; "{page}")
 }
 
-/// The page of a certificate for a cartridge, right or wrong, with addresses told by symbols.
+/// The page of a certificate for a cartridge, right or wrong, with labels from symbols.
 ///
 /// # Errors
 ///
@@ -224,7 +222,7 @@ pub fn page_of(
     extras: Extras<'_>,
 ) -> Result<String, AllocError> {
     let facts = Facts::of(alloc, rom, cert)?;
-    let texts = Texts {
+    let texts = PageTexts {
         refusal: refusal_of(alloc, rom, cert, facts.verdict)?,
         changed: changed_of(alloc, extras)?,
     };

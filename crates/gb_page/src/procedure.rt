@@ -5,14 +5,14 @@ use crate::names::{Address, ProcedureLink, ProcedureName};
 use crate::page::Page;
 use crate::ram::fmt_ranges;
 use crate::stack::{by_text, fmt_way};
-use gb_facts::{Bound, Exit, Facts, Link, Procedure};
+use gb_facts::{Bound, CallLink, Exit, Facts, ProcedureFacts};
 use std::fmt;
 
 /// The other end of a link: which procedure, by what, and from how many nodes.
 fn fmt_end<W: fmt::Write>(
     page: &Page<'_, '_, '_, '_>,
     number: u8,
-    link: &Link,
+    link: &CallLink,
     f: &mut fmt::Formatter<W>,
 ) -> fmt::Result {
     let name = ProcedureLink { page, number };
@@ -50,7 +50,7 @@ fn fmt_callers<W: fmt::Write>(
     number: u8,
     f: &mut fmt::Formatter<W>,
 ) -> fmt::Result {
-    write!(f, "<dt>entered from</dt><dd>")?;
+    write!(f, "<dt>called from</dt><dd>")?;
     if number == 0 {
         write!(f, "power-up ")?;
     } else if !is_entered(page.facts, number) {
@@ -70,7 +70,7 @@ fn fmt_callees<W: fmt::Write>(
     number: u8,
     f: &mut fmt::Formatter<W>,
 ) -> fmt::Result {
-    write!(f, "<dt>enters</dt><dd>")?;
+    write!(f, "<dt>calls</dt><dd>")?;
     if !has_links(page.facts, number) {
         write!(f, "nothing")?;
     }
@@ -102,10 +102,10 @@ fn fmt_kept<W: fmt::Write>(exit: &Exit, f: &mut fmt::Formatter<W>) -> fmt::Resul
     let h = word_if(registers.h, "H ");
     let l = word_if(registers.l, "L ");
     let ie = word_if(exit.ie, "IE ");
-    let controller = word_if(exit.controller, "banks and gate");
+    let controller = word_if(exit.controller, "banks and RAM gate");
     write!(
         f,
-        "<dt>keeps</dt><dd>{a}{flags}{b}{c}{d}{e}{h}{l}{ie}{controller}</dd>\n"
+        "<dt>preserves</dt><dd>{a}{flags}{b}{c}{d}{e}{h}{l}{ie}{controller}</dd>\n"
     )
 }
 
@@ -121,11 +121,11 @@ fn fmt_exit<W: fmt::Write>(exit: Option<Exit>, f: &mut fmt::Formatter<W>) -> fmt
 fn fmt_writes<W: fmt::Write>(
     page: &Page<'_, '_, '_, '_>,
     number: u8,
-    procedure: &Procedure,
+    procedure: &ProcedureFacts,
     f: &mut fmt::Formatter<W>,
 ) -> fmt::Result {
     let ranges = procedure.ranges.as_slice();
-    write!(f, "<dt>may write</dt><dd>")?;
+    write!(f, "<dt>can write</dt><dd>")?;
     if number == 0 && page.facts.version == 3 {
         write!(f, "all RAM")?;
     } else if ranges.is_empty() {
@@ -140,7 +140,7 @@ fn fmt_writes<W: fmt::Write>(
 fn fmt_depth<W: fmt::Write>(
     page: &Page<'_, '_, '_, '_>,
     number: u8,
-    procedure: &Procedure,
+    procedure: &ProcedureFacts,
     f: &mut fmt::Formatter<W>,
 ) -> fmt::Result {
     let own = procedure.own.bytes;
@@ -149,12 +149,12 @@ fn fmt_depth<W: fmt::Write>(
     if page.facts.bound == Bound::Circle {
         return write!(
             f,
-            "<dt>stack</dt><dd>holds {own} bytes itself; the certificate allows {need}</dd></dl>\n"
+            "<dt>stack</dt><dd>{own} bytes of its own; the certificate allows {need}</dd></dl>\n"
         );
     }
     write!(
         f,
-        "<dt>stack</dt><dd>holds {own} bytes itself, {depth} with all that it enters; the certificate allows {need}</dd></dl>\n<details><summary>Its deepest way</summary>\n"
+        "<dt>stack</dt><dd>{own} bytes of its own, {depth} with all calls and interrupts; the certificate allows {need}</dd></dl>\n<details><summary>Deepest call chain</summary>\n"
     )?;
     fmt_way(page, number, f)?;
     write!(f, "</details>\n")
@@ -164,7 +164,7 @@ fn fmt_depth<W: fmt::Write>(
 pub fn fmt_procedure<W: fmt::Write>(
     page: &Page<'_, '_, '_, '_>,
     number: u8,
-    procedure: &Procedure,
+    procedure: &ProcedureFacts,
     f: &mut fmt::Formatter<W>,
 ) -> fmt::Result {
     let name = ProcedureName { page, number };

@@ -3,7 +3,7 @@
 use crate::names::{Address, ProcedureLink};
 use crate::page::Page;
 use crate::procedure::fmt_procedure;
-use gb_facts::{Bound, Procedure};
+use gb_facts::{Bound, ProcedureFacts};
 use std::fmt;
 
 /// How deep a procedure gets, where that is known.
@@ -18,7 +18,7 @@ impl fmt::Display for Depth {
         let bytes = self.bytes;
         match self.bound {
             Bound::Known => write!(f, "{bytes}"),
-            Bound::Circle => write!(f, "not known"),
+            Bound::Circle => write!(f, "unknown"),
         }
     }
 }
@@ -27,7 +27,7 @@ impl fmt::Display for Depth {
 fn fmt_row<W: fmt::Write>(
     page: &Page<'_, '_, '_, '_>,
     number: u8,
-    procedure: &Procedure,
+    procedure: &ProcedureFacts,
     f: &mut fmt::Formatter<W>,
 ) -> fmt::Result {
     let name = ProcedureLink { page, number };
@@ -56,7 +56,7 @@ fn fmt_row<W: fmt::Write>(
 fn fmt_table<W: fmt::Write>(page: &Page<'_, '_, '_, '_>, f: &mut fmt::Formatter<W>) -> fmt::Result {
     write!(
         f,
-        "<div class=\"wide\"><table><thead><tr><th>procedure</th><th>address</th><th class=\"number\">nodes</th><th class=\"number\">holds itself</th><th class=\"number\">deepest</th><th class=\"number\">need</th></tr></thead><tbody>\n"
+        "<div class=\"wide\"><table><thead><tr><th>routine</th><th>address</th><th class=\"number\">nodes</th><th class=\"number\">own bytes</th><th class=\"number\">with calls</th><th class=\"number\">allowed</th></tr></thead><tbody>\n"
     )?;
     for number in 0..page.cert.procedures() {
         if let Some(procedure) = page.facts.procedures.get(usize::from(number)) {
@@ -73,7 +73,7 @@ fn fmt_cut<W: fmt::Write>(nodes: u32, listed: u32, f: &mut fmt::Formatter<W>) ->
     }
     write!(
         f,
-        "<p class=\"cut\">Of {nodes} nodes the first {listed} are listed here; <code>certify --list</code> has all of them.</p>\n"
+        "<p class=\"cut\">This page lists the first {listed} of {nodes} nodes. <code>certify --list</code> prints all of them.</p>\n"
     )
 }
 
@@ -84,7 +84,7 @@ pub fn fmt_procedures<W: fmt::Write>(
 ) -> fmt::Result {
     write!(
         f,
-        "<section id=\"procedures\"><h2>Procedures</h2>\n<p>In bytes of stack: what a procedure’s own nodes hold, the most with all that it calls and all that interrupts it, and what the certificate allows. The first one is where the console starts.</p>\n"
+        "<section id=\"procedures\"><h2>Routines</h2>\n<p>Stack use in bytes: the routine’s own, the most with all calls and interrupts, and what the certificate allows. Main is where the console starts. A routine is listed once for each bank or value that matters to it.</p>\n"
     )?;
     fmt_table(page, f)?;
     fmt_cut(page.facts.nodes, page.extras.listed, f)?;

@@ -2,13 +2,13 @@
 
 use crate::names::ProcedureLink;
 use crate::page::Page;
-use crate::strip::{Area, HIGH_RAM, Shade, WORK_RAM, fmt_begin, fmt_end, fmt_key, fmt_mark};
-use gb_facts::{Facts, Procedure};
-use gb_verify::Range;
+use crate::strip::{HIGH_RAM, Shade, Strip, WORK_RAM, fmt_begin, fmt_end, fmt_key, fmt_mark};
+use gb_facts::{Facts, ProcedureFacts};
+use gb_reports::Range;
 use std::fmt;
 
 /// The code that runs in RAM.
-fn fmt_code<W: fmt::Write>(facts: &Facts, area: Area, f: &mut fmt::Formatter<W>) -> fmt::Result {
+fn fmt_code<W: fmt::Write>(facts: &Facts, area: Strip, f: &mut fmt::Formatter<W>) -> fmt::Result {
     for run in &facts.code {
         if run.bank.is_none() {
             fmt_mark(area, Shade::Code, run.first, run.last, f)?;
@@ -18,7 +18,7 @@ fn fmt_code<W: fmt::Write>(facts: &Facts, area: Area, f: &mut fmt::Formatter<W>)
 }
 
 /// The strip of the stack and of code.
-fn fmt_held<W: fmt::Write>(facts: &Facts, area: Area, f: &mut fmt::Formatter<W>) -> fmt::Result {
+fn fmt_held<W: fmt::Write>(facts: &Facts, area: Strip, f: &mut fmt::Formatter<W>) -> fmt::Result {
     fmt_begin(area, f)?;
     fmt_mark(area, Shade::Stack, facts.region.first, facts.region.last, f)?;
     fmt_code(facts, area, f)?;
@@ -28,7 +28,7 @@ fn fmt_held<W: fmt::Write>(facts: &Facts, area: Area, f: &mut fmt::Formatter<W>)
 /// The strip of what a procedure may write.
 fn fmt_written<W: fmt::Write>(
     ranges: &[Range],
-    area: Area,
+    area: Strip,
     f: &mut fmt::Formatter<W>,
 ) -> fmt::Result {
     fmt_begin(area, f)?;
@@ -44,9 +44,9 @@ pub fn fmt_ranges<W: fmt::Write>(ranges: &[Range], f: &mut fmt::Formatter<W>) ->
         let first = range.first;
         let last = range.last;
         if first == last {
-            write!(f, "<code>{first:04X}</code> ")?;
+            write!(f, "<code>${first:04X}</code> ")?;
         } else {
-            write!(f, "<code>{first:04X}-{last:04X}</code> ")?;
+            write!(f, "<code>${first:04X}-${last:04X}</code> ")?;
         }
     }
     Ok(())
@@ -56,7 +56,7 @@ pub fn fmt_ranges<W: fmt::Write>(ranges: &[Range], f: &mut fmt::Formatter<W>) ->
 fn fmt_row<W: fmt::Write>(
     page: &Page<'_, '_, '_, '_>,
     number: u8,
-    procedure: &Procedure,
+    procedure: &ProcedureFacts,
     f: &mut fmt::Formatter<W>,
 ) -> fmt::Result {
     let ranges = procedure.ranges.as_slice();
@@ -97,30 +97,30 @@ fn fmt_first_row<W: fmt::Write>(facts: &Facts, f: &mut fmt::Formatter<W>) -> fmt
     let last = facts.region.last;
     write!(
         f,
-        "<div class=\"ram head\"><span class=\"name\"></span><span>work RAM, C000-DFFF</span><span>high RAM, FF80-FFFE</span><span class=\"ranges\"></span></div>\n<div class=\"ram\"><span class=\"name\">stack and code</span>"
+        "<div class=\"ram head\"><span class=\"name\"></span><span>WRAM, $C000-$DFFF</span><span>HRAM, $FF80-$FFFE</span><span class=\"ranges\"></span></div>\n<div class=\"ram\"><span class=\"name\">stack and code</span>"
     )?;
     fmt_held(facts, WORK_RAM, f)?;
     fmt_held(facts, HIGH_RAM, f)?;
     write!(
         f,
-        "<span class=\"ranges\"><code>{first:04X}-{last:04X}</code></span></div>\n"
+        "<span class=\"ranges\"><code>${first:04X}-${last:04X}</code></span></div>\n"
     )
 }
 
-/// What the marks stand for.
+/// What the marks mean.
 fn fmt_keys<W: fmt::Write>(facts: &Facts, f: &mut fmt::Formatter<W>) -> fmt::Result {
     write!(f, "<p>")?;
-    fmt_key(Shade::Stack, "the stack’s region", f)?;
+    fmt_key(Shade::Stack, "the stack’s area", f)?;
     fmt_key(Shade::Code, "code that runs in RAM", f)?;
     fmt_key(
         Shade::Written,
-        "may be written by the procedure or by what it calls",
+        "the routine, or what it calls, can write here",
         f,
     )?;
     if facts.version == 3 {
         write!(
             f,
-            "The first procedure may write all RAM. A procedure’s own bytes on the stack aren’t marked."
+            "Main can write all RAM. A routine’s own bytes on the stack aren’t marked."
         )?;
     }
     write!(f, "</p>\n")

@@ -1,12 +1,12 @@
 //! ROM, bank by bank.
 
 use crate::page::Page;
-use crate::strip::{Area, Shade, fmt_begin, fmt_end, fmt_key, fmt_mark, length_of};
+use crate::strip::{Shade, Strip, fmt_begin, fmt_end, fmt_key, fmt_mark, length_of};
 use gb_facts::{CodeRun, Facts};
 use std::fmt;
 
 /// A bank, by places in it.
-const BANK: Area = Area {
+const BANK: Strip = Strip {
     first: 0,
     last: 0x3FFF,
     name: "bank of ROM",
@@ -35,7 +35,7 @@ fn shown_at(bank: u16, place: u16) -> u16 {
 /// A run of code in a bank's strip, by the addresses at which it is usually shown.
 fn fmt_run<W: fmt::Write>(bank: u16, run: &CodeRun, f: &mut fmt::Formatter<W>) -> fmt::Result {
     let start = shown_at(bank, 0);
-    let area = Area {
+    let area = Strip {
         first: start,
         last: start.saturating_add(BANK.last),
         name: BANK.name,
@@ -80,7 +80,7 @@ pub fn fmt_rom<W: fmt::Write>(
     fmt_key(Shade::Code, "certified code", f)?;
     write!(
         f,
-        "The rest is not reached as code; which of it is read as data a certificate doesn’t say.</p>\n"
+        "The CPU never executes the rest. The game may read it as data.</p>\n"
     )?;
     for bank in 0..page.facts.banks {
         fmt_bank(page.facts, bank, f)?;

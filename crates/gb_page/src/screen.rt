@@ -5,7 +5,7 @@ use std::fmt;
 /// A screen's shades, 0 the lightest, line by line.
 pub type Screen = [[u8; 160]; 144];
 
-/// The shades that are drawn; the lightest one is what lies behind.
+/// The shades that are drawn; the lightest one is the background.
 const SHADES: &[u8] = &[1, 2, 3];
 
 /// Pixels one after another.
@@ -57,7 +57,7 @@ fn fmt_shade<W: fmt::Write>(screen: &Screen, shade: u8, f: &mut fmt::Formatter<W
 pub(crate) fn fmt_screen<W: fmt::Write>(screen: &Screen, f: &mut fmt::Formatter<W>) -> fmt::Result {
     write!(
         f,
-        "<section id=\"screen\"><h2>The screen</h2>\n<p>As it is 120 frames after power-up, with no key pressed.</p>\n<svg class=\"screen\" viewBox=\"0 0 160 144\" shape-rendering=\"crispEdges\" role=\"img\" aria-label=\"the screen after 120 frames\">"
+        "<section id=\"screen\"><h2>The screen</h2>\n<p>120 frames after power-up, with no key pressed.</p>\n<svg class=\"screen\" viewBox=\"0 0 160 144\" shape-rendering=\"crispEdges\" role=\"img\" aria-label=\"the screen after 120 frames\">"
     )?;
     for shade in SHADES {
         fmt_shade(screen, *shade, f)?;

@@ -1,10 +1,11 @@
-//! The stack: how deep it gets, by which way, and how much room is left.
+//! The stack: how deep it gets, by which calls, and how much room there is down to the next label.
 
+use crate::escaped::Escaped;
 use crate::interrupts::interrupt_text;
 use crate::names::{NodeLink, ProcedureLink};
 use crate::page::Page;
-use crate::strip::{Area, Shade, fmt_begin, fmt_end, fmt_mark};
-use gb_facts::{Bound, By, Facts, Link, Step};
+use crate::strip::{Shade, Strip, fmt_begin, fmt_end, fmt_mark};
+use gb_facts::{Bound, CallLink, EnteredBy, Facts, StackStep};
 use std::fmt;
 
 /// The depth of the first procedure, with all that it calls.
@@ -17,21 +18,30 @@ fn greatest(facts: &Facts) -> u32 {
 
 /// The first address of the stack that is ever used, if the depth fits.
 fn lowest_used(facts: &Facts) -> u16 {
-    let behind = u32::from(facts.region.last).saturating_add(1);
-    let lowest = behind.saturating_sub(greatest(facts));
+    let after = u32::from(facts.region.last).saturating_add(1);
+    let lowest = after.saturating_sub(greatest(facts));
     u16::try_from(lowest).unwrap_or(facts.region.last)
 }
 
-/// The region as a strip.
+/// How the used bytes are marked.
+fn shade_of(facts: &Facts) -> Shade {
+    if greatest(facts) > facts.room() {
+        Shade::Over
+    } else {
+        Shade::Used
+    }
+}
+
+/// The area as a strip.
 fn fmt_region<W: fmt::Write>(facts: &Facts, f: &mut fmt::Formatter<W>) -> fmt::Result {
-    let area = Area {
+    let strip = Strip {
         first: facts.region.first,
         last: facts.region.last,
-        name: "the stack’s region",
+        name: "the stack’s area",
     };
-    fmt_begin(area, f)?;
+    fmt_begin(strip, f)?;
     if greatest(facts) > 0 {
-        fmt_mark(area, Shade::Used, lowest_used(facts), area.last, f)?;
+        fmt_mark(strip, shade_of(facts), lowest_used(facts), strip.last, f)?;
     }
     fmt_end(f)?;
     write!(f, "\n")
@@ -46,15 +56,31 @@ fn fmt_sum<W: fmt::Write>(facts: &Facts, f: &mut fmt::Formatter<W>) -> fmt::Resu
     let left = room.saturating_sub(used);
     write!(
         f,
-        "<p>The stack’s region is <code>{first:04X}-{last:04X}</code>, {room} bytes. At most <b>{used} bytes</b> of it are ever used, and <b>{left}</b> are left. <span class=\"quiet\">certify takes the least region that suffices, unless --stack names one.</span></p>\n"
+        "<p>The stack’s area is <code>${first:04X}-${last:04X}</code>, {room} bytes. At most <b>{used} bytes</b> are ever used, so <b>{left}</b> are free. <span class=\"quiet\">certify takes the smallest area that suffices, unless you set --stack.</span></p>\n"
+    )
+}
+
+/// The next label below the bytes that are ever used, and how far down it is.
+fn fmt_below<W: fmt::Write>(page: &Page<'_, '_, '_, '_>, f: &mut fmt::Formatter<W>) -> fmt::Result {
+    let lowest = lowest_used(page.facts);
+    let below = lowest.saturating_sub(1);
+    let Some(symbol) = page.symbols.place(0, below) else {
+        return Ok(());
+    };
+    let name = Escaped(symbol.name);
+    let address = below.saturating_sub(symbol.offset);
+    let bytes = lowest.saturating_sub(address);
+    write!(
+        f,
+        "<p>The next label below is <span class=\"symbol\">{name}</span> at <code>${address:04X}</code>: <b>{bytes} bytes</b> below the deepest push.</p>\n"
     )
 }
 
 /// By what a link goes on.
-pub fn by_text(by: By) -> &'static str {
+pub fn by_text(by: EnteredBy) -> &'static str {
     match by {
-        By::Call => "call",
-        By::Interrupt(interrupt) => interrupt_text(interrupt),
+        EnteredBy::Call => "call",
+        EnteredBy::Interrupt(interrupt) => interrupt_text(interrupt),
     }
 }
 
@@ -62,7 +88,7 @@ pub fn by_text(by: By) -> &'static str {
 fn fmt_link<W: fmt::Write>(
     page: &Page<'_, '_, '_, '_>,
     name: ProcedureLink<'_, '_, '_, '_, '_>,
-    link: &Link,
+    link: &CallLink,
     f: &mut fmt::Formatter<W>,
 ) -> fmt::Result {
     let by = by_text(link.by);
@@ -101,7 +127,7 @@ fn fmt_own<W: fmt::Write>(
 /// A step, and the procedure that comes next.
 fn fmt_step<W: fmt::Write>(
     page: &Page<'_, '_, '_, '_>,
-    step: Step,
+    step: StackStep,
     f: &mut fmt::Formatter<W>,
 ) -> Result<Option<u8>, fmt::Error> {
     let number = step.procedure;
@@ -144,7 +170,7 @@ pub fn fmt_way<W: fmt::Write>(
 ) -> fmt::Result {
     write!(
         f,
-        "<div class=\"wide\"><table><thead><tr><th>procedure</th><th class=\"number\">bytes</th><th>goes on by</th><th>at</th></tr></thead><tbody>\n"
+        "<div class=\"wide\"><table><thead><tr><th>routine</th><th class=\"number\">bytes</th><th>then</th><th>at</th></tr></thead><tbody>\n"
     )?;
     fmt_steps(page, from, f)?;
     write!(f, "</tbody></table></div>\n")
@@ -164,15 +190,16 @@ pub fn fmt_stack<W: fmt::Write>(
     if page.facts.bound == Bound::Circle {
         return write!(
             f,
-            "<p>Procedures call one another in a circle, so how deep the stack gets isn’t known.</p></section>\n"
+            "<p>Routines call one another in a circle, so the stack’s depth is unknown.</p></section>\n"
         );
     }
     fmt_sum(page.facts, f)?;
     fmt_region(page.facts, f)?;
+    fmt_below(page, f)?;
     let side = return_side(page.facts.version);
     write!(
         f,
-        "<p>The deepest way. The bytes are those that wait while the next procedure runs; a return address is among the {side} bytes.</p>\n"
+        "<p>The deepest call chain. Each row shows the bytes that wait on the stack while the next routine runs. A return address counts among the {side} bytes.</p>\n"
     )?;
     fmt_way(page, 0, f)?;
     write!(f, "</section>\n")

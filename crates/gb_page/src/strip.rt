@@ -1,13 +1,15 @@
-//! Strips: a part of memory as a bar, with marks where something lies.
+//! Strips: a part of memory as a bar, with marks where something is.
 
 use std::fmt;
 
-/// What a mark stands for.
+/// What a mark means.
 #[derive(Clone, Copy)]
 pub enum Shade {
     Code,
     Stack,
     Used,
+    /// More than there is room for.
+    Over,
     Written,
 }
 
@@ -17,30 +19,31 @@ fn class_of(shade: Shade) -> &'static str {
         Shade::Code => "code",
         Shade::Stack => "stack",
         Shade::Used => "used",
+        Shade::Over => "over",
         Shade::Written => "written",
     }
 }
 
-/// The addresses of a strip, and what it is called.
+/// The addresses of a strip, and its name.
 #[derive(Clone, Copy)]
-pub struct Area {
+pub struct Strip {
     pub first: u16,
     pub last: u16,
     pub name: &'static str,
 }
 
-/// Work RAM.
-pub const WORK_RAM: Area = Area {
+/// WRAM.
+pub const WORK_RAM: Strip = Strip {
     first: 0xC000,
     last: 0xDFFF,
-    name: "work RAM",
+    name: "WRAM",
 };
 
-/// High RAM.
-pub const HIGH_RAM: Area = Area {
+/// HRAM.
+pub const HIGH_RAM: Strip = Strip {
     first: 0xFF80,
     last: 0xFFFE,
-    name: "high RAM",
+    name: "HRAM",
 };
 
 /// How many addresses there are from one to another.
@@ -51,7 +54,7 @@ pub fn length_of(first: u16, last: u16) -> u32 {
 }
 
 /// The beginning of a strip.
-pub fn fmt_begin<W: fmt::Write>(area: Area, f: &mut fmt::Formatter<W>) -> fmt::Result {
+pub fn fmt_begin<W: fmt::Write>(area: Strip, f: &mut fmt::Formatter<W>) -> fmt::Result {
     let width = length_of(area.first, area.last);
     let name = area.name;
     write!(
@@ -67,7 +70,7 @@ pub fn fmt_end<W: fmt::Write>(f: &mut fmt::Formatter<W>) -> fmt::Result {
 
 /// A mark, as far as it lies in the strip.
 pub fn fmt_mark<W: fmt::Write>(
-    area: Area,
+    area: Strip,
     shade: Shade,
     first: u16,
     last: u16,
@@ -83,7 +86,7 @@ pub fn fmt_mark<W: fmt::Write>(
     let width = length_of(from, to);
     write!(
         f,
-        "<rect class=\"{class}\" x=\"{place}\" width=\"{width}\" height=\"1\"><title>{first:04X} to {last:04X}</title></rect>"
+        "<rect class=\"{class}\" x=\"{place}\" width=\"{width}\" height=\"1\"><title>${first:04X} to ${last:04X}</title></rect>"
     )
 }
 

@@ -2,8 +2,8 @@
 
 /// The style sheet.
 pub(crate) const STYLE: &str = "\
-:root { color-scheme: light dark; --back: #fff; --text: #1c2024; --quiet: #5d656d; --line: #d9dde1; --panel: #f5f6f8; --link: #0b5cad; --code: #2f7d4f; --stack: #b4632a; --used: #c2432f; --written: #3f6fb5; --good: #1d6b3c; --bad: #a62b1f; }
-@media (prefers-color-scheme: dark) { :root { --back: #15181b; --text: #e3e6e9; --quiet: #9aa3ab; --line: #343a40; --panel: #1e2226; --link: #7db7f2; --code: #58b47d; --stack: #dd9257; --used: #e8705b; --written: #7aa5e6; --good: #6cc78f; --bad: #f08a7b; } }
+:root { color-scheme: light dark; --back: #fff; --text: #1c2024; --quiet: #5d656d; --line: #d9dde1; --panel: #f5f6f8; --link: #0b5cad; --code: #2f7d4f; --stack: #b4632a; --used: #2b7a9b; --written: #3f6fb5; --good: #1d6b3c; --bad: #a62b1f; }
+@media (prefers-color-scheme: dark) { :root { --back: #15181b; --text: #e3e6e9; --quiet: #9aa3ab; --line: #343a40; --panel: #1e2226; --link: #7db7f2; --code: #58b47d; --stack: #dd9257; --used: #6fbcdc; --written: #7aa5e6; --good: #6cc78f; --bad: #f08a7b; } }
 * { box-sizing: border-box; }
 body { margin: 0; background: var(--back); color: var(--text); font: 16px/1.5 system-ui, sans-serif; }
 main { max-width: 72rem; margin: 0 auto; padding: 1rem 1.25rem 4rem; }
@@ -15,8 +15,6 @@ a:hover, a:focus { text-decoration: underline; }
 code, pre, .at, .op, .state { font-family: ui-monospace, monospace; font-size: .9em; }
 pre { background: var(--panel); padding: .75rem 1rem; white-space: pre-wrap; overflow-wrap: anywhere; border-left: 4px solid var(--bad); }
 .known { border-left-color: var(--line); white-space: pre-wrap; margin: 0; }
-.beside { display: grid; grid-template-columns: repeat(auto-fit, minmax(18rem, 1fr)); gap: .5rem 2rem; margin-bottom: 1.25rem; }
-.beside p { margin: 0; }
 nav { display: flex; flex-wrap: wrap; gap: .25rem 1.25rem; }
 .quiet, .symbol { color: var(--quiet); font-weight: normal; }
 .verdict { font: bold 1.15rem/1.4 ui-monospace, monospace; padding: .6rem 1rem; background: var(--panel); border-left: 6px solid; overflow-wrap: anywhere; }
@@ -38,6 +36,7 @@ th.number, td.number { padding-right: 1.5rem; white-space: normal; }
 rect.code { fill: var(--code); stroke: var(--code); }
 rect.stack { fill: var(--stack); stroke: var(--stack); }
 rect.used { fill: var(--used); stroke: var(--used); }
+rect.over { fill: var(--bad); stroke: var(--bad); }
 rect.written { fill: var(--written); stroke: var(--written); }
 .screen { display: block; width: 320px; max-width: 100%; background: #e0e8d0; outline: 1px solid var(--line); }
 .shade1 { fill: #a0b088; }
@@ -59,7 +58,6 @@ dd { margin: 0; overflow-wrap: anywhere; }
 .node .symbol { overflow: hidden; text-overflow: ellipsis; white-space: nowrap; }
 .state { grid-column: 2 / -1; color: var(--quiet); font-size: .8em; overflow-wrap: anywhere; }
 @media (max-width: 700px) {
-.beside { grid-template-columns: minmax(0, 1fr); }
 .ram { grid-template-columns: repeat(4, 1fr); margin: .6rem 0; }
 .ram .name { grid-column: span 2; order: 1; }
 .ram .ranges { grid-column: span 2; order: 2; text-align: right; }

@@ -1,26 +1,24 @@
-//! The verdict, what it means, and on what it rests.
+//! The verdict, what it means, and what it depends on.
 
 use crate::escaped::Escaped;
 use crate::names::NodeLink;
 use crate::page::Page;
 use gb_ops::machine::Kind;
-use gb_reports::Explanation;
-use gb_verify::verdict::Verdict;
-use gb_verify::{Cert, Rom};
+use gb_reports::{Cert, Explanation, Rom, Verdict};
 use std::alloc::{AllocError, Global};
 use std::fmt;
 
 /// What an accepted certificate means.
 const MEANING: &str =
-    "In every run from power-up, whatever is pressed or read and whenever enabled interrupts arrive: no undefined opcode is executed, code is fetched from certified banks alone, the stack is written only inside its region, cartridge RAM is touched only while it is enabled, and during an OAM transfer high RAM alone is used.";
+    "This holds in every run from power-up, whatever keys are pressed and whenever enabled interrupts fire. The CPU never executes an undefined opcode, and fetches code from certified banks only. Pushes, calls and interrupts write only to the stack’s area. Cartridge RAM is used only while it is enabled. During OAM DMA, only HRAM is used.";
 
-/// On what the verdict rests, and what it doesn't say.
+/// What the verdict depends on, and what it doesn't say.
 const PREMISES: &str = "\
-<li>The machine is the one that this project defines from Pan Docs: the first Game Boy, with interrupts at instruction boundaries, and all accesses at an instruction’s start. That the hardware is so isn’t proved.</li>
-<li>The cartridge is, byte for byte, the one that was read.</li>
-<li>The toolchain that proved the checker, the C library and the operating system are trusted. Nothing holds of a run with <code>--unproved</code>.</li>
-<li>Nothing is said of what the game shows, of its timing, or that an interrupt ever comes.</li>
-<li>The verdict is the checker’s, which is proved. What stands below it is computed from the certificate by a program of which no more is proved than that it is safe and ends.</li>
+<li>The machine is the one that this project defines from Pan Docs: the first Game Boy (DMG). Interrupts come between instructions, and an instruction’s accesses happen at its start. That real hardware does the same isn’t proved.</li>
+<li>The cartridge has exactly the bytes of this ROM.</li>
+<li>The toolchain that proved the checker, the C library and the operating system are trusted. A run with <code>--unproved</code> proves nothing.</li>
+<li>Nothing is said about what the game shows, about its timing, or whether an interrupt ever fires.</li>
+<li>Only the verdict is proved. The rest of this page is informational.</li>
 ";
 
 /// What there is to say of a refusal, if it is one.
@@ -60,7 +58,7 @@ fn fmt_line<W: fmt::Write>(verdict: Verdict, f: &mut fmt::Formatter<W>) -> fmt::
 fn fmt_meaning<W: fmt::Write>(f: &mut fmt::Formatter<W>) -> fmt::Result {
     write!(
         f,
-        "<p>{MEANING}</p>\n<details><summary>On what that rests</summary>\n<ul>\n{PREMISES}</ul>\n</details>\n"
+        "<p>{MEANING}</p>\n<details><summary>What this depends on</summary>\n<ul>\n{PREMISES}</ul>\n</details>\n"
     )
 }
 
@@ -74,14 +72,14 @@ fn fmt_refusal<W: fmt::Write>(
     let text = Escaped(page.refusal);
     write!(
         f,
-        "<p>The certificate is refused at node {node}, {link}. Nothing is promised of the cartridge, and what stands below is only what the certificate claims. That doesn’t mean that the cartridge is wrong.</p>\n<pre>{text}</pre>\n"
+        "<p>The checker refuses this certificate at node {node}, {link}. Nothing is proved about the game, and the rest of this page shows only what the certificate claims. The game may still be safe: a certificate fits one build only.</p>\n<pre>{text}</pre>\n"
     )
 }
 
 /// The name of the controller.
 fn kind_text(kind: Kind) -> &'static str {
     match kind {
-        Kind::Rom => "no controller",
+        Kind::Rom => "no MBC",
         Kind::Mbc1 => "MBC1",
         Kind::Mbc3 => "MBC3",
         Kind::Mbc5 => "MBC5",
@@ -97,7 +95,7 @@ fn fmt_files<W: fmt::Write>(page: &Page<'_, '_, '_, '_>, f: &mut fmt::Formatter<
     let version = page.facts.version;
     write!(
         f,
-        "<p class=\"quiet\">Cartridge: {kind}, ROM banks {banks}, RAM banks {ram_banks}, header checksum {checksum:02X}. Certificate: version {version}.</p>\n"
+        "<p class=\"quiet\">Cartridge: {kind}, ROM banks {banks}, RAM banks {ram_banks}, header checksum ${checksum:02X}. Certificate: version {version}.</p>\n"
     )
 }
 

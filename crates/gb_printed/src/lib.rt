@@ -17,6 +17,10 @@ pub use script::{Progress, run_script, run_script_shown};
 pub use show::show_cert;
 
 // What lies below, for the crates above.
+pub use gb_console::run::steps_are_played;
 pub use gb_console::{
-    Console, Ending, Outcome, UpgradeTo, Upgraded, Verdict, check, upgrade_bytes, verify_bytes,
+    Abs, Answer, Cell, Console, Core, Ctl, Ending, Flg, ImeSet, Input, Keys, May, OneByte, Origin,
+    Outcome, Range, Reason, Relations, Rules, Setting, Span, Test, UpgradeTo, Upgraded, Val,
+    Verdict, callee, check, check_irqs, check_node, covered_at, covers, enter, resume,
+    successors_of, upgrade_bytes, verdict_ignores_version, verify_bytes,
 };

@@ -33,7 +33,7 @@ impl Progress for Silence {
 
 /// How a run ended, with the number of its frames, or of the frame that wasn't whole.
 #[derive(Clone, Copy)]
-struct Run {
+struct ScriptRun {
     ending: Ending,
     number: u32,
 }
@@ -61,7 +61,7 @@ fn run_frames<P: Progress>(
     script: &[u8],
     frames: u32,
     progress: &mut P,
-) -> Run
+) -> ScriptRun
     ensures { IsRun script.now frames console.old result.number result.ending console.new }
 {
     for number in 0..frames {
@@ -69,17 +69,17 @@ fn run_frames<P: Progress>(
         let ending = console.frame(keys_at(script, number), seconds_of(number));
         match ending {
             Ending::Whole => {}
-            Ending::Locked | Ending::Stopped => return Run { ending, number },
+            Ending::Locked | Ending::Stopped => return ScriptRun { ending, number },
         }
     }
-    Run {
+    ScriptRun {
         ending: Ending::Whole,
         number: frames,
     }
 }
 
 /// The line that says how a run ended.
-fn ending_line(run: Run, pc: u16) -> Line
+fn ending_line(run: ScriptRun, pc: u16) -> Line
     ensures { result ≡ ending_text run.ending run.number pc }
 {
     let mut line = Line::new();
@@ -99,7 +99,7 @@ fn ending_line(run: Run, pc: u16) -> Line
 
 /// Writes the screen's lines and the ending's line.
 #[tactic(auto, using(gb_text::proofs::Gained::gains_both, gb_text::proofs::Gained::begins_first, gb_text::proofs::Gained::begins_second))]
-fn put_run<W: Sink>(console: &Console<'_>, run: Run, out: &mut W) -> Result<(), OutFault>
+fn put_run<W: Sink>(console: &Console<'_>, run: ScriptRun, out: &mut W) -> Result<(), OutFault>
     requires { W.has_failed out.old ≡ false }
     ensures whole { OnOk result (Gains (W.contents out.old) (run_text console.now run.number run.ending) (W.contents out.new)) }
     ensures beginning { OnErr result (GainsBeginning (W.contents out.old) (run_text console.now run.number run.ending) (W.contents out.new)) }

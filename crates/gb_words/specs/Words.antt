@@ -3,8 +3,8 @@ use Rattle.std.specs.Prelude.{◌≡◌, ◌==◌, ◌||◌, ◌⊎◌, Bool, tr
 use Rattle.std.specs.Str.{bytes_eq}
 use Rattle.std.specs.Str.Parse.{signed_digits_value}
 use Rattle.clap.specs.Words.{IsSignedIn, Text}
-use Rattle.gb_words.specs.declared.words.Version.{Version}
-use Rattle.gb_words.specs.declared.words.Version.TheVariants as version
+use Rattle.gb_words.specs.declared.words.TargetVersion.{TargetVersion}
+use Rattle.gb_words.specs.declared.words.TargetVersion.TheVariants as version
 use Rattle.gb_words.specs.declared.words.Task.{Task}
 use Rattle.gb_words.specs.declared.words.Task.TheVariants as task
 
@@ -34,17 +34,17 @@ pub record IsFrames (word : Text) (frames : ℕ) : Type 0 where
 abbrev pub is_file : Text → Bool
 is_file word = bytes_eq word (codes "-") || not (begins_with_hyphen word)
 
-abbrev pub version_word : Version → Text
+abbrev pub version_word : TargetVersion → Text
 version_word version.Two = codes "2"
 version_word version.Three = codes "3"
 
 -- `upgrade --to`, a version, and the name of a file
-pub record IsUpgradeTo (words : List Text) (to : Version) (cert : Text) : Type 0 where
+pub record IsUpgradeTo (words : List Text) (to : TargetVersion) (cert : Text) : Type 0 where
   pub are : words ≡ codes "upgrade" ∷ codes "--to" ∷ version_word to ∷ cert ∷ []
   pub file : is_file cert ≡ true
 
 -- the same, or `upgrade` and the name of a file, which asks for version 2
-abbrev pub IsUpgrade : List Text → Version → Text → Type 0
+abbrev pub IsUpgrade : List Text → TargetVersion → Text → Type 0
 IsUpgrade words version.Two cert = IsCommand words (codes "upgrade") (cert ∷ []) ⊎ IsUpgradeTo words version.Two cert
 IsUpgrade words version.Three cert = IsUpgradeTo words version.Three cert
 

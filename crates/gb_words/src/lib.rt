@@ -6,4 +6,4 @@
 mod help;
 mod words;
 
-pub use words::{Task, Version, read_words};
+pub use words::{TargetVersion, Task, read_words};

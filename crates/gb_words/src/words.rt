@@ -15,13 +15,13 @@ const MOST_FRAMES: i64 = 36_000;
 
 /// A version of certificates that one can be upgraded to.
 #[derive(Clone, Copy, Debug, PartialEq, Eq)]
-pub enum Version {
+pub enum TargetVersion {
     Two,
     Three,
 }
 
 /// What the program is asked to do.
-#[derive(Clone, Copy, PartialEq, Eq)]
+#[derive(Clone, Copy, Debug, PartialEq, Eq)]
 pub enum Task<'a> {
     /// The verdict on the cartridge and the certificate that the program brings along.
     Stored,
@@ -41,7 +41,7 @@ pub enum Task<'a> {
     /// This certificate in this version.
     Upgrade {
         cert: &'a str,
-        to: Version,
+        to: TargetVersion,
     },
     /// A run of so many frames of this cartridge, with the keys of this script.
     Run {
@@ -259,13 +259,13 @@ fn value<'a>(matches: &ArgMatches<'a>, id: &str) -> &'a str
 }
 
 /// The version that a word names.
-fn version_named(word: &str) -> Option<Version>
+fn version_named(word: &str) -> Option<TargetVersion>
     ensures some { IfSome result (λ version. word.now ≡ Words.version_word version) }
-    ensures all { (version : Version) → word.now ≡ Words.version_word version → is_some result ≡ true }
+    ensures all { (version : TargetVersion) → word.now ≡ Words.version_word version → is_some result ≡ true }
 {
     match word {
-        "2" => Some(Version::Two),
-        "3" => Some(Version::Three),
+        "2" => Some(TargetVersion::Two),
+        "3" => Some(TargetVersion::Three),
         _ => None,
     }
 }
@@ -280,7 +280,7 @@ fn is_file(word: &str) -> bool
 /// The upgrade that the words `upgrade --to VERSION CERT` ask for, in this order. They are read here: `clap` knows no version.
 fn upgrade_asked<'a>(words: &'a [&'a str]) -> Option<Task<'a>>
     ensures some { IfSome result (Words.StandFor (map (λ word. word.now) words.now)) }
-    ensures all { (to : Version) (cert : List ℕ) → Words.IsUpgradeTo (map (λ word. word.now) words.now) to cert → is_some result ≡ true }
+    ensures all { (to : TargetVersion) (cert : List ℕ) → Words.IsUpgradeTo (map (λ word. word.now) words.now) to cert → is_some result ≡ true }
 {
     if words.len() != 4 || words[0] != "upgrade" || words[1] != "--to" || !is_file(words[3]) {
         return None;
@@ -305,7 +305,7 @@ pub fn read_words<'a>(alloc: Global, words: &'a [&'a str]) -> Result<Task<'a>, E
     ensures upgrade { (cert : List ℕ) → map (λ word. word.now) words.now ≡ codes "upgrade" ∷ cert ∷ []
         → Words.begins_with_hyphen cert ≡ false
         → IfErr result (λ e. kind_of e ≡ ErrorKind.OutOfMemory) }
-    ensures upgrade_to { (to : Version) (cert : List ℕ) → Words.IsUpgradeTo (map (λ word. word.now) words.now) to cert → IsOk result }
+    ensures upgrade_to { (to : TargetVersion) (cert : List ℕ) → Words.IsUpgradeTo (map (λ word. word.now) words.now) to cert → IsOk result }
     ensures run { (rom script frames : List ℕ) (n : ℕ) → map (λ word. word.now) words.now ≡ codes "run" ∷ rom ∷ script ∷ frames ∷ []
         → Words.begins_with_hyphen rom ≡ false → Words.begins_with_hyphen script ≡ false
         → Words.begins_with_hyphen frames ≡ false → Words.IsFrames frames n
@@ -342,7 +342,7 @@ pub fn read_words<'a>(alloc: Global, words: &'a [&'a str]) -> Result<Task<'a>, E
             let cert = value(arguments, "cert");
             Ok(Task::Upgrade {
                 cert,
-                to: Version::Two,
+                to: TargetVersion::Two,
             })
         }
         "run" => {

@@ -1,7 +1,7 @@
-//! What is in the way, where a reason has to do with the stack, with other nodes, with procedures or with interrupts.
+//! What a certificate lacks, where a reason has to do with the stack, with other nodes, with procedures or with interrupts.
 
 use crate::Differences;
-use gb_abs::{Halves, Range, Rules};
+use gb_verify::{Halves, Range, Rules};
 
 /// How much is on the stack: words by the rules of versions 1 and 2, bytes by those of version 3.
 #[derive(Clone, Copy)]
@@ -10,25 +10,25 @@ pub enum Amount {
     Bytes(usize),
 }
 
-/// Behind what the program goes on.
+/// What the program goes on after.
 #[derive(Clone, Copy)]
-pub enum Behind {
+pub enum After {
     /// The instruction itself.
     Instruction,
     /// The procedure that it calls.
     Call(u8),
     /// The procedure that handles the interrupt.
     Handler(u8),
-    /// The instruction by which main begins anew.
+    /// The instruction that sets SP in a routine, so that main starts again.
     Restart,
     /// What is called, where it goes on in this procedure, since none is entered.
     Inlined(u8),
 }
 
-/// Where the program goes on. It prints as the beginning of a sentence.
+/// Where the program goes on, and after what. It prints as the beginning of a sentence.
 #[derive(Clone, Copy)]
-pub struct Way {
-    pub behind: Behind,
+pub struct GoesOn {
+    pub after: After,
     pub address: u16,
 }
 
@@ -58,15 +58,15 @@ pub enum TooDeep {
     },
 }
 
-/// No node stands for what is left.
+/// No node covers what is left.
 #[derive(Clone, Copy)]
 pub enum Uncovered {
     /// The procedure has none where it goes on.
-    NoNode { way: Way, procedure: u8 },
+    NoNode { way: GoesOn, procedure: u8 },
     /// This one comes nearest.
-    Node { way: Way, node: u32 },
-    /// A callee gives back more items than a state holds beside those that wait.
-    Overfull { way: Way },
+    Node { way: GoesOn, node: u32 },
+    /// A callee gives back more bytes than a state holds besides those that wait.
+    Overfull { way: GoesOn },
 }
 
 /// No procedure is called, or one that may not be.
@@ -120,9 +120,9 @@ pub enum Unreturnable {
     Lost { word: Halves, is_main: bool },
 }
 
-/// What is in the way. Each prints a line; behind one that ends with a colon the parts that differ are to be told.
+/// What is missing. Each prints a line; after one that ends with a colon come the parts that differ.
 #[derive(Clone, Copy)]
-pub enum Obstacle {
+pub enum GapKind {
     TooDeep(TooDeep),
     Uncovered(Uncovered),
     Uncallable(Uncallable),
@@ -131,29 +131,28 @@ pub enum Obstacle {
     StackNotSet,
 }
 
-/// Who claims the state that doesn't stand for what is left.
+/// What claims the state that doesn't cover what is left.
 #[derive(Clone, Copy)]
 pub enum Claim {
     Node(u32),
     Exit,
 }
 
-/// What is in the way, and the parts that differ, if states are compared. It prints some lines, the last without its
-/// end.
+/// What is missing, and the parts that differ, if states are compared. It prints some lines, the last without its end.
 #[derive(Clone, Copy)]
-pub struct Hindrance {
-    pub obstacle: Obstacle,
+pub struct Gap {
+    pub kind: GapKind,
     pub compared: Option<(Claim, Differences)>,
 }
 
-/// All that is in the way of where a node goes on. It prints some lines, the last without its end.
+/// All that is missing where a node goes on. It prints some lines, the last without its end.
 #[derive(Clone, Copy)]
-pub struct Finding {
-    /// The interrupt that comes, if it is in the way of one.
+pub struct Gaps {
+    /// The bit of the interrupt that fires, where it is an interrupt that isn't provided for.
     pub interrupt: Option<u8>,
-    pub first: Hindrance,
-    /// What is in the way beside it, where one of two would do.
-    pub second: Option<Hindrance>,
+    pub first: Gap,
+    /// What is missing besides, where one of the two would do.
+    pub second: Option<Gap>,
 }
 
 impl Amount {
@@ -172,28 +171,28 @@ impl Amount {
     }
 }
 
-impl Hindrance {
-    /// An obstacle without compared states.
-    pub(crate) fn plain(obstacle: Obstacle) -> Hindrance {
-        Hindrance {
-            obstacle,
+impl Gap {
+    /// A gap without compared states.
+    pub(crate) fn plain(kind: GapKind) -> Gap {
+        Gap {
+            kind,
             compared: None,
         }
     }
 }
 
-impl Finding {
-    /// One thing that is in the way.
-    pub(crate) fn of(first: Hindrance) -> Finding {
-        Finding {
+impl Gaps {
+    /// One gap alone.
+    pub(crate) fn of(first: Gap) -> Gaps {
+        Gaps {
             interrupt: None,
             first,
             second: None,
         }
     }
 
-    /// An obstacle without compared states.
-    pub(crate) fn plain(obstacle: Obstacle) -> Finding {
-        Finding::of(Hindrance::plain(obstacle))
+    /// A gap without compared states.
+    pub(crate) fn plain(kind: GapKind) -> Gaps {
+        Gaps::of(Gap::plain(kind))
     }
 }

@@ -1,0 +1,108 @@
+//! Finds what a certificate lacks for a node.
+
+use crate::calls::{called_gaps, callee_gaps};
+use crate::covering::way_gaps;
+use crate::depth::{call_gaps, moved_gaps};
+use crate::gap::{After, Gaps, GoesOn};
+use crate::interrupts::interrupt_gaps;
+use crate::returns::return_gaps;
+use gb_ops::decode::decode;
+use gb_ops::op::Row;
+use gb_verify::{
+    Abs, Cert, NodeRef, Reason, Rom, Successor, Successors, Target, known_bytes, stack_of,
+    successors_of,
+};
+
+/// What is missing where a successor goes on: in its procedure, after a call, or in main.
+fn uncovered_gaps(cert: &Cert<'_>, procedure: u8, successor: &Successor<'_>) -> Option<Gaps> {
+    match successor.target {
+        Target::At(address) => {
+            let after = After::Instruction;
+            way_gaps(
+                cert,
+                procedure,
+                GoesOn { after, address },
+                &successor.state(),
+            )
+        }
+        Target::Main(address) => {
+            let after = After::Restart;
+            way_gaps(cert, 0, GoesOn { after, address }, &successor.state())
+        }
+        Target::Call(address) => called_gaps(cert, procedure, address, successor),
+        Target::Return | Target::Unknown | Target::Lost => None,
+    }
+}
+
+/// What is missing of a successor of these states, by the reason.
+fn successor_gaps(
+    cert: &Cert<'_>,
+    procedure: u8,
+    reason: Reason,
+    state: &Abs,
+    way: &Option<Successor<'_>>,
+) -> Option<Gaps> {
+    let Some(successor) = way else { return None };
+    match reason {
+        Reason::Depth => call_gaps(cert, procedure, successor),
+        Reason::Uncovered => uncovered_gaps(cert, procedure, successor),
+        Reason::Callee => callee_gaps(cert, procedure, successor),
+        Reason::Return => return_gaps(cert, procedure, state, successor),
+        _ => None,
+    }
+}
+
+/// What is missing of the first successor against which the reason is.
+fn successors_gaps(
+    cert: &Cert<'_>,
+    procedure: u8,
+    reason: Reason,
+    state: &Abs,
+    ways: &Successors<'_>,
+) -> Option<Gaps> {
+    let taken = successor_gaps(cert, procedure, reason, state, &ways.taken);
+    if taken.is_some() {
+        return taken;
+    }
+    let not_taken = successor_gaps(cert, procedure, reason, state, &ways.not_taken);
+    if not_taken.is_some() {
+        return not_taken;
+    }
+    successor_gaps(cert, procedure, reason, state, &ways.stays)
+}
+
+/// What makes the stack too deep: the instruction itself, what it calls, or an interrupt's dispatch.
+fn depth_gaps(
+    cert: &Cert<'_>,
+    node: &NodeRef<'_>,
+    state: &Abs,
+    row: Row,
+    ways: &Successors<'_>,
+) -> Option<Gaps> {
+    let procedure = node.procedure();
+    let moved = moved_gaps(cert, procedure, state, row.op, &ways.taken);
+    if moved.is_some() {
+        return moved;
+    }
+    let called = successors_gaps(cert, procedure, Reason::Depth, state, ways);
+    if called.is_some() {
+        return called;
+    }
+    interrupt_gaps(cert, node, Reason::Depth, state)
+}
+
+/// What is missing of a node, where the reason has to do with the stack's depth, with other nodes, with procedures or,
+/// by the rules of version 3, with interrupts: for the first of its successors, or of the interrupts, against which the
+/// reason is.
+pub fn gaps_of(rom: &Rom<'_>, cert: &Cert<'_>, node: &NodeRef<'_>, reason: Reason) -> Option<Gaps> {
+    let state = node.state();
+    let bytes = known_bytes(rom, &state, node.address())?;
+    let row = decode(&bytes)?;
+    let procedure = node.procedure();
+    let ways = successors_of(stack_of(cert, procedure), rom, row, node.address(), &state);
+    match reason {
+        Reason::Depth => depth_gaps(cert, node, &state, row, &ways),
+        Reason::Interrupt => interrupt_gaps(cert, node, reason, &state),
+        _ => successors_gaps(cert, procedure, reason, &state, &ways),
+    }
+}
