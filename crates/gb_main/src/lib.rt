@@ -1,0 +1,87 @@
+//! The front door: every public call and type of the checker and the console, each by its plain name.
+//!
+//! # The checker
+//!
+//! 1. `Rom::parse` reads a cartridge's bytes, or says what is wrong with them (H1 to H7).
+//! 2. `Cert::parse` reads a certificate's bytes, or says what is wrong with them (C1 to C9).
+//! 3. `check` answers the verdict. Where it is `Accepted`, every run of the cartridge from power-up is safe.
+//!
+//! `verify_bytes` does all three and writes the line of the verdict to a `Sink`: `Plain` is one over std's writers, `KeptBytes`
+//! one in memory. `check_node` and `check_irqs` ask a single node; `show_cert`, `encode`, `write_certificate` and
+//! `upgrade_bytes` print and write certificates.
+//!
+//! # The console
+//!
+//! 1. `Rom::parse`, as above.
+//! 2. `Console::new` makes a console at power-up.
+//! 3. `Console::frame` runs a frame with the keys that are held, `Console::step` one event; `Console::screen` lends the picture.
+//!
+//! `run_script` runs frames by a script of keys and writes the last screen. `watch_frame` is a frame that stops at the first fault
+//! of a stack region, and reports exactly that one. `PlainMachine` is the machine by itself, with
+//! each event handed in.
+//!
+//! `callers` has both as functions of a few lines.
+#![tactic(auto)]
+
+pub mod callers;
+
+// Cartridges, and where text goes.
+pub use gb_text::put::put_all;
+pub use gb_text::{HeaderFault, KeptBytes, Line, OutFault, Plain, PutFault, Rom, Sink};
+
+// The machine.
+pub use gb_ops::decode::decode;
+pub use gb_ops::{
+    Banks, CodePlace, Event, Faults, Ime, Kind, Op, Processor, ReadSource, Region, Register, Row,
+};
+pub use gb_plain::faults::faults;
+pub use gb_plain::places::places;
+pub use gb_plain::{Cartridge, MachineState, PlaceList, PlainMachine};
+
+// The console, and what it is made of.
+pub use gb_bus::Bus;
+pub use gb_cpu::{Cpu, HEIGHT, Irqs, Memory, Stepped, WIDTH, next_irq};
+pub use gb_dma::Transfer;
+pub use gb_mbc::{Clock, ClockRegister, Controller, Flat, Mapper, Mbc1, Mbc3, Mbc5, Time};
+pub use gb_ppu::lanes::{shades, tile_row};
+pub use gb_ppu::line::render_line;
+pub use gb_ppu::{LcdRegister, Mode, Ppu, Scene};
+pub use gb_printed::{Console, Ending, Input, Keys, steps_are_played};
+pub use gb_timer::{Joypad, Timer};
+pub use gb_watch::{Sighting, Watched, watch_frame};
+
+// Certificates.
+pub use gb_cert::{
+    Cert, CertFault, Found, NodePlan, NodeRef, ProcedurePlan, ProcedureRef, Search, WriteFault,
+    encode, one_spelling, write_certificate,
+};
+pub use gb_printed::{
+    Abs, Cell, Core, Ctl, Flg, ImeSet, May, OneByte, Origin, Range, Relations, Rules, Setting,
+    Span, Test, Val,
+};
+
+// Operations on values, on states, and the rules of nodes.
+pub use gb_abs_memory::load::load;
+pub use gb_abs_memory::store::store;
+pub use gb_abs_memory::{Area, Stored};
+pub use gb_calls::{Resumed, Return};
+pub use gb_printed::{
+    Reason, callee, check_irqs, check_node, covered_at, covers, enter, resume, successors_of,
+};
+pub use gb_rows::{Rows, find_in, first_near, found_from};
+pub use gb_vals::AbsComputed;
+pub use gb_vals::alu::{alu, alu_itself};
+pub use gb_vals::bits::{reset_bit, set_bit, test_bit};
+pub use gb_vals::carry::{complement_carry, set_carry};
+pub use gb_vals::daa::adjust;
+pub use gb_vals::logic::complement;
+pub use gb_vals::shifts::{rotate_a, shift};
+pub use gb_vals::sums::{decrement, increment};
+
+// The verdict, and texts.
+pub use gb_printed::{
+    Answer, Outcome, Progress, RunOutcome, UpgradeTo, Upgraded, Verdict, check, header_bytes,
+    header_line, run_bytes, run_script, run_script_shown, show_bytes, show_cert, upgrade_bytes,
+    verdict_ignores_version, verify_bytes,
+};
+pub use gb_words::{TargetVersion, Task, read_words};
