@@ -34,7 +34,8 @@ const EITHER: May = May {
     set: true,
 };
 
-fn put(rom: &mut [u8; 0x8000], at: u16, bytes: &[u8]) {
+/// Puts bytes into a cartridge, from an address on.
+pub(crate) fn put(rom: &mut [u8; 0x8000], at: u16, bytes: &[u8]) {
     for (place, byte) in rom.iter_mut().skip(usize::from(at)).zip(bytes) {
         *place = *byte;
     }
@@ -91,7 +92,7 @@ fn byte_of(origin: Origin) -> Val {
     }
 }
 
-/// The same with the return word on the stack.
+/// The state of an entered procedure: the return word is on the stack.
 fn entered(core: Core) -> Abs {
     let mut items = ArrayVec::new();
     items.push(byte_of(Origin::ReturnHigh));

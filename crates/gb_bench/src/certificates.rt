@@ -1,6 +1,6 @@
 //! Certificates of many nodes, each with the cartridge that it is for. In all of them each node is right. `Sample` names them.
 
-use crate::calls;
+use crate::{calls, crowded};
 use gb_cert::{NodePlan, ProcedurePlan, Version, WriteFault, write_certificate};
 use gb_domain::types::{Abs, Core, Val};
 use gb_ops::machine::Region;
@@ -253,6 +253,7 @@ pub enum Sample {
     SingleValues,
     StraightLineExtended,
     Calls,
+    Crowded,
 }
 
 /// All of them, as they are measured.
@@ -263,6 +264,7 @@ pub const SAMPLES: &[Sample] = &[
     Sample::SingleValues,
     Sample::StraightLineExtended,
     Sample::Calls,
+    Sample::Crowded,
 ];
 
 impl Sample {
@@ -275,6 +277,8 @@ impl Sample {
             Sample::SingleValues => "65,533 single values at one address",
             Sample::StraightLineExtended => "65,535 nodes of straight-line code, version 3",
             Sample::Calls => "65,535 nodes of calls, returns and loops, version 3",
+            Sample::Crowded =>
+                "2,516 nodes, 2,000 of them covered by 512 at one address, version 3",
         }
     }
 
@@ -287,6 +291,7 @@ impl Sample {
             Sample::OneAddress => loop_alone(),
             Sample::SingleValues => two_jumps(),
             Sample::Calls => calls::cartridge(),
+            Sample::Crowded => crowded::cartridge(),
         }
     }
 
@@ -297,6 +302,7 @@ impl Sample {
             Sample::StraightLine => straight(alloc, Version::One, start),
             Sample::StraightLineExtended => straight(alloc, Version::Three, start),
             Sample::Calls => calls::bytes(alloc, start),
+            Sample::Crowded => crowded::bytes(alloc, start),
             Sample::Procedures => procedures(alloc, start),
             Sample::OneAddress => one_address(alloc, start),
             Sample::SingleValues => single_values(alloc, start),

@@ -2,13 +2,15 @@
 //! processor's steps; and frames of a full scene. The times go to standard error; what is printed on standard
 //! output is the same each time.
 //!
-//! Nothing is promised here. `processor.rt`, `picture.rt`, `certificates.rt` and `calls.rt` have what is measured.
+//! Nothing is promised here. `processor.rt`, `picture.rt`, `certificates.rt`, `calls.rt` and `crowded.rt` have what is measured.
 #![tactic(auto)]
 
 mod calls;
 mod certificates;
+mod crowded;
 mod picture;
 mod processor;
+mod shortcuts;
 
 use certificates::Sample;
 use gb_verify::check::check;
@@ -116,6 +118,7 @@ fn measure_sample<R: Print + Eprint + Clock + AllocGlobal>(
 }
 
 fn main(rt: HostRuntime) -> io::Result<()> {
+    shortcuts::count(&rt, &processor::cartridge())?;
     let cycles = processor::run(&rt)?;
     println!(rt; "the processor's steps took {cycles} M-cycles")?;
     let drawn = picture::draw(&rt)?;

@@ -12,7 +12,7 @@ use std::time::Instant;
 const STEPS: u32 = 1_000_000;
 
 /// ADD A,B; INC B; XOR C; INC C; JR back to the first, at 0150.
-fn cartridge() -> [u8; 0x8000] {
+pub fn cartridge() -> [u8; 0x8000] {
     let mut rom = [0; 0x8000];
     rom[0x150] = 0x80;
     rom[0x151] = 0x04;

@@ -99,7 +99,7 @@ fn each_procedure_has_longer_numbers(rt: HostRuntime) {
     assert!(rt; out.kept().get(26..) == Some(&two[20..]));
 }
 
-/// The same in version 3: main needs 256 bytes, and the other procedure no more than the 8,192 that it needed before.
+/// The head and procedures in version 3: main needs 256 bytes, and the other procedure no more than the 8,192 that it needed before.
 const FRONT_IN_VERSION_3: &[u8] = &[
     0x47, 0x42, 0x42, 0x58, 0x03, 0x00, 0xDF, 0xFF, 0xDF, 0x02, 0x02, 0x00, 0x00, 0x00, 0x00, 0x00,
     0x00, 0x00, 0x00, 0xE0, 0x00, 0x01, 0x00, 0x00, 0x01, 0x00, 0x00, 0x00, 0x00, 0x00, 0x00, 0x20,
@@ -189,7 +189,7 @@ fn shows_beginning(alloc: Global, bytes: &[u8], whole: &[u8], most: usize) -> bo
     shown == Err(OutFault) && Some(out.kept()) == whole.get(..most) && out.failed()
 }
 
-/// The same of `upgrade`.
+/// Whether a failing sink gets a beginning of what `upgrade` writes.
 fn upgrades_beginning(
     alloc: Global,
     bytes: &[u8],
@@ -249,7 +249,7 @@ fn is_whole_or_refused(is_whole: bool, is_refused: bool, kept: &[u8], whole: &[u
     is_whole && kept == whole || is_refused && kept == b"CERTIFICATE C9\n".as_slice()
 }
 
-/// The same of an upgrade of the least certificate.
+/// Whether an upgrade of the least certificate is written whole, or memory was refused.
 fn is_upgraded_or_refused(alloc: Global, to: UpgradeTo, whole: &[u8]) -> bool {
     let mut out = KeptBytes::new(1_000, 1_000);
     let upgraded = upgrade_bytes(alloc, &least(), to, &mut out);

@@ -13,7 +13,7 @@ use std::test::Fail;
 
 /// What is done with a console, with what comes of it, or what it shows.
 #[derive(Clone, Copy)]
-enum Step {
+enum ConsoleStep {
     /// A frame with a key or none, and how it ends.
     Frame(Option<Keys>, Ending),
     /// A frame with no key, after a second.
@@ -29,6 +29,8 @@ enum Step {
     /// So many steps with a key or none, in which the joypad's interrupt is dispatched so often.
     Dispatches(Option<Keys>, u16, u16),
     Pc(u16),
+    /// The M-cycles since power-up, modulo a frame's.
+    Cycles(u16),
     /// PC stands from one address to another.
     PcIn(u16, u16),
     /// The shade of a line's pixel.
@@ -74,26 +76,28 @@ fn is_dark(console: &Console<'_>) -> bool {
 }
 
 /// Does a step, and answers whether the console does what it says.
-fn agrees(console: &mut Console<'_>, step: Step) -> bool {
+fn agrees(console: &mut Console<'_>, step: ConsoleStep) -> bool {
     match step {
-        Step::Frame(key, ending) => console.frame(held(key), 0) == ending,
-        Step::SecondFrame(ending) => console.frame(Keys::empty(), 1) == ending,
-        Step::Run(steps) => {
+        ConsoleStep::Frame(key, ending) => console.frame(held(key), 0) == ending,
+        ConsoleStep::SecondFrame(ending) => console.frame(Keys::empty(), 1) == ending,
+        ConsoleStep::Run(steps) => {
             run(console, steps);
             true
         }
-        Step::Event(event) => console.step(Keys::empty(), 0) == event,
-        Step::Executes => matches!(console.step(Keys::empty(), 0), Event::Run { .. }),
-        Step::SecondEvent(event) => console.step(Keys::empty(), 1) == event,
-        Step::Dispatches(key, steps, count) => dispatches(console, held(key), steps) == count,
-        Step::Pc(pc) => console.pc() == pc,
-        Step::PcIn(first, last) => first <= console.pc() && console.pc() <= last,
-        Step::Shade(line, column, shade) => is_shade(console, line, column, shade),
-        Step::Dark => is_dark(console),
+        ConsoleStep::Event(event) => console.step(Keys::empty(), 0) == event,
+        ConsoleStep::Executes => matches!(console.step(Keys::empty(), 0), Event::Run { .. }),
+        ConsoleStep::SecondEvent(event) => console.step(Keys::empty(), 1) == event,
+        ConsoleStep::Dispatches(key, steps, count) => dispatches(console, held(key), steps)
+            == count,
+        ConsoleStep::Pc(pc) => console.pc() == pc,
+        ConsoleStep::Cycles(cycles) => console.cycles() == cycles,
+        ConsoleStep::PcIn(first, last) => first <= console.pc() && console.pc() <= last,
+        ConsoleStep::Shade(line, column, shade) => is_shade(console, line, column, shade),
+        ConsoleStep::Dark => is_dark(console),
     }
 }
 
-fn play(rt: &impl Abort, console: &mut Console<'_>, steps: &[Step]) {
+fn play(rt: &impl Abort, console: &mut Console<'_>, steps: &[ConsoleStep]) {
     for (i, step) in steps.iter().enumerate() {
         assert!(rt; agrees(console, *step), "step {i}");
     }
@@ -105,7 +109,7 @@ fn play_program(
     alloc: Global,
     program: &[u8],
     handler: usize,
-    steps: &[Step],
+    steps: &[ConsoleStep],
 ) -> Result<(), Fail> {
     let mut bytes = small(PLAIN, program);
     put(&mut bytes, handler, &[0xD9]);
@@ -119,15 +123,15 @@ const VBLANK: usize = 0x40;
 
 const JOYPAD: usize = 0x60;
 
-const STAYS: &[Step] = &[
-    Step::Pc(0x0100),
-    Step::Run(6),
-    Step::Pc(0x0158),
-    Step::Event(Event::HaltStay),
-    Step::Event(Event::Irq(0)),
-    Step::Pc(0x0040),
-    Step::Run(1),
-    Step::Pc(0x0158),
+const STAYS: &[ConsoleStep] = &[
+    ConsoleStep::Pc(0x0100),
+    ConsoleStep::Run(6),
+    ConsoleStep::Pc(0x0158),
+    ConsoleStep::Event(Event::HaltStay),
+    ConsoleStep::Event(Event::Irq(0)),
+    ConsoleStep::Pc(0x0040),
+    ConsoleStep::Run(1),
+    ConsoleStep::Pc(0x0158),
 ];
 
 /// HALT behind EI stays, and RETI leads back to it: the word that the dispatch pushed is its own address.
@@ -139,14 +143,14 @@ fn halt_behind_ei_stays_and_is_left_by_the_interrupt(rt: HostRuntime) -> Result<
 /// LD A,01; LDH (FF),A; HALT; NOP; JR to itself.
 const HALTS_WITH_INTERRUPTS_OFF: &[u8] = &[0x3E, 0x01, 0xE0, 0xFF, 0x76, 0x00, 0x18, 0xFE];
 
-const READS_TWICE: &[Step] = &[
-    Step::Run(4),
-    Step::Event(Event::HaltBug),
-    Step::Pc(0x0155),
-    Step::Executes,
-    Step::Pc(0x0155),
-    Step::Executes,
-    Step::Pc(0x0156),
+const READS_TWICE: &[ConsoleStep] = &[
+    ConsoleStep::Run(4),
+    ConsoleStep::Event(Event::HaltBug),
+    ConsoleStep::Pc(0x0155),
+    ConsoleStep::Executes,
+    ConsoleStep::Pc(0x0155),
+    ConsoleStep::Executes,
+    ConsoleStep::Pc(0x0156),
 ];
 
 /// An interrupt is requested while IME is off: the NOP behind HALT is read twice.
@@ -161,13 +165,13 @@ fn a_nop_behind_halt_is_read_twice(rt: HostRuntime) -> Result<(), Fail> {
     )
 }
 
-const LOCKS: &[Step] = &[
-    Step::Frame(None, Ending::Whole),
-    Step::Frame(None, Ending::Whole),
-    Step::Frame(Some(Keys::A), Ending::Locked),
-    Step::Pc(0x015A),
-    Step::SecondEvent(Event::Wait(0)),
-    Step::SecondFrame(Ending::Locked),
+const LOCKS: &[ConsoleStep] = &[
+    ConsoleStep::Frame(None, Ending::Whole),
+    ConsoleStep::Frame(None, Ending::Whole),
+    ConsoleStep::Frame(Some(Keys::A), Ending::Locked),
+    ConsoleStep::Pc(0x015A),
+    ConsoleStep::SecondEvent(Event::Wait(0)),
+    ConsoleStep::SecondFrame(Ending::Locked),
 ];
 
 #[test]
@@ -180,12 +184,12 @@ const ENABLES_KEYS: &[u8] = &[
     0x31, 0x00, 0xE0, 0x3E, 0x10, 0xE0, 0xFF, 0xE0, 0x00, 0xFB, 0x18, 0xFE,
 ];
 
-const HELD: &[Step] = &[
-    Step::Dispatches(None, 2_000, 0),
-    Step::Dispatches(Some(Keys::A), 2_000, 1),
-    Step::Dispatches(Some(Keys::A), 2_000, 0),
-    Step::Dispatches(None, 2_000, 0),
-    Step::Dispatches(Some(Keys::A), 2_000, 1),
+const HELD: &[ConsoleStep] = &[
+    ConsoleStep::Dispatches(None, 2_000, 0),
+    ConsoleStep::Dispatches(Some(Keys::A), 2_000, 1),
+    ConsoleStep::Dispatches(Some(Keys::A), 2_000, 0),
+    ConsoleStep::Dispatches(None, 2_000, 0),
+    ConsoleStep::Dispatches(Some(Keys::A), 2_000, 1),
 ];
 
 /// The interrupt's dispatch takes the request back, and a key that is held makes no other.
@@ -201,18 +205,18 @@ const ASKS_FOR_KEYS: &[u8] = &[
     0x10, 0x28, 0xFA, 0x00, 0xD3,
 ];
 
-const ASKED: &[Step] = &[
-    Step::Frame(None, Ending::Whole),
-    Step::PcIn(0x0000, 0x0159),
-    Step::Frame(Some(Keys::A), Ending::Whole),
-    Step::PcIn(0x015D, 0xFFFF),
-    Step::Frame(Some(Keys::A), Ending::Whole),
-    Step::PcIn(0x015D, 0xFFFF),
-    Step::Frame(Some(Keys::A), Ending::Whole),
-    Step::PcIn(0x015D, 0xFFFF),
-    Step::Frame(None, Ending::Whole),
-    Step::Frame(Some(Keys::A), Ending::Locked),
-    Step::Pc(0x0164),
+const ASKED: &[ConsoleStep] = &[
+    ConsoleStep::Frame(None, Ending::Whole),
+    ConsoleStep::PcIn(0x0000, 0x0159),
+    ConsoleStep::Frame(Some(Keys::A), Ending::Whole),
+    ConsoleStep::PcIn(0x015D, 0xFFFF),
+    ConsoleStep::Frame(Some(Keys::A), Ending::Whole),
+    ConsoleStep::PcIn(0x015D, 0xFFFF),
+    ConsoleStep::Frame(Some(Keys::A), Ending::Whole),
+    ConsoleStep::PcIn(0x015D, 0xFFFF),
+    ConsoleStep::Frame(None, Ending::Whole),
+    ConsoleStep::Frame(Some(Keys::A), Ending::Locked),
+    ConsoleStep::Pc(0x0164),
 ];
 
 #[test]
@@ -220,7 +224,10 @@ fn a_held_key_leaves_if_clear(rt: HostRuntime) -> Result<(), Fail> {
     play_program(&rt, rt.alloc(), ASKS_FOR_KEYS, JOYPAD, ASKED)
 }
 
-const STOPS: &[Step] = &[Step::Frame(None, Ending::Stopped), Step::Pc(0x0150)];
+const STOPS: &[ConsoleStep] = &[
+    ConsoleStep::Frame(None, Ending::Stopped),
+    ConsoleStep::Pc(0x0150),
+];
 
 #[test]
 fn stop_ends_the_run(rt: HostRuntime) -> Result<(), Fail> {
@@ -230,13 +237,13 @@ fn stop_ends_the_run(rt: HostRuntime) -> Result<(), Fail> {
 /// BGP becomes FF, so that each colour of the background is black; then HALT with nothing enabled.
 const BLACKENS: &[u8] = &[0x3E, 0xFF, 0xE0, 0x47, 0x76, 0x00];
 
-const DRAWN: &[Step] = &[
-    Step::Shade(143, 159, 0),
-    Step::Run(5),
-    Step::Event(Event::Wait(1)),
-    Step::Frame(None, Ending::Whole),
-    Step::Shade(0, 0, 3),
-    Step::Shade(143, 159, 3),
+const DRAWN: &[ConsoleStep] = &[
+    ConsoleStep::Shade(143, 159, 0),
+    ConsoleStep::Run(5),
+    ConsoleStep::Event(Event::Wait(1)),
+    ConsoleStep::Frame(None, Ending::Whole),
+    ConsoleStep::Shade(0, 0, 3),
+    ConsoleStep::Shade(143, 159, 3),
 ];
 
 #[test]
@@ -244,8 +251,15 @@ fn a_frame_draws_the_screen(rt: HostRuntime) -> Result<(), Fail> {
     play_program(&rt, rt.alloc(), BLACKENS, VBLANK, DRAWN)
 }
 
-/// NOP, and then the jump.
-const POWER_UP: &[Step] = &[Step::Pc(0x0100), Step::Dark, Step::Run(2), Step::Pc(0x0150)];
+/// NOP takes one M-cycle, and the jump four.
+const POWER_UP: &[ConsoleStep] = &[
+    ConsoleStep::Pc(0x0100),
+    ConsoleStep::Cycles(0),
+    ConsoleStep::Dark,
+    ConsoleStep::Run(2),
+    ConsoleStep::Pc(0x0150),
+    ConsoleStep::Cycles(5),
+];
 
 /// With ample memory the console at power-up; where an allocation is refused, nothing else.
 #[test]
@@ -255,5 +269,28 @@ fn powers_up_or_wants_memory(rt: HostRuntime) -> Result<(), Fail> {
     if let Ok(mut console) = Console::new(rt.alloc(), &rom) {
         play(&rt, &mut console, POWER_UP);
     }
+    Ok(())
+}
+
+/// From HALT with nothing enabled: a frame draws the screen.
+const BLACKENED: &[ConsoleStep] = &[
+    ConsoleStep::Pc(0x0155),
+    ConsoleStep::Frame(None, Ending::Whole),
+    ConsoleStep::Shade(0, 0, 3),
+    ConsoleStep::Pc(0x0155),
+];
+
+/// Both go on alike, each by itself: what one draws, the other doesn't show before it has drawn it too.
+#[test]
+fn a_cloned_console_goes_on_by_itself(rt: HostRuntime) -> Result<(), Fail> {
+    let bytes = small(PLAIN, BLACKENS);
+    let rom = Rom::parse(&bytes)?;
+    let mut console = Console::new(rt.alloc(), &rom)?;
+    run(&mut console, 5);
+    let mut clone = console.try_clone(rt.alloc())?;
+    play(&rt, &mut console, BLACKENED);
+    assert!(rt; is_shade(&clone, 0, 0, 0));
+    play(&rt, &mut clone, BLACKENED);
+    assert!(rt; clone.cycles() == console.cycles());
     Ok(())
 }

@@ -29,7 +29,7 @@ fn start<B: Bus>(bus: &mut B, bytes: &[u8], enabled: bool) -> Cpu {
 
 /// What is done with a processor, with what comes of it, or what it shows.
 #[derive(Clone, Copy)]
-enum Step {
+enum ProcessorStep {
     /// An instruction, whatever its event.
     Run,
     Event(Event),
@@ -49,22 +49,22 @@ fn stepped(cpu: &mut Cpu, memory: &mut Memory<'_>) -> Stepped {
 }
 
 /// Does a step, and answers whether the processor does what it says.
-fn agrees(cpu: &mut Cpu, memory: &mut Memory<'_>, step: Step) -> bool {
+fn agrees(cpu: &mut Cpu, memory: &mut Memory<'_>, step: ProcessorStep) -> bool {
     match step {
-        Step::Run => {
+        ProcessorStep::Run => {
             stepped(cpu, memory);
         }
-        Step::Enable => memory.write(0xFFFF, 0x01),
-        Step::Event(event) => return stepped(cpu, memory).event == event,
-        Step::Takes(event, cycles) => {
+        ProcessorStep::Enable => memory.write(0xFFFF, 0x01),
+        ProcessorStep::Event(event) => return stepped(cpu, memory).event == event,
+        ProcessorStep::Takes(event, cycles) => {
             let stepped = stepped(cpu, memory);
             return stepped.event == event && stepped.cycles == cycles;
         }
-        Step::B(b) => return cpu.processor.registers.b == b,
-        Step::Pc(pc) => return cpu.processor.pc == pc,
-        Step::Ime(ime) => return cpu.processor.ime == ime,
-        Step::IsLocked(is_locked) => return cpu.processor.locked == is_locked,
-        Step::IsWaiting(is_waiting) => return cpu.is_waiting == is_waiting,
+        ProcessorStep::B(b) => return cpu.processor.registers.b == b,
+        ProcessorStep::Pc(pc) => return cpu.processor.pc == pc,
+        ProcessorStep::Ime(ime) => return cpu.processor.ime == ime,
+        ProcessorStep::IsLocked(is_locked) => return cpu.processor.locked == is_locked,
+        ProcessorStep::IsWaiting(is_waiting) => return cpu.is_waiting == is_waiting,
     }
     true
 }
@@ -75,7 +75,7 @@ fn play(
     alloc: Global,
     bytes: &[u8],
     enabled: bool,
-    steps: &[Step],
+    steps: &[ProcessorStep],
 ) -> Result<(), Fail> {
     let cartridge = small(PLAIN, &[]);
     let rom = Rom::parse(&cartridge)?;
@@ -132,14 +132,14 @@ fn single_instructions(rt: HostRuntime) -> Result<(), Fail> {
     Ok(())
 }
 
-const READS_TWICE: &[Step] = &[
-    Step::Event(Event::HaltBug),
-    Step::Run,
-    Step::B(6),
-    Step::Pc(0xC002),
-    Step::Run,
-    Step::B(7),
-    Step::Pc(0xC003),
+const READS_TWICE: &[ProcessorStep] = &[
+    ProcessorStep::Event(Event::HaltBug),
+    ProcessorStep::Run,
+    ProcessorStep::B(6),
+    ProcessorStep::Pc(0xC002),
+    ProcessorStep::Run,
+    ProcessorStep::B(7),
+    ProcessorStep::Pc(0xC003),
 ];
 
 /// HALT with interrupts off and one that is enabled and requested: the byte behind it is read twice.
@@ -148,18 +148,18 @@ fn reads_twice_behind_halt(rt: HostRuntime) -> Result<(), Fail> {
     play(&rt, rt.alloc(), &[0x76, 0x06, 0x04], true, READS_TWICE)
 }
 
-const TURNS_ON: &[Step] = &[
-    Step::Run,
-    Step::Ime(Ime::Pending),
-    Step::Run,
-    Step::Ime(Ime::On),
+const TURNS_ON: &[ProcessorStep] = &[
+    ProcessorStep::Run,
+    ProcessorStep::Ime(Ime::Pending),
+    ProcessorStep::Run,
+    ProcessorStep::Ime(Ime::On),
 ];
 
-const STAYS_OFF: &[Step] = &[
-    Step::Run,
-    Step::Ime(Ime::Pending),
-    Step::Run,
-    Step::Ime(Ime::Off),
+const STAYS_OFF: &[ProcessorStep] = &[
+    ProcessorStep::Run,
+    ProcessorStep::Ime(Ime::Pending),
+    ProcessorStep::Run,
+    ProcessorStep::Ime(Ime::Off),
 ];
 
 /// EI twice turns interrupts on, and DI behind EI leaves them off.
@@ -169,11 +169,11 @@ fn enables_interrupts_one_later(rt: HostRuntime) -> Result<(), Fail> {
     play(&rt, rt.alloc(), &[0xFB, 0xF3], false, STAYS_OFF)
 }
 
-const LOCKED: &[Step] = &[
-    Step::Run,
-    Step::IsLocked(true),
-    Step::Pc(0xC000),
-    Step::Takes(Event::Wait(0), 0),
+const LOCKED: &[ProcessorStep] = &[
+    ProcessorStep::Run,
+    ProcessorStep::IsLocked(true),
+    ProcessorStep::Pc(0xC000),
+    ProcessorStep::Takes(Event::Wait(0), 0),
 ];
 
 #[test]
@@ -181,16 +181,16 @@ fn an_undefined_opcode_locks(rt: HostRuntime) -> Result<(), Fail> {
     play(&rt, rt.alloc(), &[0xD3], false, LOCKED)
 }
 
-const WAITS: &[Step] = &[
-    Step::Run,
-    Step::IsWaiting(true),
-    Step::Event(Event::Wait(1)),
-    Step::Enable,
-    Step::Run,
-    Step::IsWaiting(false),
-    Step::Event(Event::HaltStay),
-    Step::Ime(Ime::On),
-    Step::Pc(0xC002),
+const WAITS: &[ProcessorStep] = &[
+    ProcessorStep::Run,
+    ProcessorStep::IsWaiting(true),
+    ProcessorStep::Event(Event::Wait(1)),
+    ProcessorStep::Enable,
+    ProcessorStep::Run,
+    ProcessorStep::IsWaiting(false),
+    ProcessorStep::Event(Event::HaltStay),
+    ProcessorStep::Ime(Ime::On),
+    ProcessorStep::Pc(0xC002),
 ];
 
 /// HALT waits until an interrupt is enabled and requested. Behind EI it stays, and turns interrupts on.
@@ -199,13 +199,13 @@ fn waits_and_stays(rt: HostRuntime) -> Result<(), Fail> {
     play(&rt, rt.alloc(), &[0x76, 0xFB, 0x76], false, WAITS)
 }
 
-const FREE: &[Step] = &[
-    Step::Run,
-    Step::Event(Event::Run {
+const FREE: &[ProcessorStep] = &[
+    ProcessorStep::Run,
+    ProcessorStep::Event(Event::Run {
         fetch: [0xFF, 0x00, 0x00],
         reads: [0x00, 0x00],
     }),
-    Step::Pc(0x0038),
+    ProcessorStep::Pc(0x0038),
 ];
 
 /// LDH (46),A starts a transfer, and the next instruction's byte is then FF, the event's own.

@@ -1,7 +1,7 @@
 //! The program's words.
 
 use clap::error::ErrorKind;
-use gb_words::{Task, Version, read_words};
+use gb_words::{TargetVersion, Task, read_words};
 use std::alloc::Global;
 
 const VERIFY: Task<'static> = Task::Verify {
@@ -25,21 +25,21 @@ const TASKS: [(&[&str], Task<'static>); 14] = [
         &["upgrade", "-"],
         Task::Upgrade {
             cert: "-",
-            to: Version::Two,
+            to: TargetVersion::Two,
         },
     ),
     (
         &["upgrade", "--to", "2", "A"],
         Task::Upgrade {
             cert: "A",
-            to: Version::Two,
+            to: TargetVersion::Two,
         },
     ),
     (
         &["upgrade", "--to", "3", "-"],
         Task::Upgrade {
             cert: "-",
-            to: Version::Three,
+            to: TargetVersion::Three,
         },
     ),
     (

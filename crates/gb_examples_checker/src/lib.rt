@@ -3,7 +3,7 @@
 //! The functions here promise nothing but to be safe.
 //!
 //! Read controllers.rt and memory.rt first (loads and stores), then certificates.rt, written.rt, verdicts.rt and copies.rt. Whole
-//! programs with their certificates stand in `gb_verdicts`.
+//! programs with their certificates stand in `gb_worked_examples`.
 #![tactic(auto)]
 
 #[cfg(test)]

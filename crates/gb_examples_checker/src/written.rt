@@ -117,7 +117,7 @@ struct State {
     cells: &'static [Cell],
 }
 
-struct Procedure {
+struct PlannedProcedure {
     entry: u32,
     base: u16,
     need: u16,
@@ -125,22 +125,22 @@ struct Procedure {
     exit: Option<State>,
 }
 
-struct Node {
+struct PlannedNode {
     procedure: u8,
     address: u16,
     bank: u16,
     state: State,
 }
 
-const PROCEDURES: &[Procedure] = &[
-    Procedure {
+const PROCEDURES: &[PlannedProcedure] = &[
+    PlannedProcedure {
         entry: 1,
         base: 0xE000,
         need: 0x0006,
         ranges: &[],
         exit: None,
     },
-    Procedure {
+    PlannedProcedure {
         entry: 2,
         base: 0x0000,
         need: 0x0246,
@@ -163,8 +163,8 @@ const PROCEDURES: &[Procedure] = &[
     },
 ];
 
-const NODES: &[Node] = &[
-    Node {
+const NODES: &[PlannedNode] = &[
+    PlannedNode {
         procedure: 0,
         address: 0x0038,
         bank: 0x0000,
@@ -175,7 +175,7 @@ const NODES: &[Node] = &[
             cells: &[],
         },
     },
-    Node {
+    PlannedNode {
         procedure: 0,
         address: 0x0100,
         bank: 0x0000,
@@ -186,7 +186,7 @@ const NODES: &[Node] = &[
             cells: CELLS,
         },
     },
-    Node {
+    PlannedNode {
         procedure: 1,
         address: 0x4567,
         bank: 0x01F2,
@@ -303,7 +303,7 @@ fn is_exit(exit: &Option<Abs>, plain: &Option<State>) -> bool {
     }
 }
 
-fn is_procedure(read: &ProcedureRef<'_>, procedure: &Procedure) -> bool {
+fn is_procedure(read: &ProcedureRef<'_>, procedure: &PlannedProcedure) -> bool {
     read.entry() == procedure.entry
         && read.base() == procedure.base
         && read.need() == procedure.need
@@ -311,7 +311,7 @@ fn is_procedure(read: &ProcedureRef<'_>, procedure: &Procedure) -> bool {
         && is_exit(&read.exit(), &procedure.exit)
 }
 
-fn is_node(read: &NodeRef<'_>, node: &Node) -> bool {
+fn is_node(read: &NodeRef<'_>, node: &PlannedNode) -> bool {
     read.procedure() == node.procedure
         && read.address() == node.address
         && read.bank() == node.bank

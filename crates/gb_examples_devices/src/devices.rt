@@ -62,29 +62,29 @@ fn div_counts_64_cycles_and_is_cleared(rt: HostRuntime) {
 
 /// What is done to a joypad, and whether that requests its interrupt.
 #[derive(Clone, Copy)]
-enum Change {
+enum DeviceChange {
     Select(u8, bool),
     /// The keys that are held, by their bits.
     Hold(u8, bool),
 }
 
 /// Does a change, and answers whether it requests what it says.
-fn agrees(joypad: &mut Joypad, change: Change) -> bool {
+fn agrees(joypad: &mut Joypad, change: DeviceChange) -> bool {
     match change {
-        Change::Select(value, requests) => joypad.select(value) == requests,
-        Change::Hold(bits, requests) => joypad.set(Keys::from_bits_retain(bits)) == requests,
+        DeviceChange::Select(value, requests) => joypad.select(value) == requests,
+        DeviceChange::Hold(bits, requests) => joypad.set(Keys::from_bits_retain(bits)) == requests,
     }
 }
 
 /// Changes, each with what the joypad reads then.
-const CHANGES: [(Change, u8); 7] = [
-    (Change::Select(0x00, false), 0xCF),
-    (Change::Hold(0x01, true), 0xCE),
-    (Change::Select(0x10, false), 0xDE),
-    (Change::Hold(0x01, false), 0xDE),
-    (Change::Hold(0x81, false), 0xDE),
-    (Change::Select(0x20, true), 0xE7),
-    (Change::Select(0x30, false), 0xFF),
+const CHANGES: [(DeviceChange, u8); 7] = [
+    (DeviceChange::Select(0x00, false), 0xCF),
+    (DeviceChange::Hold(0x01, true), 0xCE),
+    (DeviceChange::Select(0x10, false), 0xDE),
+    (DeviceChange::Hold(0x01, false), 0xDE),
+    (DeviceChange::Hold(0x81, false), 0xDE),
+    (DeviceChange::Select(0x20, true), 0xE7),
+    (DeviceChange::Select(0x30, false), 0xFF),
 ];
 
 #[test]

@@ -3,7 +3,7 @@
 use bitflags::Flags;
 use gb_bus::{Bus, Memory};
 use gb_header::Rom;
-use gb_ops::machine::Place;
+use gb_ops::machine::ReadSource;
 use gb_samples::cartridges::{PLAIN, Sizes, file, put, small};
 use gb_timer::irqs::Keys;
 use std::alloc::Global;
@@ -12,7 +12,7 @@ use std::test::Fail;
 
 /// What is done to a memory, or what it shows.
 #[derive(Clone, Copy)]
-enum Step {
+enum MemoryStep {
     Write(u16, u8),
     /// So many M-cycles pass.
     Pass(u32),
@@ -24,7 +24,7 @@ enum Step {
     /// What an address reads.
     Reads(u16, u8),
     IsFree(u16, bool),
-    Place(u16, Place),
+    Place(u16, ReadSource),
     Pending(u8),
     /// A line of the screen is of one shade.
     Line(usize, u8),
@@ -50,28 +50,28 @@ fn is_line(memory: &Memory<'_>, line: usize, shade: u8) -> bool {
 }
 
 /// Does a step, and answers whether the memory shows what it says.
-fn agrees(memory: &mut Memory<'_>, step: Step) -> bool {
+fn agrees(memory: &mut Memory<'_>, step: MemoryStep) -> bool {
     match step {
-        Step::Write(address, value) => memory.write(address, value),
-        Step::Pass(cycles) => pass(memory, cycles),
-        Step::Acknowledge(i) => {
+        MemoryStep::Write(address, value) => memory.write(address, value),
+        MemoryStep::Pass(cycles) => pass(memory, cycles),
+        MemoryStep::Acknowledge(i) => {
             if i < 5 {
                 memory.acknowledge(i)
             }
         }
-        Step::Press(keys) => memory.set_keys(keys),
-        Step::LetGo => memory.set_keys(Keys::empty()),
-        Step::Seconds(seconds) => memory.advance_clock(seconds),
-        Step::Reads(address, byte) => return reads(memory, address, byte),
-        Step::IsFree(address, is_free) => return memory.take(address).is_free == is_free,
-        Step::Place(address, place) => return memory.place(address) == place,
-        Step::Pending(bits) => return memory.pending() == bits,
-        Step::Line(line, shade) => return is_line(memory, line, shade),
+        MemoryStep::Press(keys) => memory.set_keys(keys),
+        MemoryStep::LetGo => memory.set_keys(Keys::empty()),
+        MemoryStep::Seconds(seconds) => memory.advance_clock(seconds),
+        MemoryStep::Reads(address, byte) => return reads(memory, address, byte),
+        MemoryStep::IsFree(address, is_free) => return memory.take(address).is_free == is_free,
+        MemoryStep::Place(address, place) => return memory.place(address) == place,
+        MemoryStep::Pending(bits) => return memory.pending() == bits,
+        MemoryStep::Line(line, shade) => return is_line(memory, line, shade),
     }
     true
 }
 
-fn play(rt: &impl Abort, memory: &mut Memory<'_>, steps: &[Step]) {
+fn play(rt: &impl Abort, memory: &mut Memory<'_>, steps: &[MemoryStep]) {
     for (i, step) in steps.iter().enumerate() {
         assert!(rt; agrees(memory, *step), "step {i}");
     }
@@ -82,7 +82,7 @@ fn play_from_power_up(
     rt: &impl Abort,
     alloc: Global,
     cartridge: &[u8],
-    steps: &[Step],
+    steps: &[MemoryStep],
 ) -> Result<(), Fail> {
     let rom = Rom::parse(cartridge)?;
     let mut memory = Memory::new(alloc, &rom)?;
@@ -91,20 +91,25 @@ fn play_from_power_up(
 }
 
 /// Plays steps on the memory of a small cartridge at power-up.
-fn play_small(rt: &impl Abort, alloc: Global, sizes: Sizes, steps: &[Step]) -> Result<(), Fail> {
+fn play_small(
+    rt: &impl Abort,
+    alloc: Global,
+    sizes: Sizes,
+    steps: &[MemoryStep],
+) -> Result<(), Fail> {
     play_from_power_up(rt, alloc, &small(sizes, &[]), steps)
 }
 
-const BANKS: &[Step] = &[
+const BANKS: &[MemoryStep] = &[
     // Bank 1.
-    Step::Reads(0x4000, 0x11),
-    Step::Write(0x2000, 0x02),
+    MemoryStep::Reads(0x4000, 0x11),
+    MemoryStep::Write(0x2000, 0x02),
     // Bank 2.
-    Step::Reads(0x7FFF, 0x22),
-    Step::Place(0x7FFF, Place::Rom(2)),
-    Step::Place(0x3FFF, Place::Rom(0)),
-    Step::IsFree(0x7FFF, false),
-    Step::IsFree(0xFF04, true),
+    MemoryStep::Reads(0x7FFF, 0x22),
+    MemoryStep::Place(0x7FFF, ReadSource::Rom(2)),
+    MemoryStep::Place(0x3FFF, ReadSource::Rom(0)),
+    MemoryStep::IsFree(0x7FFF, false),
+    MemoryStep::IsFree(0xFF04, true),
 ];
 
 #[test]
@@ -115,27 +120,27 @@ fn banks_are_shown(rt: HostRuntime) -> Result<(), Fail> {
     play_from_power_up(&rt, rt.alloc(), bytes.as_slice(), BANKS)
 }
 
-const SIXTEEN_BANKS: &[Step] = &[
-    Step::Write(0xA000, 0x01),
+const SIXTEEN_BANKS: &[MemoryStep] = &[
+    MemoryStep::Write(0xA000, 0x01),
     // Closed.
-    Step::Reads(0xA000, 0xFF),
-    Step::Write(0x0000, 0x0A),
-    Step::Write(0xA000, 0x02),
-    Step::Write(0x4000, 0x0F),
-    Step::Write(0xA000, 0x03),
+    MemoryStep::Reads(0xA000, 0xFF),
+    MemoryStep::Write(0x0000, 0x0A),
+    MemoryStep::Write(0xA000, 0x02),
+    MemoryStep::Write(0x4000, 0x0F),
+    MemoryStep::Write(0xA000, 0x03),
     // Bank 15.
-    Step::Reads(0xA000, 0x03),
-    Step::Write(0x4000, 0x00),
+    MemoryStep::Reads(0xA000, 0x03),
+    MemoryStep::Write(0x4000, 0x00),
     // Bank 0.
-    Step::Reads(0xA000, 0x02),
-    Step::Place(0xA000, Place::Free),
+    MemoryStep::Reads(0xA000, 0x02),
+    MemoryStep::Place(0xA000, ReadSource::Free),
 ];
 
 /// Open, and nothing is there.
-const NO_RAM: &[Step] = &[
-    Step::Write(0x0000, 0x0A),
-    Step::Write(0xA000, 0x02),
-    Step::Reads(0xA000, 0xFF),
+const NO_RAM: &[MemoryStep] = &[
+    MemoryStep::Write(0x0000, 0x0A),
+    MemoryStep::Write(0xA000, 0x02),
+    MemoryStep::Reads(0xA000, 0xFF),
 ];
 
 #[test]
@@ -144,19 +149,19 @@ fn cartridge_ram_is_behind_its_gate(rt: HostRuntime) -> Result<(), Fail> {
     play_small(&rt, rt.alloc(), [0x19, 0x00, 0x00], NO_RAM)
 }
 
-const CLOCK: &[Step] = &[
-    Step::Write(0x0000, 0x0A),
-    Step::Write(0x4000, 0x08),
-    Step::Write(0xA000, 0x3B),
-    Step::Seconds(1),
-    Step::Write(0x4000, 0x09),
-    Step::Write(0x6000, 0x00),
-    Step::Write(0x6000, 0x01),
+const CLOCK: &[MemoryStep] = &[
+    MemoryStep::Write(0x0000, 0x0A),
+    MemoryStep::Write(0x4000, 0x08),
+    MemoryStep::Write(0xA000, 0x3B),
+    MemoryStep::Seconds(1),
+    MemoryStep::Write(0x4000, 0x09),
+    MemoryStep::Write(0x6000, 0x00),
+    MemoryStep::Write(0x6000, 0x01),
     // A minute.
-    Step::Reads(0xA000, 1),
+    MemoryStep::Reads(0xA000, 1),
     // No RAM.
-    Step::Write(0x4000, 0x03),
-    Step::Reads(0xA000, 0xFF),
+    MemoryStep::Write(0x4000, 0x03),
+    MemoryStep::Reads(0xA000, 0xFF),
 ];
 
 #[test]
@@ -183,32 +188,32 @@ fn plain_storage_reads_back(rt: HostRuntime) -> Result<(), Fail> {
     for (address, echo) in ECHOES {
         memory.write(address, 0x5A);
         assert!(rt; reads(&mut memory, echo, 0x5A), "{echo:x}");
-        assert!(rt; memory.place(echo) == Place::Plain, "{echo:x}");
+        assert!(rt; memory.place(echo) == ReadSource::Plain, "{echo:x}");
     }
     Ok(())
 }
 
-const TRANSFER: &[Step] = &[
-    Step::Write(0xC100, 0x5A),
-    Step::Write(0xFF80, 0x01),
-    Step::Write(0xFF46, 0xC1),
+const TRANSFER: &[MemoryStep] = &[
+    MemoryStep::Write(0xC100, 0x5A),
+    MemoryStep::Write(0xFF80, 0x01),
+    MemoryStep::Write(0xFF46, 0xC1),
     // Until the event ends.
-    Step::Reads(0xC100, 0x5A),
-    Step::Pass(3),
+    MemoryStep::Reads(0xC100, 0x5A),
+    MemoryStep::Pass(3),
     // During the transfer.
-    Step::Write(0xC100, 0x00),
-    Step::Write(0xFF80, 0x02),
-    Step::Reads(0xC100, 0xFF),
-    Step::Reads(0xFF80, 0x02),
-    Step::Place(0xC100, Place::Free),
+    MemoryStep::Write(0xC100, 0x00),
+    MemoryStep::Write(0xFF80, 0x02),
+    MemoryStep::Reads(0xC100, 0xFF),
+    MemoryStep::Reads(0xFF80, 0x02),
+    MemoryStep::Place(0xC100, ReadSource::Free),
     // In its last M-cycle.
-    Step::Pass(160),
-    Step::Reads(0xC100, 0xFF),
+    MemoryStep::Pass(160),
+    MemoryStep::Reads(0xC100, 0xFF),
     // What was written is lost.
-    Step::Pass(1),
-    Step::Reads(0xC100, 0x5A),
+    MemoryStep::Pass(1),
+    MemoryStep::Reads(0xC100, 0x5A),
     // The page.
-    Step::Reads(0xFF46, 0xC1),
+    MemoryStep::Reads(0xFF46, 0xC1),
 ];
 
 #[test]
@@ -244,26 +249,26 @@ fn a_transfer_copies_160_bytes(rt: HostRuntime) -> Result<(), Fail> {
     Ok(())
 }
 
-const REQUESTS: &[Step] = &[
-    Step::Reads(0xFF0F, 0xE1),
-    Step::Pending(0),
-    Step::Write(0xFF0F, 0x00),
-    Step::Write(0xFFFF, 0x14),
-    Step::Write(0xFF06, 0xAB),
-    Step::Write(0xFF05, 0xFE),
-    Step::Write(0xFF07, 0x05),
-    Step::Pass(7),
-    Step::Reads(0xFF05, 0xFF),
-    Step::Pending(0),
-    Step::Pass(1),
-    Step::Reads(0xFF05, 0xAB),
-    Step::Pending(4),
-    Step::Write(0xFF00, 0x10),
-    Step::Press(Keys::A),
-    Step::Reads(0xFF00, 0xDE),
-    Step::Pending(0x14),
-    Step::Acknowledge(2),
-    Step::Pending(0x10),
+const REQUESTS: &[MemoryStep] = &[
+    MemoryStep::Reads(0xFF0F, 0xE1),
+    MemoryStep::Pending(0),
+    MemoryStep::Write(0xFF0F, 0x00),
+    MemoryStep::Write(0xFFFF, 0x14),
+    MemoryStep::Write(0xFF06, 0xAB),
+    MemoryStep::Write(0xFF05, 0xFE),
+    MemoryStep::Write(0xFF07, 0x05),
+    MemoryStep::Pass(7),
+    MemoryStep::Reads(0xFF05, 0xFF),
+    MemoryStep::Pending(0),
+    MemoryStep::Pass(1),
+    MemoryStep::Reads(0xFF05, 0xAB),
+    MemoryStep::Pending(4),
+    MemoryStep::Write(0xFF00, 0x10),
+    MemoryStep::Press(Keys::A),
+    MemoryStep::Reads(0xFF00, 0xDE),
+    MemoryStep::Pending(0x14),
+    MemoryStep::Acknowledge(2),
+    MemoryStep::Pending(0x10),
 ];
 
 #[test]
@@ -271,29 +276,29 @@ fn the_timer_and_keys_request_interrupts(rt: HostRuntime) -> Result<(), Fail> {
     play_small(&rt, rt.alloc(), PLAIN, REQUESTS)
 }
 
-const PRESSED: &[Step] = &[
-    Step::Write(0xFF0F, 0x00),
-    Step::Write(0xFFFF, 0x10),
-    Step::Write(0xFF00, 0x10),
-    Step::Press(Keys::A),
-    Step::Reads(0xFF0F, 0xF0),
-    Step::Acknowledge(4),
+const PRESSED: &[MemoryStep] = &[
+    MemoryStep::Write(0xFF0F, 0x00),
+    MemoryStep::Write(0xFFFF, 0x10),
+    MemoryStep::Write(0xFF00, 0x10),
+    MemoryStep::Press(Keys::A),
+    MemoryStep::Reads(0xFF0F, 0xF0),
+    MemoryStep::Acknowledge(4),
 ];
 
-const HELD: &[Step] = &[
-    Step::Press(Keys::A),
-    Step::Pass(4),
-    Step::Reads(0xFF0F, 0xE0),
-    Step::Reads(0xFF00, 0xDE),
-    Step::Pending(0),
+const HELD: &[MemoryStep] = &[
+    MemoryStep::Press(Keys::A),
+    MemoryStep::Pass(4),
+    MemoryStep::Reads(0xFF0F, 0xE0),
+    MemoryStep::Reads(0xFF00, 0xDE),
+    MemoryStep::Pending(0),
 ];
 
-const PRESSED_AGAIN: &[Step] = &[
-    Step::LetGo,
-    Step::Reads(0xFF0F, 0xE0),
-    Step::Reads(0xFF00, 0xDF),
-    Step::Press(Keys::A),
-    Step::Reads(0xFF0F, 0xF0),
+const PRESSED_AGAIN: &[MemoryStep] = &[
+    MemoryStep::LetGo,
+    MemoryStep::Reads(0xFF0F, 0xE0),
+    MemoryStep::Reads(0xFF00, 0xDF),
+    MemoryStep::Press(Keys::A),
+    MemoryStep::Reads(0xFF0F, 0xF0),
 ];
 
 /// A is pressed once, its request is taken back, and A is held: no second request, until it is pressed again.
@@ -354,40 +359,40 @@ fn each_register_reads_and_writes(rt: HostRuntime) -> Result<(), Fail> {
         );
         memory.write(address, value);
         assert!(rt; reads(&mut memory, address, after), "{address:x} written");
-        assert!(rt; memory.place(address) == Place::Free, "{address:x}");
+        assert!(rt; memory.place(address) == ReadSource::Free, "{address:x}");
     }
     Ok(())
 }
 
 /// The frame's first 63 M-cycles; line 144 begins after 16,416.
-const MODES: &[Step] = &[
-    Step::Write(0x8000, 0x11),
-    Step::Write(0xFE00, 0x22),
+const MODES: &[MemoryStep] = &[
+    MemoryStep::Write(0x8000, 0x11),
+    MemoryStep::Write(0xFE00, 0x22),
     // Mode 2.
-    Step::Reads(0x8000, 0x11),
-    Step::Reads(0xFE00, 0xFF),
+    MemoryStep::Reads(0x8000, 0x11),
+    MemoryStep::Reads(0xFE00, 0xFF),
     // Mode 3.
-    Step::Pass(20),
-    Step::Write(0x8000, 0x33),
-    Step::Write(0xFE00, 0x44),
-    Step::Reads(0x8000, 0xFF),
-    Step::Reads(0xFE00, 0xFF),
+    MemoryStep::Pass(20),
+    MemoryStep::Write(0x8000, 0x33),
+    MemoryStep::Write(0xFE00, 0x44),
+    MemoryStep::Reads(0x8000, 0xFF),
+    MemoryStep::Reads(0xFE00, 0xFF),
     // Mode 0.
-    Step::Pass(43),
-    Step::Reads(0x8000, 0x11),
-    Step::Reads(0xFE00, 0x00),
-    Step::Write(0x8000, 0x55),
-    Step::Write(0xFE00, 0x66),
-    Step::Write(0xFF0F, 0x00),
-    Step::Reads(0x8000, 0x55),
-    Step::Reads(0xFE00, 0x66),
+    MemoryStep::Pass(43),
+    MemoryStep::Reads(0x8000, 0x11),
+    MemoryStep::Reads(0xFE00, 0x00),
+    MemoryStep::Write(0x8000, 0x55),
+    MemoryStep::Write(0xFE00, 0x66),
+    MemoryStep::Write(0xFF0F, 0x00),
+    MemoryStep::Reads(0x8000, 0x55),
+    MemoryStep::Reads(0xFE00, 0x66),
     // The end of line 143, and VBlank.
-    Step::Pass(16_352),
-    Step::Reads(0xFF44, 143),
-    Step::Reads(0xFF0F, 0xE0),
-    Step::Pass(1),
-    Step::Reads(0xFF44, 144),
-    Step::Reads(0xFF0F, 0xE1),
+    MemoryStep::Pass(16_352),
+    MemoryStep::Reads(0xFF44, 143),
+    MemoryStep::Reads(0xFF0F, 0xE0),
+    MemoryStep::Pass(1),
+    MemoryStep::Reads(0xFF44, 144),
+    MemoryStep::Reads(0xFF0F, 0xE1),
 ];
 
 #[test]
@@ -396,17 +401,17 @@ fn the_picture_closes_its_memories(rt: HostRuntime) -> Result<(), Fail> {
 }
 
 /// With BGP = FF each pixel of the background is black.
-const DRAWN: &[Step] = &[
-    Step::Write(0xFF47, 0xFF),
+const DRAWN: &[MemoryStep] = &[
+    MemoryStep::Write(0xFF47, 0xFF),
     // Not yet.
-    Step::Pass(19),
-    Step::Line(0, 0),
-    Step::Pass(1),
-    Step::Line(0, 3),
-    Step::Line(1, 0),
+    MemoryStep::Pass(19),
+    MemoryStep::Line(0, 0),
+    MemoryStep::Pass(1),
+    MemoryStep::Line(0, 3),
+    MemoryStep::Line(1, 0),
     // Turned off.
-    Step::Write(0xFF40, 0x11),
-    Step::Line(0, 0),
+    MemoryStep::Write(0xFF40, 0x11),
+    MemoryStep::Line(0, 0),
 ];
 
 #[test]
@@ -414,17 +419,17 @@ fn a_line_is_drawn_as_its_mode_3_begins(rt: HostRuntime) -> Result<(), Fail> {
     play_small(&rt, rt.alloc(), PLAIN, DRAWN)
 }
 
-const POWER_UP: &[Step] = &[
-    Step::Write(0x0000, 0x0A),
-    Step::Reads(0x8000, 0x00),
-    Step::Reads(0xA000, 0x00),
-    Step::Reads(0xBFFF, 0x00),
-    Step::Reads(0xC000, 0x00),
-    Step::Reads(0xDFFF, 0x00),
-    Step::Reads(0xFF80, 0x00),
-    Step::Reads(0xFFFE, 0x00),
-    Step::Reads(0xFFFF, 0x00),
-    Step::Line(143, 0),
+const POWER_UP: &[MemoryStep] = &[
+    MemoryStep::Write(0x0000, 0x0A),
+    MemoryStep::Reads(0x8000, 0x00),
+    MemoryStep::Reads(0xA000, 0x00),
+    MemoryStep::Reads(0xBFFF, 0x00),
+    MemoryStep::Reads(0xC000, 0x00),
+    MemoryStep::Reads(0xDFFF, 0x00),
+    MemoryStep::Reads(0xFF80, 0x00),
+    MemoryStep::Reads(0xFFFE, 0x00),
+    MemoryStep::Reads(0xFFFF, 0x00),
+    MemoryStep::Line(143, 0),
 ];
 
 /// With ample memory the console's power-up; where an allocation is refused, nothing else.

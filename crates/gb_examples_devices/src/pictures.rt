@@ -153,7 +153,7 @@ fn counts_the_windows_own_lines(rt: HostRuntime) {
 
 /// What is done to a picture, with the interrupts that it then requests, or what it shows.
 #[derive(Clone, Copy)]
-enum Step {
+enum PictureStep {
     /// So many M-cycles pass.
     Pass(u8, Option<Irqs>),
     Write(LcdRegister, u8, Option<Irqs>),
@@ -173,46 +173,46 @@ fn is_requested(requests: Irqs, expected: Option<Irqs>) -> bool {
 }
 
 /// Does a step, and answers whether the picture does what it says.
-fn agrees(ppu: &mut Ppu, step: Step) -> bool {
+fn agrees(ppu: &mut Ppu, step: PictureStep) -> bool {
     match step {
-        Step::Pass(n, requests) => is_requested(ppu.advance(n), requests),
-        Step::Write(register, value, requests) => {
+        PictureStep::Pass(n, requests) => is_requested(ppu.advance(n), requests),
+        PictureStep::Write(register, value, requests) => {
             is_requested(ppu.write(register, value), requests)
         }
-        Step::Reads(register, value) => ppu.read(register) == value,
-        Step::Mode(mode) => ppu.mode() == mode,
-        Step::Line(line) => ppu.line() == line,
-        Step::IsOn(is_on) => ppu.is_on() == is_on,
-        Step::UntilDrawing(n) => ppu.until_drawing() == n,
+        PictureStep::Reads(register, value) => ppu.read(register) == value,
+        PictureStep::Mode(mode) => ppu.mode() == mode,
+        PictureStep::Line(line) => ppu.line() == line,
+        PictureStep::IsOn(is_on) => ppu.is_on() == is_on,
+        PictureStep::UntilDrawing(n) => ppu.until_drawing() == n,
     }
 }
 
-fn play(rt: &impl Abort, ppu: &mut Ppu, steps: &[Step]) {
+fn play(rt: &impl Abort, ppu: &mut Ppu, steps: &[PictureStep]) {
     for (i, step) in steps.iter().enumerate() {
         assert!(rt; agrees(ppu, *step), "step {i}");
     }
 }
 
 /// The first line with its modes.
-const FIRST: &[Step] = &[
-    Step::IsOn(true),
-    Step::Reads(LcdRegister::Stat, 0x86),
-    Step::Pass(20, None),
-    Step::Mode(Mode::Drawing),
-    Step::Pass(43, None),
-    Step::Mode(Mode::HBlank),
-    Step::Pass(51, None),
-    Step::Line(1),
-    Step::Mode(Mode::ObjectScan),
+const FIRST: &[PictureStep] = &[
+    PictureStep::IsOn(true),
+    PictureStep::Reads(LcdRegister::Stat, 0x86),
+    PictureStep::Pass(20, None),
+    PictureStep::Mode(Mode::Drawing),
+    PictureStep::Pass(43, None),
+    PictureStep::Mode(Mode::HBlank),
+    PictureStep::Pass(51, None),
+    PictureStep::Line(1),
+    PictureStep::Mode(Mode::ObjectScan),
 ];
 
 /// From 114 M-cycles on: with 67 times 243 and 20 they are 16,415.
-const TO_VBLANK: &[Step] = &[
-    Step::Pass(20, None),
-    Step::Line(143),
-    Step::Pass(1, Some(Irqs::VBLANK)),
-    Step::Mode(Mode::VBlank),
-    Step::UntilDrawing(Some(1160)),
+const TO_VBLANK: &[PictureStep] = &[
+    PictureStep::Pass(20, None),
+    PictureStep::Line(143),
+    PictureStep::Pass(1, Some(Irqs::VBLANK)),
+    PictureStep::Mode(Mode::VBlank),
+    PictureStep::UntilDrawing(Some(1160)),
 ];
 
 #[test]
@@ -220,36 +220,36 @@ fn goes_through_a_frame(rt: HostRuntime) {
     let mut ppu = Ppu::new();
     play(&rt, &mut ppu, FIRST);
     for _ in 0..67 {
-        play(&rt, &mut ppu, &[Step::Pass(243, None)]);
+        play(&rt, &mut ppu, &[PictureStep::Pass(243, None)]);
     }
     play(&rt, &mut ppu, TO_VBLANK);
 }
 
-const SIGNALS: &[Step] = &[
-    Step::Write(LcdRegister::Lyc, 0xFF, None),
+const SIGNALS: &[PictureStep] = &[
+    PictureStep::Write(LcdRegister::Lyc, 0xFF, None),
     // Sources mode 2 and mode 0: the write comes in mode 2.
-    Step::Write(LcdRegister::Stat, 0x28, Some(Irqs::STAT)),
-    Step::Pass(62, None),
-    Step::Pass(1, Some(Irqs::STAT)),
+    PictureStep::Write(LcdRegister::Stat, 0x28, Some(Irqs::STAT)),
+    PictureStep::Pass(62, None),
+    PictureStep::Pass(1, Some(Irqs::STAT)),
     // From mode 0 to mode 2 the signal stays.
-    Step::Pass(113, None),
-    Step::Pass(1, Some(Irqs::STAT)),
+    PictureStep::Pass(113, None),
+    PictureStep::Pass(1, Some(Irqs::STAT)),
     // LY becomes LYC.
-    Step::Write(LcdRegister::Stat, 0x40, None),
-    Step::Write(LcdRegister::Lyc, 2, None),
-    Step::Pass(50, None),
-    Step::Pass(1, Some(Irqs::STAT)),
-    Step::Pass(114, None),
+    PictureStep::Write(LcdRegister::Stat, 0x40, None),
+    PictureStep::Write(LcdRegister::Lyc, 2, None),
+    PictureStep::Pass(50, None),
+    PictureStep::Pass(1, Some(Irqs::STAT)),
+    PictureStep::Pass(114, None),
     // Off: LY is 0, and goes on being compared.
-    Step::Write(LcdRegister::Lcdc, 0x11, None),
-    Step::Reads(LcdRegister::Ly, 0),
-    Step::Write(LcdRegister::Lyc, 0, None),
-    Step::Reads(LcdRegister::Stat, 0xC4),
-    Step::Pass(255, None),
-    Step::IsOn(false),
-    Step::UntilDrawing(None),
+    PictureStep::Write(LcdRegister::Lcdc, 0x11, None),
+    PictureStep::Reads(LcdRegister::Ly, 0),
+    PictureStep::Write(LcdRegister::Lyc, 0, None),
+    PictureStep::Reads(LcdRegister::Stat, 0xC4),
+    PictureStep::Pass(255, None),
+    PictureStep::IsOn(false),
+    PictureStep::UntilDrawing(None),
     // On again: line 0 begins.
-    Step::Write(LcdRegister::Lcdc, 0x91, Some(Irqs::STAT)),
+    PictureStep::Write(LcdRegister::Lcdc, 0x91, Some(Irqs::STAT)),
 ];
 
 #[test]

@@ -21,7 +21,7 @@ enum Varied {
 }
 
 impl Varied {
-    /// The same scene at another value of the register.
+    /// The scene with another value of the register.
     fn at(self, scene: Scene<'_>, value: u8) -> Scene<'_> {
         match self {
             Varied::Scx => Scene {

@@ -15,7 +15,7 @@ const OBJECTS: usize = 40;
 
 /// A row of a tile: its two bit planes.
 #[derive(Clone, Copy)]
-struct TileRow {
+struct PlainTileRow {
     low: u8,
     high: u8,
 }
@@ -29,7 +29,7 @@ struct MapRow {
 
 /// An object's four bytes.
 #[derive(Clone, Copy)]
-struct Object {
+struct PlainObject {
     y: u8,
     x: u8,
     tile: u8,
@@ -37,7 +37,7 @@ struct Object {
 }
 
 /// An object that no line shows.
-const NOWHERE: Object = Object {
+const NOWHERE: PlainObject = PlainObject {
     y: 0,
     x: 0,
     tile: 0,
@@ -45,7 +45,7 @@ const NOWHERE: Object = Object {
 };
 
 /// The line's objects in OAM's order, and behind them some that no line shows.
-type LineObjects = [Object; LINE_OBJECTS];
+type LineObjects = [PlainObject; LINE_OBJECTS];
 
 /// A pixel of an object, where it's opaque.
 #[derive(Clone, Copy)]
@@ -60,12 +60,12 @@ fn shade_of(palette: u8, colour: u8) -> u8 {
     (palette >> (2 * (colour % 4))) % 4
 }
 
-impl TileRow {
+impl PlainTileRow {
     /// The row at a place of video RAM.
-    fn at(video_ram: &[u8; VIDEO_RAM], place: usize) -> TileRow
+    fn at(video_ram: &[u8; VIDEO_RAM], place: usize) -> PlainTileRow
         requires { place ≤ 0x1FFE }
     {
-        TileRow {
+        PlainTileRow {
             low: video_ram[place],
             high: video_ram[place + 1],
         }
@@ -82,14 +82,14 @@ impl TileRow {
 
 impl MapRow {
     /// The row of a tile that stands at a column of the map.
-    fn tile_row(self, scene: &Scene<'_>, u: u8) -> TileRow {
+    fn tile_row(self, scene: &Scene<'_>, u: u8) -> PlainTileRow {
         let map = if self.is_second { 0x1C00 } else { 0x1800 };
         let index = scene.video_ram[map + 32 * usize::from(self.v / 8) + usize::from(u / 8)];
         let place = 16 * usize::from(index) + 2 * usize::from(self.v % 8);
         if has_bit(4, scene.lcdc) || index >= 128 {
-            TileRow::at(scene.video_ram, place)
+            PlainTileRow::at(scene.video_ram, place)
         } else {
-            TileRow::at(scene.video_ram, 0x1000 + place)
+            PlainTileRow::at(scene.video_ram, 0x1000 + place)
         }
     }
 
@@ -137,12 +137,12 @@ fn background_line(scene: &Scene<'_>, y: u8) -> [u8; WIDTH] {
     colours
 }
 
-impl Object {
+impl PlainObject {
     /// Object i of OAM.
-    fn at(oam: &[u8; OAM], i: usize) -> Object
+    fn at(oam: &[u8; OAM], i: usize) -> PlainObject
         requires { i < 40 }
     {
-        Object {
+        PlainObject {
             y: oam[4 * i],
             x: oam[4 * i + 1],
             tile: oam[4 * i + 2],
@@ -180,7 +180,7 @@ impl Object {
     }
 
     /// The row of its tile on a line, if one stands there.
-    fn tile_row(self, scene: &Scene<'_>, y: u8) -> Option<TileRow> {
+    fn tile_row(self, scene: &Scene<'_>, y: u8) -> Option<PlainTileRow> {
         let row = self.row_on(scene.lcdc, y)?;
         let tile = if has_bit(2, scene.lcdc) {
             2 * (self.tile / 2)
@@ -188,7 +188,7 @@ impl Object {
             self.tile
         };
         let place = 16 * usize::from(tile) + 2 * usize::from(row % 16);
-        Some(TileRow::at(scene.video_ram, place))
+        Some(PlainTileRow::at(scene.video_ram, place))
     }
 
     /// Its pixel at (x, y), where it has one that is opaque.
@@ -217,7 +217,7 @@ fn line_objects(scene: &Scene<'_>, y: u8) -> LineObjects {
     let mut chosen = [NOWHERE; LINE_OBJECTS];
     let mut count = 0;
     for i in 0..OBJECTS {
-        let object = Object::at(scene.oam, i);
+        let object = PlainObject::at(scene.oam, i);
         if count < LINE_OBJECTS && object.row_on(scene.lcdc, y).is_some() {
             chosen[count] = object;
             count += 1;

@@ -14,7 +14,7 @@ use gb_vals::carry::{complement_carry, set_carry};
 use gb_vals::daa::adjust;
 use gb_vals::flags::{flags_of_val, flags_val, known, known_flags};
 use gb_vals::logic::complement;
-use gb_vals::outcome::Outcome;
+use gb_vals::outcome::AbsComputed;
 use gb_vals::shifts::{rotate_a, shift};
 use gb_vals::sums::{decrement, increment};
 use gb_vals::vals::single;
@@ -35,7 +35,7 @@ fn seen(may: May, bit: bool) -> May {
 
 /// What the machine makes of each of several operands.
 #[derive(Clone, Copy)]
-struct Tried {
+struct TriedOperation {
     least: u8,
     most: u8,
     zero: May,
@@ -47,16 +47,16 @@ const NOTHING: May = May {
     set: false,
 };
 
-const UNTRIED: Tried = Tried {
+const UNTRIED: TriedOperation = TriedOperation {
     least: 255,
     most: 0,
     zero: NOTHING,
     carry: NOTHING,
 };
 
-impl Tried {
-    fn and(self, computed: Computed) -> Tried {
-        Tried {
+impl TriedOperation {
+    fn and(self, computed: Computed) -> TriedOperation {
+        TriedOperation {
             least: self.least.min(computed.value),
             most: self.most.max(computed.value),
             zero: seen(self.zero, computed.flags.zero),
@@ -66,7 +66,7 @@ impl Tried {
 }
 
 /// Tries each value of two intervals with each carry.
-fn try_all(op: AluOp, a: Val, operand: Val, carry: May) -> Tried {
+fn try_all(op: AluOp, a: Val, operand: Val, carry: May) -> TriedOperation {
     let mut all = UNTRIED;
     for bit in [false, true] {
         if may_be(carry, bit) {
@@ -102,7 +102,7 @@ fn check_sum(rt: &impl Abort, op: AluOp, a: Val, operand: Val, carry: May) {
         is_own: false,
     };
     let outcome = alu(op, a, operand, with_carry(carry));
-    let want = Outcome { val, flags };
+    let want = AbsComputed { val, flags };
     assert!(rt;
         outcome == want,
         "{}..{}, {}..{}",
@@ -168,7 +168,7 @@ fn check_count(rt: &impl Abort, val: Val, carry: May, is_up: bool) {
     } else {
         decrement(val, set)
     };
-    let want = Outcome {
+    let want = AbsComputed {
         val: counted,
         flags,
     };
@@ -195,7 +195,7 @@ fn flags(zero: bool, subtract: bool, half_carry: bool, carry: bool) -> Flg {
     })
 }
 
-fn is_known(outcome: Outcome, byte: u8, flags: Flg) -> bool {
+fn is_known(outcome: AbsComputed, byte: u8, flags: Flg) -> bool {
     outcome.val == single(byte) && outcome.flags == flags
 }
 
@@ -274,7 +274,7 @@ fn operations_with_a_itself(rt: HostRuntime) {
     for (i, (op, of, val, zero, subtract, half_carry)) in WITH_ITSELF.into_iter().enumerate() {
         let outcome = alu_itself(op, of, with_carry(SET));
         let flags = flags(zero, subtract, half_carry, false);
-        assert!(rt; outcome == Outcome { val, flags }, "row {i}");
+        assert!(rt; outcome == AbsComputed { val, flags }, "row {i}");
     }
     assert!(rt; alu_itself(AluOp::Add, A, with_carry(SET)).val == from_to(6, 18));
     assert!(rt; alu_itself(AluOp::Adc, A, with_carry(SET)).val == from_to(7, 19));

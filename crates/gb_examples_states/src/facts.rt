@@ -35,7 +35,7 @@ pub enum Fact {
 
 /// What some facts say.
 #[derive(Clone, Copy)]
-pub struct Known {
+pub struct KnownFact {
     pub registers: Registers<Val>,
     pub memory: Val,
     pub relations: Relations,
@@ -49,10 +49,10 @@ fn facts_of(pair: WordPair, pairs: &mut Pairs) -> &mut PairFacts {
     }
 }
 
-impl Known {
+impl KnownFact {
     /// What these facts say.
-    pub fn new(facts: &[Fact]) -> Known {
-        let mut known = Known {
+    pub fn new(facts: &[Fact]) -> KnownFact {
+        let mut known = KnownFact {
             registers: Registers {
                 a: ANY,
                 b: ANY,

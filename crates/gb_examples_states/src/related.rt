@@ -2,7 +2,7 @@
 //! which states stand for others. An example is a list of steps, which one function plays.
 
 use crate::facts::Fact::{self, At, Bits, Byte, Compared, Link, Memory, Same, Word, Zero};
-use crate::facts::Known;
+use crate::facts::KnownFact;
 use gb_domain::pairs::WordPair::{Bc, De, Hl};
 use gb_domain::pairs::{ANY_BOUNDS, Bounds, Other};
 use gb_domain::types::{Cell, Rules};
@@ -10,7 +10,7 @@ use gb_ops::op::Register::{A, B, C, D, E, H};
 use gb_ops::op::{Condition, Indirect, Op, Operand, Pair, Register};
 use gb_pairs::moved::added;
 use gb_pairs::reduced::reduce;
-use gb_places::sides::{Contents, narrowed};
+use gb_places::sides::{PlaceContents, narrowed};
 use gb_product::covering::covers;
 use gb_product::parts::Branch;
 use gb_product::reduced::reduced_branch;
@@ -24,7 +24,7 @@ use std::process::Abort;
 type Facts = &'static [Fact];
 
 #[derive(Clone, Copy)]
-pub enum Step {
+pub enum RelatedStep {
     /// A condition, what is known before it, and of registers and memory where it is met, if it can be.
     Meets(Condition, Facts, Option<Facts>),
     /// What is known before a jump on this condition, and once it isn't taken and that is reduced, if it can be.
@@ -39,10 +39,10 @@ pub enum Step {
     Covers(Facts, Facts, bool),
 }
 
-use Step::{Carries, Covers, Meets, Passes, Points, Reduces};
+use RelatedStep::{Carries, Covers, Meets, Passes, Points, Reduces};
 
 /// The cell that says this of memory, where it says something.
-fn told_cell(known: &Known) -> Option<Cell> {
+fn told_cell(known: &KnownFact) -> Option<Cell> {
     let address = known.relations.byte.address?;
     if known.memory == ANY {
         None
@@ -58,8 +58,8 @@ fn told_cell(known: &Known) -> Option<Cell> {
 fn has_side(side: Option<Branch>, before: Facts, after: Option<Facts>) -> bool {
     match (side, after) {
         (Some(side), Some(after)) => {
-            let mut known = Known::new(after);
-            known.relations.byte.address = Known::new(before).relations.byte.address;
+            let mut known = KnownFact::new(after);
+            known.relations.byte.address = KnownFact::new(before).relations.byte.address;
             side.core.registers == known.registers && side.cell == told_cell(&known)
         }
         (None, None) => true,
@@ -68,10 +68,10 @@ fn has_side(side: Option<Branch>, before: Facts, after: Option<Facts>) -> bool {
 }
 
 /// Whether this is left of registers and memory.
-fn has_contents(contents: Option<Contents>, after: Option<Facts>) -> bool {
+fn has_contents(contents: Option<PlaceContents>, after: Option<Facts>) -> bool {
     match (contents, after) {
         (Some(contents), Some(after)) => {
-            let known = Known::new(after);
+            let known = KnownFact::new(after);
             contents.registers == known.registers && contents.memory == known.memory
         }
         (None, None) => true,
@@ -81,9 +81,9 @@ fn has_contents(contents: Option<Contents>, after: Option<Facts>) -> bool {
 
 /// Whether a branch leaves this of registers and memory, and a jump that it is the condition of does of registers.
 fn meets(condition: Condition, before: Facts, after: Option<Facts>) -> bool {
-    let known = Known::new(before);
+    let known = KnownFact::new(before);
     let state = known.state();
-    let contents = Contents {
+    let contents = PlaceContents {
         registers: known.registers,
         memory: known.memory,
     };
@@ -95,7 +95,7 @@ fn meets(condition: Condition, before: Facts, after: Option<Facts>) -> bool {
 
 /// What a jump that isn't taken leaves, reduced.
 fn passed(condition: Condition, before: Facts) -> Option<Branch> {
-    let state = Known::new(before).state();
+    let state = KnownFact::new(before).state();
     let jump = Op::JumpRelativeIf(condition, 5);
     let side = not_taken_side(jump, state.cells(), state.core(), state.relations())?;
     reduced_branch(Rules::Extended, side)
@@ -105,7 +105,7 @@ fn passed(condition: Condition, before: Facts) -> Option<Branch> {
 fn passes(condition: Condition, before: Facts, after: Option<Facts>) -> bool {
     match (passed(condition, before), after) {
         (Some(side), Some(after)) => {
-            let known = Known::new(after);
+            let known = KnownFact::new(after);
             side.core.registers == known.registers
                 && are_pairs_same(&side.relations.pairs, &known.relations.pairs)
         }
@@ -115,7 +115,7 @@ fn passes(condition: Condition, before: Facts, after: Option<Facts>) -> bool {
 }
 
 /// The carry of ADD HL,DE, by version 3.
-fn carry_of_de(known: &Known) -> Option<bool> {
+fn carry_of_de(known: &KnownFact) -> Option<bool> {
     known_carry(
         Rules::Extended,
         Op::AddHl(Pair::De),
@@ -127,7 +127,7 @@ fn carry_of_de(known: &Known) -> Option<bool> {
 
 /// Whether a word in these bounds is added to HL with this carry; DE is such a word too.
 fn carries(first: u16, last: u16, before: Facts, carry: Option<bool>) -> bool {
-    let mut known = Known::new(before);
+    let mut known = KnownFact::new(before);
     let sum = added(Bounds { first, last }, false, &known.values());
     known.relations.pairs.de.bounds = Bounds { first, last };
     sum.carry == carry && carry_of_de(&known) == carry
@@ -135,7 +135,7 @@ fn carries(first: u16, last: u16, before: Facts, carry: Option<bool>) -> bool {
 
 /// Whether an instruction takes an address within these bounds from a pair; by versions 1 and 2 none is taken.
 fn points(op: Op, before: Facts, within: Option<(u16, u16)>) -> bool {
-    let known = Known::new(before);
+    let known = KnownFact::new(before);
     let (registers, pairs) = (&known.registers, &known.relations.pairs);
     let bounds = pointer_bounds(Rules::Extended, op, registers, pairs);
     bounds.map(|found| (found.first, found.last)) == within
@@ -143,11 +143,11 @@ fn points(op: Op, before: Facts, within: Option<(u16, u16)>) -> bool {
 }
 
 fn reduces(before: Facts, after: Option<Facts>) -> bool {
-    let mut known = Known::new(before);
+    let mut known = KnownFact::new(before);
     let is_left = reduce(&mut known.registers, &mut known.relations.pairs);
     match after {
         Some(after) => {
-            let wanted = Known::new(after);
+            let wanted = KnownFact::new(after);
             is_left
                 && known.registers == wanted.registers
                 && are_pairs_same(&known.relations.pairs, &wanted.relations.pairs)
@@ -157,19 +157,20 @@ fn reduces(before: Facts, after: Option<Facts>) -> bool {
 }
 
 /// Whether a step comes out so.
-fn agrees(step: &Step) -> bool {
+fn agrees(step: &RelatedStep) -> bool {
     match *step {
         Meets(condition, before, after) => meets(condition, before, after),
         Passes(condition, before, after) => passes(condition, before, after),
         Points(op, before, within) => points(op, before, within),
         Reduces(before, after) => reduces(before, after),
         Carries(first, last, before, carry) => carries(first, last, before, carry),
-        Covers(s, t, is_so) => covers(&Known::new(s).state(), &Known::new(t).state()) == is_so,
+        Covers(s, t, is_so) => covers(&KnownFact::new(s).state(), &KnownFact::new(t).state())
+            == is_so,
     }
 }
 
 /// Plays steps.
-fn play(rt: &impl Abort, steps: &[Step]) {
+fn play(rt: &impl Abort, steps: &[RelatedStep]) {
     for (i, step) in steps.iter().enumerate() {
         assert!(rt; agrees(step), "step {i}");
     }
@@ -191,7 +192,7 @@ const COMPARED: Facts = &[Same(&[A, B]), Compared(10), Byte(A, 0, 20), Byte(B, 5
 /// B in 3 to 9, of which 4 and 8 have neither bit 0 nor bit 1.
 const LOW_BITS: Facts = &[Same(&[B]), Bits(0x03), Byte(B, 3, 9)];
 
-const MET: &[Step] = &[
+const MET: &[RelatedStep] = &[
     // Each place gets the bounds that all share.
     Meets(
         Condition::Carry,
@@ -263,7 +264,7 @@ const MET: &[Step] = &[
     Meets(Condition::NotZero, &[Same(&[B]), Bits(0x00)], None),
 ];
 
-const REDUCED: &[Step] = &[
+const REDUCED: &[RelatedStep] = &[
     // Bytes by their pair, and a pair by its bytes.
     Reduces(
         &[Word(Hl, 0xC0F0, 0xC10F), Word(De, 0x1234, 0x1240)],
@@ -351,7 +352,7 @@ const REDUCED: &[Step] = &[
     Reduces(&[Word(Hl, 0x0100, 0x0100), Link(Hl, 4, OF_A, 0x0102)], None),
 ];
 
-const CARRIED: &[Step] = &[
+const CARRIED: &[RelatedStep] = &[
     Carries(0x0000, 0x0FFF, &[Word(Hl, 0x1000, 0x2000)], Some(false)),
     Carries(0x1000, 0x2000, &[Word(Hl, 0xF000, 0xF100)], Some(true)),
     Carries(0x0800, 0x1000, &[Word(Hl, 0xF000, 0xF800)], None),
@@ -366,7 +367,7 @@ const COUNTED: Facts = &[
     Link(Hl, 1, OF_DE, 0xC010),
 ];
 
-const FOUND: &[Step] = &[
+const FOUND: &[RelatedStep] = &[
     // DE isn't 0 where NZ is met, and 0 where it isn't; HL + DE = C010 goes along.
     Passes(
         Condition::Zero,
@@ -420,7 +421,7 @@ const POINTING: Facts = &[
     Byte(C, 0x10, 0x20),
 ];
 
-const POINTED: &[Step] = &[
+const POINTED: &[RelatedStep] = &[
     Points(
         Op::Load(Operand::Register(A), Operand::AtHl),
         POINTING,
@@ -449,7 +450,7 @@ const PLACES: Facts = &[Same(&[A, B]), At(0xC123), Compared(7), Zero(De)];
 /// HL + B = C100.
 const LINKED: Facts = &[Link(Hl, 1, OF_B, 0xC100)];
 
-const COVERED: &[Step] = &[
+const COVERED: &[RelatedStep] = &[
     // Fewer places and no test stand for more; others don't.
     Covers(PLACES, PLACES, true),
     Covers(PLACES, &[Same(&[B]), Compared(7)], true),

@@ -2,7 +2,7 @@
 //! of steps, which one function plays.
 
 use crate::facts::Fact::{self, At, Bits, Byte, Compared, Link, Same, Word, Zero};
-use crate::facts::Known;
+use crate::facts::KnownFact;
 use gb_domain::pairs::WordPair::{Bc, De, Hl};
 use gb_domain::pairs::{ANY_BOUNDS, Bounds, Other};
 use gb_domain::types::{Rules, Val};
@@ -19,7 +19,7 @@ type Facts = &'static [Fact];
 
 /// An instruction, what is known before it, and what is then known together.
 #[derive(Clone, Copy)]
-pub enum Step {
+pub enum TogetherStep {
     Leaves(Op, Facts, Facts),
     /// SP has these bounds.
     LeavesWithSp(u16, u16, Op, Facts, Facts),
@@ -27,7 +27,7 @@ pub enum Step {
     LeavesWithRead(u8, u8, Op, Facts, Facts),
 }
 
-use Step::{Leaves, LeavesWithRead, LeavesWithSp};
+use TogetherStep::{Leaves, LeavesWithRead, LeavesWithSp};
 
 const REGION: Region = Region {
     first: 0xDF00,
@@ -36,7 +36,7 @@ const REGION: Region = Region {
 
 /// Whether an instruction leaves this known together.
 fn leaves(op: Op, sp: Bounds, low: Val, before: Facts, after: Facts) -> bool {
-    let known = Known::new(before);
+    let known = KnownFact::new(before);
     let left = relations_after(
         Rules::Extended,
         REGION,
@@ -46,11 +46,11 @@ fn leaves(op: Op, sp: Bounds, low: Val, before: Facts, after: Facts) -> bool {
         low,
         &known.relations,
     );
-    are_same(&left, &Known::new(after).relations)
+    are_same(&left, &KnownFact::new(after).relations)
 }
 
 /// Whether a step comes out so.
-fn agrees(step: &Step) -> bool {
+fn agrees(step: &TogetherStep) -> bool {
     match *step {
         Leaves(op, before, after) => leaves(op, ANY_BOUNDS, ANY, before, after),
         LeavesWithSp(first, last, op, before, after) => {
@@ -63,7 +63,7 @@ fn agrees(step: &Step) -> bool {
 }
 
 /// Plays steps.
-pub fn play(rt: &impl Abort, steps: &[Step]) {
+pub fn play(rt: &impl Abort, steps: &[TogetherStep]) {
     for (i, step) in steps.iter().enumerate() {
         assert!(rt; agrees(step), "step {i}");
     }
@@ -95,7 +95,7 @@ const LESS_TWO: u16 = 0xFFFE;
 const LESS_THREE: u16 = 0xFFFD;
 
 /// What is written is forgotten.
-const FORGOTTEN: &[Step] = &[
+const FORGOTTEN: &[TogetherStep] = &[
     // B leaves the places; BC loses what is known of it, and so do links that read B or BC.
     Leaves(
         Op::LoadImmediate(IN_B, 7),
@@ -171,7 +171,7 @@ const FORGOTTEN: &[Step] = &[
 ];
 
 /// Steps of pairs and of registers.
-const MOVED: &[Step] = &[
+const MOVED: &[TogetherStep] = &[
     // Bounds and sums move by one; bounds come from the bytes too.
     Leaves(
         Op::IncrementPair(Pair::Bc),
@@ -305,7 +305,7 @@ const MOVED: &[Step] = &[
 ];
 
 /// Words that are added to HL.
-const ADDED: &[Step] = &[
+const ADDED: &[TogetherStep] = &[
     // A single word is a step of HL.
     Leaves(
         Op::AddHl(Pair::De),
@@ -369,7 +369,7 @@ const ADDED: &[Step] = &[
 ];
 
 /// Bytes that are copied.
-const COPIED: &[Step] = &[
+const COPIED: &[TogetherStep] = &[
     // From a place: to becomes one, with the test; its pair is written all the same. One address replaces another.
     Leaves(
         Op::Load(IN_B, IN_A),
@@ -461,7 +461,7 @@ const COPIED: &[Step] = &[
 ];
 
 /// Flags that say something of a byte.
-const TESTED: &[Step] = &[
+const TESTED: &[TogetherStep] = &[
     // CP with a single operand: of A's places, or of A.
     Leaves(
         Op::AluImmediate(AluOp::Cp, 10),

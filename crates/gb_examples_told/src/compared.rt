@@ -1,11 +1,9 @@
-//! What a new certificate changed beside an older one, by hand.
+//! What a new certificate changed since an older one, by hand.
 
 use crate::pages::{BARE, IE_IS_1, NODES, OWN_OFF, PROCEDURES, SILENT, game};
-use crate::spelled::{Node, Procedure, certificate};
-use gb_page::{Changes, Older, changes_json};
-use gb_reports::Symbols;
+use crate::spelled::{SpelledNode, SpelledProcedure, certificate};
+use gb_page::{Cert, Changes, Older, Rom, Symbols, changes_json};
 use gb_samples::cartridges::{PLAIN, small};
-use gb_verify::{Cert, Rom};
 use std::alloc::Global;
 use std::test::Fail;
 
@@ -16,14 +14,14 @@ const PROGRAM: &[u8] = &[
 ];
 
 /// More stack is allowed than is used, and what is called may write C000 to C00F.
-const NEW_PROCEDURES: &[Procedure] = &[
-    Procedure {
+const NEW_PROCEDURES: &[SpelledProcedure] = &[
+    SpelledProcedure {
         entry: 0,
         need: 3,
         exit: None,
         ..SILENT
     },
-    Procedure {
+    SpelledProcedure {
         entry: 5,
         need: 2,
         ranges: &[1, 0x00, 0xC0, 0x0F, 0xC0],
@@ -31,36 +29,36 @@ const NEW_PROCEDURES: &[Procedure] = &[
     },
 ];
 
-const NEW_NODES: &[Node] = &[
-    Node {
+const NEW_NODES: &[SpelledNode] = &[
+    SpelledNode {
         address: 0x0100,
         ..BARE
     },
-    Node {
+    SpelledNode {
         address: 0x0101,
         ..BARE
     },
-    Node {
+    SpelledNode {
         address: 0x0150,
         ..BARE
     },
-    Node {
+    SpelledNode {
         address: 0x0152,
         changes: IE_IS_1,
         ..BARE
     },
-    Node {
+    SpelledNode {
         address: 0x0155,
         changes: IE_IS_1,
         ..BARE
     },
-    Node {
+    SpelledNode {
         procedure: 1,
         address: 0x0160,
         changes: OWN_OFF,
         ..BARE
     },
-    Node {
+    SpelledNode {
         procedure: 1,
         address: 0x0161,
         changes: OWN_OFF,
@@ -71,28 +69,28 @@ const NEW_NODES: &[Node] = &[
 /// What is otherwise where both builds have their symbols. Before, main was allowed two words, and what is called one; with the
 /// return address that makes 4 bytes, and now 6.
 const BY_SYMBOLS: &str = "\
-the deepest way: main, draw; before: main, draw, VBlank handler\n\
-the stack: 6 bytes in all, before 4\n\
-main: the VBlank interrupt no longer comes in it\n\
-draw: 6 bytes of stack, before 4\n\
-draw: may write C000-C00F, not before\n\
-draw: the VBlank interrupt no longer comes in it\n\
+deepest call chain: main -> draw (was main -> draw -> VBlank handler)\n\
+stack: 6 bytes in all (was 4)\n\
+main: VBlank no longer interrupts it\n\
+draw: 6 bytes of stack (was 4)\n\
+draw: can now write $C000-$C00F\n\
+draw: VBlank no longer interrupts it\n\
 VBlank handler: gone, 2 bytes of stack\n";
 
-/// The same where the older build has no symbols.
+/// What is printed if the older build has no symbols.
 const BY_ADDRESSES: &str = "\
-the deepest way: main, draw; before: main, 00:0158, VBlank handler\n\
-the stack: 6 bytes in all, before 4\n\
-main: the VBlank interrupt no longer comes in it\n\
+deepest call chain: main -> draw (was main -> 00:0158 -> VBlank handler)\n\
+stack: 6 bytes in all (was 4)\n\
+main: VBlank no longer interrupts it\n\
 draw: new, 6 bytes of stack\n\
 00:0158: gone, 4 bytes of stack\n\
 VBlank handler: gone, 2 bytes of stack\n";
 
-/// The same where it has no cartridge either.
+/// What is printed if it has no cartridge either.
 const BY_CERTIFICATE: &str = "\
-the deepest way: main, draw\n\
-the stack: 6 bytes in all, before 4\n\
-main: the VBlank interrupt no longer comes in it\n\
+deepest call chain: main -> draw\n\
+stack: 6 bytes in all (was 4)\n\
+main: VBlank no longer interrupts it\n\
 draw: new, 6 bytes of stack\n\
 00:0158: gone, 4 bytes of stack\n\
 VBlank handler: gone, 2 bytes of stack\n";
@@ -103,14 +101,14 @@ const JSON: &str =
 
 /// Which of the older build's files there are.
 #[derive(Clone, Copy, PartialEq, Eq)]
-enum Kept {
+enum KeptCertificate {
     All,
     NoSymbols,
     CertificateAlone,
 }
 
 /// What the new build changed.
-fn changes(alloc: Global, kept: Kept) -> Option<Changes> {
+fn changes(alloc: Global, kept: KeptCertificate) -> Option<Changes> {
     let (old_rom, new_rom) = (game(), small(PLAIN, PROGRAM));
     let (old_rom, new_rom) = (Rom::parse(&old_rom).ok()?, Rom::parse(&new_rom).ok()?);
     let (old, new) = (
@@ -123,12 +121,12 @@ fn changes(alloc: Global, kept: Kept) -> Option<Changes> {
     let new_symbols = Symbols::parse(alloc, b"00:0160 draw\n").ok()?;
     let older = Older {
         cert: &old,
-        rom: if kept == Kept::CertificateAlone {
+        rom: if kept == KeptCertificate::CertificateAlone {
             None
         } else {
             Some(&old_rom)
         },
-        symbols: if kept == Kept::All {
+        symbols: if kept == KeptCertificate::All {
             Some(&old_symbols)
         } else {
             None
@@ -138,7 +136,7 @@ fn changes(alloc: Global, kept: Kept) -> Option<Changes> {
 }
 
 /// Whether what was changed is told so.
-fn is_told(alloc: Global, kept: Kept, wanted: &str) -> Option<bool> {
+fn is_told(alloc: Global, kept: KeptCertificate, wanted: &str) -> Option<bool> {
     let changes = changes(alloc, kept)?;
     let text = format!(in alloc; "{changes}").ok()?;
     Some(!changes.is_none() && text.as_str() == wanted)
@@ -146,14 +144,20 @@ fn is_told(alloc: Global, kept: Kept, wanted: &str) -> Option<bool> {
 
 #[test]
 fn a_new_build_is_compared(rt: HostRuntime) {
-    assert!(rt; is_told(rt.alloc(), Kept::All, BY_SYMBOLS) == Some(true));
-    assert!(rt; is_told(rt.alloc(), Kept::NoSymbols, BY_ADDRESSES) == Some(true));
-    assert!(rt; is_told(rt.alloc(), Kept::CertificateAlone, BY_CERTIFICATE) == Some(true));
+    assert!(rt; is_told(rt.alloc(), KeptCertificate::All, BY_SYMBOLS) == Some(true));
+    assert!(rt; is_told(rt.alloc(), KeptCertificate::NoSymbols, BY_ADDRESSES) == Some(true));
+    assert!(rt;
+        is_told(
+            rt.alloc(),
+            KeptCertificate::CertificateAlone,
+            BY_CERTIFICATE
+        ) == Some(true)
+    );
 }
 
 #[test]
 fn a_new_build_is_compared_for_programs(rt: HostRuntime) -> Result<(), Fail> {
-    let changes = changes(rt.alloc(), Kept::All).ok_or("changes")?;
+    let changes = changes(rt.alloc(), KeptCertificate::All).ok_or("changes")?;
     let json = changes_json(rt.alloc(), &changes)?;
     assert!(rt; json.as_str() == JSON);
     Ok(())
@@ -168,7 +172,10 @@ fn is_none(alloc: Global, rom: &Rom<'_>, cert: &Cert<'_>, symbols: &Symbols<'_>)
     };
     let changes = Changes::of(alloc, rom, cert, symbols, &older).ok()?;
     let text = format!(in alloc; "{changes}").ok()?;
-    Some(changes.is_none() && text.as_str() == "nothing that is compared has changed\n")
+    Some(
+        changes.is_none()
+            && text.as_str() == "no changes in stack, routines, RAM writes, interrupts or banks\n",
+    )
 }
 
 /// Whether the game's certificate beside itself has changed nothing.

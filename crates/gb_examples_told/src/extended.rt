@@ -1,7 +1,7 @@
-//! What is in the way of certificates of version 3, worked by hand from the rules.
+//! What certificates of version 3 lack, worked by hand from the rules.
 
 use crate::extended_calls::{CALLED_OR_INLINED, DEPTHS};
-use crate::extended_pieces::Example;
+use crate::extended_pieces::PieceExample;
 use crate::extended_returns::{INTERRUPTS, RETURNS};
 use crate::refusals::is_told;
 use crate::spelled::extended_certificate;
@@ -9,7 +9,7 @@ use std::alloc::Global;
 use std::test::Fail;
 
 /// Whether what is told of an example's files is what it says.
-fn agrees(alloc: Global, example: &Example) -> Result<bool, Fail> {
+fn agrees(alloc: Global, example: &PieceExample) -> Result<bool, Fail> {
     let cert = extended_certificate(example.procedures, example.nodes);
     is_told(
         alloc,
@@ -22,7 +22,7 @@ fn agrees(alloc: Global, example: &Example) -> Result<bool, Fail> {
 }
 
 /// Whether that is so of each of these.
-fn all_agree(alloc: Global, examples: &[Example]) -> Result<bool, Fail> {
+fn all_agree(alloc: Global, examples: &[PieceExample]) -> Result<bool, Fail> {
     for example in examples {
         if !agrees(alloc, example)? {
             return Ok(false);
@@ -32,7 +32,7 @@ fn all_agree(alloc: Global, examples: &[Example]) -> Result<bool, Fail> {
 }
 
 #[test]
-fn what_is_in_the_way_in_version_3(rt: HostRuntime) -> Result<(), Fail> {
+fn what_a_certificate_of_version_3_lacks(rt: HostRuntime) -> Result<(), Fail> {
     for examples in [DEPTHS, CALLED_OR_INLINED, RETURNS, INTERRUPTS] {
         assert!(rt; all_agree(rt.alloc(), examples)?);
     }

@@ -2,42 +2,42 @@
 
 use crate::extended_pieces::{
     A_IS_2, A_PAGE, AT_0100, AT_0101, AT_0150, BEHIND, BYTE, CALLED, CALLED_ALONE, CALLEE, CALLS,
-    EMPTY, ENABLES, Example, FULL, HANDLER, HOLDS_0154, MAIN, NESTED, NODES, PUSHED, PUSHES, STAYS,
-    TAKES_A_BYTE, WITH_HANDLER, WITH_INTERRUPTS,
+    EMPTY, ENABLES, FULL, HANDLER, HOLDS_0154, MAIN, NESTED, NODES, PUSHED, PUSHES, PieceExample,
+    STAYS, TAKES_A_BYTE, WITH_HANDLER, WITH_INTERRUPTS,
 };
 use crate::spelled::{ExtendedNode, ExtendedProcedure, ExtendedState};
 use gb_abs::reason::Reason;
 
 /// What the stack holds.
-pub const DEPTHS: &[Example] = &[
-    Example {
+pub const DEPTHS: &[PieceExample] = &[
+    PieceExample {
         program: PUSHES,
         procedures: &[ExtendedProcedure { need: 1, ..MAIN }, CALLEE],
         nodes: NODES,
         node: 2,
         reason: Reason::Depth,
-        text: "2 bytes would be held, and procedure 0 has 1",
+        text: "  2 bytes would be on the stack, and procedure 0 may use 1",
     },
     // DEC SP.
-    Example {
+    PieceExample {
         program: TAKES_A_BYTE,
         procedures: &[MAIN],
         nodes: &[AT_0100, AT_0101, AT_0150],
         node: 2,
         reason: Reason::Depth,
-        text: "1 byte would be held, and procedure 0 has 0",
+        text: "  1 byte would be on the stack, and procedure 0 may use 0",
     },
     // ADD SP,-6.
-    Example {
+    PieceExample {
         program: &[0xE8, 0xFA],
         procedures: &[ExtendedProcedure { need: 4, ..MAIN }],
         nodes: &[AT_0100, AT_0101, AT_0150],
         node: 2,
         reason: Reason::Depth,
-        text: "6 bytes would be held, and procedure 0 has 4",
+        text: "  6 bytes would be on the stack, and procedure 0 may use 4",
     },
     // ADD SP,-1 above 255 bytes, in a procedure that nothing calls.
-    Example {
+    PieceExample {
         program: &[0x18, 0xFE, 0xE8, 0xFF],
         procedures: &[
             MAIN,
@@ -63,19 +63,19 @@ pub const DEPTHS: &[Example] = &[
         ],
         node: 3,
         reason: Reason::Depth,
-        text: "256 bytes would be held, and a state holds 255 at most",
+        text: "  256 bytes would be on the stack, and a node can have 255",
     },
     // CALL pushes two bytes beside the two that are held.
-    Example {
+    PieceExample {
         program: PUSHES,
         procedures: &[ExtendedProcedure { need: 3, ..MAIN }, CALLEE],
         nodes: NODES,
         node: 3,
         reason: Reason::Depth,
-        text: "4 bytes would be held, and procedure 0 has 3",
+        text: "  4 bytes would be on the stack, and procedure 0 may use 3",
     },
     // The callee takes these two over, and the others wait.
-    Example {
+    PieceExample {
         program: PUSHES,
         procedures: &[
             ExtendedProcedure { need: 5, ..MAIN },
@@ -84,9 +84,9 @@ pub const DEPTHS: &[Example] = &[
         nodes: NODES,
         node: 3,
         reason: Reason::Depth,
-        text: "2 bytes wait, procedure 1 needs 4: 6, and procedure 0 has 5",
+        text: "  2 bytes wait, procedure 1 needs 4: 6 in all, and procedure 0 may use 5",
     },
-    Example {
+    PieceExample {
         program: TAKES_A_BYTE,
         procedures: &[
             ExtendedProcedure { need: 3, ..MAIN },
@@ -112,18 +112,18 @@ pub const DEPTHS: &[Example] = &[
         ],
         node: 3,
         reason: Reason::Depth,
-        text: "1 byte waits, procedure 1 needs 3: 4, and procedure 0 has 3",
+        text: "  1 byte waits, procedure 1 needs 3: 4 in all, and procedure 0 may use 3",
     },
     // A dispatch pushes two bytes.
-    Example {
+    PieceExample {
         program: ENABLES,
         procedures: &[ExtendedProcedure { need: 1, ..MAIN }],
         nodes: WITH_INTERRUPTS,
         node: 3,
         reason: Reason::Depth,
-        text: "Interrupt 0 may come here:\n2 bytes would be held, and procedure 0 has 1",
+        text: "  VBlank ($40) can fire here:\n  2 bytes would be on the stack, and procedure 0 may use 1",
     },
-    Example {
+    PieceExample {
         program: ENABLES,
         procedures: &[
             ExtendedProcedure { need: 2, ..MAIN },
@@ -132,22 +132,22 @@ pub const DEPTHS: &[Example] = &[
         nodes: WITH_HANDLER,
         node: 3,
         reason: Reason::Depth,
-        text: "Interrupt 0 may come here:\n0 bytes wait, procedure 1 needs 3: 3, and procedure 0 has 2",
+        text: "  VBlank ($40) can fire here:\n  0 bytes wait, procedure 1 needs 3: 3 in all, and procedure 0 may use 2",
     },
 ];
 
 /// Where a call leads.
-pub const CALLED_OR_INLINED: &[Example] = &[
-    Example {
+pub const CALLED_OR_INLINED: &[PieceExample] = &[
+    PieceExample {
         program: PUSHES,
         procedures: &[ExtendedProcedure { need: 4, ..MAIN }],
         nodes: &[AT_0100, AT_0101, AT_0150, PUSHED, BEHIND],
         node: 3,
         reason: Reason::Uncovered,
-        text: "No procedure but main begins at 0156\nand this state is not covered there in procedure 0 either: it has no node",
+        text: "  No procedure but main begins at $0156\n  Procedure 0 could go on there itself, and doesn't cover this state: it has no node there",
     },
     // Main has a node at 0156 with another return address.
-    Example {
+    PieceExample {
         program: PUSHES,
         procedures: &[ExtendedProcedure { need: 4, ..MAIN }],
         nodes: &[
@@ -171,10 +171,10 @@ pub const CALLED_OR_INLINED: &[Example] = &[
         ],
         node: 3,
         reason: Reason::Uncovered,
-        text: "No procedure but main begins at 0156\nand this state is not covered there in procedure 0 either: node 5 comes nearest, but:\nitem 3 54, node 5 has 55",
+        text: "  No procedure but main begins at $0156\n  Procedure 0 could go on there itself, and doesn't cover this state. Node 5 is nearest, but differs:\n    stack byte 3: $54; node 5 has $55",
     },
     // It has one without the return address, and the callee expects another A.
-    Example {
+    PieceExample {
         program: PUSHES,
         procedures: &[
             ExtendedProcedure { need: 4, ..MAIN },
@@ -200,10 +200,10 @@ pub const CALLED_OR_INLINED: &[Example] = &[
         ],
         node: 3,
         reason: Reason::Uncovered,
-        text: "Procedure 1 begins at 0156, but:\nA 01, node 6 has 02\nand this state is not covered there in procedure 0 either: node 5 comes nearest, but:\nitems on the stack 4, node 5 has 2",
+        text: "  Procedure 1 begins at $0156, but its first node differs:\n    A: $01; node 6 has $02\n  Procedure 0 could go on there itself, and doesn't cover this state. Node 5 is nearest, but differs:\n    bytes on the stack: 4; node 5 has 2",
     },
     // A byte waits, and the callee expects two more beside its return word.
-    Example {
+    PieceExample {
         program: TAKES_A_BYTE,
         procedures: &[
             ExtendedProcedure { need: 3, ..MAIN },
@@ -235,10 +235,10 @@ pub const CALLED_OR_INLINED: &[Example] = &[
         ],
         node: 3,
         reason: Reason::Uncovered,
-        text: "Procedure 1 begins at 0156 with 4 items, and the caller has 3\nand this state is not covered there in procedure 0 either: it has no node",
+        text: "  Procedure 1 begins at $0156 and takes 4 bytes of its caller's stack, which has 3\n  Procedure 0 could go on there itself, and doesn't cover this state: it has no node there",
     },
     // Main's base is FFFE, so that the callee's would be FFFC.
-    Example {
+    PieceExample {
         program: PUSHES,
         procedures: &[
             ExtendedProcedure { need: 4, ..MAIN },
@@ -250,10 +250,10 @@ pub const CALLED_OR_INLINED: &[Example] = &[
         nodes: NODES,
         node: 3,
         reason: Reason::Uncovered,
-        text: "Procedure 1 begins at 0156 with the base FFFD, which is not 2 bytes below the caller's base\nand this state is not covered there in procedure 0 either: it has no node",
+        text: "  Procedure 1 begins at $0156 with base $FFFD, which isn't 2 bytes below its caller's base\n  Procedure 0 could go on there itself, and doesn't cover this state: it has no node there",
     },
     // Here nothing waits.
-    Example {
+    PieceExample {
         program: CALLS,
         procedures: &[
             ExtendedProcedure { need: 4, ..MAIN },
@@ -266,9 +266,9 @@ pub const CALLED_OR_INLINED: &[Example] = &[
         nodes: &[AT_0100, AT_0101, AT_0150, CALLED_ALONE],
         node: 2,
         reason: Reason::Uncovered,
-        text: "Procedure 1 begins at 0156 with the base FFFC, which is not the caller's base\nand this state is not covered there in procedure 0 either: it has no node",
+        text: "  Procedure 1 begins at $0156 with base $FFFC, which isn't its caller's base\n  Procedure 0 could go on there itself, and doesn't cover this state: it has no node there",
     },
-    Example {
+    PieceExample {
         program: CALLS,
         procedures: &[
             ExtendedProcedure { need: 4, ..MAIN },
@@ -286,10 +286,10 @@ pub const CALLED_OR_INLINED: &[Example] = &[
         nodes: NESTED,
         node: 3,
         reason: Reason::Uncovered,
-        text: "Procedure 2 begins at 0160 with the base FFFC, and the caller's base is not known\nand this state is not covered there in procedure 1 either: it has no node",
+        text: "  Procedure 2 begins at $0160 with base $FFFC, and its caller's base is unknown\n  Procedure 1 could go on there itself, and doesn't cover this state: it has no node there",
     },
     // Two procedures begin there: one expects another A, and the other, which comes nearer, another base.
-    Example {
+    PieceExample {
         program: PUSHES,
         procedures: &[
             ExtendedProcedure { need: 4, ..MAIN },
@@ -320,10 +320,10 @@ pub const CALLED_OR_INLINED: &[Example] = &[
         ],
         node: 3,
         reason: Reason::Uncovered,
-        text: "Procedure 2 begins at 0156 with the base FFFD, which is not 2 bytes below the caller's base\nand this state is not covered there in procedure 0 either: it has no node",
+        text: "  Procedure 2 begins at $0156 with base $FFFD, which isn't 2 bytes below its caller's base\n  Procedure 0 could go on there itself, and doesn't cover this state: it has no node there",
     },
     // The items that wait are said to be gone.
-    Example {
+    PieceExample {
         program: PUSHES,
         procedures: &[ExtendedProcedure { need: 4, ..MAIN }, CALLEE],
         nodes: &[
@@ -339,10 +339,10 @@ pub const CALLED_OR_INLINED: &[Example] = &[
         ],
         node: 3,
         reason: Reason::Uncovered,
-        text: "Behind its call of procedure 1 it goes on at 0154, where node 4 comes nearest, but:\nitems on the stack 2, node 4 has 0",
+        text: "  After its call of procedure 1, the program goes on at $0154. Node 4 is nearest, but differs:\n    bytes on the stack: 2; node 4 has 0",
     },
     // Two bytes wait, and the callee gives back 255.
-    Example {
+    PieceExample {
         program: PUSHES,
         procedures: &[
             ExtendedProcedure { need: 4, ..MAIN },
@@ -358,9 +358,9 @@ pub const CALLED_OR_INLINED: &[Example] = &[
         nodes: NODES,
         node: 3,
         reason: Reason::Uncovered,
-        text: "Behind its call of procedure 1 it goes on at 0154 with more bytes on the stack than the 255 of a state",
+        text: "  After its call of procedure 1, the program goes on at $0154 with more than 255 bytes on the stack",
     },
-    Example {
+    PieceExample {
         program: CALLS,
         procedures: &[
             ExtendedProcedure { need: 4, ..MAIN },
@@ -378,6 +378,6 @@ pub const CALLED_OR_INLINED: &[Example] = &[
         nodes: NESTED,
         node: 3,
         reason: Reason::Callee,
-        text: "Procedure 2 may write C000-C0FF, which lies in no range of procedure 1",
+        text: "  Procedure 2 may write $C000-$C0FF, which is in no range of procedure 1",
     },
 ];

@@ -6,7 +6,7 @@ use gb_abs::reason::Reason;
 /// PUSH BC at 0150, CALL 0156 at 0151, a loop at 0154, and RET at 0156.
 pub const PUSHES: &[u8] = &[0xC5, 0xCD, 0x56, 0x01, 0x18, 0xFE, 0xC9];
 
-/// The same with DEC SP in place of PUSH BC.
+/// A call after DEC SP.
 pub const TAKES_A_BYTE: &[u8] = &[0x3B, 0xCD, 0x56, 0x01, 0x18, 0xFE, 0xC9];
 
 /// CALL 0156 at 0150, a loop at 0153, and CALL 0160 at 0156.
@@ -69,14 +69,14 @@ pub const HOLDS_0154: ExtendedState = ExtendedState {
     ..EMPTY
 };
 
-/// The same with the word 0153.
+/// A state with the return word 0153.
 pub const HOLDS_0153: ExtendedState = ExtendedState {
     items: 2,
     held: &[0x01, 0x01, 0x0A, 0x53, 0x53, 0x0B, 0, 0],
     ..EMPTY
 };
 
-/// The same with any word, while IE may have bit 0.
+/// A state with any word on the stack, while IE may have bit 0.
 pub const HANDLES: ExtendedState = ExtendedState {
     changes: MAY_ENABLE,
     items: 2,
@@ -174,7 +174,7 @@ pub const CALLED: ExtendedNode = ExtendedNode {
     state: HOLDS_0154,
 };
 
-/// The same, with 0153.
+/// The callee alone, with the return word 0153.
 pub const CALLED_ALONE: ExtendedNode = ExtendedNode {
     state: HOLDS_0153,
     ..CALLED
@@ -207,7 +207,7 @@ pub const NESTED: &[ExtendedNode] = &[AT_0100, AT_0101, AT_0150, CALLED_ALONE, C
 /// The nodes of `ENABLES`.
 pub const WITH_INTERRUPTS: &[ExtendedNode] = &[AT_0100, AT_0101, BEFORE_INTERRUPTS, INTERRUPTED];
 
-/// The same with a handler.
+/// The nodes with a handler.
 pub const WITH_HANDLER: &[ExtendedNode] = &[
     AT_0100,
     AT_0101,
@@ -217,7 +217,7 @@ pub const WITH_HANDLER: &[ExtendedNode] = &[
 ];
 
 /// A cartridge's program, a certificate, the node that is refused, the reason, and what is in the way.
-pub struct Example {
+pub struct PieceExample {
     pub program: &'static [u8],
     pub procedures: &'static [ExtendedProcedure],
     pub nodes: &'static [ExtendedNode],

@@ -2,17 +2,17 @@
 
 use crate::extended_pieces::{
     A_IS_2, A_PAGE, AT_0100, AT_0101, AT_0150, BEFORE_INTERRUPTS, BEHIND, BYTE, BYTES, CALLED,
-    CALLEE, CALLS_WITH_INTERRUPTS, EMPTY, ENABLED, ENABLES, Example, HANDLED, HANDLER, HOLDS_0153,
-    HOLDS_0154, INTERRUPTED, MAIN, MAY_ENABLE, NODES, PUSHED, PUSHES, STAYS, WITH_HANDLER,
-    WITH_INTERRUPTS,
+    CALLEE, CALLS_WITH_INTERRUPTS, EMPTY, ENABLED, ENABLES, HANDLED, HANDLER, HOLDS_0153,
+    HOLDS_0154, INTERRUPTED, MAIN, MAY_ENABLE, NODES, PUSHED, PUSHES, PieceExample, STAYS,
+    WITH_HANDLER, WITH_INTERRUPTS,
 };
 use crate::spelled::{ExtendedNode, ExtendedProcedure, ExtendedState};
 use gb_abs::reason::Reason;
 
 /// Where a word leads, and where main begins anew.
-pub const RETURNS: &[Example] = &[
+pub const RETURNS: &[PieceExample] = &[
     // PUSH HL and RET: HL is 014D.
-    Example {
+    PieceExample {
         program: &[0xE5, 0xC9],
         procedures: &[ExtendedProcedure { need: 2, ..MAIN }],
         nodes: &[
@@ -30,10 +30,10 @@ pub const RETURNS: &[Example] = &[
         ],
         node: 3,
         reason: Reason::Uncovered,
-        text: "It goes on at 014D, where procedure 0 has no node",
+        text: "  The program goes on at $014D, and procedure 0 has no node there",
     },
     // The low byte is no copy of the return word's.
-    Example {
+    PieceExample {
         program: PUSHES,
         procedures: &[ExtendedProcedure { need: 4, ..MAIN }, CALLEE],
         nodes: &[
@@ -52,10 +52,10 @@ pub const RETURNS: &[Example] = &[
         ],
         node: 5,
         reason: Reason::Return,
-        text: "The word that is popped is neither the return word nor known: its high byte is 01 (high byte of the return word), its low byte 50..5F (no copy)",
+        text: "  The address that is popped is neither the return address nor known: high byte $01 (high byte of the return address), low byte $50..$5F (not a copy)",
     },
     // DEC SP twice, and RET in main.
-    Example {
+    PieceExample {
         program: &[0x3B, 0x3B, 0xC9],
         procedures: &[ExtendedProcedure { need: 2, ..MAIN }],
         nodes: &[
@@ -82,10 +82,10 @@ pub const RETURNS: &[Example] = &[
         ],
         node: 4,
         reason: Reason::Return,
-        text: "This is main, which nothing has called, and the word that is popped is not known: its high byte is 00..FF (no copy), its low byte 00..FF (no copy)",
+        text: "  Nothing called main, and the address that it pops is unknown: high byte $00..$FF (not a copy), low byte $00..$FF (not a copy)",
     },
     // DEC SP once.
-    Example {
+    PieceExample {
         program: &[0x3B, 0xC9],
         procedures: &[ExtendedProcedure { need: 1, ..MAIN }],
         nodes: &[
@@ -103,9 +103,9 @@ pub const RETURNS: &[Example] = &[
         ],
         node: 3,
         reason: Reason::Return,
-        text: "1 byte is on the stack, and a return pops 2",
+        text: "  1 byte is on the stack, and a return pops 2",
     },
-    Example {
+    PieceExample {
         program: &[0xC9],
         procedures: &[MAIN],
         nodes: &[
@@ -121,18 +121,18 @@ pub const RETURNS: &[Example] = &[
         ],
         node: 2,
         reason: Reason::Return,
-        text: "The stack is not set",
+        text: "  SP isn't set",
     },
-    Example {
+    PieceExample {
         program: PUSHES,
         procedures: &[ExtendedProcedure { need: 4, ..MAIN }, STAYS],
         nodes: NODES,
         node: 5,
         reason: Reason::Return,
-        text: "Procedure 1 is said not to return",
+        text: "  By the certificate, procedure 1 doesn't return",
     },
     // The callee takes C over too, which its exit hasn't.
-    Example {
+    PieceExample {
         program: PUSHES,
         procedures: &[ExtendedProcedure { need: 4, ..MAIN }, CALLEE],
         nodes: &[
@@ -159,10 +159,10 @@ pub const RETURNS: &[Example] = &[
         ],
         node: 5,
         reason: Reason::Return,
-        text: "Procedure 1 returns, but:\nitems on the stack 1, the exit has 0",
+        text: "  Procedure 1 returns, but its exit differs:\n    bytes on the stack: 1; the exit has 0",
     },
     // LD SP,FFFE in the callee.
-    Example {
+    PieceExample {
         program: &[
             0xC5, 0xCD, 0x56, 0x01, 0x18, 0xFE, 0x31, 0xFE, 0xFF, 0x18, 0xFE,
         ],
@@ -170,10 +170,10 @@ pub const RETURNS: &[Example] = &[
         nodes: NODES,
         node: 5,
         reason: Reason::Uncovered,
-        text: "Main begins anew at 0159, where no node of it stands",
+        text: "  Main starts again at $0159, and has no node there",
     },
     // Nothing is a copy then, and A is said to be one.
-    Example {
+    PieceExample {
         program: &[
             0xC5, 0xCD, 0x56, 0x01, 0x18, 0xFE, 0x31, 0xFE, 0xFF, 0x18, 0xFE,
         ],
@@ -209,22 +209,22 @@ pub const RETURNS: &[Example] = &[
         ],
         node: 6,
         reason: Reason::Uncovered,
-        text: "Main begins anew at 0159, where node 5 comes nearest, but:\nA 01 (no copy), node 5 has 01 (A at entry)",
+        text: "  Main starts again at $0159. Node 5 is nearest, but differs:\n    A: $01 (not a copy); node 5 has $01 (A at entry)",
     },
 ];
 
 /// What an interrupt meets.
-pub const INTERRUPTS: &[Example] = &[
-    Example {
+pub const INTERRUPTS: &[PieceExample] = &[
+    PieceExample {
         program: ENABLES,
         procedures: &[ExtendedProcedure { need: 2, ..MAIN }],
         nodes: WITH_INTERRUPTS,
         node: 3,
         reason: Reason::Interrupt,
-        text: "Interrupt 0 may come here:\nNo procedure but main begins at 0040\nand this state is not covered there in procedure 0 either: it has no node",
+        text: "  VBlank ($40) can fire here:\n  No procedure but main begins at $0040\n  Procedure 0 could go on there itself, and doesn't cover this state: it has no node there",
     },
     // LD A,02 and LDH (FF),A before EI: interrupt 1 alone may come.
-    Example {
+    PieceExample {
         program: &[0x3E, 0x02, 0xE0, 0xFF, 0xFB, 0x18, 0xFE],
         procedures: &[ExtendedProcedure { need: 2, ..MAIN }],
         nodes: &[
@@ -258,9 +258,9 @@ pub const INTERRUPTS: &[Example] = &[
         ],
         node: 5,
         reason: Reason::Interrupt,
-        text: "Interrupt 1 may come here:\nNo procedure but main begins at 0048\nand this state is not covered there in procedure 0 either: it has no node",
+        text: "  STAT ($48) can fire here:\n  No procedure but main begins at $0048\n  Procedure 0 could go on there itself, and doesn't cover this state: it has no node there",
     },
-    Example {
+    PieceExample {
         program: ENABLES,
         procedures: &[MAIN],
         nodes: &[
@@ -283,10 +283,10 @@ pub const INTERRUPTS: &[Example] = &[
         ],
         node: 3,
         reason: Reason::Interrupt,
-        text: "Interrupt 0 may come here:\nThe stack is not set",
+        text: "  VBlank ($40) can fire here:\n  SP isn't set",
     },
     // The handler leaves another A.
-    Example {
+    PieceExample {
         program: ENABLES,
         procedures: &[
             ExtendedProcedure { need: 2, ..MAIN },
@@ -301,10 +301,10 @@ pub const INTERRUPTS: &[Example] = &[
         nodes: WITH_HANDLER,
         node: 3,
         reason: Reason::Interrupt,
-        text: "Interrupt 0 may come here:\nBehind procedure 1 it goes on at 0151, where node 3 comes nearest, but:\nA 02 (no copy), node 3 has 01 (A at entry)",
+        text: "  VBlank ($40) can fire here:\n  After the handler, procedure 1, the program goes on at $0151. Node 3 is nearest, but differs:\n    A: $02 (not a copy); node 3 has $01 (A at entry)",
     },
     // A procedure without ranges is interrupted, and the handler has one.
-    Example {
+    PieceExample {
         program: CALLS_WITH_INTERRUPTS,
         procedures: &[
             ExtendedProcedure { need: 4, ..MAIN },
@@ -348,6 +348,6 @@ pub const INTERRUPTS: &[Example] = &[
         ],
         node: 4,
         reason: Reason::Interrupt,
-        text: "Interrupt 0 may come here:\nProcedure 2 may write C000-C0FF, which lies in no range of procedure 1",
+        text: "  VBlank ($40) can fire here:\n  Procedure 2 may write $C000-$C0FF, which is in no range of procedure 1",
     },
 ];

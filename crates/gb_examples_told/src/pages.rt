@@ -1,12 +1,11 @@
 //! The facts of a small game with a call and an interrupt, by hand, and what its page shows of them.
 
-use crate::spelled::{EMPTY, Node, Procedure, Spelled, certificate};
-use gb_facts::{Bound, By, CodeRun, Facts, Interrupt, Link};
-use gb_page::{Extras, Screen, facts_json, obstacles_page, page_of};
-use gb_reports::{Obstacle, Symbols};
+use crate::spelled::{EMPTY, Spelled, SpelledNode, SpelledProcedure, certificate};
+use gb_page::{
+    Bound, CallLink, Cert, CodeRun, EnteredBy, Extras, Facts, Finding, Interrupt, Rom, Screen,
+    Symbols, Verdict, facts_json, findings_page, page_of,
+};
 use gb_samples::cartridges::{PLAIN, SMALLEST, put, small};
-use gb_verify::verdict::Verdict;
-use gb_verify::{Cert, Rom};
 use std::alloc::Global;
 use std::test::Fail;
 
@@ -30,7 +29,7 @@ const OWN_ON: &[(usize, u8)] = &[(0, 4), (16, 1), (17, 1)];
 pub const OWN_OFF: &[(usize, u8)] = &[(16, 1), (17, 1)];
 
 /// A procedure that writes nothing.
-pub const SILENT: Procedure = Procedure {
+pub const SILENT: SpelledProcedure = SpelledProcedure {
     entry: 0,
     need: 0,
     ranges: &[0],
@@ -38,20 +37,20 @@ pub const SILENT: Procedure = Procedure {
 };
 
 /// Main, what it calls, and the handler, with the words of stack that they need.
-pub const PROCEDURES: &[Procedure] = &[
-    Procedure {
+pub const PROCEDURES: &[SpelledProcedure] = &[
+    SpelledProcedure {
         entry: 0,
         need: 2,
         exit: None,
         ..SILENT
     },
-    Procedure {
+    SpelledProcedure {
         entry: 6,
         need: 1,
         exit: Some(OWN_ON),
         ..SILENT
     },
-    Procedure {
+    SpelledProcedure {
         entry: 8,
         need: 0,
         exit: Some(OWN_ON),
@@ -59,21 +58,21 @@ pub const PROCEDURES: &[Procedure] = &[
     },
 ];
 
-/// The same where main may have a word too few.
-const TOO_FEW: &[Procedure] = &[
-    Procedure {
+/// Main and a procedure, where main's need is a word too small.
+const TOO_FEW: &[SpelledProcedure] = &[
+    SpelledProcedure {
         entry: 0,
         need: 1,
         exit: None,
         ..SILENT
     },
-    Procedure {
+    SpelledProcedure {
         entry: 6,
         need: 1,
         exit: Some(OWN_ON),
         ..SILENT
     },
-    Procedure {
+    SpelledProcedure {
         entry: 8,
         need: 0,
         exit: Some(OWN_ON),
@@ -82,63 +81,63 @@ const TOO_FEW: &[Procedure] = &[
 ];
 
 /// A node of main that holds nothing.
-pub const BARE: Node = Node {
+pub const BARE: SpelledNode = SpelledNode {
     procedure: 0,
     address: 0x0100,
     changes: &[],
     held: EMPTY,
 };
 
-pub const NODES: &[Node] = &[
-    Node {
+pub const NODES: &[SpelledNode] = &[
+    SpelledNode {
         procedure: 0,
         address: 0x0100,
         changes: &[],
         ..BARE
     },
-    Node {
+    SpelledNode {
         procedure: 0,
         address: 0x0101,
         changes: &[],
         ..BARE
     },
-    Node {
+    SpelledNode {
         procedure: 0,
         address: 0x0150,
         changes: &[],
         ..BARE
     },
-    Node {
+    SpelledNode {
         procedure: 0,
         address: 0x0152,
         changes: IE_IS_1,
         ..BARE
     },
-    Node {
+    SpelledNode {
         procedure: 0,
         address: 0x0153,
         changes: PENDING,
         ..BARE
     },
-    Node {
+    SpelledNode {
         procedure: 0,
         address: 0x0156,
         changes: ON,
         ..BARE
     },
-    Node {
+    SpelledNode {
         procedure: 1,
         address: 0x0158,
         changes: OWN_ON,
         ..BARE
     },
-    Node {
+    SpelledNode {
         procedure: 1,
         address: 0x0159,
         changes: OWN_ON,
         ..BARE
     },
-    Node {
+    SpelledNode {
         procedure: 2,
         address: 0x0040,
         changes: OWN_OFF,
@@ -172,29 +171,29 @@ const CODE: &[CodeRun] = &[
 ];
 
 /// A call below which a return word waits alone.
-const CALL: Link = Link {
+const CALL: CallLink = CallLink {
     caller: 0,
     callee: None,
-    by: By::Call,
+    by: EnteredBy::Call,
     nodes: 1,
     waiting: 2,
     node: 0,
 };
 
 /// By VBlank.
-const VBLANK: By = By::Interrupt(Interrupt::VBlank);
+const VBLANK: EnteredBy = EnteredBy::Interrupt(Interrupt::VBlank);
 
 /// Main calls at 0153; VBlank may come at 0153 and 0156, and at both nodes of what is called.
-const LINKS: &[Link] = &[
-    Link {
+const LINKS: &[CallLink] = &[
+    CallLink {
         caller: 0,
         callee: Some(1),
-        by: By::Call,
+        by: EnteredBy::Call,
         nodes: 1,
         node: 4,
         ..CALL
     },
-    Link {
+    CallLink {
         caller: 0,
         callee: Some(2),
         by: VBLANK,
@@ -202,7 +201,7 @@ const LINKS: &[Link] = &[
         node: 4,
         ..CALL
     },
-    Link {
+    CallLink {
         caller: 1,
         callee: Some(2),
         by: VBLANK,
@@ -310,35 +309,37 @@ fn a_refusal_leads_to_its_node(rt: HostRuntime) -> Result<(), Fail> {
     let page = page(rt.alloc(), &bytes, b"").ok_or("a page")?;
     let text = page.as_str();
     assert!(rt; text.contains("REFUSED node 4 reason 9"));
-    assert!(rt; text.contains("is refused at node 4, <a href=\"#n4\">"));
+    assert!(rt; text.contains("refuses this certificate at node 4, <a href=\"#n4\">"));
     Ok(())
 }
 
-/// The page on what is in the way, where the stack begins in ROM and procedures call one another.
-fn obstacles(alloc: Global) -> Option<String> {
+/// The page of two findings: the stack begins in ROM, and procedures call one another.
+fn findings(alloc: Global) -> Option<String> {
     let rom = game();
     let rom = Rom::parse(&rom).ok()?;
     let symbols = Symbols::parse(alloc, b"00:0158 a<b\n").ok()?;
-    let obstacles = [
-        Obstacle::NoStack { sp: 0x8000 },
-        Obstacle::Recursion { target: 0x0158 },
+    let findings = [
+        Finding::NoStack { sp: 0x8000 },
+        Finding::Recursion { target: 0x0158 },
     ];
-    obstacles_page(alloc, &rom, &obstacles, &symbols, true).ok()
+    findings_page(alloc, &rom, &findings, &symbols, true).ok()
 }
 
 #[test]
-fn obstacles_are_told(rt: HostRuntime) -> Result<(), Fail> {
-    let page = obstacles(rt.alloc()).ok_or("a page")?;
+fn findings_are_shown(rt: HostRuntime) -> Result<(), Fail> {
+    let page = findings(rt.alloc()).ok_or("a page")?;
     let text = page.as_str();
     assert!(rt; text.contains("NO CERTIFICATE obstacles 2"));
-    assert!(rt; text.contains("so all of it is new"));
+    assert!(rt; text.contains("so all of this is new"));
     assert!(rt; text.contains("<a href=\"#o2\">"));
     assert!(rt; text.contains("<section id=\"o2\">"));
     assert!(rt; text.contains("a&lt;b"));
     assert!(rt; !text.contains("a<b"));
-    assert!(rt; text.contains("8000"));
-    assert!(rt; text.contains("<h3>What is needed</h3><p>"));
-    assert!(rt; text.contains("<h3>What usually mends it</h3>"));
+    assert!(rt; text.contains("<pre>`ld sp, $8000` leaves no room for a stack.</pre>"));
+    assert!(rt; text.contains("<p class=\"quiet\">More: docs/FINDINGS.md#no-stack</p>"));
+    assert!(rt; text.contains("<p class=\"quiet\">More: docs/FINDINGS.md#recursion</p>"));
+    assert!(rt; text.contains("<h3>How to fix it</h3>"));
+    assert!(rt; !text.contains("How the code gets there"));
     assert!(rt; !text.contains("What is known there"));
     Ok(())
 }
@@ -382,7 +383,7 @@ fn a_refusal_for_programs(rt: HostRuntime) -> Result<(), Fail> {
 
 /// What the page says of the stack: 126 bytes, of which 2 wait below the call and 2 below the handler in what is called.
 const STACK: &[&str] = &[
-    "The stack’s region is <code>FF80-FFFD</code>, 126 bytes. At most <b>4 bytes</b> of it are ever used, and <b>122</b> are left.",
+    "The stack’s area is <code>$FF80-$FFFD</code>, 126 bytes. At most <b>4 bytes</b> are ever used, so <b>122</b> are free.",
     "<tr><td><a href=\"#p0\">main</a></td><td class=\"number\">2</td><td>call</td><td><a href=\"#n4\"><code>00:0153</code></a>",
     "<tr><td><a href=\"#p1\">draw</a></td><td class=\"number\">2</td><td>VBlank</td><td><a href=\"#n6\"><code>00:0158</code></a>",
     "<tr><td><a href=\"#p2\">VBlank handler</a></td><td class=\"number\">0</td><td>its own bytes</td><td><a href=\"#n8\"><code>00:0040</code></a>",
@@ -393,18 +394,18 @@ const STACK: &[&str] = &[
 /// What it says of interrupts, of banks, and of what is called: VBlank may come at 4 nodes, the code has 15 bytes, and NOP and RET
 /// change nothing.
 const REST: &[&str] = &[
-    "<td>VBlank</td><td><code>0040</code></td><td class=\"number\">4</td><td><a href=\"#p2\">VBlank handler</a> ",
-    "<td>timer</td><td><code>0050</code></td><td class=\"number\">0</td><td></td><td class=\"quiet\">never comes</td>",
+    "<td>VBlank</td><td><code>$0040</code></td><td class=\"number\">4</td><td><a href=\"#p2\">VBlank handler</a> ",
+    "<td>timer</td><td><code>$0050</code></td><td class=\"number\">0</td><td></td><td class=\"quiet\">never fires</td>",
     "none, so handlers don’t nest.",
     "<span class=\"number\">15 bytes</span>",
     "<span class=\"name\">bank 01</span>",
     "<span class=\"number\">not reached</span>",
-    "<dt>entered from</dt><dd><span class=\"item\"><a href=\"#p0\">main</a> <span class=\"quiet\">(call, 1)</span></span> </dd>",
-    "<dt>enters</dt><dd><span class=\"item\"><a href=\"#p2\">VBlank handler</a> <span class=\"quiet\">(VBlank, 2)</span></span> </dd>",
-    "<dt>may write</dt><dd>no RAM</dd>",
-    "<dt>keeps</dt><dd>A F B C D E H L IE banks and gate</dd>",
+    "<dt>called from</dt><dd><span class=\"item\"><a href=\"#p0\">main</a> <span class=\"quiet\">(call, 1)</span></span> </dd>",
+    "<dt>calls</dt><dd><span class=\"item\"><a href=\"#p2\">VBlank handler</a> <span class=\"quiet\">(VBlank, 2)</span></span> </dd>",
+    "<dt>can write</dt><dd>no RAM</dd>",
+    "<dt>preserves</dt><dd>A F B C D E H L IE banks and RAM gate</dd>",
     "<dt>returns</dt><dd>never</dd>",
-    "Its listing, 6 nodes",
+    "Listing, 6 nodes",
     "id=\"n4\"><a class=\"at\" href=\"#n4\">00:0153</a><span class=\"symbol\"></span><span class=\"op\"><a href=\"#n6\">CALL $0158</a></span>",
 ];
 
@@ -428,6 +429,22 @@ fn figures_of_a_page(rt: HostRuntime) -> Result<(), Fail> {
 }
 
 #[test]
+fn the_label_below_the_stack(rt: HostRuntime) -> Result<(), Fail> {
+    let bytes = certificate(PROCEDURES, NODES);
+    // Of FF80 to FFFD the last 4 bytes are used, from FFFA on.
+    let page = page(rt.alloc(), &bytes, b"00:FF90 hBelow\n00:FFFE hAbove\n").ok_or("a page")?;
+    let text = page.as_str();
+    assert!(rt;
+        text.contains(
+            "The next label below is <span class=\"symbol\">hBelow</span> at <code>$FF90</code>: <b>106 bytes</b> below the deepest push."
+        )
+    );
+    assert!(rt; text.contains("<rect class=\"used\" x=\"122\" width=\"4\" height=\"1\">"));
+    assert!(rt; !text.contains("<rect class=\"over\""));
+    Ok(())
+}
+
+#[test]
 fn a_listing_is_cut(rt: HostRuntime) -> Result<(), Fail> {
     let bytes = certificate(PROCEDURES, NODES);
     let extras = Extras {
@@ -436,7 +453,7 @@ fn a_listing_is_cut(rt: HostRuntime) -> Result<(), Fail> {
     };
     let page = page_with(rt.alloc(), &bytes, b"", extras).ok_or("a page")?;
     let text = page.as_str();
-    assert!(rt; text.contains("Of 9 nodes the first 5 are listed here"));
+    assert!(rt; text.contains("This page lists the first 5 of 9 nodes."));
     assert!(rt; text.contains("id=\"n4\""));
     assert!(rt; !text.contains("id=\"n5\""));
     assert!(rt; !text.contains("href=\"#n5\""));

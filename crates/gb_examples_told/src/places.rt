@@ -124,7 +124,7 @@ fn changed_bytes_are_found(rt: HostRuntime) {
     }
 }
 
-/// The same of version 3.
+/// Changed bytes of the certificate in version 3, with what their faults say.
 const CHANGED_THIRD: [Step; 10] = [
     (&[(3, 0x59)], (MAGIC, HEAD, Field::Magic, 0, 4)),
     (&[(4, 0x02)], (VERSION, HEAD, Field::Version, 4, 5)),
@@ -323,7 +323,7 @@ fn has_least_text(alloc: Global, changes: &[(usize, u8)], text: &str) -> Result<
     has_text(alloc, &bytes, text)
 }
 
-/// The same of version 3.
+/// Whether a changed certificate of version 3 has this text.
 fn has_third_text(alloc: Global, changes: &[(usize, u8)], text: &str) -> Result<bool, Fail> {
     let mut bytes = least_in_version_3();
     replace(&mut bytes, changes);

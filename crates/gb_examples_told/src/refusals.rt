@@ -1,8 +1,8 @@
-//! What is in the way, worked by hand from the rules.
+//! What certificates lack, worked by hand from the rules.
 
-use crate::spelled::{EMPTY, Node, Procedure, Spelled, certificate};
+use crate::spelled::{EMPTY, Spelled, SpelledNode, SpelledProcedure, certificate};
 use gb_abs::reason::Reason;
-use gb_reports::explain;
+use gb_page::explain;
 use gb_samples::cartridges::{PLAIN, small};
 use std::alloc::Global;
 use std::test::Fail;
@@ -10,7 +10,7 @@ use std::test::Fail;
 /// PUSH BC at 0150, CALL 0156 at 0151, a loop at 0154, and RET at 0156.
 const CALLS: &[u8] = &[0xC5, 0xCD, 0x56, 0x01, 0x18, 0xFE, 0xC9];
 
-/// The same with PUSH BC in the callee too.
+/// A call with PUSH BC before it, and PUSH BC in the callee too.
 const PUSHES_TWICE: &[u8] = &[0xC5, 0xCD, 0x56, 0x01, 0x18, 0xFE, 0xC5, 0xC9];
 
 /// The word that PUSH BC leaves, B and C as at entry, and no cells.
@@ -26,7 +26,7 @@ const NOTHING: &[u8] = &[0];
 const A_PAGE: &[u8] = &[1, 0x00, 0xC0, 0xFF, 0xC0];
 
 /// Main, which needs no words.
-const MAIN: Procedure = Procedure {
+const MAIN: SpelledProcedure = SpelledProcedure {
     entry: 0,
     need: 0,
     ranges: NOTHING,
@@ -34,7 +34,7 @@ const MAIN: Procedure = Procedure {
 };
 
 /// The callee, which returns as it began.
-const CALLEE: Procedure = Procedure {
+const CALLEE: SpelledProcedure = SpelledProcedure {
     entry: 5,
     need: 0,
     ranges: NOTHING,
@@ -42,7 +42,7 @@ const CALLEE: Procedure = Procedure {
 };
 
 /// A node of main, at 0100.
-const MAIN_NODE: Node = Node {
+const MAIN_NODE: SpelledNode = SpelledNode {
     procedure: 0,
     address: 0x0100,
     changes: &[],
@@ -50,81 +50,81 @@ const MAIN_NODE: Node = Node {
 };
 
 /// A node of the callee, at 0156.
-const CALLEE_NODE: Node = Node {
+const CALLEE_NODE: SpelledNode = SpelledNode {
     procedure: 1,
     address: 0x0156,
     changes: &[],
     held: EMPTY,
 };
 
-/// A cartridge's program, a certificate, the node that is refused, the reason, and what is in the way.
-struct Example {
+/// A cartridge's program, a certificate, the node that is refused, the reason, and what is printed that the certificate lacks.
+struct RefusalExample {
     program: &'static [u8],
-    procedures: &'static [Procedure],
-    nodes: &'static [Node],
+    procedures: &'static [SpelledProcedure],
+    nodes: &'static [SpelledNode],
     node: u32,
     reason: Reason,
     text: &'static str,
 }
 
 /// The nodes of `CALLS`. CALL's has a word, and so has the loop's.
-const NODES: &[Node] = &[
-    Node {
+const NODES: &[SpelledNode] = &[
+    SpelledNode {
         address: 0x0100,
         ..MAIN_NODE
     },
-    Node {
+    SpelledNode {
         address: 0x0101,
         ..MAIN_NODE
     },
-    Node {
+    SpelledNode {
         address: 0x0150,
         ..MAIN_NODE
     },
-    Node {
+    SpelledNode {
         address: 0x0151,
         held: BC,
         ..MAIN_NODE
     },
-    Node {
+    SpelledNode {
         address: 0x0154,
         held: BC,
         ..MAIN_NODE
     },
-    Node {
+    SpelledNode {
         address: 0x0156,
         ..CALLEE_NODE
     },
 ];
 
-const EXAMPLES: &[Example] = &[
+const EXAMPLES: &[RefusalExample] = &[
     // PUSH needs a word, and main has none.
-    Example {
+    RefusalExample {
         program: CALLS,
-        procedures: &[Procedure { need: 0, ..MAIN }, CALLEE],
+        procedures: &[SpelledProcedure { need: 0, ..MAIN }, CALLEE],
         nodes: NODES,
         node: 2,
         reason: Reason::Depth,
-        text: "1 word would be held, and procedure 0 has 0",
+        text: "  1 word would be on the stack, and procedure 0 may use 0",
     },
     // CALL needs one for the return address beside the one that is held.
-    Example {
+    RefusalExample {
         program: CALLS,
         procedures: &[
-            Procedure { need: 5, ..MAIN },
-            Procedure { need: 4, ..CALLEE },
+            SpelledProcedure { need: 5, ..MAIN },
+            SpelledProcedure { need: 4, ..CALLEE },
         ],
         nodes: NODES,
         node: 3,
         reason: Reason::Depth,
-        text: "1 word is held, 1 is the return address, procedure 1 needs 4: 6, and procedure 0 has 5",
+        text: "  1 word and the return address wait, procedure 1 needs 4: 6 in all, and procedure 0 may use 5",
     },
     // The callee changes A, so that main goes on with another one.
-    Example {
+    RefusalExample {
         program: CALLS,
         procedures: &[
-            Procedure { need: 2, ..MAIN },
-            Procedure {
+            SpelledProcedure { need: 2, ..MAIN },
+            SpelledProcedure {
                 exit: Some(A_IS_2),
                 ..CALLEE
             },
@@ -132,104 +132,104 @@ const EXAMPLES: &[Example] = &[
         nodes: NODES,
         node: 3,
         reason: Reason::Uncovered,
-        text: "Behind its call of procedure 1 it goes on at 0154, where node 4 comes nearest, but:\nA 02 (no copy), node 4 has 01 (A at entry)",
+        text: "  After its call of procedure 1, the program goes on at $0154. Node 4 is nearest, but differs:\n    A: $02 (not a copy); node 4 has $01 (A at entry)",
     },
-    Example {
+    RefusalExample {
         program: CALLS,
         procedures: &[
-            Procedure { need: 2, ..MAIN },
-            Procedure { entry: 4, ..CALLEE },
+            SpelledProcedure { need: 2, ..MAIN },
+            SpelledProcedure { entry: 4, ..CALLEE },
         ],
         nodes: &[
-            Node {
+            SpelledNode {
                 address: 0x0100,
                 ..MAIN_NODE
             },
-            Node {
+            SpelledNode {
                 address: 0x0101,
                 ..MAIN_NODE
             },
-            Node {
+            SpelledNode {
                 address: 0x0150,
                 ..MAIN_NODE
             },
-            Node {
+            SpelledNode {
                 address: 0x0151,
                 held: BC,
                 ..MAIN_NODE
             },
-            Node {
+            SpelledNode {
                 address: 0x0156,
                 ..CALLEE_NODE
             },
         ],
         node: 3,
         reason: Reason::Uncovered,
-        text: "Behind its call of procedure 1 it goes on at 0154, where procedure 0 has no node",
+        text: "  After its call of procedure 1, the program goes on at $0154, and procedure 0 has no node there",
     },
     // The callee isn't where CALL leads.
-    Example {
+    RefusalExample {
         program: CALLS,
-        procedures: &[Procedure { need: 2, ..MAIN }, CALLEE],
+        procedures: &[SpelledProcedure { need: 2, ..MAIN }, CALLEE],
         nodes: &[
-            Node {
+            SpelledNode {
                 address: 0x0100,
                 ..MAIN_NODE
             },
-            Node {
+            SpelledNode {
                 address: 0x0101,
                 ..MAIN_NODE
             },
-            Node {
+            SpelledNode {
                 address: 0x0150,
                 ..MAIN_NODE
             },
-            Node {
+            SpelledNode {
                 address: 0x0151,
                 held: BC,
                 ..MAIN_NODE
             },
-            Node {
+            SpelledNode {
                 address: 0x0154,
                 held: BC,
                 ..MAIN_NODE
             },
-            Node {
+            SpelledNode {
                 address: 0x0157,
                 ..CALLEE_NODE
             },
         ],
         node: 3,
         reason: Reason::Callee,
-        text: "No procedure but main begins at 0156",
+        text: "  No procedure but main begins at $0156",
     },
-    Example {
+    RefusalExample {
         program: CALLS,
-        procedures: &[Procedure { need: 2, ..MAIN }, CALLEE],
+        procedures: &[SpelledProcedure { need: 2, ..MAIN }, CALLEE],
         nodes: &[
-            Node {
+            SpelledNode {
                 address: 0x0100,
                 ..MAIN_NODE
             },
-            Node {
+            SpelledNode {
                 address: 0x0101,
                 ..MAIN_NODE
             },
-            Node {
+            SpelledNode {
                 address: 0x0150,
                 ..MAIN_NODE
             },
-            Node {
+            SpelledNode {
                 address: 0x0151,
                 held: BC,
                 ..MAIN_NODE
             },
-            Node {
+            SpelledNode {
                 address: 0x0154,
                 held: BC,
                 ..MAIN_NODE
             },
-            Node {
+            SpelledNode {
                 address: 0x0156,
                 changes: A_IS_2,
                 ..CALLEE_NODE
@@ -237,13 +237,13 @@ const EXAMPLES: &[Example] = &[
         ],
         node: 3,
         reason: Reason::Callee,
-        text: "Procedure 1 begins at 0156, but:\nA 01, node 5 has 02",
+        text: "  Procedure 1 begins at $0156, but its first node differs:\n    A: $01; node 5 has $02",
     },
-    Example {
+    RefusalExample {
         program: CALLS,
         procedures: &[
-            Procedure { need: 2, ..MAIN },
-            Procedure {
+            SpelledProcedure { need: 2, ..MAIN },
+            SpelledProcedure {
                 ranges: A_PAGE,
                 ..CALLEE
             },
@@ -251,35 +251,35 @@ const EXAMPLES: &[Example] = &[
         nodes: NODES,
         node: 3,
         reason: Reason::Callee,
-        text: "Procedure 1 may write C000-C0FF, which lies in no range of procedure 0",
+        text: "  Procedure 1 may write $C000-$C0FF, which is in no range of procedure 0",
     },
     // RET in main.
-    Example {
+    RefusalExample {
         program: &[0xC9],
-        procedures: &[Procedure { need: 0, ..MAIN }],
+        procedures: &[SpelledProcedure { need: 0, ..MAIN }],
         nodes: &[
-            Node {
+            SpelledNode {
                 address: 0x0100,
                 ..MAIN_NODE
             },
-            Node {
+            SpelledNode {
                 address: 0x0101,
                 ..MAIN_NODE
             },
-            Node {
+            SpelledNode {
                 address: 0x0150,
                 ..MAIN_NODE
             },
         ],
         node: 2,
         reason: Reason::Return,
-        text: "This is main, which nothing has called",
+        text: "  This is main, and nothing called it",
     },
-    Example {
+    RefusalExample {
         program: CALLS,
         procedures: &[
-            Procedure { need: 2, ..MAIN },
-            Procedure {
+            SpelledProcedure { need: 2, ..MAIN },
+            SpelledProcedure {
                 exit: None,
                 ..CALLEE
             },
@@ -287,43 +287,43 @@ const EXAMPLES: &[Example] = &[
         nodes: NODES,
         node: 5,
         reason: Reason::Return,
-        text: "Procedure 1 is said not to return",
+        text: "  By the certificate, procedure 1 doesn't return",
     },
     // The callee returns above what it has pushed.
-    Example {
+    RefusalExample {
         program: PUSHES_TWICE,
         procedures: &[
-            Procedure { need: 3, ..MAIN },
-            Procedure { need: 1, ..CALLEE },
+            SpelledProcedure { need: 3, ..MAIN },
+            SpelledProcedure { need: 1, ..CALLEE },
         ],
         nodes: &[
-            Node {
+            SpelledNode {
                 address: 0x0100,
                 ..MAIN_NODE
             },
-            Node {
+            SpelledNode {
                 address: 0x0101,
                 ..MAIN_NODE
             },
-            Node {
+            SpelledNode {
                 address: 0x0150,
                 ..MAIN_NODE
             },
-            Node {
+            SpelledNode {
                 address: 0x0151,
                 held: BC,
                 ..MAIN_NODE
             },
-            Node {
+            SpelledNode {
                 address: 0x0154,
                 held: BC,
                 ..MAIN_NODE
             },
-            Node {
+            SpelledNode {
                 address: 0x0156,
                 ..CALLEE_NODE
             },
-            Node {
+            SpelledNode {
                 address: 0x0157,
                 held: BC,
                 ..CALLEE_NODE
@@ -331,100 +331,100 @@ const EXAMPLES: &[Example] = &[
         ],
         node: 6,
         reason: Reason::Return,
-        text: "1 word is still held",
+        text: "  1 word is still on the stack",
     },
     // Main expects the A that the exit promises, and the callee leaves its own.
-    Example {
+    RefusalExample {
         program: CALLS,
         procedures: &[
-            Procedure { need: 2, ..MAIN },
-            Procedure {
+            SpelledProcedure { need: 2, ..MAIN },
+            SpelledProcedure {
                 exit: Some(A_IS_2),
                 ..CALLEE
             },
         ],
         nodes: &[
-            Node {
+            SpelledNode {
                 address: 0x0100,
                 ..MAIN_NODE
             },
-            Node {
+            SpelledNode {
                 address: 0x0101,
                 ..MAIN_NODE
             },
-            Node {
+            SpelledNode {
                 address: 0x0150,
                 ..MAIN_NODE
             },
-            Node {
+            SpelledNode {
                 address: 0x0151,
                 held: BC,
                 ..MAIN_NODE
             },
-            Node {
+            SpelledNode {
                 address: 0x0154,
                 held: BC,
                 changes: A_IS_2,
                 ..MAIN_NODE
             },
-            Node {
+            SpelledNode {
                 address: 0x0156,
                 ..CALLEE_NODE
             },
         ],
         node: 5,
         reason: Reason::Return,
-        text: "Procedure 1 returns, but:\nA 01, the exit has 02",
+        text: "  Procedure 1 returns, but its exit differs:\n    A: $01; the exit has $02",
     },
     // INC A: A becomes 02, Z and H clear, and C stays. The first of two nodes has another IME too.
-    Example {
+    RefusalExample {
         program: &[0x3C, 0x18, 0xFE],
-        procedures: &[Procedure { need: 0, ..MAIN }],
+        procedures: &[SpelledProcedure { need: 0, ..MAIN }],
         nodes: &[
-            Node {
+            SpelledNode {
                 address: 0x0100,
                 ..MAIN_NODE
             },
-            Node {
+            SpelledNode {
                 address: 0x0101,
                 ..MAIN_NODE
             },
-            Node {
+            SpelledNode {
                 address: 0x0150,
                 ..MAIN_NODE
             },
-            Node {
+            SpelledNode {
                 address: 0x0151,
                 changes: &[(0, 4)],
                 ..MAIN_NODE
             },
-            Node {
+            SpelledNode {
                 address: 0x0151,
                 ..MAIN_NODE
             },
         ],
         node: 2,
         reason: Reason::Uncovered,
-        text: "It goes on at 0151, where node 4 comes nearest, but:\nA 02 (no copy), node 4 has 01 (A at entry)\nflag Z 0, node 4 has 1\nflag H 0, node 4 has 1\nF not kept, node 4 has kept",
+        text: "  The program goes on at $0151. Node 4 is nearest, but differs:\n    A: $02 (not a copy); node 4 has $01 (A at entry)\n    flag Z: 0; node 4 has 1\n    flag H: 0; node 4 has 1\n    F: not kept; node 4 has kept",
     },
     // JR to a node all of whose other registers, and more, are other ones.
-    Example {
+    RefusalExample {
         program: &[0x18, 0x00, 0x18, 0xFE],
-        procedures: &[Procedure { need: 0, ..MAIN }],
+        procedures: &[SpelledProcedure { need: 0, ..MAIN }],
         nodes: &[
-            Node {
+            SpelledNode {
                 address: 0x0100,
                 ..MAIN_NODE
             },
-            Node {
+            SpelledNode {
                 address: 0x0101,
                 ..MAIN_NODE
             },
-            Node {
+            SpelledNode {
                 address: 0x0150,
                 ..MAIN_NODE
             },
-            Node {
+            SpelledNode {
                 address: 0x0152,
                 changes: &[
                     (0, 6),
@@ -450,37 +450,37 @@ const EXAMPLES: &[Example] = &[
         ],
         node: 2,
         reason: Reason::Uncovered,
-        text: "It goes on at 0152, where node 3 comes nearest, but:\nB 00, node 3 has 03..05\nD 00, node 3 has 01\nL 4D, node 3 has 4E\nIE 00, node 3 has 01..FF\nIME off, node 3 has pending or on\nbank 001, node 3 has 002..003\nsecond register 00, node 3 has 01..02\ngate closed, node 3 has open\nmode 0, node 3 has 1\nand 1 part more",
+        text: "  The program goes on at $0152. Node 3 is nearest, but differs:\n    B: $00; node 3 has $03..$05\n    D: $00; node 3 has $01\n    L: $4D; node 3 has $4E\n    IE: $00; node 3 has $01..$FF\n    IME: off; node 3 has pending or on\n    bank: $01; node 3 has $02..$03\n    second bank register: $00; node 3 has $01..$02\n    cartridge RAM: disabled; node 3 has enabled\n    mode: 0; node 3 has 1\n    and 1 more difference",
     },
     // LDH (46),A starts an OAM transfer, which has 161 M-cycles left behind it.
-    Example {
+    RefusalExample {
         program: &[0xE0, 0x46, 0x18, 0xFE],
-        procedures: &[Procedure { need: 0, ..MAIN }],
+        procedures: &[SpelledProcedure { need: 0, ..MAIN }],
         nodes: &[
-            Node {
+            SpelledNode {
                 address: 0x0100,
                 ..MAIN_NODE
             },
-            Node {
+            SpelledNode {
                 address: 0x0101,
                 ..MAIN_NODE
             },
-            Node {
+            SpelledNode {
                 address: 0x0150,
                 ..MAIN_NODE
             },
-            Node {
+            SpelledNode {
                 address: 0x0152,
                 ..MAIN_NODE
             },
         ],
         node: 2,
         reason: Reason::Uncovered,
-        text: "It goes on at 0152, where node 3 comes nearest, but:\ntransfer bound 161, node 3 has 0",
+        text: "  The program goes on at $0152. Node 3 is nearest, but differs:\n    OAM DMA time: 161; node 3 has 0",
     },
 ];
 
-/// Whether a certificate is refused at a node for a reason, and what is in the way is told so.
+/// Whether a certificate is refused at a node for a reason, and this is printed of what it lacks.
 pub fn is_told(
     alloc: Global,
     program: &[u8],
@@ -491,13 +491,13 @@ pub fn is_told(
 ) -> Result<bool, Fail> {
     let rom = small(PLAIN, program);
     let told = explain(alloc, &rom, cert.as_slice()).ok_or("a refusal")?;
-    let finding = told.finding.ok_or("a finding")?;
-    let shown = format!(in alloc; "{finding}")?;
+    let gaps = told.gaps.ok_or("gaps")?;
+    let shown = format!(in alloc; "{gaps}")?;
     Ok(told.node == node && told.reason == reason && shown.as_str() == text)
 }
 
-/// Whether what is told of an example's files is what it says.
-fn agrees(alloc: Global, example: &Example) -> Result<bool, Fail> {
+/// Whether what is printed of an example's files is what it says.
+fn agrees(alloc: Global, example: &RefusalExample) -> Result<bool, Fail> {
     let cert = certificate(example.procedures, example.nodes);
     is_told(
         alloc,
@@ -510,7 +510,7 @@ fn agrees(alloc: Global, example: &Example) -> Result<bool, Fail> {
 }
 
 #[test]
-fn what_is_in_the_way(rt: HostRuntime) -> Result<(), Fail> {
+fn what_a_certificate_lacks(rt: HostRuntime) -> Result<(), Fail> {
     for example in EXAMPLES {
         assert!(rt; agrees(rt.alloc(), example)?);
     }

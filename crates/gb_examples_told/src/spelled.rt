@@ -11,7 +11,7 @@ pub const EMPTY: &[u8] = &[0, 0];
 
 /// A procedure: its entry, its need, its ranges with their count, and where it returns, the changes of its exit.
 #[derive(Clone, Copy)]
-pub struct Procedure {
+pub struct SpelledProcedure {
     pub entry: u8,
     pub need: u8,
     pub ranges: &'static [u8],
@@ -20,7 +20,7 @@ pub struct Procedure {
 
 /// A node in bank 0: its state is power-up's with its stack set, with changes, and with these words and cells.
 #[derive(Clone, Copy)]
-pub struct Node {
+pub struct SpelledNode {
     pub procedure: u8,
     pub address: u16,
     pub changes: Changes,
@@ -84,7 +84,7 @@ impl Spelled {
         }
     }
 
-    fn add_procedure(&mut self, procedure: &Procedure) {
+    fn add_procedure(&mut self, procedure: &SpelledProcedure) {
         self.add(&[procedure.entry, 0, procedure.need, 0]);
         self.add(procedure.ranges);
         match procedure.exit {
@@ -97,7 +97,7 @@ impl Spelled {
         }
     }
 
-    fn add_node(&mut self, node: &Node) {
+    fn add_node(&mut self, node: &SpelledNode) {
         let [low, high] = node.address.to_le_bytes();
         self.add(&[node.procedure, low, high, 0, 0]);
         self.add_core(node.changes);
@@ -140,7 +140,7 @@ fn nothing() -> Spelled {
 }
 
 /// A certificate of version 1, whose stack region is FF80 to FFFD, so that the stack is set from the start.
-pub fn certificate(procedures: &[Procedure], nodes: &[Node]) -> Spelled {
+pub fn certificate(procedures: &[SpelledProcedure], nodes: &[SpelledNode]) -> Spelled {
     let mut cert = nothing();
     cert.add(&[0x47, 0x42, 0x42, 0x43, 0x01, 0x80, 0xFF, 0xFD, 0xFF]);
     cert.add(&[(procedures.len() % 256) as u8, (nodes.len() % 256) as u8, 0]);

@@ -1,6 +1,6 @@
 //! Lines of each format of symbols and of sources' lines, as their tools write them, and what they give.
 
-use gb_reports::{Format, Place, SymbolFault, SymbolFaultKind, Symbols};
+use gb_page::{Format, SymbolFault, SymbolFaultKind, SymbolOffset, Symbols};
 use std::process::Abort;
 use std::test::Fail;
 
@@ -26,8 +26,8 @@ const RST: &[u8] =
     b"                                      1 ; a game\n                                      2 \t.module game\n                                      3 \t.include \"more.inc\"\t; more\n                           00E000     1 TOP\t= 0xE000\n      000150 31 00 E0                 2 \tld\tsp, #TOP\n                                      4 \n      000153                          5 loop:\n      000153 18 FE                    6 \tjr\tloop\n      014000 C9                       7 \tret\n";
 
 /// A name and an offset.
-fn offset(name: &'static str, offset: u16) -> Place<'static> {
-    Place { name, offset }
+fn offset(name: &'static str, offset: u16) -> SymbolOffset<'static> {
+    SymbolOffset { name, offset }
 }
 
 /// Whether a file has a format, and says so of an address.
@@ -37,7 +37,7 @@ fn agrees(
     format: Format,
     bank: u16,
     address: u16,
-    wanted: Place<'static>,
+    wanted: SymbolOffset<'static>,
 ) -> bool {
     match Symbols::parse(rt.alloc(), bytes) {
         Ok(symbols) => {

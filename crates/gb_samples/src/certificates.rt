@@ -41,7 +41,7 @@ pub fn least() -> [u8; 159] {
     bytes
 }
 
-/// The same certificate in version 2, where the number of nodes and main's entry take four bytes.
+/// The least certificate in version 2, where the number of nodes and main's entry take four bytes.
 pub fn least_in_version_2() -> [u8; 163] {
     let mut bytes = [0; 163];
     put(
@@ -55,7 +55,7 @@ pub fn least_in_version_2() -> [u8; 163] {
     bytes
 }
 
-/// The same certificate in version 3: main's base, the region's end, stands behind its entry, and of each node's state nothing
+/// The least certificate in version 3: main's base, the region's end, stands behind its entry, and of each node's state nothing
 /// is known together, as a byte says between the numbers of items and of cells. A node takes 48 bytes behind the 24 of head and
 /// main.
 pub fn least_in_version_3() -> [u8; 168] {

@@ -11,7 +11,7 @@
 //! file's own; `cert` with bytes that follow one another, as often as it takes; `symbol` with a line of its file of symbols,
 //! `line` with one of its file of the sources' lines;
 //! `keys` with the bytes of a script; `most` with the nodes and the procedures that a certificate which is made may have, and the rounds that may be taken;
-//! and what is to be done: `verdict`, `certify`, `report`, which tells facts or the way to the first obstacle
+//! and what is to be done: `verdict`, `certify`, `report`, which tells facts or the way to the first finding
 //! as well, `json`, and `frames` with a number. `upgrades` tells how many certificates so
 //! far were accepted in version 1 or 2, and how many of them in version 3 too.
 //! Numbers are hexadecimal, and other lines mean nothing. `examples/text` writes those of the games.

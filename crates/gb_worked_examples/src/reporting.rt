@@ -2,8 +2,8 @@
 //! what is in the way.
 
 use gb_console::Cert;
-use gb_page::{Extras, Facts, Outline, Sketch, facts_json, obstacles_page, page_of};
-use gb_refine::{Obstacle, Standing, Symbols};
+use gb_page::{Extras, Facts, Outline, Sketch, facts_json, findings_page, page_of};
+use gb_refine::{Finding, InstructionFinding, Symbols};
 use gb_text::Rom;
 use std::alloc::{AllocError, Global};
 use std::fmt;
@@ -127,7 +127,7 @@ impl Report<'_, '_> {
             for range in procedure.ranges.as_slice() {
                 let (first, last) = (range.first, range.last);
                 if first < last
-                    && !self.has(format!(in self.alloc; "<code>{first:04X}-{last:04X}</code>"))?
+                    && !self.has(format!(in self.alloc; "<code>${first:04X}-${last:04X}</code>"))?
                 {
                     return Ok(false);
                 }
@@ -177,46 +177,47 @@ pub fn tell_report<W: Write>(
 fn tell_way<W: Write>(
     alloc: Global,
     out: &mut W,
-    standing: &Standing,
+    finding: &InstructionFinding,
     page: &str,
 ) -> io::Result<bool> {
     let mut is_told = true;
     write!(out, "  way:")?;
-    for (place, segment) in standing.path.segments.iter().enumerate() {
+    for (place, segment) in finding.path.segments.iter().enumerate() {
         let (first, last) = (segment.first, segment.last);
         write!(out, " {first:04X}-{last:04X}")?;
-        let link = format!(in alloc; "<a href=\"#o1s{place}\"><code>{first:04X}")?;
+        let link = format!(in alloc; "<a href=\"#o1s{place}\"><code>${first:04X}")?;
         is_told = is_told && page.contains(link.as_str());
     }
     writeln!(out)?;
     Ok(is_told)
 }
 
-/// Whether the page has what is known there, the rule that asks for something else, and what usually mends it.
-fn has_parts(alloc: Global, standing: &Standing, page: &str) -> Result<bool, AllocError> {
-    let reason = standing.cause.reason().number();
-    let rule = format!(in alloc; "<h3>What is needed</h3><p>Rule {reason}: ")?;
+/// Whether the page has what is known there, how the code gets there, how to fix it, and the rule.
+fn has_parts(alloc: Global, finding: &InstructionFinding, page: &str) -> Result<bool, AllocError> {
+    let reason = finding.cause.reason().number();
+    let rule = format!(in alloc; "<p class=\"quiet\">Rule {reason}. More: docs/FINDINGS.md#")?;
     Ok(
         page.contains(rule.as_str())
-            && page.contains("<h3>What is known there</h3><pre class=\"known\">    A=")
-            && page.contains("<h3>What usually mends it</h3>\n<p>"),
+            && page.contains("<h3>What is known there</h3>\n<pre class=\"known\">    A=")
+            && page.contains("<h3>How the code gets there</h3>\n<p><code>")
+            && page.contains("<h3>How to fix it</h3>\n<p>"),
     )
 }
 
-/// Prints the way to what is in the way first.
-pub fn report_obstacles<W: Write>(
+/// Prints the way to the first finding.
+pub fn report_findings<W: Write>(
     alloc: Global,
     out: &mut W,
     rom: &Rom<'_>,
-    obstacles: &[Obstacle],
+    findings: &[Finding],
     symbols: &Symbols<'_>,
 ) -> io::Result<()> {
-    let page = obstacles_page(alloc, rom, obstacles, symbols, false)?;
-    let Some(Obstacle::Standing(standing)) = obstacles.first() else {
+    let page = findings_page(alloc, rom, findings, symbols, false)?;
+    let Some(Finding::Instruction(finding)) = findings.first() else {
         return Ok(());
     };
-    let has_way = tell_way(alloc, out, standing, page.as_str())?;
-    if has_way && has_parts(alloc, standing, page.as_str())? {
+    let has_way = tell_way(alloc, out, finding, page.as_str())?;
+    if has_way && has_parts(alloc, finding, page.as_str())? {
         Ok(())
     } else {
         writeln!(out, "  The page says otherwise")

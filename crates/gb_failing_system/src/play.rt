@@ -1,8 +1,8 @@
 //! Plays a program on a stage.
 
-use crate::device::{Device, Ending, Pace};
+use crate::device::{Device, Pace, StreamEnding};
 use crate::disk::Disk;
-use crate::rows::{Content, Given, Page, Place, Program, Row, Written};
+use crate::rows::{Content, ExpectedOutput, ExpectedPage, FilePlace, Given, Program, Scenario};
 use crate::said::Said;
 use crate::stage::{Entry, Names, Stage};
 use std::alloc::Global;
@@ -83,16 +83,16 @@ impl<'a> Contents<'a> {
     }
 
     /// What is to be written.
-    fn said(&self, written: Written) -> Said<'a> {
+    fn said(&self, written: ExpectedOutput) -> Said<'a> {
         match written {
-            Written::Text(text) => Said::Bytes(text.as_bytes()),
-            Written::Screen(ending) => Said::Screen(ending.as_bytes()),
-            Written::Upgraded => Said::Bytes(self.upgraded),
+            ExpectedOutput::Text(text) => Said::Bytes(text.as_bytes()),
+            ExpectedOutput::Screen(ending) => Said::Screen(ending.as_bytes()),
+            ExpectedOutput::Upgraded => Said::Bytes(self.upgraded),
         }
     }
 
     /// The stage of an example.
-    fn stage(&self, alloc: Global, row: &Row, told: &'a str) -> Stage<'a> {
+    fn stage(&self, alloc: Global, row: &Scenario, told: &'a str) -> Stage<'a> {
         let names = Names {
             game: self.entry(row.game),
             cert: self.entry(row.cert),
@@ -100,7 +100,7 @@ impl<'a> Contents<'a> {
             input: self.device(row.input).unwrap_or(Device {
                 bytes: &[],
                 pace: Pace::Whole,
-                ending: Ending::End,
+                ending: StreamEnding::End,
             }),
             disk: None,
         };
@@ -118,7 +118,7 @@ fn is_right(program: Program, stage: &Stage<'_>, status: u8) -> bool {
 }
 
 /// Plays an example as it is, and with a standard error that takes nothing.
-fn play_whole(alloc: Global, contents: &Contents<'_>, row: &Row, plays: &mut Plays) {
+fn play_whole(alloc: Global, contents: &Contents<'_>, row: &Scenario, plays: &mut Plays) {
     let stage = contents.stage(alloc, row, row.told);
     plays.count(is_right(row.program, &stage, row.status));
     let silent = contents.stage(alloc, row, row.told).in_silence();
@@ -126,7 +126,7 @@ fn play_whole(alloc: Global, contents: &Contents<'_>, row: &Row, plays: &mut Pla
 }
 
 /// Plays an example with an output that takes fewer bytes than there are: each number of them, or of a screen a few.
-fn play_short(alloc: Global, contents: &Contents<'_>, row: &Row, plays: &mut Plays) {
+fn play_short(alloc: Global, contents: &Contents<'_>, row: &Scenario, plays: &mut Plays) {
     let length = contents.said(row.written).len();
     let step = if length < 1_000 { 1 } else { 389 };
     let told = if row.status == 3 {
@@ -141,7 +141,7 @@ fn play_short(alloc: Global, contents: &Contents<'_>, row: &Row, plays: &mut Pla
 }
 
 /// Plays an example in each of these ways.
-pub fn play(alloc: Global, contents: &Contents<'_>, row: &Row) -> Plays {
+pub fn play(alloc: Global, contents: &Contents<'_>, row: &Scenario) -> Plays {
     let mut plays = Plays::new();
     play_whole(alloc, contents, row, &mut plays);
     play_short(alloc, contents, row, &mut plays);
@@ -157,13 +157,13 @@ fn shortened(given: Given, length: usize) -> Given {
 }
 
 /// An example whose place fails behind so many bytes.
-fn cut_off(row: &Row, place: Place, length: usize) -> Row {
+fn cut_off(row: &Scenario, place: FilePlace, length: usize) -> Scenario {
     let mut row = *row;
     match place {
-        Place::Game => row.game = shortened(row.game, length),
-        Place::Cert => row.cert = shortened(row.cert, length),
-        Place::Keys => row.keys = shortened(row.keys, length),
-        Place::Input => row.input = shortened(row.input, length),
+        FilePlace::Game => row.game = shortened(row.game, length),
+        FilePlace::Cert => row.cert = shortened(row.cert, length),
+        FilePlace::Keys => row.keys = shortened(row.keys, length),
+        FilePlace::Input => row.input = shortened(row.input, length),
     }
     row
 }
@@ -172,8 +172,8 @@ fn cut_off(row: &Row, place: Place, length: usize) -> Row {
 pub fn play_cuts(
     alloc: Global,
     contents: &Contents<'_>,
-    row: &Row,
-    place: Place,
+    row: &Scenario,
+    place: FilePlace,
     lengths: (usize, usize),
 ) -> Plays {
     let mut plays = Plays::new();
@@ -197,7 +197,7 @@ struct Writing {
 fn play_writing(
     alloc: Global,
     contents: &Contents<'_>,
-    row: &Row,
+    row: &Scenario,
     writing: Writing,
     plays: &mut Plays,
 ) -> usize {
@@ -218,7 +218,7 @@ const PARTS: usize = 16;
 
 /// Plays an example that writes a page: as it is; where the page can't get its name; and where it breaks off behind each
 /// sixteenth of its bytes, and before its last.
-pub fn play_page(alloc: Global, contents: &Contents<'_>, page: &Page) -> Plays {
+pub fn play_page(alloc: Global, contents: &Contents<'_>, page: &ExpectedPage) -> Plays {
     let mut plays = Plays::new();
     let whole = Writing {
         room: usize::MAX,

@@ -87,13 +87,13 @@ impl<'a> Stage<'a> {
         }
     }
 
-    /// The same, with an output that takes so many bytes.
+    /// This stage, with an output that takes so many bytes.
     pub fn with_room(mut self, room: usize) -> Stage<'a> {
         self.room = room;
         self
     }
 
-    /// The same, with a disk on which a page can be written.
+    /// This stage, with a disk on which a page can be written.
     pub fn with_disk(mut self, disk: &'a Disk) -> Stage<'a> {
         self.names = Names {
             disk: Some(disk),
@@ -102,7 +102,7 @@ impl<'a> Stage<'a> {
         self
     }
 
-    /// The same, with a standard error that takes nothing.
+    /// This stage, with a standard error that takes nothing.
     pub fn in_silence(mut self) -> Stage<'a> {
         self.can_tell = false;
         self

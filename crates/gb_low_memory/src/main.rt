@@ -11,8 +11,9 @@
 mod calls;
 mod hoard;
 
-use calls::{Answer, Call, Files, NODES};
+use calls::{CallAnswer, GivenFiles, NODES, Request};
 use gb_cert::{Cert, NodePlan, ProcedurePlan};
+use gb_console::Console;
 use gb_header::Rom;
 use gb_samples::cartridges::{PLAIN, put, small};
 use gb_samples::certificates::write_nodes;
@@ -24,9 +25,9 @@ use std::io;
 
 /// A call with its name, how many holes it is made with, and by how much each is larger than the one before. Blocks of 128 KiB
 /// an allocator may give back to the system, and no smaller one is then found in their place: so the largest hole is below.
-struct Row {
+struct CallRow {
     name: &'static str,
-    call: Call,
+    call: Request,
     holes: usize,
     step: usize,
 }
@@ -54,106 +55,112 @@ const RUN: Task<'static> = Task::Run {
     frames: 60,
 };
 
-const ROWS: &[Row] = &[
-    Row {
+const ROWS: &[CallRow] = &[
+    CallRow {
         name: "Cert::parse",
-        call: Call::Parse,
+        call: Request::Parse,
         holes: 96,
         step: 16,
     },
-    Row {
+    CallRow {
         name: "Cert::parse with a byte left over",
-        call: Call::ParseLonger,
+        call: Request::ParseLonger,
         holes: 96,
         step: 16,
     },
-    Row {
+    CallRow {
         name: "encode",
-        call: Call::Encode,
+        call: Request::Encode,
         holes: 96,
         step: 64,
     },
-    Row {
+    CallRow {
         name: "write_certificate",
-        call: Call::WriteCertificate,
+        call: Request::WriteCertificate,
         holes: 512,
         step: 64,
     },
-    Row {
+    CallRow {
         name: "upgrade_bytes",
-        call: Call::Upgrade,
+        call: Request::Upgrade,
         holes: 96,
         step: 16,
     },
-    Row {
+    CallRow {
         name: "verify_bytes",
-        call: Call::Verify,
+        call: Request::Verify,
         holes: 96,
         step: 16,
     },
-    Row {
+    CallRow {
         name: "verify_bytes with no cartridge",
-        call: Call::VerifyNoCartridge,
+        call: Request::VerifyNoCartridge,
         holes: 4,
         step: 16,
     },
-    Row {
+    CallRow {
         name: "Memory::new",
-        call: Call::Memory,
+        call: Request::Memory,
         holes: 704,
         step: 64,
     },
-    Row {
+    CallRow {
         name: "Console::new and a frame",
-        call: Call::Console,
+        call: Request::Console,
         holes: 704,
         step: 64,
     },
-    Row {
+    CallRow {
+        name: "Console::try_clone and a frame",
+        call: Request::CloneConsole,
+        holes: 704,
+        step: 64,
+    },
+    CallRow {
         name: "Facts::of",
-        call: Call::Facts,
+        call: Request::Facts,
         holes: 112,
         step: 1_024,
     },
-    Row {
+    CallRow {
         name: "facts_json",
-        call: Call::FactsJson,
+        call: Request::FactsJson,
         holes: 112,
         step: 1_024,
     },
-    Row {
+    CallRow {
         name: "page_of",
-        call: Call::Page,
+        call: Request::Page,
         holes: 120,
         step: 1_024,
     },
-    Row {
-        name: "obstacles_page",
-        call: Call::ObstaclesPage,
+    CallRow {
+        name: "findings_page",
+        call: Request::ObstaclesPage,
         holes: 256,
         step: 128,
     },
-    Row {
+    CallRow {
         name: "Changes::of and changes_json",
-        call: Call::Changes,
+        call: Request::Changes,
         holes: 112,
         step: 1_024,
     },
-    Row {
+    CallRow {
         name: "read_words of `verify A B`",
-        call: Call::Words(&["verify", "A", "B"], Some(VERIFY)),
+        call: Request::Words(&["verify", "A", "B"], Some(VERIFY)),
         holes: 512,
         step: 64,
     },
-    Row {
+    CallRow {
         name: "read_words of `run A B 60`",
-        call: Call::Words(&["run", "A", "B", "60"], Some(RUN)),
+        call: Request::Words(&["run", "A", "B", "60"], Some(RUN)),
         holes: 512,
         step: 64,
     },
-    Row {
+    CallRow {
         name: "read_words of `turn A`",
-        call: Call::Words(&["turn", "A"], None),
+        call: Request::Words(&["turn", "A"], None),
         holes: 512,
         step: 64,
     },
@@ -161,20 +168,20 @@ const ROWS: &[Row] = &[
 
 /// What the holes of a call met.
 #[derive(Drop)]
-struct Met {
+struct HolesMet {
     /// Whether nothing was left beside each hole.
     is_complete: bool,
     /// Whether one of them had another answer than want of memory and the right one.
     other: bool,
-    first: Answer,
-    last: Answer,
+    first: CallAnswer,
+    last: CallAnswer,
 }
 
 /// What is taken again of a block that is given back; the rest of it is the hole.
 const TAKEN_AGAIN: usize = 2_048;
 
 /// The blocks that the holes are made in, the largest first.
-fn blocks(alloc: Global, row: &Row) -> Result<Vec<Vec<u8>>, AllocError> {
+fn blocks(alloc: Global, row: &CallRow) -> Result<Vec<Vec<u8>>, AllocError> {
     let count = row.holes;
     let mut blocks = Vec::with_capacity(alloc, count)?;
     for number in 0..count {
@@ -185,14 +192,14 @@ fn blocks(alloc: Global, row: &Row) -> Result<Vec<Vec<u8>>, AllocError> {
 }
 
 /// Makes a call with each of its holes, the smallest first.
-fn sweep(alloc: Global, row: &Row, files: &Files<'_>) -> Result<Met, AllocError> {
+fn sweep(alloc: Global, row: &CallRow, files: &GivenFiles<'_>) -> Result<HolesMet, AllocError> {
     let mut hoard = Hoard::new(alloc)?;
     let mut blocks = blocks(alloc, row)?;
-    let mut met = Met {
+    let mut met = HolesMet {
         is_complete: true,
         other: false,
-        first: Answer::Other,
-        last: Answer::Other,
+        first: CallAnswer::Other,
+        last: CallAnswer::Other,
     };
     for number in 0..row.holes {
         hoard.take_all();
@@ -201,7 +208,7 @@ fn sweep(alloc: Global, row: &Row, files: &Files<'_>) -> Result<Met, AllocError>
         let taken = Vec::<u8>::with_capacity(alloc, TAKEN_AGAIN);
         met.last = row.call.answer(alloc, files);
         met.is_complete = met.is_complete && is_complete && taken.is_ok();
-        met.other = met.other || met.last == Answer::Other;
+        met.other = met.other || met.last == CallAnswer::Other;
         if number == 0 {
             met.first = met.last;
         }
@@ -211,16 +218,16 @@ fn sweep(alloc: Global, row: &Row, files: &Files<'_>) -> Result<Met, AllocError>
 }
 
 /// An answer in a word.
-fn text(answer: Answer) -> &'static str {
+fn text(answer: CallAnswer) -> &'static str {
     match answer {
-        Answer::Refused => "refused",
-        Answer::Right => "right",
-        Answer::Other => "wrong",
+        CallAnswer::Refused => "refused",
+        CallAnswer::Right => "right",
+        CallAnswer::Other => "wrong",
     }
 }
 
 /// Says what the holes of a call met.
-fn write_met<W: io::Write>(out: &mut W, row: &Row, met: &Met) -> io::Result<()> {
+fn write_met<W: io::Write>(out: &mut W, row: &CallRow, met: &HolesMet) -> io::Result<()> {
     let name = row.name;
     let first = text(met.first);
     let last = text(met.last);
@@ -271,9 +278,9 @@ fn plans(node: NodePlan<'_>) -> [NodePlan<'_>; NODES] {
 }
 
 /// The first call whose answer isn't right with all memory.
-fn first_wrong(alloc: Global, files: &Files<'_>) -> Option<&'static str> {
+fn first_wrong(alloc: Global, files: &GivenFiles<'_>) -> Option<&'static str> {
     for row in ROWS {
-        if row.call.answer(alloc, files) != Answer::Right {
+        if row.call.answer(alloc, files) != CallAnswer::Right {
             return Some(row.name);
         }
     }
@@ -281,7 +288,7 @@ fn first_wrong(alloc: Global, files: &Files<'_>) -> Option<&'static str> {
 }
 
 /// Makes each call with its holes, and says what they met.
-fn sweep_all<W: io::Write>(alloc: Global, files: &Files<'_>, out: &mut W) -> io::Result<()> {
+fn sweep_all<W: io::Write>(alloc: Global, files: &GivenFiles<'_>, out: &mut W) -> io::Result<()> {
     for row in ROWS {
         let met = sweep(alloc, row, files)?;
         write_met(out, row, &met)?;
@@ -313,11 +320,13 @@ fn main(rt: HostRuntime) -> io::Result<()> {
         bank: 0,
         state: &state,
     });
-    let files = Files {
+    let console = Console::new(rt.alloc(), &rom)?;
+    let files = GivenFiles {
         rom: &rom,
         cert: &cert,
         longer: &longer,
         upgraded: &upgraded,
+        console: &console,
         procedures: &[MAIN],
         nodes: &nodes,
     };

@@ -1,26 +1,26 @@
 //! The worked examples whose files end early, or fail.
 
-use crate::device::{Ending, Pace};
+use crate::device::{Pace, StreamEnding};
 use crate::rows::{
-    ALL, Content, Cuts, DEVICE, FAILING, Given, MEMORY, NO_ROOM, Place, RUN, Row, SHOW, VERIFY,
-    VERIFY_INPUT, Written,
+    ALL, Content, Cuts, DEVICE, ExpectedOutput, FAILING, FilePlace, Given, MEMORY, NO_ROOM, RUN,
+    SHOW, Scenario, VERIFY, VERIFY_INPUT,
 };
 
 pub const CUTS: &[Cuts] = &[
     Cuts {
-        row: Row {
+        row: Scenario {
             about: "a cartridge that goes on in zeros without an end",
-            game: Given::Read(Content::Cartridge, ALL, Pace::Whole, Ending::Zeros),
-            written: Written::Text("CARTRIDGE H4\n"),
+            game: Given::Read(Content::Cartridge, ALL, Pace::Whole, StreamEnding::Zeros),
+            written: ExpectedOutput::Text("CARTRIDGE H4\n"),
             status: 2,
             ..VERIFY
         },
-        place: Place::Game,
+        place: FilePlace::Game,
         most: 32_768,
         step: 16_384,
     },
     Cuts {
-        row: Row {
+        row: Scenario {
             game: Given::Read(Content::Cartridge, ALL, Pace::Whole, FAILING),
             about: "a cartridge that fails",
             written: DEVICE,
@@ -28,12 +28,12 @@ pub const CUTS: &[Cuts] = &[
             told: "game.gb",
             ..VERIFY
         },
-        place: Place::Game,
+        place: FilePlace::Game,
         most: 32_768,
         step: 1_024,
     },
     Cuts {
-        row: Row {
+        row: Scenario {
             game: Given::Read(Content::Cartridge, ALL, Pace::Whole, NO_ROOM),
             about: "a cartridge without room",
             written: MEMORY,
@@ -41,12 +41,12 @@ pub const CUTS: &[Cuts] = &[
             told: "game.gb",
             ..RUN
         },
-        place: Place::Game,
+        place: FilePlace::Game,
         most: 32_768,
         step: 1_024,
     },
     Cuts {
-        row: Row {
+        row: Scenario {
             cert: Given::Read(Content::Certificate, ALL, Pace::Whole, FAILING),
             about: "a certificate that fails",
             written: DEVICE,
@@ -54,12 +54,12 @@ pub const CUTS: &[Cuts] = &[
             told: "game.cert",
             ..VERIFY
         },
-        place: Place::Cert,
+        place: FilePlace::Cert,
         most: 159,
         step: 1,
     },
     Cuts {
-        row: Row {
+        row: Scenario {
             cert: Given::Read(Content::Certificate, ALL, Pace::Whole, NO_ROOM),
             about: "a certificate without room",
             written: MEMORY,
@@ -67,12 +67,12 @@ pub const CUTS: &[Cuts] = &[
             told: "game.cert",
             ..SHOW
         },
-        place: Place::Cert,
+        place: FilePlace::Cert,
         most: 159,
         step: 1,
     },
     Cuts {
-        row: Row {
+        row: Scenario {
             keys: Given::Read(Content::Cartridge, ALL, Pace::Whole, FAILING),
             about: "a script that fails before its frames' end",
             written: DEVICE,
@@ -80,12 +80,12 @@ pub const CUTS: &[Cuts] = &[
             told: "game.keys",
             ..RUN
         },
-        place: Place::Keys,
+        place: FilePlace::Keys,
         most: 1,
         step: 1,
     },
     Cuts {
-        row: Row {
+        row: Scenario {
             input: Given::Read(Content::Cartridge, ALL, Pace::Whole, FAILING),
             about: "standard input that fails",
             written: DEVICE,
@@ -93,7 +93,7 @@ pub const CUTS: &[Cuts] = &[
             told: "standard input",
             ..VERIFY_INPUT
         },
-        place: Place::Input,
+        place: FilePlace::Input,
         most: 32_768,
         step: 1_024,
     },

@@ -17,7 +17,7 @@ pub enum Pace {
 
 /// What comes behind a device's bytes.
 #[derive(Clone, Copy, PartialEq, Eq)]
-pub enum Ending {
+pub enum StreamEnding {
     /// Nothing.
     End,
     /// A fault at each further read.
@@ -31,7 +31,7 @@ pub enum Ending {
 pub struct Device<'a> {
     pub bytes: &'a [u8],
     pub pace: Pace,
-    pub ending: Ending,
+    pub ending: StreamEnding,
 }
 
 /// A device that is read, or a file that is written.
@@ -41,7 +41,7 @@ pub struct Opened<'a> {
     disk: Option<&'a Disk>,
     rest: &'a [u8],
     pace: Pace,
-    ending: Ending,
+    ending: StreamEnding,
     is_interrupted: bool,
 }
 
@@ -63,7 +63,7 @@ impl<'a> Opened<'a> {
             disk: Some(disk),
             rest: &[],
             pace: Pace::Whole,
-            ending: Ending::End,
+            ending: StreamEnding::End,
             is_interrupted: false,
         }
     }
@@ -94,9 +94,9 @@ impl Read for Opened<'_> {
             return Ok(count);
         }
         match self.ending {
-            Ending::End => Ok(0),
-            Ending::Failing(kind) => Err(io::Error::from(kind)),
-            Ending::Zeros => {
+            StreamEnding::End => Ok(0),
+            StreamEnding::Failing(kind) => Err(io::Error::from(kind)),
+            StreamEnding::Zeros => {
                 buf.fill(0);
                 Ok(buf.len())
             }

@@ -2,7 +2,7 @@
 //! missing, refused, cut off, slow, interrupted, failing or without an end, an output that takes so many bytes and no more,
 //! and a standard error that takes nothing.
 //!
-//! rows.rt and cuts.rt have the examples, with the line and the status that README.md says. Each is played as it is, with a
+//! rows.rt and cuts.rt have the examples, with the line and the status that docs/REFERENCE.md says. Each is played as it is, with a
 //! standard error that fails, and with an output that fails behind each number of bytes (play.rt): then the beginning of the
 //! line is out, the status is 3, and standard error says so. A line for each example says how often it was played and how often it did
 //! otherwise: twice, and once for each byte of its line (of a screen's lines, for every 389th). A page is written on a disk

@@ -1,14 +1,16 @@
-//! Certificates are made of cartridges, or it is told what is in the way.
+//! Certificates are made of cartridges, or their first finding is printed.
 
 use crate::judging::{Ceiling, Upgrades, judge_made};
-use crate::reporting::{report_obstacles, tell_report};
-use gb_refine::{Limits, Made, Obstacle, Progress, Standing, Symbols, Told, make, obstacle_json};
+use crate::reporting::{report_findings, tell_report};
+use gb_refine::{
+    Finding, Made, SearchLimits, SearchProgress, ShownFinding, Symbols, finding_json, make,
+};
 use gb_text::Rom;
 use std::alloc::Global;
 use std::io::{self, Write};
 
 /// What the maker may use.
-const LIMITS: Limits = Limits {
+const LIMITS: SearchLimits = SearchLimits {
     nodes: 12_000,
     rounds: 400,
     region: None,
@@ -21,7 +23,7 @@ struct Rounds {
     begun: usize,
 }
 
-impl Progress for Rounds {
+impl SearchProgress for Rounds {
     fn round(&mut self, _number: u32) {
         self.begun = self.begun.saturating_add(1);
     }
@@ -33,62 +35,68 @@ impl Progress for Rounds {
     fn done(&mut self) {}
 }
 
-/// Prints where a failure is and what happens there, in the maker's own words, and the rule's number.
-fn tell_standing<W: Write>(
-    alloc: Global,
-    out: &mut W,
-    told: &Told<'_>,
-    standing: &Standing,
-) -> io::Result<()> {
-    let text = format!(in alloc; "{told}")?;
-    for line in text.as_str().lines().take(2) {
-        writeln!(out, "{line}")?;
-    }
-    let reason = standing.cause.reason().number();
-    writeln!(out, "  Rule {reason}")
+/// Whether a line of a finding at an instruction is printed: its place and what can go wrong, how the code gets there, and its
+/// rule and section.
+fn is_printed(number: usize, line: &str) -> bool {
+    number < 2 || line.starts_with("  Reached by: ") || line.starts_with("  Rule ")
 }
 
-/// Prints the author's line of an obstacle, where it is known.
-fn tell_line<W: Write>(out: &mut W, obstacle: &Obstacle, symbols: &Symbols<'_>) -> io::Result<()> {
-    match obstacle.line(symbols) {
+/// Prints some lines of a finding at an instruction.
+fn tell_instruction<W: Write>(
+    alloc: Global,
+    out: &mut W,
+    shown: &ShownFinding<'_>,
+) -> io::Result<()> {
+    let text = format!(in alloc; "{shown}")?;
+    for (number, line) in text.as_str().lines().enumerate() {
+        if is_printed(number, line) {
+            writeln!(out, "{line}")?;
+        }
+    }
+    Ok(())
+}
+
+/// Prints the author's line of a finding, where it is known.
+fn tell_line<W: Write>(out: &mut W, finding: &Finding, symbols: &Symbols<'_>) -> io::Result<()> {
+    match finding.line(symbols) {
         Some(line) => write!(out, "{line}: "),
         None => Ok(()),
     }
 }
 
-/// Prints what is in the way.
+/// Prints the first finding.
 fn tell<W: Write>(
     alloc: Global,
     out: &mut W,
-    obstacles: &[Obstacle],
+    findings: &[Finding],
     symbols: &Symbols<'_>,
 ) -> io::Result<()> {
-    let Some(obstacle) = obstacles.first() else {
+    let Some(finding) = findings.first() else {
         return writeln!(out, "nothing is told");
     };
-    tell_line(out, obstacle, symbols)?;
-    let told = Told { obstacle, symbols };
-    match obstacle {
-        Obstacle::Standing(standing) => tell_standing(alloc, out, &told, standing),
-        _ => writeln!(out, "{told}"),
+    tell_line(out, finding, symbols)?;
+    let shown = ShownFinding { finding, symbols };
+    match finding {
+        Finding::Instruction(_) => tell_instruction(alloc, out, &shown),
+        _ => writeln!(out, "{shown}"),
     }
 }
 
-/// Prints what is in the way first, as JSON.
+/// Prints the first finding as JSON.
 fn tell_json<W: Write>(
     alloc: Global,
     out: &mut W,
-    obstacles: &[Obstacle],
+    findings: &[Finding],
     symbols: &Symbols<'_>,
 ) -> io::Result<()> {
-    for obstacle in obstacles.iter().take(1) {
-        let text = obstacle_json(alloc, obstacle, symbols)?;
+    for finding in findings.iter().take(1) {
+        let text = finding_json(alloc, finding, symbols)?;
         writeln!(out, "{text}")?;
     }
     Ok(())
 }
 
-/// How it is told what was made, or what is in the way.
+/// How a certificate or a finding is printed.
 #[derive(Clone, Copy, PartialEq, Eq)]
 pub enum Telling {
     Words,
@@ -97,7 +105,7 @@ pub enum Telling {
     Report,
 }
 
-/// Makes a certificate and prints its verdict, or else what is in the way.
+/// Makes a certificate and prints its verdict, or else the first finding.
 pub fn certify<W: Write>(
     alloc: Global,
     out: &mut W,
@@ -127,15 +135,15 @@ pub fn certify<W: Write>(
             }
             Ok(())
         }
-        (Made::Obstacles(obstacles), Telling::Report) => {
-            tell(alloc, out, obstacles.as_slice(), &symbols)?;
-            report_obstacles(alloc, out, &rom, obstacles.as_slice(), &symbols)
+        (Made::Findings(findings), Telling::Report) => {
+            tell(alloc, out, findings.as_slice(), &symbols)?;
+            report_findings(alloc, out, &rom, findings.as_slice(), &symbols)
         }
-        (Made::Obstacles(obstacles), Telling::Words) => {
-            tell(alloc, out, obstacles.as_slice(), &symbols)
+        (Made::Findings(findings), Telling::Words) => {
+            tell(alloc, out, findings.as_slice(), &symbols)
         }
-        (Made::Obstacles(obstacles), Telling::Json) => {
-            tell_json(alloc, out, obstacles.as_slice(), &symbols)
+        (Made::Findings(findings), Telling::Json) => {
+            tell_json(alloc, out, findings.as_slice(), &symbols)
         }
     }
 }

@@ -1,6 +1,6 @@
 //! The worked examples: what the program meets, what it has to write, and its status.
 
-use crate::device::{Ending, Pace};
+use crate::device::{Pace, StreamEnding};
 use std::io::ErrorKind;
 
 /// Which program is played.
@@ -16,11 +16,11 @@ pub enum Content {
     Empty,
     /// The least cartridge.
     Cartridge,
-    /// The same with an undefined opcode at 0150.
+    /// The least cartridge with an undefined opcode at 0150.
     Undefined,
     /// The least cartridge's certificate.
     Certificate,
-    /// The same with a byte left over.
+    /// The certificate with a byte left over.
     Longer,
     /// Symbols with markup in their names.
     Markup,
@@ -34,12 +34,12 @@ pub enum Given {
     /// It can't be opened.
     Refused(ErrorKind),
     /// The first of these bytes, as many as are named, and what comes behind them.
-    Read(Content, usize, Pace, Ending),
+    Read(Content, usize, Pace, StreamEnding),
 }
 
 /// What the program has to write.
 #[derive(Clone, Copy)]
-pub enum Written {
+pub enum ExpectedOutput {
     Text(&'static str),
     /// A screen of the lightest shade, and then this line.
     Screen(&'static str),
@@ -49,7 +49,7 @@ pub enum Written {
 
 /// An example. `told` is in what standard error tells, where it isn't empty.
 #[derive(Clone, Copy)]
-pub struct Row {
+pub struct Scenario {
     pub about: &'static str,
     pub program: Program,
     pub words: &'static [&'static [u8]],
@@ -57,14 +57,14 @@ pub struct Row {
     pub cert: Given,
     pub keys: Given,
     pub input: Given,
-    pub written: Written,
+    pub written: ExpectedOutput,
     pub status: u8,
     pub told: &'static str,
 }
 
 /// Which of the four is cut off.
 #[derive(Clone, Copy)]
-pub enum Place {
+pub enum FilePlace {
     Game,
     Cert,
     Keys,
@@ -72,15 +72,15 @@ pub enum Place {
 }
 
 /// An example that writes a page, and the same where it can't.
-pub struct Page {
-    pub whole: Row,
-    pub broken: Row,
+pub struct ExpectedPage {
+    pub whole: Scenario,
+    pub broken: Scenario,
 }
 
 /// An example that is played with a place cut off behind each of some numbers of bytes: 0, `step` and so on up to `most`.
 pub struct Cuts {
-    pub row: Row,
-    pub place: Place,
+    pub row: Scenario,
+    pub place: FilePlace,
     pub most: usize,
     pub step: usize,
 }
@@ -88,43 +88,45 @@ pub struct Cuts {
 /// More bytes than any of the files has.
 pub(crate) const ALL: usize = usize::MAX;
 
-const CARTRIDGE: Given = Given::Read(Content::Cartridge, ALL, Pace::Whole, Ending::End);
+const CARTRIDGE: Given = Given::Read(Content::Cartridge, ALL, Pace::Whole, StreamEnding::End);
 
-const UNDEFINED: Given = Given::Read(Content::Undefined, ALL, Pace::Whole, Ending::End);
+const UNDEFINED: Given = Given::Read(Content::Undefined, ALL, Pace::Whole, StreamEnding::End);
 
-const CERTIFICATE: Given = Given::Read(Content::Certificate, ALL, Pace::Whole, Ending::End);
+const CERTIFICATE: Given = Given::Read(Content::Certificate, ALL, Pace::Whole, StreamEnding::End);
 
 const MISSING: Given = Given::Refused(ErrorKind::NotFound);
 
-const EMPTY: Given = Given::Read(Content::Empty, 0, Pace::Whole, Ending::End);
+const EMPTY: Given = Given::Read(Content::Empty, 0, Pace::Whole, StreamEnding::End);
 
 /// Zeros without an end.
-const ZEROS: Given = Given::Read(Content::Empty, 0, Pace::Whole, Ending::Zeros);
+const ZEROS: Given = Given::Read(Content::Empty, 0, Pace::Whole, StreamEnding::Zeros);
 
-pub(crate) const FAILING: Ending = Ending::Failing(ErrorKind::Other);
+pub(crate) const FAILING: StreamEnding = StreamEnding::Failing(ErrorKind::Other);
 
-pub(crate) const NO_ROOM: Ending = Ending::Failing(ErrorKind::OutOfMemory);
+pub(crate) const NO_ROOM: StreamEnding = StreamEnding::Failing(ErrorKind::OutOfMemory);
 
-const ACCEPTED: Written = Written::Text("ACCEPTED nodes 3 procedures 1\n");
+const ACCEPTED: ExpectedOutput = ExpectedOutput::Text("ACCEPTED nodes 3 procedures 1\n");
 
-const REFUSED: Written = Written::Text("REFUSED node 2 reason 5\n");
+const REFUSED: ExpectedOutput = ExpectedOutput::Text("REFUSED node 2 reason 5\n");
 
 /// What a certificate changed beside itself: its main needs no stack and calls nothing.
 const UNCHANGED: &str = "\
 ACCEPTED nodes 3 procedures 1\n\
 {\"before\":{\"stack\":0,\"way\":null},\"differences\":[],\"is_changed\":false,\"now\":{\"stack\":0,\"way\":[\"main\"]}}\n";
 
-pub(crate) const DEVICE: Written = Written::Text("FAULT device\n");
+pub(crate) const DEVICE: ExpectedOutput = ExpectedOutput::Text("FAULT device\n");
 
-pub(crate) const MEMORY: Written = Written::Text("FAULT memory\n");
+pub(crate) const MEMORY: ExpectedOutput = ExpectedOutput::Text("FAULT memory\n");
 
-const NOTHING: Written = Written::Text("");
+const NOTHING: ExpectedOutput = ExpectedOutput::Text("");
 
-const VERSION: Written = Written::Text("gulmyrek 0.5.0\n");
+const VERSION: ExpectedOutput = ExpectedOutput::Text("gulmyrek 0.5.0\n");
 
-const HEADER_LINE: Written = Written::Text("type 00 ROM rom 2 ram 0 clock no checksum E7\n");
+const HEADER_LINE: ExpectedOutput = ExpectedOutput::Text(
+    "type 00 ROM rom 2 ram 0 clock no checksum E7\n",
+);
 
-const SHOWN: Written = Written::Text(
+const SHOWN: ExpectedOutput = ExpectedOutput::Text(
     "\
 stack DF00..DFFF procedures 1 nodes 3\n\
 procedure 0 entry 0 need 0 ranges 0 returns no\n\
@@ -133,21 +135,21 @@ node 1 procedure 0 address 0101 bank 000\n\
 node 2 procedure 0 address 0150 bank 000\n",
 );
 
-const LISTED: Written = Written::Text(
+const LISTED: ExpectedOutput = ExpectedOutput::Text(
     "\
 stack DF00-DFFF, procedures 1, nodes 3\n\
 \n\
 procedure 0: 0 bytes of stack, does not return, writes no RAM\n    \
     00:0100  NOP\n        \
-        A=01 B=00 C=13 D=00 E=D8 H=01 L=4D Z=1 C=1; interrupts off, IE=00, bank 01, cartridge RAM closed, bytes 0\n    \
+        A=01 B=00 C=13 D=00 E=D8 H=01 L=4D Z=1 C=1; interrupts off, IE=00, bank 01, cartridge RAM disabled, bytes 0\n    \
     00:0101  JP $0150\n        \
-        A=01 B=00 C=13 D=00 E=D8 H=01 L=4D Z=1 C=1; interrupts off, IE=00, bank 01, cartridge RAM closed, bytes 0\n    \
+        A=01 B=00 C=13 D=00 E=D8 H=01 L=4D Z=1 C=1; interrupts off, IE=00, bank 01, cartridge RAM disabled, bytes 0\n    \
     00:0150  JR $0150\n        \
-        A=01 B=00 C=13 D=00 E=D8 H=01 L=4D Z=1 C=1; interrupts off, IE=00, bank 01, cartridge RAM closed, bytes 0\n",
+        A=01 B=00 C=13 D=00 E=D8 H=01 L=4D Z=1 C=1; interrupts off, IE=00, bank 01, cartridge RAM disabled, bytes 0\n",
 );
 
 /// Both files are read, and the verdict is written.
-pub(crate) const VERIFY: Row = Row {
+pub(crate) const VERIFY: Scenario = Scenario {
     about: "verify",
     program: Program::Gulmyrek,
     words: &[b"gulmyrek", b"verify", b"game.gb", b"game.cert"],
@@ -160,7 +162,7 @@ pub(crate) const VERIFY: Row = Row {
     told: "",
 };
 
-const HEADER: Row = Row {
+const HEADER: Scenario = Scenario {
     about: "header",
     words: &[b"gulmyrek", b"header", b"game.gb"],
     cert: MISSING,
@@ -168,7 +170,7 @@ const HEADER: Row = Row {
     ..VERIFY
 };
 
-pub(crate) const SHOW: Row = Row {
+pub(crate) const SHOW: Scenario = Scenario {
     about: "show",
     words: &[b"gulmyrek", b"show", b"game.cert"],
     game: MISSING,
@@ -176,46 +178,46 @@ pub(crate) const SHOW: Row = Row {
     ..VERIFY
 };
 
-const UPGRADE: Row = Row {
+const UPGRADE: Scenario = Scenario {
     about: "upgrade",
     words: &[b"gulmyrek", b"upgrade", b"game.cert"],
     game: MISSING,
-    written: Written::Upgraded,
+    written: ExpectedOutput::Upgraded,
     ..VERIFY
 };
 
 /// Two frames with a script that never ends: no more of it is read.
-pub(crate) const RUN: Row = Row {
+pub(crate) const RUN: Scenario = Scenario {
     about: "run with a script without an end",
     words: &[b"gulmyrek", b"run", b"game.gb", b"game.keys", b"2"],
     cert: MISSING,
     keys: ZEROS,
-    written: Written::Screen("WHOLE frames 2\n"),
+    written: ExpectedOutput::Screen("WHOLE frames 2\n"),
     ..VERIFY
 };
 
-pub(crate) const VERIFY_INPUT: Row = Row {
+pub(crate) const VERIFY_INPUT: Scenario = Scenario {
     about: "a cartridge on standard input, a byte with each read",
     words: &[b"gulmyrek", b"verify", b"-", b"game.cert"],
     game: MISSING,
-    input: Given::Read(Content::Cartridge, ALL, Pace::Slow, Ending::End),
+    input: Given::Read(Content::Cartridge, ALL, Pace::Slow, StreamEnding::End),
     ..VERIFY
 };
 
 /// No certificate can be made of the cartridge, and none is written.
-const CERTIFY: Row = Row {
+const CERTIFY: Scenario = Scenario {
     about: "certify: an undefined opcode",
     program: Program::Certify,
     words: &[b"certify", b"game.gb", b"game.cert"],
     game: UNDEFINED,
     cert: MISSING,
-    written: Written::Text("NO CERTIFICATE obstacles 1\n"),
+    written: ExpectedOutput::Text("NO CERTIFICATE obstacles 1\n"),
     status: 1,
     told: "00:0150",
     ..VERIFY
 };
 
-const LINES: Row = Row {
+const LINES: Scenario = Scenario {
     about: "certify --lines: no file",
     words: &[
         b"certify",
@@ -231,14 +233,14 @@ const LINES: Row = Row {
 };
 
 /// A file that tells of no line.
-const NO_LINES: Row = Row {
+const NO_LINES: Scenario = Scenario {
     written: NOTHING,
     status: 2,
-    told: "no lines of sources",
+    told: "game.keys: no source lines: use an SDCC .cdb",
     ..LINES
 };
 
-const LIST: Row = Row {
+const LIST: Scenario = Scenario {
     about: "certify --list",
     program: Program::Certify,
     words: &[b"certify", b"--list", b"game.gb", b"game.cert"],
@@ -247,7 +249,7 @@ const LIST: Row = Row {
 };
 
 /// A page can't be written.
-const REPORT: Row = Row {
+const REPORT: Scenario = Scenario {
     about: "certify --report: a page that may not be written",
     program: Program::Certify,
     words: &[
@@ -264,7 +266,7 @@ const REPORT: Row = Row {
 };
 
 /// A page is written, with symbols that have markup in their names.
-const PAGE: Row = Row {
+const PAGE: Scenario = Scenario {
     about: "certify --report: a page with markup in the names of symbols",
     words: &[
         b"certify",
@@ -275,16 +277,16 @@ const PAGE: Row = Row {
         b"--sym",
         b"game.keys",
     ],
-    keys: Given::Read(Content::Markup, ALL, Pace::Whole, Ending::End),
+    keys: Given::Read(Content::Markup, ALL, Pace::Whole, StreamEnding::End),
     written: ACCEPTED,
     status: 0,
     told: "",
     ..REPORT
 };
 
-/// The facts for programs, and what they changed beside the same certificate: nothing.
-const FACTS: Row = Row {
-    about: "certify --report --json --compare: facts beside the same certificate",
+/// The facts for programs, and what changed since the same certificate: nothing.
+const FACTS: Scenario = Scenario {
+    about: "certify --report --json --compare: facts compared with the same certificate",
     words: &[
         b"certify",
         b"--report",
@@ -295,52 +297,52 @@ const FACTS: Row = Row {
         b"game.gb",
         b"game.cert",
     ],
-    written: Written::Text(UNCHANGED),
+    written: ExpectedOutput::Text(UNCHANGED),
     ..PAGE
 };
 
 /// The page of a cartridge for which no certificate can be made.
-const OBSTACLES: Row = Row {
-    about: "certify --report: a page on what is in the way",
+const FINDINGS: Scenario = Scenario {
+    about: "certify --report: a page of findings",
     game: UNDEFINED,
     cert: MISSING,
-    written: Written::Text("NO CERTIFICATE obstacles 1\n"),
+    written: ExpectedOutput::Text("NO CERTIFICATE obstacles 1\n"),
     status: 1,
     ..PAGE
 };
 
-pub const PAGES: &[Page] = &[
-    Page {
+pub const PAGES: &[ExpectedPage] = &[
+    ExpectedPage {
         whole: PAGE,
-        broken: Row {
+        broken: Scenario {
             written: DEVICE,
             status: 3,
             told: "page.html",
             ..PAGE
         },
     },
-    Page {
+    ExpectedPage {
         whole: FACTS,
-        broken: Row {
+        broken: Scenario {
             written: DEVICE,
             status: 3,
             told: "page.html",
             ..FACTS
         },
     },
-    Page {
-        whole: OBSTACLES,
-        broken: Row {
+    ExpectedPage {
+        whole: FINDINGS,
+        broken: Scenario {
             written: DEVICE,
             status: 3,
             told: "page.html",
-            ..OBSTACLES
+            ..FINDINGS
         },
     },
 ];
 
-pub const READ: &[Row] = &[
-    Row {
+pub const READ: &[Scenario] = &[
+    Scenario {
         about: "no words",
         words: &[b"gulmyrek"],
         game: MISSING,
@@ -352,34 +354,44 @@ pub const READ: &[Row] = &[
     SHOW,
     UPGRADE,
     RUN,
-    Row {
+    Scenario {
         about: "a byte with each read",
-        game: Given::Read(Content::Cartridge, ALL, Pace::Slow, Ending::End),
-        cert: Given::Read(Content::Certificate, ALL, Pace::Slow, Ending::End),
+        game: Given::Read(Content::Cartridge, ALL, Pace::Slow, StreamEnding::End),
+        cert: Given::Read(Content::Certificate, ALL, Pace::Slow, StreamEnding::End),
         ..VERIFY
     },
-    Row {
+    Scenario {
         about: "every other read is interrupted",
-        game: Given::Read(Content::Cartridge, ALL, Pace::Interrupted, Ending::End),
-        cert: Given::Read(Content::Certificate, ALL, Pace::Interrupted, Ending::End),
+        game: Given::Read(
+            Content::Cartridge,
+            ALL,
+            Pace::Interrupted,
+            StreamEnding::End,
+        ),
+        cert: Given::Read(
+            Content::Certificate,
+            ALL,
+            Pace::Interrupted,
+            StreamEnding::End,
+        ),
         ..VERIFY
     },
     VERIFY_INPUT,
-    Row {
+    Scenario {
         about: "a certificate on standard input",
         words: &[b"gulmyrek", b"verify", b"game.gb", b"-"],
         cert: MISSING,
         input: CERTIFICATE,
         ..VERIFY
     },
-    Row {
+    Scenario {
         about: "a script on standard input, which fails behind as many bytes as there are frames",
         words: &[b"gulmyrek", b"run", b"game.gb", b"-", b"2"],
         keys: MISSING,
         input: Given::Read(Content::Cartridge, 2, Pace::Slow, FAILING),
         ..RUN
     },
-    Row {
+    Scenario {
         about: "the version",
         words: &[b"gulmyrek", b"--version"],
         written: VERSION,
@@ -388,8 +400,8 @@ pub const READ: &[Row] = &[
     LIST,
 ];
 
-pub const FAULTY: &[Row] = &[
-    Row {
+pub const FAULTY: &[Scenario] = &[
+    Scenario {
         about: "a certificate that is refused",
         game: UNDEFINED,
         written: REFUSED,
@@ -397,14 +409,14 @@ pub const FAULTY: &[Row] = &[
         told: "game.cert",
         ..VERIFY
     },
-    Row {
+    Scenario {
         about: "a run that locks",
         game: UNDEFINED,
-        written: Written::Screen("LOCKED frame 0 pc 0150\n"),
+        written: ExpectedOutput::Screen("LOCKED frame 0 pc 0150\n"),
         status: 1,
         ..RUN
     },
-    Row {
+    Scenario {
         about: "no cartridge",
         game: MISSING,
         written: DEVICE,
@@ -412,7 +424,7 @@ pub const FAULTY: &[Row] = &[
         told: "game.gb",
         ..VERIFY
     },
-    Row {
+    Scenario {
         about: "no certificate",
         cert: MISSING,
         written: DEVICE,
@@ -420,7 +432,7 @@ pub const FAULTY: &[Row] = &[
         told: "game.cert",
         ..VERIFY
     },
-    Row {
+    Scenario {
         about: "no script",
         keys: MISSING,
         written: DEVICE,
@@ -428,7 +440,7 @@ pub const FAULTY: &[Row] = &[
         told: "game.keys",
         ..RUN
     },
-    Row {
+    Scenario {
         about: "a cartridge that may not be read",
         game: Given::Refused(ErrorKind::PermissionDenied),
         written: DEVICE,
@@ -436,20 +448,20 @@ pub const FAULTY: &[Row] = &[
         told: "game.gb",
         ..HEADER
     },
-    Row {
+    Scenario {
         about: "a folder in a certificate's place",
         cert: Given::Read(
             Content::Empty,
             ALL,
             Pace::Whole,
-            Ending::Failing(ErrorKind::IsADirectory),
+            StreamEnding::Failing(ErrorKind::IsADirectory),
         ),
         written: DEVICE,
         status: 3,
         told: "game.cert",
         ..SHOW
     },
-    Row {
+    Scenario {
         about: "no memory to open a certificate",
         cert: Given::Refused(ErrorKind::OutOfMemory),
         written: MEMORY,
@@ -457,7 +469,7 @@ pub const FAULTY: &[Row] = &[
         told: "game.cert",
         ..UPGRADE
     },
-    Row {
+    Scenario {
         about: "standard input fails",
         input: Given::Read(Content::Empty, ALL, Pace::Whole, FAILING),
         written: DEVICE,
@@ -465,53 +477,55 @@ pub const FAULTY: &[Row] = &[
         told: "standard input",
         ..VERIFY_INPUT
     },
-    Row {
+    Scenario {
         about: "an empty cartridge",
         game: EMPTY,
         cert: EMPTY,
-        written: Written::Text("CARTRIDGE H1\n"),
+        written: ExpectedOutput::Text("CARTRIDGE H1\n"),
         status: 2,
+        told: "gulmyrek: game.gb: not a valid ROM: the file is too short",
         ..VERIFY
     },
-    Row {
+    Scenario {
         about: "a cartridge cut off before its header's end",
-        game: Given::Read(Content::Cartridge, 335, Pace::Whole, Ending::End),
-        written: Written::Text("CARTRIDGE H1\n"),
+        game: Given::Read(Content::Cartridge, 335, Pace::Whole, StreamEnding::End),
+        written: ExpectedOutput::Text("CARTRIDGE H1\n"),
         status: 2,
         ..RUN
     },
-    Row {
+    Scenario {
         about: "a cartridge without its last byte",
-        game: Given::Read(Content::Cartridge, 32_767, Pace::Whole, Ending::End),
-        written: Written::Text("CARTRIDGE H1\n"),
+        game: Given::Read(Content::Cartridge, 32_767, Pace::Whole, StreamEnding::End),
+        written: ExpectedOutput::Text("CARTRIDGE H1\n"),
         status: 2,
+        told: "gulmyrek: game.gb: not a valid ROM: the file is too short",
         ..RUN
     },
-    Row {
+    Scenario {
         about: "an empty certificate",
         cert: EMPTY,
-        written: Written::Text("CERTIFICATE C1\n"),
+        written: ExpectedOutput::Text("CERTIFICATE C1\n"),
         status: 2,
         told: "game.cert",
         ..VERIFY
     },
-    Row {
+    Scenario {
         about: "a certificate without its last byte",
-        cert: Given::Read(Content::Certificate, 158, Pace::Whole, Ending::End),
-        written: Written::Text("CERTIFICATE C1\n"),
+        cert: Given::Read(Content::Certificate, 158, Pace::Whole, StreamEnding::End),
+        written: ExpectedOutput::Text("CERTIFICATE C1\n"),
         status: 2,
         told: "game.cert",
         ..UPGRADE
     },
-    Row {
+    Scenario {
         about: "a certificate with a byte left over",
-        cert: Given::Read(Content::Longer, ALL, Pace::Slow, Ending::End),
-        written: Written::Text("CERTIFICATE C8\n"),
+        cert: Given::Read(Content::Longer, ALL, Pace::Slow, StreamEnding::End),
+        written: ExpectedOutput::Text("CERTIFICATE C8\n"),
         status: 2,
         told: "game.cert",
         ..SHOW
     },
-    Row {
+    Scenario {
         about: "two files on standard input",
         words: &[b"gulmyrek", b"verify", b"-", b"-"],
         written: NOTHING,
@@ -519,7 +533,7 @@ pub const FAULTY: &[Row] = &[
         told: "standard input",
         ..VERIFY
     },
-    Row {
+    Scenario {
         about: "a cartridge and a script on standard input",
         words: &[b"gulmyrek", b"run", b"-", b"-", b"2"],
         written: NOTHING,
@@ -527,7 +541,7 @@ pub const FAULTY: &[Row] = &[
         told: "standard input",
         ..VERIFY
     },
-    Row {
+    Scenario {
         about: "a word that isn't UTF-8",
         words: &[b"gulmyrek", b"header", b"\xFF.gb"],
         written: NOTHING,
@@ -535,7 +549,7 @@ pub const FAULTY: &[Row] = &[
         told: "UTF-8",
         ..VERIFY
     },
-    Row {
+    Scenario {
         about: "more frames than 36,000, and no file is opened",
         words: &[b"gulmyrek", b"run", b"game.gb", b"game.keys", b"36001"],
         game: MISSING,
@@ -546,15 +560,15 @@ pub const FAULTY: &[Row] = &[
         ..VERIFY
     },
     CERTIFY,
-    Row {
+    Scenario {
         about: "certify --explain: a certificate that is refused",
         words: &[b"certify", b"--explain", b"game.gb", b"game.cert"],
         cert: CERTIFICATE,
         written: REFUSED,
-        told: "no certificate can be made either",
+        told: "a new certificate can't be made either",
         ..CERTIFY
     },
-    Row {
+    Scenario {
         about: "certify: a certificate that may not be written",
         game: CARTRIDGE,
         cert: Given::Refused(ErrorKind::PermissionDenied),
@@ -563,7 +577,7 @@ pub const FAULTY: &[Row] = &[
         told: "game.cert",
         ..CERTIFY
     },
-    Row {
+    Scenario {
         about: "certify: no cartridge",
         game: MISSING,
         written: DEVICE,
@@ -571,15 +585,15 @@ pub const FAULTY: &[Row] = &[
         told: "game.gb",
         ..CERTIFY
     },
-    Row {
+    Scenario {
         about: "certify: an empty cartridge",
         game: EMPTY,
-        written: Written::Text("CARTRIDGE H1\n"),
+        written: ExpectedOutput::Text("CARTRIDGE H1\n"),
         status: 2,
-        told: "",
+        told: "certify: game.gb: not a valid ROM: the file is too short",
         ..CERTIFY
     },
-    Row {
+    Scenario {
         about: "certify: no symbols",
         words: &[b"certify", b"game.gb", b"game.cert", b"--sym", b"game.keys"],
         written: DEVICE,
@@ -588,39 +602,39 @@ pub const FAULTY: &[Row] = &[
         ..CERTIFY
     },
     LINES,
-    Row {
+    Scenario {
         about: "certify --lines: a file that is no text",
-        keys: Given::Read(Content::Garbage, ALL, Pace::Whole, Ending::End),
+        keys: Given::Read(Content::Garbage, ALL, Pace::Whole, StreamEnding::End),
         written: NOTHING,
         status: 2,
-        told: "it is not text",
+        told: "it isn't text",
         ..LINES
     },
-    Row {
+    Scenario {
         about: "certify --lines: an empty file",
         keys: EMPTY,
         ..NO_LINES
     },
-    Row {
+    Scenario {
         about: "certify --lines: symbols",
-        keys: Given::Read(Content::Markup, ALL, Pace::Whole, Ending::End),
+        keys: Given::Read(Content::Markup, ALL, Pace::Whole, StreamEnding::End),
         ..NO_LINES
     },
-    Row {
+    Scenario {
         about: "certify --lines: a file without an end",
         keys: ZEROS,
         ..NO_LINES
     },
-    Row {
+    Scenario {
         about: "certify --list: a certificate with a byte left over",
-        cert: Given::Read(Content::Longer, ALL, Pace::Whole, Ending::End),
-        written: Written::Text("CERTIFICATE C8\n"),
+        cert: Given::Read(Content::Longer, ALL, Pace::Whole, StreamEnding::End),
+        written: ExpectedOutput::Text("CERTIFICATE C8\n"),
         status: 2,
         told: "game.cert",
         ..LIST
     },
     REPORT,
-    Row {
+    Scenario {
         about: "certify --compare: no older certificate",
         words: &[
             b"certify",
@@ -632,7 +646,7 @@ pub const FAULTY: &[Row] = &[
         told: "game.keys",
         ..REPORT
     },
-    Row {
+    Scenario {
         about: "certify --compare: an older certificate with a byte left over",
         words: &[
             b"certify",
@@ -641,14 +655,14 @@ pub const FAULTY: &[Row] = &[
             b"game.gb",
             b"game.cert",
         ],
-        keys: Given::Read(Content::Longer, ALL, Pace::Whole, Ending::End),
-        written: Written::Text("CERTIFICATE C8\n"),
+        keys: Given::Read(Content::Longer, ALL, Pace::Whole, StreamEnding::End),
+        written: ExpectedOutput::Text("CERTIFICATE C8\n"),
         status: 2,
         told: "game.keys",
         ..REPORT
     },
-    Row {
-        about: "certify --compare: an older cartridge that is none",
+    Scenario {
+        about: "certify --compare: an older cartridge that isn't valid",
         words: &[
             b"certify",
             b"--compare",
@@ -659,12 +673,12 @@ pub const FAULTY: &[Row] = &[
             b"game.cert",
         ],
         keys: EMPTY,
-        written: Written::Text("CARTRIDGE H1\n"),
+        written: ExpectedOutput::Text("CARTRIDGE H1\n"),
         status: 2,
         told: "game.keys",
         ..REPORT
     },
-    Row {
+    Scenario {
         about: "certify --old-sym without --compare",
         words: &[
             b"certify",
@@ -675,10 +689,10 @@ pub const FAULTY: &[Row] = &[
         ],
         written: NOTHING,
         status: 2,
-        told: "go with --compare",
+        told: "need --compare",
         ..REPORT
     },
-    Row {
+    Scenario {
         about: "certify --report: a page in the certificate's own file",
         words: &[
             b"certify",
@@ -689,27 +703,27 @@ pub const FAULTY: &[Row] = &[
         ],
         written: NOTHING,
         status: 2,
-        told: "a file that is read",
+        told: "refuses to overwrite a file that it reads",
         ..REPORT
     },
-    Row {
+    Scenario {
         about: "certify: a certificate written to standard input",
         words: &[b"certify", b"game.gb", b"-"],
         written: NOTHING,
         status: 2,
-        told: "CERT is written",
+        told: "certify writes CERT, so it can't be -",
         ..CERTIFY
     },
-    Row {
+    Scenario {
         about: "certify: a certificate in the cartridge's own file",
         words: &[b"certify", b"game.gb", b"game.gb"],
         game: CARTRIDGE,
         written: NOTHING,
         status: 2,
-        told: "the cartridge's own file",
+        told: "refuses to overwrite the ROM",
         ..CERTIFY
     },
-    Row {
+    Scenario {
         about: "certify: more nodes than a certificate may have",
         words: &[b"certify", b"game.gb", b"game.cert", b"--nodes", b"1048577"],
         written: NOTHING,
@@ -717,7 +731,7 @@ pub const FAULTY: &[Row] = &[
         told: "1048576",
         ..CERTIFY
     },
-    Row {
+    Scenario {
         about: "certify: a stack outside of RAM",
         words: &[
             b"certify",
@@ -728,7 +742,7 @@ pub const FAULTY: &[Row] = &[
         ],
         written: NOTHING,
         status: 2,
-        told: "--stack wants",
+        told: "--stack needs",
         ..CERTIFY
     },
 ];
