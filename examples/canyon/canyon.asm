@@ -128,7 +128,7 @@ LCDC_PLAYING	= LCDC_SHOWN | 0x60	; the window with the second map
 	ld	(rROMB0), a
 	ret
 
-	.org 0x0028			; RST 28 goes to entry A of the table behind it
+	.org 0x0028			; RST 28 goes to entry A of the table after it
 	pop	hl
 	add	a, a
 	add	a, l
@@ -546,7 +546,7 @@ begin_level:
 	jr	nz, 2$
 	ret
 
-; Makes the level's next column; behind the last one the level is done, and the carry is set.
+; Makes the level's next column; after the last one the level is done, and the carry is set.
 make_column:
 	ld	a, (column)
 	cp	#LEVEL_COLUMNS
@@ -937,7 +937,7 @@ new_bullet:
 	ld	(hl), #0xFE
 	ret
 
-; Sets the carry where the ship has met a wall, an enemy or a bullet.
+; Sets the carry if the ship has hit a wall, an enemy or a bullet.
 check_ship:
 	ld	hl, #ship_safe
 	ld	a, (hl)
@@ -970,7 +970,7 @@ check_ship:
 	ld	l, a
 	dec	d
 	jr	nz, 2$
-	ld	hl, #bullets - 1	; a bullet's Y is behind no kind
+	ld	hl, #bullets - 1	; a bullet's Y has no kind before it
 	ld	d, #BULLETS
 4$:	inc	l
 	ld	a, (hl)
@@ -987,7 +987,7 @@ check_ship:
 	and	a
 	ret
 
-; Sets the carry where what is at HL, its Y and X behind it, is near to Y = B and X = C. HL stays.
+; Sets the carry if the object at HL, its Y and X after it, is near to Y = B and X = C. HL stays.
 is_near:
 	push	hl
 	inc	l
@@ -1059,7 +1059,7 @@ add_object:
 	ld	(objects_used), a
 	ret
 
-; Hides the objects behind the last one that is used.
+; Hides the objects after the last one that is used.
 hide_objects:
 	ld	a, (objects_used)
 	ld	l, a
@@ -1645,7 +1645,7 @@ path:
 	.db	5, 5, 5, 7, 7, 13, 8, 12, 6, 6, 6, 6, 4, 8, 12, 9
 	.ds	256 - LEVEL_COLUMNS
 
-; Waves in the page behind it: the column with which each comes, its kind, and its height. Nothing comes with column 255.
+; Waves in the next page: the column with which each comes, its kind, and its height. Nothing comes with column 255.
 waves:
 	.db	34, KIND_DRONE, 72
 	.db	35, KIND_DRONE, 88

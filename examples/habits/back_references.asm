@@ -1,4 +1,4 @@
-; Bytes are unpacked: some that stand there, or some that were unpacked before, from so far back. Each step of the unpacking is
+; Bytes are unpacked: some that are there, or some that were unpacked before, from so far back. Each step of the unpacking is
 ; told apart, since the packed bytes are in ROM.
 
 	.module back_references

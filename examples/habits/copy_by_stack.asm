@@ -1,5 +1,5 @@
-; A table is copied by POP: SP is kept in RAM, borrowed as a pointer with interrupts off, and loaded again. While SP stands in
-; ROM it is no stack, which no rule can tell; so it is refused. Copy by (HL+).
+; A table is copied by POP: SP is kept in RAM, borrowed as a pointer with interrupts off, and loaded again. While SP is in
+; ROM there is no stack, which no rule can follow; so it is refused. Copy by (HL+).
 
 	.module copy_by_stack
 	.include "hardware.inc"

@@ -29,7 +29,7 @@ first:
 	ld	(cursor + 1), a
 	ret
 
-; Gives the next character in A; behind the last one the first comes again.
+; Gives the next character in A; after the last one the first comes again.
 next:
 	ld	a, (cursor)
 	ld	l, a

@@ -1,4 +1,4 @@
-; Procedures are called in other banks: the bank that was shown waits on the stack, beside the variable that a handler goes by.
+; Procedures are called in other banks: the bank that was shown waits on the stack; a handler goes by the variable.
 ; A handler makes such a call too, and a procedure in a bank goes on in another one.
 
 	.module far_calls

@@ -1,4 +1,4 @@
-; A jump into code that stands eight times, by as many rounds as are left out: the address is computed, and comes from no table.
+; A jump into code that is there eight times, by as many rounds as are left out: the address is computed, not from a table.
 
 	.module jump_into_code
 	.include "hardware.inc"

@@ -1,4 +1,4 @@
-; A number of 16 bits is told in five digits, by how often 10,000, 1,000, 100 and 10 are in it.
+; A number of 16 bits is written in five digits, by how often 10,000, 1,000, 100 and 10 are in it.
 
 	.module number_to_digits
 	.include "hardware.inc"

@@ -1,4 +1,4 @@
-; Eight objects of eight bytes stand one behind the other. The first byte of each is its kind, by which a table tells what moves
+; Eight objects of eight bytes follow one another. The first byte of each is its kind, by which a table says what moves
 ; it. A kind is compared with the count of kinds before the table is read.
 
 	.module object_kinds

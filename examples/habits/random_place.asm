@@ -1,4 +1,4 @@
-; A random number chooses one of four steps, and what stands at X and Y of a map is written once the picture may be: the wait
+; A random number chooses one of four steps, and what is at X and Y of a map is written once the picture may be: the wait
 ; lies between the address and the store. The line is 0 to 15 by AND, so the page is known line by line.
 
 	.module random_place

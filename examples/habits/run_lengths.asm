@@ -1,4 +1,4 @@
-; A picture is unpacked from pairs of a count and a byte; a count of 0 ends it. How much that is no rule can tell, so the loop
+; A picture is unpacked from pairs of a count and a byte; a count of 0 ends it. How much that is no rule can know, so the loop
 ; ends by its target's page too.
 
 	.module run_lengths

@@ -1,4 +1,4 @@
-; Objects are put one behind the other into a copy of OAM, whose number of bytes is in one byte; what is left is hidden.
+; Objects are put one after another into a copy of OAM, whose number of bytes is in one byte; what is left is hidden.
 
 	.module shadow_objects
 	.include "hardware.inc"

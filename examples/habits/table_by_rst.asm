@@ -1,4 +1,4 @@
-; A jump table stands behind a RST that pops its own return address, adds twice the number in A, and jumps through the word
+; A jump table follows a RST that pops its own return address, adds twice the number in A, and jumps through the word
 ; there. Each call has its own table, so the procedure is followed in its callers.
 
 	.module table_by_rst

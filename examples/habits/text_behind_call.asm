@@ -1,5 +1,5 @@
-; Text stands behind the call of the procedure that prints it, and ends with a 0. The procedure pops its return address, goes
-; over the text, and jumps to what is behind it.
+; Text follows the call of the procedure that prints it, and ends with a 0. The procedure pops its return address, goes
+; over the text, and jumps to what follows it.
 
 	.module text_behind_call
 	.include "hardware.inc"
@@ -22,7 +22,7 @@ start:
 loop:
 	jr	loop
 
-; Prints the text behind the call at DE.
+; Prints the text after the call at DE.
 print:
 	pop	hl
 1$:	ld	a, (hl+)

@@ -1,5 +1,5 @@
 ; A text is printed a character in each frame, by the handler of VBlank: the address of the next character and that of its place
-; on the screen are both kept in RAM, and go on together. Each pair of values is told apart, so it is accepted.
+; on the screen are both kept in RAM, and move on together. Each pair of values is told apart, so it is accepted.
 
 	.module text_by_frames
 	.include "hardware.inc"
@@ -45,7 +45,7 @@ vblank:
 	ld	l, a
 	ld	a, (hl+)
 	or	a
-	jr	z, done			; behind the last one
+	jr	z, done			; after the last one
 	ld	b, a
 	ld	a, l
 	ld	(letter), a

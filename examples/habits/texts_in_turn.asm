@@ -1,4 +1,4 @@
-; Texts are printed one behind the other: a table has their addresses, and the place on the screen is kept in RAM as a pointer of
+; Texts are printed one after another: a table has their addresses, and the place on the screen is kept in RAM as a pointer of
 ; two bytes, which has a few values at each call.
 
 	.module texts_in_turn

@@ -70,7 +70,7 @@ start:
 
 main_loop:
 	halt				; sleep until an interrupt
-	nop				; (a NOP behind HALT is safe whatever IME is)
+	nop				; (a NOP after HALT is safe whatever IME is)
 	ld	a, (frame_done)
 	and	a
 	jr	z, main_loop
@@ -95,7 +95,7 @@ move_ball:
 	cp	(hl)
 	jr	nc, 2$
 	dec	(hl)
-2$:	inc	l			; ball_y stands behind ball_x
+2$:	inc	l			; ball_y follows ball_x
 	bit	PADB_DOWN, b
 	jr	z, 3$
 	ld	a, (hl)

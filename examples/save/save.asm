@@ -1,7 +1,7 @@
 ; save: a counter that outlives the power switch, in the cartridge's RAM (MBC3 with a battery).
 ;
 ; The upper number counts how often the game was started, the lower one is changed by A (one more) and B (one less), and Start
-; saves it. The record's RAM is behind a gate that is closed at power-up: it is opened for each access and closed behind it, so
+; saves it. The record's RAM is behind a gate that is closed at power-up: it is opened for each access and closed after it, so
 ; that a crash or a falling voltage finds it closed.
 
 	.module save

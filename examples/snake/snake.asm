@@ -1,13 +1,13 @@
 ; snake: a whole small game, with a score, a timer interrupt that sets the pace, and a VBlank interrupt that draws.
 ;
-; The board has 16 times 16 cells, its walls among them, so that a cell is one byte: Y * 16 + X. Two pages of RAM stand for it:
+; The board has 16 times 16 cells, its walls among them, so that a cell is one byte: Y * 16 + X. Two pages of RAM hold it:
 ; `board` has the tile of each cell, and `body` is a ring of the snake's cells, with the indices `head` and `tail`. An index is
-; always the low byte L beside a fixed high byte H, so that no pointer leaves its page, whatever the index is.
+; always the low byte L with a fixed high byte H, so that no pointer leaves its page, whatever the index is.
 
 	.module snake
 	.include "hardware.inc"
 
-BODY		= 11			; tiles behind the digits and the blank
+BODY		= 11			; tiles after the digits and the blank
 FOOD		= 12
 WALL		= 13
 FIRST_CELL	= 0x84

@@ -1,6 +1,6 @@
 ; transfer: ten balls that bounce, with an OAM transfer in each frame.
 ;
-; The balls stand in a copy of OAM in work RAM. The main loop moves them there, and the VBlank handler starts the transfer that
+; The balls are in a copy of OAM in work RAM. The main loop moves them there, and the VBlank handler starts the transfer that
 ; copies the whole page to OAM. While it goes on the processor has high RAM alone, so the code that starts it and waits for its
 ; end lies there, and calls and returns only outside it.
 

@@ -1,0 +1,40 @@
+; Two builds of one small game: the handler of the new one calls a routine more. docs/PAGE.md compares them.
+
+	.module new
+	.include "hardware.inc"
+	.area _FIXED (ABS)
+	.org 0x0040
+	jp	vblank
+	.org 0x0100
+	nop
+	jp	start
+
+	.area _RAM
+frames:	.ds 1
+total:	.ds 1
+
+	.area _CODE
+start:
+	ld	sp, #STACK_TOP
+	ld	a, #IEF_VBLANK
+	ldh	(rIE), a
+	ei
+loop:
+	halt
+	nop
+	jr	loop
+
+vblank:
+	push	af
+	ld	a, (frames)
+	inc	a
+	ld	(frames), a
+	call	count
+	pop	af
+	reti
+
+count:
+	ld	a, (total)
+	inc	a
+	ld	(total), a
+	ret

@@ -1,0 +1,32 @@
+; OAM DMA is started with interrupts on.
+
+	.module interrupt_during_dma
+	.area _FIXED (ABS)
+	.org 0x0040
+	reti
+	.org 0x0100
+	nop
+	jp	start
+
+	.area _CODE
+start:
+	ld	sp, #0xE000
+	ld	hl, #dma
+	ld	c, #0x80
+1$:	ld	a, (hl+)
+	ldh	(c), a
+	inc	c
+	ld	a, c
+	cp	#0x90
+	jr	c, 1$
+	ld	a, #0x01
+	ldh	(0xFF), a
+	ei				; VBlank can fire while DMA runs
+2$:	call	0xFF80
+	jr	2$
+dma:	ld	a, #0xC0
+	ldh	(0x46), a
+	ld	a, #40
+3$:	dec	a
+	jr	nz, 3$
+	ret
