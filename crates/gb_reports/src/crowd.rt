@@ -1,7 +1,7 @@
 //! Where a run that was too large has its nodes and procedures.
 
-use crate::lines::SourceLine;
-use crate::symbols::Symbols;
+use gb_symbols::SourceLine;
+use gb_symbols::Symbols;
 use gb_fixpoint::limits::PROCEDURES;
 use gb_fixpoint::register_set::REGISTERS;
 use gb_fixpoint::types::{Run, RunNode, RunProcedure};

@@ -3,9 +3,9 @@
 use crate::chain::{CallChain, op_of};
 use crate::crowd::Crowd;
 use crate::handlers::switching_handlers;
-use crate::lines::SourceLine;
+use gb_symbols::SourceLine;
 use crate::path::{Path, Start, bank_of};
-use crate::symbols::Symbols;
+use gb_symbols::Symbols;
 use gb_explain::Code;
 use gb_fixpoint::Abs;
 use gb_fixpoint::cause::{Cause, Failure};

@@ -3,7 +3,7 @@
 use crate::Symbols;
 use crate::chain::{CallChain, EnteredRoutine, Root};
 use crate::finding::{Finding, InstructionFinding};
-use crate::lines::SourceLine;
+use gb_symbols::SourceLine;
 use crate::object::{JsonObject, pair};
 use crate::path::{Path, Segment, Start};
 use crate::problem::Problem;

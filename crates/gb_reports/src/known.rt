@@ -1,9 +1,9 @@
 //! What is known at an instruction: what matters to the finding first, and then the rest in short.
 
 use crate::finding::InstructionFinding;
-use crate::named::ShownAddress;
+use gb_symbols::ShownAddress;
 use crate::state::{gate_text, ime_text};
-use crate::symbols::Symbols;
+use gb_symbols::Symbols;
 use gb_explain::interrupt_name;
 use gb_fixpoint::cause::{Cause, TransferMisuse};
 use gb_fixpoint::{Abs, Cell, Val, cell_at};

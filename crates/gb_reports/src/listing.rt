@@ -2,7 +2,7 @@
 //! listings can be compared line by line.
 
 use crate::Symbols;
-use crate::named::ListedAddress;
+use gb_symbols::ListedAddress;
 use crate::state::{ShownCell, ShownFlags, ShownRegisters, fmt_core};
 use gb_explain::Code;
 use gb_fixpoint::{Abs, Cell, Cert, NodeRef, Range, Rom};

@@ -1,8 +1,8 @@
 //! What can go wrong at an instruction, in a sentence.
 
 use crate::finding::InstructionFinding;
-use crate::named::ShownAddress;
-use crate::symbols::Symbols;
+use gb_symbols::ShownAddress;
+use gb_symbols::Symbols;
 use gb_explain::{interrupt_at, interrupt_name};
 use gb_fixpoint::Span;
 use gb_fixpoint::cause::{Cause, StackMisuse, TransferMisuse};

@@ -2,10 +2,10 @@
 
 use crate::chain::{CallChain, EnteredRoutine, Root};
 use crate::finding::InstructionFinding;
-use crate::lines::SourceLine;
-use crate::named::ShownLabel;
+use gb_symbols::SourceLine;
+use gb_symbols::ShownLabel;
 use crate::path::Segment;
-use crate::symbols::Symbols;
+use gb_symbols::Symbols;
 use gb_explain::interrupt_at;
 use std::fmt;
 

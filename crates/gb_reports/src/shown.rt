@@ -4,7 +4,7 @@ use crate::Symbols;
 use crate::crowd::{Count, Crowd, ReachedLimit};
 use crate::finding::{Finding, InstructionFinding, Spent};
 use crate::known::ShownKnown;
-use crate::named::ShownAddress;
+use gb_symbols::ShownAddress;
 use crate::problem::{Addresses, Problem, fmt_recursion};
 use crate::reached::{ShownPassed, ShownReached};
 use crate::state::ShownState;

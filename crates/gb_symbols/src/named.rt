@@ -14,18 +14,18 @@ pub struct ListedAddress<'a> {
 /// A symbol with how far after it the address is, and then the address, as RGBDS writes it: `Main+$3 (00:0153)`. Without a symbol
 /// it is the address alone.
 #[derive(Clone, Copy)]
-pub(crate) struct ShownAddress<'a> {
-    pub(crate) symbols: &'a Symbols<'a>,
-    pub(crate) bank: Option<u16>,
-    pub(crate) address: u16,
+pub struct ShownAddress<'a> {
+    pub symbols: &'a Symbols<'a>,
+    pub bank: Option<u16>,
+    pub address: u16,
 }
 
 /// A label for an address, or else the address: `Main`, `Main+$3` or `00:0153`.
 #[derive(Clone, Copy)]
-pub(crate) struct ShownLabel<'a> {
-    pub(crate) symbols: &'a Symbols<'a>,
-    pub(crate) bank: Option<u16>,
-    pub(crate) address: u16,
+pub struct ShownLabel<'a> {
+    pub symbols: &'a Symbols<'a>,
+    pub bank: Option<u16>,
+    pub address: u16,
 }
 
 /// An address with its bank, where one is mapped there.
