@@ -1,12 +1,11 @@
 //! Where a run that was too large has its nodes and procedures.
 
-use gb_symbols::SourceLine;
-use gb_symbols::Symbols;
 use gb_fixpoint::limits::PROCEDURES;
 use gb_fixpoint::register_set::REGISTERS;
 use gb_fixpoint::types::{Run, RunNode, RunProcedure};
 use gb_fixpoint::{Val, cell_at};
 use gb_ops::op::Register;
+use gb_symbols::{SourceLine, Symbols};
 use std::alloc::{AllocError, Global};
 use std::collections::{BTreeMap, BTreeSet};
 

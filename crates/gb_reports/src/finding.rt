@@ -3,9 +3,7 @@
 use crate::chain::{CallChain, op_of};
 use crate::crowd::Crowd;
 use crate::handlers::switching_handlers;
-use gb_symbols::SourceLine;
 use crate::path::{Path, Start, bank_of};
-use gb_symbols::Symbols;
 use gb_explain::Code;
 use gb_fixpoint::Abs;
 use gb_fixpoint::cause::{Cause, Failure};
@@ -14,6 +12,7 @@ use gb_fixpoint::register_set::RegisterSet;
 use gb_fixpoint::types::Run;
 use gb_ops::machine::Region;
 use gb_ops::op::Op;
+use gb_symbols::{SourceLine, Symbols};
 use std::alloc::{AllocError, Global};
 
 /// A failure at an instruction.

@@ -3,7 +3,6 @@
 use crate::Symbols;
 use crate::chain::{CallChain, EnteredRoutine, Root};
 use crate::finding::{Finding, InstructionFinding};
-use gb_symbols::SourceLine;
 use crate::object::{JsonObject, pair};
 use crate::path::{Path, Segment, Start};
 use crate::problem::Problem;
@@ -13,6 +12,7 @@ use crate::topic::{advice_on, instruction_advice};
 use gb_explain::{Advice, interrupt_at};
 use gb_fixpoint::{Abs, Cell, May, Val};
 use gb_ops::registers::Registers;
+use gb_symbols::SourceLine;
 use serde_json::Value;
 use std::alloc::{AllocError, Global};
 

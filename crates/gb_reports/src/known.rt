@@ -1,13 +1,12 @@
 //! What is known at an instruction: what matters to the finding first, and then the rest in short.
 
 use crate::finding::InstructionFinding;
-use gb_symbols::ShownAddress;
 use crate::state::{gate_text, ime_text};
-use gb_symbols::Symbols;
 use gb_explain::interrupt_name;
 use gb_fixpoint::cause::{Cause, TransferMisuse};
 use gb_fixpoint::{Abs, Cell, Val, cell_at};
 use gb_ops::op::Register;
+use gb_symbols::{ShownAddress, Symbols};
 use std::fmt;
 
 /// The most other bytes of RAM that are named.

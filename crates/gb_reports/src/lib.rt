@@ -1,10 +1,9 @@
-//! What authors read of certificates and of findings: symbols of other tools' files, listings, and findings: where, what can go
-//! wrong, how the code gets there, what is known there, and how to fix it.
+//! What authors read of certificates and of findings: listings, and findings: where, what can go wrong, how the code gets there,
+//! what is known there, and how to fix it.
 //!
-//! Read gb_symbols first; then `listing`, with `state` for states as a person reads
-//! them; then `finding`, which takes what there is to report from a run, with `path`, `chain` and `crowd`; then `shown`, the lines
-//! for a person, with `problem`, `reached`, `known` and `topic`, which chooses the texts that gb_explain has; at last `json` with
-//! `object`. Of the texts nothing is promised.
+//! Read gb_symbols first; then `listing`, with `state` for states as a person reads them; then `finding`, which takes what there is
+//! to report from a run, with `path`, `chain` and `crowd`; then `shown`, the lines for a person, with `problem`, `reached`, `known`
+//! and `topic`, which chooses the texts that gb_explain has; at last `json` with `object`. Of the texts nothing is promised.
 #![tactic(auto)]
 
 mod chain;

@@ -2,10 +2,10 @@
 //! listings can be compared line by line.
 
 use crate::Symbols;
-use gb_symbols::ListedAddress;
 use crate::state::{ShownCell, ShownFlags, ShownRegisters, fmt_core};
 use gb_explain::Code;
 use gb_fixpoint::{Abs, Cell, Cert, NodeRef, Range, Rom};
+use gb_symbols::ListedAddress;
 use std::fmt;
 
 /// A certificate with its cartridge, and symbols.

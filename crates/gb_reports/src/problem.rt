@@ -1,12 +1,11 @@
 //! What can go wrong at an instruction, in a sentence.
 
 use crate::finding::InstructionFinding;
-use gb_symbols::ShownAddress;
-use gb_symbols::Symbols;
 use gb_explain::{interrupt_at, interrupt_name};
 use gb_fixpoint::Span;
 use gb_fixpoint::cause::{Cause, StackMisuse, TransferMisuse};
 use gb_ops::machine::Region;
+use gb_symbols::{ShownAddress, Symbols};
 use std::fmt;
 
 /// Some addresses.

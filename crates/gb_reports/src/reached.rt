@@ -2,11 +2,9 @@
 
 use crate::chain::{CallChain, EnteredRoutine, Root};
 use crate::finding::InstructionFinding;
-use gb_symbols::SourceLine;
-use gb_symbols::ShownLabel;
 use crate::path::Segment;
-use gb_symbols::Symbols;
 use gb_explain::interrupt_at;
+use gb_symbols::{ShownLabel, SourceLine, Symbols};
 use std::fmt;
 
 /// The calls to an instruction: `main -> step -> draw_cell (called at step+$12)`.

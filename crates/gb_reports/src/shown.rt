@@ -4,13 +4,13 @@ use crate::Symbols;
 use crate::crowd::{Count, Crowd, ReachedLimit};
 use crate::finding::{Finding, InstructionFinding, Spent};
 use crate::known::ShownKnown;
-use gb_symbols::ShownAddress;
 use crate::problem::{Addresses, Problem, fmt_recursion};
 use crate::reached::{ShownPassed, ShownReached};
 use crate::state::ShownState;
 use crate::topic::{advice_on, instruction_advice};
 use gb_explain::interrupt_at;
 use gb_ops::machine::Region;
+use gb_symbols::ShownAddress;
 use std::fmt;
 
 /// A finding as lines for a person, the last without its end.
