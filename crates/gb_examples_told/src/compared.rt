@@ -1,7 +1,7 @@
 //! What a new certificate changed since an older one, by hand.
 
-use crate::pages::{BARE, IE_IS_1, NODES, OWN_OFF, PROCEDURES, SILENT, game};
-use crate::spelled::{SpelledNode, SpelledProcedure, certificate};
+use crate::pages::{BARE, IE_IS_1, NODES, OWN_OFF, OWN_ON, PROCEDURES, SILENT, game};
+use crate::spelled::{EMPTY, SpelledNode, SpelledProcedure, certificate};
 use gb_page::{Cert, Changes, Older, Rom, Symbols, changes_json};
 use gb_samples::cartridges::{PLAIN, small};
 use std::alloc::Global;
@@ -191,4 +191,75 @@ fn is_same(alloc: Global) -> Option<bool> {
 #[test]
 fn the_same_build_is_compared(rt: HostRuntime) {
     assert!(rt; is_same(rt.alloc()) == Some(true));
+}
+
+/// Main is allowed a word more than before.
+const MORE_NEED: &[SpelledProcedure] = &[
+    SpelledProcedure {
+        entry: 0,
+        need: 3,
+        exit: None,
+        ..SILENT
+    },
+    SpelledProcedure {
+        entry: 6,
+        need: 1,
+        exit: Some(OWN_ON),
+        ..SILENT
+    },
+    SpelledProcedure {
+        entry: 8,
+        need: 0,
+        exit: Some(OWN_ON),
+        ..SILENT
+    },
+];
+
+/// A word that isn't known, as two bytes of unknown values, and no cells.
+const WORD: &[u8] = &[1, 0, 255, 0, 0, 255, 0, 0];
+
+/// The game's nodes, where main holds these words at its call.
+fn nodes_holding(held: &'static [u8]) -> [SpelledNode; 9] {
+    let mut nodes = [BARE; 9];
+    for (to, node) in nodes.iter_mut().zip(NODES) {
+        *to = *node;
+    }
+    nodes[4].held = held;
+    nodes
+}
+
+/// What is printed of the game with another certificate.
+fn told_of(alloc: Global, held: &'static [u8]) -> Option<String> {
+    let rom = game();
+    let rom = Rom::parse(&rom).ok()?;
+    let (old, new) = (
+        certificate(PROCEDURES, NODES),
+        certificate(MORE_NEED, &nodes_holding(held)),
+    );
+    let old = Cert::parse(alloc, old.as_slice()).ok()?;
+    let new = Cert::parse(alloc, new.as_slice()).ok()?;
+    let symbols = Symbols::parse(alloc, b"00:0158 draw\n").ok()?;
+    let older = Older {
+        cert: &old,
+        rom: Some(&rom),
+        symbols: Some(&symbols),
+    };
+    let changes = Changes::of(alloc, &rom, &new, &symbols, &older).ok()?;
+    format!(in alloc; "{changes}").ok()
+}
+
+/// The deepest chain has the same names: they are printed once, with the bytes of what holds more.
+#[test]
+fn a_chain_of_the_same_names(rt: HostRuntime) -> Result<(), Fail> {
+    let text = told_of(rt.alloc(), EMPTY).ok_or("changes")?;
+    assert_eq!(rt;
+        text.as_str(),
+        "deepest call chain: main -> draw -> VBlank handler\nstack: 6 bytes in all (was 4)\n"
+    );
+    let text = told_of(rt.alloc(), WORD).ok_or("changes")?;
+    assert_eq!(rt;
+        text.as_str(),
+        "deepest call chain: main (4 bytes, was 2) -> draw -> VBlank handler\nstack: 6 bytes in all (was 4)\n"
+    );
+    Ok(())
 }

@@ -3,8 +3,8 @@
 //! certificate that can't be read, where in the file its fault is. The facts and the page of a small game stand here too, and what
 //! a new build of it changed.
 //!
-//! Read refusals.rt first, then extended.rt, which has the same for version 3, then pages.rt and compared.rt; spelled.rt spells
-//! certificates.
+//! Read refusals.rt first, then extended.rt, which has the same for version 3, then pages.rt, compared.rt and findings.rt;
+//! spelled.rt spells certificates.
 #![tactic(auto)]
 
 #[cfg(test)]
@@ -17,6 +17,8 @@ mod extended_calls;
 mod extended_pieces;
 #[cfg(test)]
 mod extended_returns;
+#[cfg(test)]
+mod findings;
 #[cfg(test)]
 mod lines;
 #[cfg(test)]

@@ -2,8 +2,8 @@
 
 use crate::spelled::{EMPTY, Spelled, SpelledNode, SpelledProcedure, certificate};
 use gb_page::{
-    Bound, CallLink, Cert, CodeRun, EnteredBy, Extras, Facts, Finding, Interrupt, Rom, Screen,
-    Symbols, Verdict, facts_json, findings_page, page_of,
+    Bound, CallLink, Cert, CodePoint, CodeRun, EnteredBy, Extras, Facts, Finding, Interrupt, Rom,
+    Screen, Symbols, Verdict, facts_json, findings_page, page_of,
 };
 use gb_samples::cartridges::{PLAIN, SMALLEST, put, small};
 use std::alloc::Global;
@@ -23,7 +23,7 @@ const PENDING: &[(usize, u8)] = &[(0, 6), (16, 1), (17, 1), (18, 0)];
 const ON: &[(usize, u8)] = &[(0, 4), (16, 1), (17, 1), (18, 0)];
 
 /// Interrupts are on, and IE is 01 as at entry.
-const OWN_ON: &[(usize, u8)] = &[(0, 4), (16, 1), (17, 1)];
+pub const OWN_ON: &[(usize, u8)] = &[(0, 4), (16, 1), (17, 1)];
 
 /// Interrupts are off, and IE is 01 as at entry.
 pub const OWN_OFF: &[(usize, u8)] = &[(16, 1), (17, 1)];
@@ -320,7 +320,12 @@ fn findings(alloc: Global) -> Option<String> {
     let symbols = Symbols::parse(alloc, b"00:0158 a<b\n").ok()?;
     let findings = [
         Finding::NoStack { sp: 0x8000 },
-        Finding::Recursion { target: 0x0158 },
+        Finding::Recursion {
+            target: CodePoint {
+                address: 0x0158,
+                bank: Some(0),
+            },
+        },
     ];
     findings_page(alloc, &rom, &findings, &symbols, true).ok()
 }

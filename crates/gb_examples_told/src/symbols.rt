@@ -14,6 +14,21 @@ const NOI: &[u8] =
 const MARKED: &[u8] =
     b"DEF A$game$20 0x150\nDEF l__DATA 0x151\nDEF _main 0x150\nDEF C$game.c$9$1_0$3 0x155\nDEF 00101$ 0x157\n";
 
+/// What makebin writes: the linker's own names, a function and variables that are `static`, and `b_draw`, the bank of `_draw`.
+/// `b_rest` is a label, since there is no `_rest`.
+const MAKEBIN: &[u8] =
+    b"; no$gmb compatible .sym file\n; Generated automagically by makebin\n00:0000 .__.CPU.\n00:0002 b_draw\n00:0002 b_rest\n00:0150 s__CODE\n00:0150 start\n00:0158 A$game$20\n00:0158 C$game.c$9$1_0$3\n00:0158 Fgame$helper$0$0\n00:015C XFgame$helper$0$0\n00:0160 G$main$0$0\n00:0160 _main\n00:C0A0 Fgame$count$0_0$0\n00:C0A1 Lgame.helper$last$1_0$2\n02:4000 _draw\n";
+
+/// The same without its comments.
+const BARE_MAKEBIN: &[u8] = b"00:0000 .__.CPU.\n00:0150 s__CODE\n00:0150 start\n";
+
+/// GBDK's number of a bank for BANKREF, and the function that it is of.
+const BANKREF: &[u8] = b"DEF ___bank_level 0x3\nDEF _main 0x200\nDEF ___func_level 0x34000\n";
+
+/// A routine for RST 08, others in ROM0, a variable and a register.
+const FAR_APART: &[u8] =
+    b"00:0008 SwitchBank\n00:0150 Start\n00:0400 Draw\n00:C000 wCount\n00:FF46 rDMA\n";
+
 const MAP: &[u8] =
     b"ASxxxx Linker V03.00\n\n      Value  Global                              Global Defined In Module\n      -----  --------------------------------   ------------------------\n     00000200  _main                              game\n     00014010  _far                               game\n";
 
@@ -67,6 +82,112 @@ fn a_symbol_is_the_nearest_before(rt: HostRuntime) {
     assert!(rt; agrees(&rt, MARKED, Format::SdccNoi, 0, 0x0150, offset("_main", 0)));
     assert!(rt; agrees(&rt, MARKED, Format::SdccNoi, 0, 0x0158, offset("_main", 8)));
     assert!(rt; agrees(&rt, MAP, Format::SdccMap, 1, 0x4010, offset("_far", 0)));
+}
+
+#[test]
+fn names_of_authors_alone_are_read(rt: HostRuntime) {
+    assert!(rt; agrees(&rt, MAKEBIN, Format::SdccSym, 0, 0x0152, offset("start", 2)));
+    assert!(rt;
+        agrees(
+            &rt,
+            MAKEBIN,
+            Format::SdccSym,
+            0,
+            0x0158,
+            offset("helper", 0)
+        )
+    );
+    assert!(rt;
+        agrees(
+            &rt,
+            MAKEBIN,
+            Format::SdccSym,
+            0,
+            0x015D,
+            offset("helper", 5)
+        )
+    );
+    assert!(rt; agrees(&rt, MAKEBIN, Format::SdccSym, 0, 0x0160, offset("_main", 0)));
+    assert!(rt; agrees(&rt, MAKEBIN, Format::SdccSym, 0, 0xC0A0, offset("count", 0)));
+    assert!(rt; agrees(&rt, MAKEBIN, Format::SdccSym, 0, 0xC0A1, offset("last", 0)));
+    assert!(rt; agrees(&rt, MAKEBIN, Format::SdccSym, 2, 0x4001, offset("_draw", 1)));
+    assert!(rt;
+        agrees(
+            &rt,
+            MAKEBIN,
+            Format::SdccSym,
+            0,
+            0x0003,
+            offset("b_rest", 1)
+        )
+    );
+    assert!(rt;
+        agrees(
+            &rt,
+            BARE_MAKEBIN,
+            Format::SdccSym,
+            0,
+            0x0151,
+            offset("start", 1)
+        )
+    );
+}
+
+/// What a file's symbols call an address: nothing where they don't name it.
+fn named(
+    rt: &(impl AllocGlobal + Abort),
+    bytes: &'static [u8],
+    address: u16,
+) -> Option<SymbolOffset<'static>> {
+    Symbols::parse(rt.alloc(), bytes).ok()?.place(0, address)
+}
+
+#[test]
+fn a_number_of_a_bank_names_no_address(rt: HostRuntime) {
+    assert!(rt; named(&rt, BANKREF, 0x0003) == None);
+    assert!(rt; named(&rt, BANKREF, 0x0201) == Some(offset("_main", 1)));
+}
+
+#[test]
+fn a_label_names_what_is_near(rt: HostRuntime) -> Result<(), Fail> {
+    for (address, name) in [
+        (0x0007, None),
+        (0x000F, Some(offset("SwitchBank", 7))),
+        (0x0010, None),
+        (0x0060, None),
+        (0x0100, None),
+        (0x03FF, Some(offset("Start", 0x2AF))),
+        (0x07FF, Some(offset("Draw", 0x3FF))),
+        (0x0800, None),
+        (0xC3FF, Some(offset("wCount", 0x3FF))),
+        (0xC400, None),
+        (0xFF46, Some(offset("rDMA", 0))),
+        (0xFF47, None),
+    ] {
+        assert!(rt; named(&rt, FAR_APART, address) == name, "{address:x}");
+    }
+    let symbols = Symbols::parse(rt.alloc(), FAR_APART).ok().ok_or("symbols")?;
+    assert!(rt; symbols.last_before(0, 0x0800) == Some(offset("Draw", 0x400)));
+    Ok(())
+}
+
+/// Whether a program with these symbols and lines is in C.
+fn is_of_c(rt: &(impl AllocGlobal + Abort), bytes: &[u8], lines: &[u8]) -> Option<bool> {
+    let mut symbols = Symbols::parse(rt.alloc(), bytes).ok()?;
+    if !lines.is_empty() {
+        symbols.add_lines(rt.alloc(), lines).ok()?;
+    }
+    Some(symbols.is_of_c())
+}
+
+#[test]
+fn the_language_is_known(rt: HostRuntime) {
+    assert!(rt; is_of_c(&rt, MAKEBIN, b"") == Some(true));
+    assert!(rt; is_of_c(&rt, MARKED, b"") == Some(true));
+    assert!(rt; is_of_c(&rt, BARE_MAKEBIN, b"") == Some(false));
+    assert!(rt; is_of_c(&rt, SYM, b"") == Some(false));
+    assert!(rt; is_of_c(&rt, SYM, CDB) == Some(true));
+    assert!(rt; is_of_c(&rt, SYM, RST) == Some(false));
 }
 
 #[test]

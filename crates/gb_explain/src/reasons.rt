@@ -6,6 +6,7 @@ use gb_verify::Reason;
 const ENTRY: Advice = Advice {
     problem: "The certificate doesn't begin as the console does: at $0100 in bank 0, in the state of power-up.",
     remedy: "Make a new certificate with certify. By hand, begin procedure 0 with the values of docs/MACHINE.md.",
+    remedy_in_c: None,
     anchor: "wrong-entry",
 };
 
@@ -17,6 +18,7 @@ const STACK: Advice = Advice {
 const DEPTH: Advice = Advice {
     problem: "The stack can grow past what the certificate allows for this procedure.",
     remedy: "Push less, or raise the need of this procedure and of its callers. No need is enough for recursion.",
+    remedy_in_c: None,
     ..advice::STACK_TOO_DEEP
 };
 
@@ -28,24 +30,28 @@ const STORE: Advice = Advice {
 const UNCOVERED: Advice = Advice {
     problem: "The certificate doesn't cover the state in which the program goes on from here.",
     remedy: "Make a new certificate with certify. By hand, add a node there, or widen the nearest one.",
+    remedy_in_c: None,
     anchor: "uncovered",
 };
 
 const CALLEE: Advice = Advice {
     problem: "No procedure of the certificate can be called here.",
     remedy: "Make a new certificate with certify. By hand, add a procedure there, or put its ranges inside its caller's.",
+    remedy_in_c: None,
     anchor: "wrong-callee",
 };
 
 const RETURN: Advice = Advice {
     problem: "The certificate doesn't allow this procedure to return here.",
     remedy: "Pop all that was pushed, and end main in a loop. By hand, let the procedure return and widen its exit.",
+    remedy_in_c: None,
     anchor: "wrong-return",
 };
 
 const INTERRUPT: Advice = Advice {
     problem: "An interrupt can fire here, and the certificate has no procedure that handles it.",
     remedy: "Set SP before `ei`, and write a handler at the vector, at least `reti`. Or keep its bit in IE clear.",
+    remedy_in_c: None,
     anchor: "unhandled-interrupt",
 };
 

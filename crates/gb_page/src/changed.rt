@@ -142,18 +142,57 @@ impl fmt::Display for DeepestCalls<'_> {
     }
 }
 
+/// The procedures of a deepest call chain that has the same names as before, with the bytes of those that hold more or less.
+#[derive(Clone, Copy)]
+struct SameCalls<'a>(&'a Changes);
+
+impl fmt::Display for SameCalls<'_> {
+    fn fmt<W: fmt::Write>(&self, f: &mut fmt::Formatter<W>) -> fmt::Result {
+        let Changes { before, now, .. } = self.0;
+        for (step, place) in now.way.iter().enumerate() {
+            let name = now.name(*place);
+            let (old_bytes, bytes) = (before.held_at(step), now.held_at(step));
+            if step > 0 {
+                write!(f, " -> ")?;
+            }
+            write!(f, "{name}")?;
+            if bytes != old_bytes {
+                write!(f, " ({bytes} bytes, was {old_bytes})")?;
+            }
+        }
+        Ok(())
+    }
+}
+
+/// Whether two deepest call chains have the same names.
+fn has_same_names(before: &Build, now: &Build) -> bool {
+    if before.way.len() != now.way.len() {
+        return false;
+    }
+    for (old_place, place) in before.way.iter().zip(&now.way) {
+        if before.name(*old_place) != now.name(*place) {
+            return false;
+        }
+    }
+    true
+}
+
 /// The deepest call chain, now and before, without an end of the line.
 #[derive(Clone, Copy)]
 struct DeepestChange<'a>(&'a Changes);
 
 impl fmt::Display for DeepestChange<'_> {
     fn fmt<W: fmt::Write>(&self, f: &mut fmt::Formatter<W>) -> fmt::Result {
-        let now = DeepestCalls(&self.0.now);
-        let before = DeepestCalls(&self.0.before);
-        if self.0.before.way.is_empty() {
-            write!(f, "deepest call chain: {now}")
+        let Changes { before, now, .. } = self.0;
+        let calls = DeepestCalls(now);
+        if before.way.is_empty() {
+            write!(f, "deepest call chain: {calls}")
+        } else if has_same_names(before, now) {
+            let calls = SameCalls(self.0);
+            write!(f, "deepest call chain: {calls}")
         } else {
-            write!(f, "deepest call chain: {now} (was {before})")
+            let old_calls = DeepestCalls(before);
+            write!(f, "deepest call chain: {calls} (was {old_calls})")
         }
     }
 }

@@ -1,7 +1,9 @@
 //! What a new certificate changed since an older one, as plain data with names; `changed` has its words, `json` its object.
 
 use crate::names::{Address, usual_name};
-use gb_facts::{Difference, Facts, Key, Keyed, Outline, Sketch, differences, is_same_way};
+use gb_facts::{
+    Difference, Facts, Key, Keyed, Outline, Sketch, StackStep, differences, is_same_way, way_from,
+};
 use gb_reports::{Cert, Rom, Symbols};
 use std::alloc::{AllocError, Global};
 use std::fmt;
@@ -25,6 +27,8 @@ pub(crate) struct Build {
     names: Vec<String>,
     /// The deepest way, by sketches; empty where the cartridge isn't at hand.
     pub way: Vec<usize>,
+    /// The bytes of stack that each step of that way holds while the next one runs, and the last one at most.
+    held: Vec<u32>,
 }
 
 /// What a new certificate changed.
@@ -109,27 +113,54 @@ fn keys_of<'s>(
     Ok(keys)
 }
 
-/// The deepest way, where the cartridge is at hand.
-fn way_of(
-    alloc: Global,
-    outline: &Outline,
-    rom: Option<&Rom<'_>>,
-    cert: &Cert<'_>,
-) -> Result<Vec<usize>, AllocError> {
-    match rom {
-        Some(rom) => outline.way(alloc, &Facts::of(alloc, rom, cert)?),
-        None => Ok(Vec::new(alloc)),
+/// The bytes of stack that a step of a deepest way holds.
+fn held_by(facts: &Facts, step: StackStep) -> u32 {
+    match step.link {
+        Some(link) => u32::from(link.waiting),
+        None => match facts.procedures.get(usize::from(step.procedure)) {
+            Some(procedure) => u32::from(procedure.own.bytes),
+            None => 0,
+        },
     }
 }
 
+/// The bytes of stack that the steps of the deepest way hold.
+fn held_on_way(alloc: Global, facts: &Facts) -> Result<Vec<u32>, AllocError> {
+    let mut held = Vec::new(alloc);
+    for number in &way_from(alloc, facts, 0)? {
+        if let Some(step) = facts.step(*number) {
+            held.push(held_by(facts, step))?;
+        }
+    }
+    Ok(held)
+}
+
 impl Build {
+    /// A certificate with what is at hand of its build: the deepest way needs the cartridge.
     fn of(alloc: Global, build: &Older<'_, '_, '_, '_>) -> Result<Build, AllocError> {
         let outline = Outline::of(alloc, build.cert)?;
+        let names = names_of(alloc, &outline, build.symbols)?;
+        let (way, held) = match build.rom {
+            Some(rom) => {
+                let facts = Facts::of(alloc, rom, build.cert)?;
+                (outline.way(alloc, &facts)?, held_on_way(alloc, &facts)?)
+            }
+            None => (Vec::new(alloc), Vec::new(alloc)),
+        };
         Ok(Build {
-            names: names_of(alloc, &outline, build.symbols)?,
-            way: way_of(alloc, &outline, build.rom, build.cert)?,
+            names,
+            way,
+            held,
             outline,
         })
+    }
+
+    /// The bytes of stack that a step of the deepest way holds.
+    pub(crate) fn held_at(&self, step: usize) -> u32 {
+        match self.held.get(step) {
+            Some(bytes) => *bytes,
+            None => 0,
+        }
     }
 
     /// The name of a sketch.

@@ -3,6 +3,7 @@
 use crate::escaped::Escaped;
 use crate::page::{fmt_end, fmt_head};
 use crate::path::PathToFinding;
+use crate::verdict::fmt_color;
 use gb_reports::{Finding, FindingPart, Rom, ShownPart, Symbols};
 use std::alloc::{AllocError, Global};
 use std::fmt;
@@ -154,6 +155,7 @@ impl fmt::Display for FindingsPage<'_, '_, '_> {
             "<p class=\"verdict refused\">NO CERTIFICATE obstacles {count}</p>\n"
         )?;
         fmt_meaning(self.are_new, f)?;
+        fmt_color(self.rom, f)?;
         fmt_contents(count, f)?;
         for (place, texts) in self.texts.iter().enumerate() {
             fmt_finding(self, place, texts, f)?;

@@ -42,6 +42,6 @@ pub use gb_facts::{
     Bound, CallLink, Cert, CodeRun, EnteredBy, Facts, Interrupt, Outline, Rom, Sketch, Verdict,
 };
 pub use gb_reports::{
-    Code, Explanation, Finding, Format, SymbolFault, SymbolFaultKind, SymbolOffset, Symbols,
-    explain,
+    Code, CodePoint, Count, Crowd, Explanation, Finding, Format, Multiplied, Multiplier,
+    ReachedLimit, SymbolFault, SymbolFaultKind, SymbolOffset, Symbols, color_note, explain,
 };

@@ -1,16 +1,14 @@
-//! The path to an finding: where it begins, and the instructions on it.
+//! The path to a finding: where it begins, and the instructions on it.
 
 use crate::names::{Address, SymbolAt};
 use gb_facts::length_at;
-use gb_reports::{
-    Code, InstructionFinding, Rom, Segment, Start, Symbols, interrupt_at, known_bank,
-};
+use gb_reports::{Code, CodePoint, InstructionFinding, Rom, Segment, Start, Symbols, interrupt_at};
 use std::fmt;
 
 /// The most instructions that are shown of addresses one after another.
 const ROWS: u32 = 100;
 
-/// The path to an finding, which has a number on its page.
+/// The path to a finding, which has a number on its page.
 #[derive(Clone, Copy)]
 pub(crate) struct PathToFinding<'a, 'r, 's> {
     pub rom: &'a Rom<'r>,
@@ -20,16 +18,34 @@ pub(crate) struct PathToFinding<'a, 'r, 's> {
 }
 
 impl<'a, 's> PathToFinding<'a, '_, 's> {
-    /// The symbol of an address, as its bank is shown where the finding is.
-    fn symbol(&self, address: u16) -> SymbolAt<'a, 's> {
-        let ctl = &self.finding.state.core().ctl;
-        let bank = match known_bank(self.rom, ctl, address) {
-            Some(bank) => bank,
-            None => 0,
-        };
+    /// The symbol of an address in a bank; RAM has none.
+    fn symbol(&self, bank: Option<u16>, address: u16) -> SymbolAt<'a, 's> {
         SymbolAt {
             symbols: self.symbols,
-            at: Address { bank, address },
+            at: Address {
+                bank: bank.unwrap_or(0),
+                address,
+            },
+        }
+    }
+}
+
+/// An address of the path: with its bank where that is known, as RAM's isn't.
+#[derive(Clone, Copy)]
+struct PathAddress {
+    bank: Option<u16>,
+    address: u16,
+}
+
+impl fmt::Display for PathAddress {
+    fn fmt<W: fmt::Write>(&self, f: &mut fmt::Formatter<W>) -> fmt::Result {
+        let address = self.address;
+        match self.bank {
+            Some(bank) => {
+                let at = Address { bank, address };
+                write!(f, "{at}")
+            }
+            None => write!(f, "${address:04X}"),
         }
     }
 }
@@ -37,13 +53,15 @@ impl<'a, 's> PathToFinding<'a, '_, 's> {
 /// An address with its symbol.
 fn fmt_named<W: fmt::Write>(
     path: &PathToFinding<'_, '_, '_>,
-    address: u16,
+    point: CodePoint,
     f: &mut fmt::Formatter<W>,
 ) -> fmt::Result {
-    let symbol = path.symbol(address);
+    let CodePoint { bank, address } = point;
+    let symbol = path.symbol(bank, address);
+    let at = PathAddress { bank, address };
     write!(
         f,
-        "<code>${address:04X}</code> <span class=\"symbol\">{symbol}</span>"
+        "<code>{at}</code> <span class=\"symbol\">{symbol}</span>"
     )
 }
 
@@ -62,7 +80,7 @@ fn fmt_start<W: fmt::Write>(
             write!(f, "</li>\n")
         }
         Start::Interrupt { from, target } => {
-            let name = interrupt_at(target).unwrap_or("an interrupt");
+            let name = interrupt_at(target.address).unwrap_or("an interrupt");
             write!(f, "<li>{name} at ")?;
             fmt_named(path, from, f)?;
             write!(f, "</li>\n")
@@ -78,11 +96,15 @@ fn fmt_link<W: fmt::Write>(
     f: &mut fmt::Formatter<W>,
 ) -> fmt::Result {
     let number = path.number;
-    let Segment { first, last } = segment;
-    let symbol = path.symbol(first);
-    write!(f, "<li><a href=\"#o{number}s{place}\"><code>${first:04X}")?;
+    let Segment { bank, first, last } = segment;
+    let symbol = path.symbol(bank, first);
+    let at = PathAddress {
+        bank,
+        address: first,
+    };
+    write!(f, "<li><a href=\"#o{number}s{place}\"><code>{at}")?;
     if first < last {
-        write!(f, "-${last:04X}")?;
+        write!(f, "-{last:04X}")?;
     }
     write!(
         f,
@@ -112,16 +134,18 @@ fn fmt_steps<W: fmt::Write>(
 /// An instruction, and how long it is.
 fn fmt_row<W: fmt::Write>(
     path: &PathToFinding<'_, '_, '_>,
+    bank: Option<u16>,
     address: u16,
     f: &mut fmt::Formatter<W>,
 ) -> Result<u8, fmt::Error> {
     let state = &path.finding.state;
-    let symbol = path.symbol(address);
+    let symbol = path.symbol(bank, address);
+    let at = PathAddress { bank, address };
     // Of an instruction only letters, digits, brackets and signs are printed that mean nothing to HTML.
     let code = Code::at(path.rom, state, address);
     write!(
         f,
-        "<span class=\"at\">${address:04X}</span><span class=\"symbol\">{symbol}</span><span class=\"op\">{code}</span></div>\n"
+        "<span class=\"at\">{at}</span><span class=\"symbol\">{symbol}</span><span class=\"op\">{code}</span></div>\n"
     )?;
     Ok(length_at(path.rom, state, address))
 }
@@ -137,7 +161,7 @@ fn fmt_rows<W: fmt::Write>(
         if row > 0 {
             write!(f, "<div class=\"node\">")?;
         }
-        let length = fmt_row(path, address, f)?;
+        let length = fmt_row(path, segment.bank, address, f)?;
         let next = address.saturating_add(u16::from(length));
         if next > segment.last || next <= address {
             return Ok(());

@@ -64,7 +64,7 @@ fn fmt_sum<W: fmt::Write>(facts: &Facts, f: &mut fmt::Formatter<W>) -> fmt::Resu
 fn fmt_below<W: fmt::Write>(page: &Page<'_, '_, '_, '_>, f: &mut fmt::Formatter<W>) -> fmt::Result {
     let lowest = lowest_used(page.facts);
     let below = lowest.saturating_sub(1);
-    let Some(symbol) = page.symbols.place(0, below) else {
+    let Some(symbol) = page.symbols.last_before(0, below) else {
         return Ok(());
     };
     let name = Escaped(symbol.name);

@@ -4,7 +4,7 @@ use crate::escaped::Escaped;
 use crate::names::NodeLink;
 use crate::page::Page;
 use gb_ops::machine::Kind;
-use gb_reports::{Cert, Explanation, Rom, Verdict};
+use gb_reports::{Cert, Explanation, Rom, Verdict, color_note};
 use std::alloc::{AllocError, Global};
 use std::fmt;
 
@@ -99,6 +99,14 @@ fn fmt_files<W: fmt::Write>(page: &Page<'_, '_, '_, '_>, f: &mut fmt::Formatter<
     )
 }
 
+/// That a cartridge for the Color is analysed as on a DMG.
+pub(crate) fn fmt_color<W: fmt::Write>(rom: &Rom<'_>, f: &mut fmt::Formatter<W>) -> fmt::Result {
+    match color_note(rom) {
+        Some(note) => write!(f, "<p>{note}</p>\n"),
+        None => Ok(()),
+    }
+}
+
 /// The verdict's part.
 pub fn fmt_verdict<W: fmt::Write>(
     page: &Page<'_, '_, '_, '_>,
@@ -109,5 +117,6 @@ pub fn fmt_verdict<W: fmt::Write>(
         Verdict::Accepted { .. } => fmt_meaning(f)?,
         Verdict::Refused { node, .. } => fmt_refusal(page, node, f)?,
     }
+    fmt_color(page.rom, f)?;
     fmt_files(page, f)
 }

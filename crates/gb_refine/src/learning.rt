@@ -224,7 +224,7 @@ impl<'a> Refinement<'a> {
         }
         match find_needs(self.alloc, run)? {
             Some(procedure) => {
-                let target = run.target(procedure).address;
+                let target = run.target(procedure);
                 end_by(self.alloc, Finding::Recursion { target })
             }
             None => self.learn_needs(run),

@@ -120,30 +120,35 @@ fn return_address(op: Option<Op>, from: u16) -> u16 {
     }
 }
 
+/// A return: where it led to, and how many bytes were on the stack then.
+#[derive(Clone, Copy)]
+struct Returned {
+    address: u16,
+    bytes: usize,
+}
+
 /// The calls that lead to a node, the innermost first, while they are gathered.
 #[derive(Drop)]
 struct Gathering<'a, 'r> {
     run: &'a Run<'r>,
     calls: Vec<EnteredRoutine>,
-    /// Where routines that were followed in their callers have returned to since.
-    returns: Vec<u16>,
+    /// The returns since, of routines that were followed in their callers, the last one first.
+    returns: Vec<Returned>,
 }
 
 impl<'a, 'r> Gathering<'a, 'r> {
-    /// Whether a call's routine has returned again; then it isn't on the way.
-    fn has_returned(&mut self, before: &RunNode) -> bool {
-        let back = return_address(op_of(self.run, before), before.key.address);
-        self.forget(back)
+    /// Whether a routine that was entered from a node, and goes back to this address, has ended since.
+    fn has_ended(&mut self, before: &RunNode, back: u16) -> bool {
+        self.forget(back) || self.has_left(before)
     }
 
-    /// Whether the handler of an interrupt has returned again to where it came.
-    fn has_resumed(&mut self, before: &RunNode) -> bool {
-        self.forget(before.key.address)
-    }
-
-    /// Whether there was a return to an address; that one and what came after it are forgotten.
+    /// Whether there was a return to an address; that one and those before it are forgotten.
     fn forget(&mut self, back: u16) -> bool {
-        match self.returns.iter().position(|address| *address == back) {
+        match self
+            .returns
+            .iter()
+            .position(|returned| returned.address == back)
+        {
             Some(place) => {
                 self.returns.truncate(place);
                 true
@@ -152,12 +157,29 @@ impl<'a, 'r> Gathering<'a, 'r> {
         }
     }
 
-    /// A call, unless its routine has returned again.
+    /// Whether a routine that was entered from a node took its return address off the stack and went elsewhere, as a routine for
+    /// RST does that jumps by a table.
+    fn has_left(&mut self, before: &RunNode) -> bool {
+        let bytes = before.state.items().len();
+        match self.returns.last() {
+            Some(returned) if returned.bytes == bytes => {
+                drop(self.returns.pop());
+                true
+            }
+            Some(returned) => returned.bytes < bytes,
+            None => false,
+        }
+    }
+
+    /// A call, unless its routine has ended.
     fn add(&mut self, before: &RunNode, node: &RunNode) -> Result<(), AllocError> {
         if node.key.is_entry {
             self.returns.clear();
-        } else if self.has_returned(before) {
-            return Ok(());
+        } else {
+            let back = return_address(op_of(self.run, before), before.key.address);
+            if self.has_ended(before, back) {
+                return Ok(());
+            }
         }
         self.calls.push(entered_by(self.run, before, node))?;
         Ok(())
@@ -165,19 +187,25 @@ impl<'a, 'r> Gathering<'a, 'r> {
 
     /// Goes back over a node; something where the chain begins with it.
     fn go_back(&mut self, before: &RunNode, node: &RunNode) -> Result<Option<Root>, AllocError> {
-        let address = node.key.address;
         match move_of(self.run, before, node) {
             Move::On => Ok(None),
             Move::Return => {
-                self.returns.push(address)?;
+                self.returns.push(Returned {
+                    address: node.key.address,
+                    bytes: node.state.items().len(),
+                })?;
                 Ok(None)
             }
             Move::Call => {
                 self.add(before, node)?;
                 Ok(None)
             }
-            Move::Dispatch if !node.key.is_entry && self.has_resumed(before) => Ok(None),
-            Move::Dispatch => Ok(Some(Root::Interrupt { vector: address })),
+            Move::Dispatch if !node.key.is_entry && self.has_ended(before, before.key.address) => {
+                Ok(None)
+            }
+            Move::Dispatch => Ok(Some(Root::Interrupt {
+                vector: node.key.address,
+            })),
         }
     }
 

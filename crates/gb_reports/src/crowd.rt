@@ -1,8 +1,10 @@
-//! Where a run that was too large has its nodes and procedures.
+//! Where a run that was too large has its nodes and procedures, and what multiplies them.
 
+use crate::path::node_at;
+use gb_fixpoint::code_point::CodePoint;
 use gb_fixpoint::limits::PROCEDURES;
 use gb_fixpoint::register_set::REGISTERS;
-use gb_fixpoint::types::{Run, RunNode, RunProcedure};
+use gb_fixpoint::types::{Run, RunNode};
 use gb_fixpoint::{Val, cell_at};
 use gb_ops::op::Register;
 use gb_symbols::{SourceLine, Symbols};
@@ -12,11 +14,11 @@ use std::collections::{BTreeMap, BTreeSet};
 /// The most places that are named.
 const PLACES: usize = 5;
 
-/// How much there is at an address.
+/// How much there is at a place.
 #[derive(Clone, Copy, PartialEq, Eq, PartialOrd, Ord)]
 pub struct Count {
     pub count: usize,
-    pub address: u16,
+    pub point: CodePoint,
 }
 
 /// The limit that a run reached.
@@ -28,11 +30,22 @@ pub enum ReachedLimit {
     Steps,
 }
 
-/// What tells most nodes of an address apart: a register, or a byte of RAM, with so many values.
+/// What keeps states of one place apart.
+#[derive(Clone, Copy, PartialEq, Eq)]
+pub enum Multiplier {
+    Register(Register),
+    /// The byte of RAM at an address.
+    Cell(u16),
+    /// The ROM bank that is mapped.
+    Bank,
+    /// What is on the stack.
+    Stack,
+}
+
+/// What keeps most states of a place apart, and how many values it has there.
 #[derive(Clone, Copy, PartialEq, Eq)]
 pub struct Multiplied {
-    pub register: Option<Register>,
-    pub cell: Option<u16>,
+    pub by: Multiplier,
     pub values: usize,
 }
 
@@ -42,33 +55,36 @@ pub struct Crowd {
     pub nodes: usize,
     pub procedures: usize,
     pub limit: ReachedLimit,
-    /// The addresses with most nodes, the greatest count first.
+    /// The places with most nodes, the greatest count first.
     pub crowded: Vec<Count>,
     /// What multiplies the nodes of the first of these.
     pub multiplied: Option<Multiplied>,
-    /// The addresses at which most procedures begin.
+    /// The places at which most procedures begin.
     pub entered: Vec<Count>,
+    /// What multiplies the procedures of the first of these.
+    pub parted: Option<Multiplied>,
 }
 
 impl Crowd {
-    /// The author's line with most nodes: of an address below $4000, since elsewhere the bank isn't known.
+    /// The author's line with most nodes.
     pub(crate) fn line<'a>(&self, symbols: &Symbols<'a>) -> Option<SourceLine<'a>> {
         for count in &self.crowded {
-            if count.address < 0x4000 {
-                if let Some(line) = symbols.line(0, count.address) {
-                    return Some(line);
-                }
+            let CodePoint { address, bank } = count.point;
+            if let Some(bank) = bank
+                && let Some(line) = symbols.line(bank, address)
+            {
+                return Some(line);
             }
         }
         None
     }
 }
 
-/// How much there is at each address.
+/// How much there is at each place.
 #[derive(Drop)]
 struct Counts {
     alloc: Global,
-    counts: BTreeMap<u16, usize>,
+    counts: BTreeMap<CodePoint, usize>,
 }
 
 impl Counts {
@@ -80,25 +96,27 @@ impl Counts {
         }
     }
 
-    /// One more at an address.
-    fn add(&mut self, address: u16) -> Result<(), AllocError> {
-        let count = self.counts.entry(address)?.or_insert(0usize);
+    /// One more at a place.
+    fn add(&mut self, point: CodePoint) -> Result<(), AllocError> {
+        let count = self.counts.entry(point)?.or_insert(0usize);
         *count = count.saturating_add(1);
         Ok(())
     }
 
-    /// Adds all counts to a list.
+    /// Adds the counts of places with more than one to a list.
     fn gather(&self, list: &mut Vec<Count>) -> Result<(), AllocError> {
-        for (address, count) in self.counts.iter() {
-            list.push(Count {
-                count: *count,
-                address: *address,
-            })?;
+        for (point, count) in self.counts.iter() {
+            if *count > 1 {
+                list.push(Count {
+                    count: *count,
+                    point: *point,
+                })?;
+            }
         }
         Ok(())
     }
 
-    /// The greatest counts, the greatest first.
+    /// The greatest counts above 1, the greatest first.
     fn greatest(&self) -> Result<Vec<Count>, AllocError> {
         let mut greatest = Vec::new(self.alloc);
         self.gather(&mut greatest)?;
@@ -107,24 +125,6 @@ impl Counts {
         greatest.truncate(PLACES);
         Ok(greatest)
     }
-}
-
-/// The addresses with most nodes.
-fn crowded(alloc: Global, nodes: &[RunNode]) -> Result<Vec<Count>, AllocError> {
-    let mut counts = Counts::new(alloc);
-    for node in nodes {
-        counts.add(node.key.address)?;
-    }
-    counts.greatest()
-}
-
-/// The addresses at which most procedures begin.
-fn entered(alloc: Global, procedures: &[RunProcedure]) -> Result<Vec<Count>, AllocError> {
-    let mut counts = Counts::new(alloc);
-    for procedure in procedures {
-        counts.add(procedure.key.target)?;
-    }
-    counts.greatest()
 }
 
 /// The limit that a run reached.
@@ -139,116 +139,127 @@ fn limit_of(run: &Run<'_>) -> ReachedLimit {
     }
 }
 
-/// The values of a register, or of a byte of RAM, at the nodes of an address.
+/// The nodes of one place.
 #[derive(Drop)]
-struct ValuesAt<'a> {
+struct NodesAt<'a> {
     alloc: Global,
-    nodes: &'a [RunNode],
-    address: u16,
+    nodes: Vec<&'a RunNode>,
 }
 
-impl<'a> ValuesAt<'a> {
-    /// How many values a register has.
-    fn of_register(&self, register: Register) -> Result<usize, AllocError> {
+impl<'a> NodesAt<'a> {
+    /// How many different values something has at them.
+    fn count(&self, value: impl Fn(&RunNode) -> u64) -> Result<usize, AllocError> {
         let mut values = BTreeSet::new(self.alloc);
-        for node in self.nodes {
-            if node.key.address == self.address {
-                add_value(node.state.core().registers.get(register), &mut values)?;
-            }
+        for node in &self.nodes {
+            values.insert(value(node))?;
         }
         Ok(values.len())
     }
 
-    /// How many values a byte of RAM has.
-    fn of_cell(&self, cell: u16) -> Result<usize, AllocError> {
-        let mut values = BTreeSet::new(self.alloc);
-        for node in self.nodes {
-            if node.key.address == self.address {
-                add_value(cell_at(cell, node.state.cells()), &mut values)?;
-            }
+    /// What has more values than the most so far.
+    fn raise(
+        &self,
+        most: &mut Multiplied,
+        by: Multiplier,
+        value: impl Fn(&RunNode) -> u64,
+    ) -> Result<(), AllocError> {
+        let values = self.count(value)?;
+        if most.values < values {
+            *most = Multiplied { by, values };
         }
-        Ok(values.len())
+        Ok(())
     }
 
-    /// A node at the address.
-    fn first(&self) -> Option<&'a RunNode> {
-        for node in self.nodes {
-            if node.key.address == self.address {
-                return Some(node);
-            }
-        }
-        None
-    }
-
-    /// The register with most values.
-    fn most_of_registers(&self) -> Result<Multiplied, AllocError> {
+    /// What has most values, if something has more than one.
+    fn most(&self) -> Result<Option<Multiplied>, AllocError> {
         let mut most = Multiplied {
-            register: None,
-            cell: None,
+            by: Multiplier::Bank,
             values: 1,
         };
+        self.raise(&mut most, Multiplier::Bank, bank_value)?;
         for register in REGISTERS {
-            let values = self.of_register(register)?;
-            if most.values < values {
-                most = Multiplied {
-                    register: Some(register),
-                    cell: None,
-                    values,
-                };
+            self.raise(&mut most, Multiplier::Register(register), |node| {
+                val_value(node.state.core().registers.get(register))
+            })?;
+        }
+        if let Some(node) = self.nodes.first() {
+            for cell in node.state.cells() {
+                let address = cell.address;
+                self.raise(&mut most, Multiplier::Cell(address), |node| {
+                    val_value(cell_at(address, node.state.cells()))
+                })?;
             }
         }
-        Ok(most)
-    }
-
-    /// The register or byte of RAM with most values, if one has more than one.
-    fn most(&self) -> Result<Option<Multiplied>, AllocError> {
-        let mut most = self.most_of_registers()?;
-        let Some(node) = self.first() else {
-            return Ok(None);
-        };
-        for cell in node.state.cells() {
-            let values = self.of_cell(cell.address)?;
-            if most.values < values {
-                most = Multiplied {
-                    register: None,
-                    cell: Some(cell.address),
-                    values,
-                };
-            }
-        }
+        self.raise(&mut most, Multiplier::Stack, stack_value)?;
         Ok(if most.values > 1 { Some(most) } else { None })
     }
 }
 
-/// One more value, as an interval.
-fn add_value(val: Val, values: &mut BTreeSet<u16>) -> Result<(), AllocError> {
-    values.insert(u16::from(val.lo) << 8 | u16::from(val.hi))?;
-    Ok(())
+/// An interval as a number.
+fn val_value(val: Val) -> u64 {
+    u64::from(val.lo) << 8 | u64::from(val.hi)
 }
 
-/// What multiplies the nodes of the most crowded address.
-fn most_multiplied(
-    alloc: Global,
-    nodes: &[RunNode],
-    crowded: &[Count],
-) -> Result<Option<Multiplied>, AllocError> {
-    match crowded.first() {
-        Some(count) => ValuesAt {
-            alloc,
-            nodes,
-            address: count.address,
-        }
-        .most(),
-        None => Ok(None),
+/// The ROM banks that may be mapped at a node, as a number.
+fn bank_value(node: &RunNode) -> u64 {
+    let ctl = node.state.core().ctl;
+    u64::from(ctl.bank_lo) << 16 | u64::from(ctl.bank_hi)
+}
+
+/// What is on the stack at a node, as a number: how many bytes, and which of the words that keep nodes apart.
+fn stack_value(node: &RunNode) -> u64 {
+    (node.key.words as u64) << 16 | node.key.items as u64
+}
+
+/// The places with most nodes, and what multiplies the first.
+fn crowded(alloc: Global, run: &Run<'_>) -> Result<(Vec<Count>, Option<Multiplied>), AllocError> {
+    let mut counts = Counts::new(alloc);
+    for node in &run.nodes {
+        counts.add(node.key.point())?;
     }
+    let greatest = counts.greatest()?;
+    let mut nodes = Vec::new(alloc);
+    if let Some(count) = greatest.first() {
+        for node in &run.nodes {
+            if node.key.point() == count.point {
+                nodes.push(node)?;
+            }
+        }
+    }
+    let multiplied = NodesAt { alloc, nodes }.most()?;
+    Ok((greatest, multiplied))
+}
+
+/// The places at which most procedures begin, and what multiplies the first.
+fn entered(alloc: Global, run: &Run<'_>) -> Result<(Vec<Count>, Option<Multiplied>), AllocError> {
+    let mut counts = Counts::new(alloc);
+    for procedure in &run.procedures {
+        counts.add(procedure.key.point())?;
+    }
+    let greatest = counts.greatest()?;
+    let mut nodes = Vec::new(alloc);
+    if let Some(count) = greatest.first() {
+        for procedure in &run.procedures {
+            if procedure.key.point() == count.point
+                && let Some(node) = node_at(run, procedure.entry)
+            {
+                nodes.push(node)?;
+            }
+        }
+    }
+    let parted = NodesAt { alloc, nodes }.most()?;
+    Ok((greatest, parted))
 }
 
 impl Crowd {
     /// Where a run has its nodes and procedures.
+    ///
+    /// # Errors
+    ///
+    /// Where memory ran out.
     pub fn of(alloc: Global, run: &Run<'_>) -> Result<Crowd, AllocError> {
-        let crowded = crowded(alloc, &run.nodes)?;
-        let multiplied = most_multiplied(alloc, &run.nodes, &crowded)?;
-        let entered = entered(alloc, &run.procedures)?;
+        let (crowded, multiplied) = crowded(alloc, run)?;
+        let (entered, parted) = entered(alloc, run)?;
         Ok(Crowd {
             nodes: run.nodes.len(),
             procedures: run.procedures.len(),
@@ -256,6 +267,7 @@ impl Crowd {
             crowded,
             multiplied,
             entered,
+            parted,
         })
     }
 }

@@ -7,9 +7,10 @@ use crate::path::{Path, Start, bank_of};
 use gb_explain::Code;
 use gb_fixpoint::Abs;
 use gb_fixpoint::cause::{Cause, Failure};
+use gb_fixpoint::code_point::CodePoint;
 use gb_fixpoint::configuration::TargetPlace;
 use gb_fixpoint::register_set::RegisterSet;
-use gb_fixpoint::types::Run;
+use gb_fixpoint::types::{Run, RunNode};
 use gb_ops::machine::Region;
 use gb_ops::op::Op;
 use gb_symbols::{SourceLine, Symbols};
@@ -33,6 +34,8 @@ pub struct InstructionFinding {
     pub code: Code,
     /// The instruction, where it is known.
     pub op: Option<Op>,
+    /// The routine that may be running when it is called here, where that is the cause.
+    pub again: Option<CodePoint>,
     pub state: Abs,
     pub region: Region,
     pub path: Path,
@@ -49,6 +52,8 @@ pub enum Spent {
     Rounds,
     /// The steps of all rounds together.
     Steps,
+    /// The time that was allowed.
+    Time,
 }
 
 /// Why no certificate could be made.
@@ -63,14 +68,30 @@ pub enum Finding {
     /// The stack needs more bytes than there is room for.
     StackTooDeep { bytes: usize, region: Region },
     /// A procedure may be running when it is called.
-    Recursion { target: u16 },
+    Recursion { target: CodePoint },
     /// So many rounds of refinement weren't enough.
     OutOfRounds { rounds: u32, spent: Spent },
     /// A certificate was made that the checker refuses.
     Internal,
 }
 
+/// Whether a line is known, and in C.
+fn is_c_line(line: Option<SourceLine<'_>>) -> bool {
+    match line {
+        Some(line) => line.is_of_c(),
+        None => false,
+    }
+}
+
 impl Finding {
+    /// Whether its fix is one for C.
+    pub(crate) fn is_of_c(&self, symbols: &Symbols<'_>) -> bool {
+        match self {
+            Finding::Instruction(finding) => finding.is_of_c(symbols),
+            _ => symbols.is_of_c(),
+        }
+    }
+
     /// The author's line, of a failure at an instruction; where a certificate gets too large, that with most nodes.
     pub fn line<'a>(&self, symbols: &Symbols<'a>) -> Option<SourceLine<'a>> {
         match self {
@@ -78,6 +99,16 @@ impl Finding {
             Finding::TooLarge(crowd) => crowd.line(symbols),
             _ => None,
         }
+    }
+}
+
+/// The routine that may be running when it is called, where that is the cause.
+fn again_at(run: &Run<'_>, node: &RunNode, cause: Cause) -> Option<CodePoint> {
+    match cause {
+        Cause::Recursion { target } => {
+            Some(CodePoint::of(run.rom, &node.state.core().ctl, target))
+        }
+        _ => None,
     }
 }
 
@@ -94,15 +125,35 @@ impl InstructionFinding {
             return Some(line);
         }
         let mut last = match self.path.start {
-            Start::Call { from, .. } => symbols.line(bank, from),
+            Start::Call { from, .. } => symbols.line(from.bank.unwrap_or(0), from.address),
             Start::PowerUp | Start::Interrupt { .. } => None,
         };
         for segment in &self.path.segments {
-            if let Some(line) = symbols.line(bank, segment.last) {
+            if let Some(line) = symbols.line(segment.bank.unwrap_or(0), segment.last) {
                 last = Some(line);
             }
         }
         last
+    }
+
+    /// Whether the author reads C there: by the line of the instruction or of the last call, or else by the program's sources.
+    pub(crate) fn is_of_c(&self, symbols: &Symbols<'_>) -> bool {
+        let call = match self.chain.calls.last() {
+            Some(call) => symbols.line(call.from_bank.unwrap_or(0), call.from),
+            None => None,
+        };
+        match (self.line(symbols), call) {
+            (None, None) => symbols.is_of_c() && self.has_name_of_c(symbols),
+            (line, call) => is_c_line(line) || is_c_line(call),
+        }
+    }
+
+    /// Whether its label may be one that C's compiler made; in assembly it has no underscore before it.
+    fn has_name_of_c(&self, symbols: &Symbols<'_>) -> bool {
+        match symbols.place(self.bank.unwrap_or(0), self.address) {
+            Some(place) => place.name.starts_with('_'),
+            None => true,
+        }
     }
 
     /// What there is to report of a run's failure.
@@ -131,6 +182,7 @@ impl InstructionFinding {
             bank: bank_of(run, node),
             code: Code::at(run.rom, &node.state, address),
             op: op_of(run, node),
+            again: again_at(run, node, failure.cause),
             state: node.state.copied(),
             region: run.configuration.region,
             path,

@@ -8,7 +8,7 @@ use crate::path::{Path, Segment, Start};
 use crate::problem::Problem;
 use crate::shown::ShownOther;
 use crate::state::ime_text;
-use crate::topic::{advice_on, instruction_advice};
+use crate::topic::{advice_on, instruction_advice, remedy_of};
 use gb_explain::{Advice, interrupt_at};
 use gb_fixpoint::{Abs, Cell, May, Val};
 use gb_ops::registers::Registers;
@@ -107,8 +107,8 @@ fn put_start(object: &mut JsonObject, start: Start) -> Result<(), AllocError> {
     match start {
         Start::PowerUp => Ok(()),
         Start::Call { from, target } | Start::Interrupt { from, target } => {
-            object.put_address("from", from)?;
-            object.put_address("target", target)
+            object.put_address("from", from.address)?;
+            object.put_address("target", target.address)
         }
     }
 }
@@ -208,9 +208,13 @@ fn put_problem(
 }
 
 /// Why it matters, how to fix it, and the section of the documents.
-fn put_advice(object: &mut JsonObject, advice: Advice) -> Result<(), AllocError> {
+fn put_advice(
+    object: &mut JsonObject,
+    advice: Advice,
+    remedy: &'static str,
+) -> Result<(), AllocError> {
     object.put_text("rule", advice.problem)?;
-    object.put_text("remedy", advice.remedy)?;
+    object.put_text("remedy", remedy)?;
     object.put_text("anchor", advice.anchor)
 }
 
@@ -299,8 +303,9 @@ fn put_instruction(
     symbols: &Symbols<'_>,
 ) -> Result<(), AllocError> {
     put_place(object, finding, symbols)?;
+    let advice = instruction_advice(finding);
     put_problem(object, finding, symbols)?;
-    put_advice(object, instruction_advice(finding))?;
+    put_advice(object, advice, advice.remedy_in(finding.is_of_c(symbols)))?;
     put_chain(object, &finding.chain, symbols)?;
     put_circumstances(object, finding)
 }
@@ -316,7 +321,7 @@ fn put_finding(
     }
     put_line(object, finding.line(symbols))?;
     object.put_shown("problem", &ShownOther { finding, symbols })?;
-    put_advice(object, advice_on(finding))
+    put_advice(object, advice_on(finding), remedy_of(finding, symbols))
 }
 
 /// The JSON of a finding, in one line without its end.

@@ -100,7 +100,7 @@ fn fmt_pair<W: fmt::Write>(
 }
 
 /// A register's name as RGBDS writes it.
-fn lower_name(register: Register) -> &'static str {
+pub(crate) fn lower_name(register: Register) -> &'static str {
     match register {
         Register::A => "a",
         Register::B => "b",

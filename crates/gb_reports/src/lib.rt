@@ -7,6 +7,7 @@
 #![tactic(auto)]
 
 mod chain;
+mod color;
 mod crowd;
 mod finding;
 mod handlers;
@@ -22,7 +23,8 @@ mod state;
 mod topic;
 
 pub use chain::{CallChain, EnteredRoutine, Root};
-pub use crowd::{Crowd, Multiplied, ReachedLimit};
+pub use color::color_note;
+pub use crowd::{Count, Crowd, Multiplied, Multiplier, ReachedLimit};
 pub use finding::{Finding, InstructionFinding, Spent};
 pub use json::finding_json;
 pub use listing::Listing;
@@ -33,6 +35,7 @@ pub use state::{ShownCell, ShownFlags, ShownRegisters, fmt_core};
 
 // What lies below, for the crates above.
 pub use gb_explain::{Code, Explanation, explain, interrupt_at};
+pub use gb_fixpoint::code_point::CodePoint;
 pub use gb_fixpoint::{Abs, Cell, Cert, NodeRef, Range, Rom, Verdict, known_bank};
 pub use gb_symbols::{
     Format, SourceLine, Symbol, SymbolFault, SymbolFaultKind, SymbolOffset, Symbols,

@@ -1,5 +1,6 @@
 //! The way by which a node was first reached.
 
+use gb_fixpoint::code_point::CodePoint;
 use gb_fixpoint::known_bank;
 use gb_fixpoint::types::{Run, RunNode};
 use std::alloc::{AllocError, Global};
@@ -7,9 +8,11 @@ use std::alloc::{AllocError, Global};
 /// The most segments of a path that are kept: the last ones.
 const SEGMENTS: usize = 12;
 
-/// Addresses that were gone through one after another.
+/// Addresses of one bank that were gone through one after another.
 #[derive(Clone, Copy)]
 pub struct Segment {
+    /// Where it is known; RAM has none.
+    pub bank: Option<u16>,
     pub first: u16,
     pub last: u16,
 }
@@ -18,10 +21,10 @@ pub struct Segment {
 #[derive(Clone, Copy)]
 pub enum Start {
     PowerUp,
-    /// A call at this address, of a procedure at the target.
-    Call { from: u16, target: u16 },
-    /// An interrupt at this address, handled at the target.
-    Interrupt { from: u16, target: u16 },
+    /// A call here, of a procedure at the target.
+    Call { from: CodePoint, target: CodePoint },
+    /// An interrupt here, handled at the target.
+    Interrupt { from: CodePoint, target: CodePoint },
 }
 
 /// The addresses from power-up, or from the last call or interrupt.
@@ -58,11 +61,11 @@ pub(crate) fn node_at<'a>(run: &'a Run<'_>, number: Option<usize>) -> Option<&'a
 
 /// Where the procedure of a first node was entered from.
 fn start_of(run: &Run<'_>, entry: &RunNode) -> Start {
-    let target = entry.key.address;
+    let target = entry.key.point();
     let Some(from) = node_at(run, entry.via) else {
         return Start::PowerUp;
     };
-    let from = from.key.address;
+    let from = from.key.point();
     if is_handler(run, entry.key.procedure) {
         Start::Interrupt { from, target }
     } else {
@@ -71,14 +74,20 @@ fn start_of(run: &Run<'_>, entry: &RunNode) -> Start {
 }
 
 /// Adds an address to a path that is gathered backwards: the last segment begins at it, or a new one.
-fn add_before(segments: &mut Vec<Segment>, address: u16) -> Result<(), AllocError> {
+fn add_before(
+    segments: &mut Vec<Segment>,
+    bank: Option<u16>,
+    address: u16,
+) -> Result<(), AllocError> {
     if let Some(segment) = segments.last_mut() {
-        if address < segment.first && segment.first - address <= 3 {
+        let is_near = address < segment.first && segment.first - address <= 3;
+        if is_near && segment.bank == bank {
             segment.first = address;
             return Ok(());
         }
     }
     segments.push(Segment {
+        bank,
         first: address,
         last: address,
     })?;
@@ -90,7 +99,7 @@ fn gather(run: &Run<'_>, number: usize, segments: &mut Vec<Segment>) -> Result<S
     let mut at = Some(number);
     for _ in 0..=run.nodes.len() {
         let Some(node) = node_at(run, at) else { break };
-        add_before(segments, node.key.address)?;
+        add_before(segments, bank_of(run, node), node.key.address)?;
         if node.key.is_entry {
             return Ok(start_of(run, node));
         }

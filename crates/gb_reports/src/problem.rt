@@ -4,6 +4,7 @@ use crate::finding::InstructionFinding;
 use gb_explain::{interrupt_at, interrupt_name};
 use gb_fixpoint::Span;
 use gb_fixpoint::cause::{Cause, StackMisuse, TransferMisuse};
+use gb_fixpoint::code_point::CodePoint;
 use gb_ops::machine::Region;
 use gb_symbols::{ShownAddress, Symbols};
 use std::fmt;
@@ -54,7 +55,7 @@ impl fmt::Display for Problem<'_> {
         let Problem { finding, symbols } = *self;
         match (plain_text(finding.cause), finding.cause) {
             (Some(text), _) => write!(f, "{text}"),
-            (None, Cause::Recursion { target }) => fmt_recursion(target, symbols, f),
+            (None, Cause::Recursion { .. }) => fmt_again(finding, symbols, f),
             _ => fmt_detailed(finding, f),
         }
     }
@@ -110,13 +111,25 @@ fn plain_text(cause: Cause) -> Option<&'static str> {
     }
 }
 
-/// A routine that can start again while it runs.
-pub(crate) fn fmt_recursion<W: fmt::Write>(
-    target: u16,
+/// A routine that can start again at an instruction.
+fn fmt_again<W: fmt::Write>(
+    finding: &InstructionFinding,
     symbols: &Symbols<'_>,
     f: &mut fmt::Formatter<W>,
 ) -> fmt::Result {
-    if let Some(name) = interrupt_at(target) {
+    match finding.again {
+        Some(target) => fmt_recursion(target, symbols, f),
+        None => Ok(()),
+    }
+}
+
+/// A routine that can start again while it runs.
+pub(crate) fn fmt_recursion<W: fmt::Write>(
+    target: CodePoint,
+    symbols: &Symbols<'_>,
+    f: &mut fmt::Formatter<W>,
+) -> fmt::Result {
+    if let Some(name) = interrupt_at(target.address) {
         return write!(
             f,
             "The {name} interrupt can fire here while its handler still runs."
@@ -124,8 +137,8 @@ pub(crate) fn fmt_recursion<W: fmt::Write>(
     }
     let routine = ShownAddress {
         symbols: &*symbols,
-        bank: None,
-        address: target,
+        bank: target.bank,
+        address: target.address,
     };
     write!(
         f,

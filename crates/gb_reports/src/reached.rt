@@ -108,22 +108,34 @@ pub(crate) struct ShownPassed<'a> {
     pub(crate) symbols: &'a Symbols<'a>,
 }
 
-/// The first address of some that were gone through one after another, and the last.
-fn fmt_segment<W: fmt::Write>(segment: Segment, f: &mut fmt::Formatter<W>) -> fmt::Result {
-    let Segment { first, last } = segment;
+/// The first address of some that were gone through one after another, and the last: without symbols no label names them.
+fn fmt_segment<W: fmt::Write>(
+    symbols: &Symbols<'_>,
+    segment: Segment,
+    f: &mut fmt::Formatter<W>,
+) -> fmt::Result {
+    let Segment { bank, first, last } = segment;
+    let label = ShownLabel {
+        symbols: &*symbols,
+        bank,
+        address: first,
+    };
     if first == last {
-        write!(f, "${first:04X}")
+        write!(f, "{label}")
     } else {
-        write!(f, "${first:04X}-${last:04X}")
+        write!(f, "{label}-{last:04X}")
     }
 }
 
 /// The addresses, one after another.
-fn fmt_addresses<W: fmt::Write>(segments: &[Segment], f: &mut fmt::Formatter<W>) -> fmt::Result {
+fn fmt_addresses<W: fmt::Write>(
+    passed: &ShownPassed<'_>,
+    f: &mut fmt::Formatter<W>,
+) -> fmt::Result {
     let mut before = "\n  Through: ";
-    for segment in segments {
+    for segment in &passed.finding.path.segments {
         write!(f, "{before}")?;
-        fmt_segment(*segment, f)?;
+        fmt_segment(passed.symbols, *segment, f)?;
         before = ", ";
     }
     Ok(())
@@ -141,7 +153,7 @@ fn fmt_names<W: fmt::Write>(passed: &ShownPassed<'_>, f: &mut fmt::Formatter<W>)
     let mut before = "\n  Through: ";
     let mut last: Option<&str> = None;
     for segment in &finding.path.segments {
-        let name = name_at(passed.symbols, finding.bank, segment.first);
+        let name = name_at(passed.symbols, segment.bank, segment.first);
         if let Some(text) = name
             && name != last
         {
@@ -158,7 +170,7 @@ fn has_names(passed: &ShownPassed<'_>) -> bool {
     let finding = passed.finding;
     let mut first: Option<&str> = None;
     for segment in &finding.path.segments {
-        let name = name_at(passed.symbols, finding.bank, segment.first);
+        let name = name_at(passed.symbols, segment.bank, segment.first);
         if first.is_some() && name.is_some() && name != first {
             return true;
         }
@@ -172,7 +184,7 @@ fn has_names(passed: &ShownPassed<'_>) -> bool {
 impl fmt::Display for ShownPassed<'_> {
     fn fmt<W: fmt::Write>(&self, f: &mut fmt::Formatter<W>) -> fmt::Result {
         if self.symbols.is_empty() {
-            fmt_addresses(&self.finding.path.segments, f)
+            fmt_addresses(self, f)
         } else if has_names(self) {
             fmt_names(self, f)
         } else {

@@ -1,14 +1,15 @@
 //! A finding as lines for a person.
 
 use crate::Symbols;
-use crate::crowd::{Count, Crowd, ReachedLimit};
+use crate::crowd::{Count, Crowd, Multiplied, Multiplier, ReachedLimit};
 use crate::finding::{Finding, InstructionFinding, Spent};
-use crate::known::ShownKnown;
-use crate::problem::{Addresses, Problem, fmt_recursion};
+use crate::known::{ShownKnown, lower_name};
+use crate::problem::{Problem, fmt_recursion};
 use crate::reached::{ShownPassed, ShownReached};
 use crate::state::ShownState;
-use crate::topic::{advice_on, instruction_advice};
+use crate::topic::{advice_on, instruction_advice, remedy_of};
 use gb_explain::interrupt_at;
+use gb_fixpoint::code_point::CodePoint;
 use gb_ops::machine::Region;
 use gb_symbols::ShownAddress;
 use std::fmt;
@@ -58,7 +59,10 @@ fn fmt_notes<W: fmt::Write>(
     f: &mut fmt::Formatter<W>,
 ) -> fmt::Result {
     if finding.is_too_large {
-        write!(f, " Splitting the states here further goes over a limit.")?;
+        write!(
+            f,
+            " Keeping more values apart here goes over the limit of nodes (--nodes) or of copies."
+        )?;
     }
     if !finding.kept_in.is_empty() {
         write!(f, " The pointer comes from RAM, at")?;
@@ -166,11 +170,11 @@ fn fmt_limit<W: fmt::Write>(crowd: &Crowd, f: &mut fmt::Formatter<W>) -> fmt::Re
     match limit {
         ReachedLimit::Nodes(most) => write!(
             f,
-            "The analysis reached the limit of {most} nodes, with {procedures} copies of routines."
+            "The analysis reached its limit of {most} nodes (--nodes), with {procedures} copies of routines."
         ),
         ReachedLimit::Procedures => write!(
             f,
-            "The analysis reached the limit of 255 copies of routines, with {nodes} nodes."
+            "The analysis reached its limit of 255 copies of routines, with {nodes} nodes."
         ),
         ReachedLimit::Steps => write!(
             f,
@@ -179,57 +183,87 @@ fn fmt_limit<W: fmt::Write>(crowd: &Crowd, f: &mut fmt::Formatter<W>) -> fmt::Re
     }
 }
 
-/// Counts at addresses.
+/// A place in code by its label.
+fn shown_point<'a>(symbols: &'a Symbols<'a>, point: CodePoint) -> ShownAddress<'a> {
+    ShownAddress {
+        symbols,
+        bank: point.bank,
+        address: point.address,
+    }
+}
+
+/// Counts at places: `12 at draw (00:0250)`.
 fn fmt_counts<W: fmt::Write>(
     counts: &[Count],
     symbols: &Symbols<'_>,
+    between: &'static str,
     f: &mut fmt::Formatter<W>,
 ) -> fmt::Result {
     let mut before = " ";
     for count in counts {
-        let address = ShownAddress {
-            symbols: &*symbols,
-            bank: None,
-            address: count.address,
-        };
+        let place = shown_point(symbols, count.point);
         let count = count.count;
-        write!(f, "{before}{count} at {address}")?;
+        write!(f, "{before}{count} {between} {place}")?;
         before = ", ";
     }
     Ok(())
 }
 
-/// What multiplies the nodes of the first address.
+/// What multiplies the first of some places, and where.
 fn fmt_multiplied<W: fmt::Write>(
-    crowd: &Crowd,
+    multiplied: Multiplied,
     symbols: &Symbols<'_>,
+    place: &'static str,
     f: &mut fmt::Formatter<W>,
 ) -> fmt::Result {
-    let Some(multiplied) = crowd.multiplied else {
-        return Ok(());
-    };
     let values = multiplied.values;
-    match (multiplied.register, multiplied.cell) {
-        (Some(register), _) => {
-            let name = register.name();
-            write!(
-                f,
-                "\n  What multiplies them: {name} has {values} values there."
-            )
+    write!(f, "\n  What multiplies the first: ")?;
+    match multiplied.by {
+        Multiplier::Register(register) => {
+            let name = lower_name(register);
+            write!(f, "{name} has {values} values {place}.")
         }
-        (None, Some(address)) => {
-            let at = ShownAddress {
+        Multiplier::Cell(address) => {
+            let byte = ShownAddress {
                 symbols: &*symbols,
                 bank: None,
                 address,
             };
-            write!(
-                f,
-                "\n  What multiplies them: {at} has {values} values there."
-            )
+            write!(f, "{byte} has {values} values {place}.")
         }
-        (None, None) => Ok(()),
+        Multiplier::Bank => write!(f, "the mapped bank has {values} values {place}."),
+        Multiplier::Stack => write!(f, "the stack has {values} different contents {place}."),
     }
+}
+
+/// Where there is most of something, and what multiplies it at the first place.
+fn fmt_most<W: fmt::Write>(
+    most: &Most<'_>,
+    symbols: &Symbols<'_>,
+    f: &mut fmt::Formatter<W>,
+) -> fmt::Result {
+    if most.counts.is_empty() {
+        return Ok(());
+    }
+    let about = most.about;
+    write!(f, "\n  Most {about}:")?;
+    fmt_counts(most.counts, symbols, most.between, f)?;
+    match most.multiplied {
+        Some(multiplied) => fmt_multiplied(multiplied, symbols, most.place, f),
+        None => Ok(()),
+    }
+}
+
+/// Places with most of something, in these words.
+#[derive(Clone, Copy)]
+struct Most<'a> {
+    about: &'static str,
+    counts: &'a [Count],
+    /// The word between a count and its place.
+    between: &'static str,
+    multiplied: Option<Multiplied>,
+    /// Where what multiplies has its values.
+    place: &'static str,
 }
 
 /// A run that was too large.
@@ -238,21 +272,45 @@ fn fmt_crowd<W: fmt::Write>(
     symbols: &Symbols<'_>,
     f: &mut fmt::Formatter<W>,
 ) -> fmt::Result {
+    let nodes = Most {
+        about: "nodes",
+        counts: &crowd.crowded,
+        between: "at",
+        multiplied: crowd.multiplied,
+        place: "there",
+    };
+    let copies = Most {
+        about: "copies",
+        counts: &crowd.entered,
+        between: "of",
+        multiplied: crowd.parted,
+        place: "when it is called",
+    };
     fmt_limit(crowd, f)?;
-    write!(f, "\n  Most nodes:")?;
-    fmt_counts(&crowd.crowded, symbols, f)?;
-    fmt_multiplied(crowd, symbols, f)?;
-    write!(f, "\n  Most copies of routines:")?;
-    fmt_counts(&crowd.entered, symbols, f)
+    fmt_most(&nodes, symbols, f)?;
+    fmt_most(&copies, symbols, f)
+}
+
+/// The RAM that a stack can use which needs so many bytes, down from the end of this region. It is all that lies below, in WRAM or
+/// HRAM, where they don't fit there either; else the region was named by --stack.
+fn room_for(bytes: usize, region: Region) -> Region {
+    let last = region.last;
+    let first = if last >= 0xFF80 { 0xFF80 } else { 0xC000 };
+    let room = usize::from(last.saturating_sub(first)).saturating_add(1);
+    if room < bytes {
+        Region { first, last }
+    } else {
+        region
+    }
 }
 
 /// A stack that needs more bytes than there is room for.
 fn fmt_deep<W: fmt::Write>(bytes: usize, region: Region, f: &mut fmt::Formatter<W>) -> fmt::Result {
-    let addresses = Addresses::of_region(region);
-    let end = region.last;
+    let Region { first, last } = room_for(bytes, region);
+    let room = u32::from(last.saturating_sub(first)).saturating_add(1);
     write!(
         f,
-        "The stack needs {bytes} bytes, which don't fit below ${end:04X}. The analysis got to {addresses}."
+        "The stack needs at least {bytes} bytes, and has room for {room}, from ${first:04X} to ${last:04X}."
     )
 }
 
@@ -261,6 +319,7 @@ fn spent_text(spent: Spent) -> &'static str {
     match spent {
         Spent::Rounds => "the limit of rounds",
         Spent::Steps => "the limit of steps",
+        Spent::Time => "the end of the time that --seconds allows",
     }
 }
 
@@ -291,8 +350,12 @@ fn fmt_other<W: fmt::Write>(
 }
 
 /// How to fix it, and where the documents say more.
-fn fmt_fix<W: fmt::Write>(finding: &Finding, f: &mut fmt::Formatter<W>) -> fmt::Result {
-    let remedy = advice_on(finding).remedy;
+fn fmt_fix<W: fmt::Write>(
+    finding: &Finding,
+    symbols: &Symbols<'_>,
+    f: &mut fmt::Formatter<W>,
+) -> fmt::Result {
+    let remedy = remedy_of(finding, symbols);
     write!(f, "\n  Fix: {remedy}\n  ")?;
     fmt_more(finding, f)
 }
@@ -314,7 +377,7 @@ fn fmt_body<W: fmt::Write>(
 impl fmt::Display for ShownFinding<'_> {
     fn fmt<W: fmt::Write>(&self, f: &mut fmt::Formatter<W>) -> fmt::Result {
         fmt_body(self.finding, self.symbols, f)?;
-        fmt_fix(self.finding, f)
+        fmt_fix(self.finding, self.symbols, f)
     }
 }
 
@@ -358,11 +421,10 @@ fn fmt_problem<W: fmt::Write>(
 }
 
 /// A text of its advice.
-fn text_of(finding: &Finding, part: FindingPart) -> &'static str {
-    let advice = advice_on(finding);
+fn text_of(finding: &Finding, symbols: &Symbols<'_>, part: FindingPart) -> &'static str {
     match part {
-        FindingPart::Why => advice.problem,
-        FindingPart::Remedy => advice.remedy,
+        FindingPart::Why => advice_on(finding).problem,
+        FindingPart::Remedy => remedy_of(finding, symbols),
         _ => "",
     }
 }
@@ -406,7 +468,7 @@ impl fmt::Display for ShownPart<'_> {
         match self.part {
             FindingPart::Problem => fmt_problem(self.finding, self.symbols, f),
             FindingPart::Why | FindingPart::Remedy => {
-                let text = text_of(self.finding, self.part);
+                let text = text_of(self.finding, self.symbols, self.part);
                 write!(f, "{text}")
             }
             FindingPart::More => fmt_more(self.finding, f),

@@ -1,7 +1,7 @@
 //! Which texts a finding gets, and which fix fits its code.
 
 use crate::chain::Root;
-use crate::crowd::{Crowd, ReachedLimit};
+use crate::crowd::{Crowd, Multiplied, Multiplier, ReachedLimit};
 use crate::finding::{Finding, InstructionFinding, Spent};
 use crate::problem::{is_echo, meets_stack};
 use gb_explain::advice::{self, Advice};
@@ -9,6 +9,7 @@ use gb_explain::interrupt_at;
 use gb_fixpoint::Span;
 use gb_fixpoint::cause::{Cause, StackMisuse, TransferMisuse};
 use gb_ops::op::{Indirect, Op, Pair};
+use gb_symbols::Symbols;
 
 /// LD SP,n16 outside main: of the stack's own address, or of another one.
 fn set_advice(finding: &InstructionFinding) -> Advice {
@@ -149,10 +150,36 @@ pub(crate) fn instruction_advice(finding: &InstructionFinding) -> Advice {
     }
 }
 
+/// The limit of nodes: the fix depends on what multiplies them.
+fn nodes_advice(crowd: &Crowd) -> Advice {
+    match crowd.multiplied {
+        _ if crowd.crowded.is_empty() => advice::TOO_MANY_PLACES,
+        Some(
+            Multiplied {
+                by: Multiplier::Cell(_),
+                ..
+            },
+        ) => advice::TOO_MANY_VALUES,
+        Some(
+            Multiplied {
+                by: Multiplier::Bank,
+                ..
+            },
+        ) => advice::TOO_MANY_BANKS,
+        Some(
+            Multiplied {
+                by: Multiplier::Stack,
+                ..
+            },
+        ) => advice::TOO_MANY_STACKS,
+        _ => advice::TOO_MANY_NODES,
+    }
+}
+
 /// A limit that was reached.
 fn limit_advice(crowd: &Crowd) -> Advice {
     match crowd.limit {
-        ReachedLimit::Nodes(_) => advice::TOO_MANY_NODES,
+        ReachedLimit::Nodes(_) => nodes_advice(crowd),
         ReachedLimit::Procedures => advice::TOO_MANY_PROCEDURES,
         ReachedLimit::Steps => advice::TOO_MANY_STEPS,
     }
@@ -165,7 +192,7 @@ pub(crate) fn advice_on(finding: &Finding) -> Advice {
         Finding::TooLarge(crowd) => limit_advice(crowd),
         Finding::NoStack { .. } => advice::NO_STACK,
         Finding::StackTooDeep { .. } => advice::STACK_TOO_DEEP,
-        Finding::Recursion { target } => recursion_advice(*target),
+        Finding::Recursion { target } => recursion_advice(target.address),
         Finding::OutOfRounds {
             spent: Spent::Rounds,
             ..
@@ -174,6 +201,15 @@ pub(crate) fn advice_on(finding: &Finding) -> Advice {
             spent: Spent::Steps,
             ..
         } => advice::OUT_OF_STEPS,
+        Finding::OutOfRounds {
+            spent: Spent::Time,
+            ..
+        } => advice::OUT_OF_TIME,
         Finding::Internal => advice::INTERNAL,
     }
+}
+
+/// The fix of a finding, in the author's language.
+pub(crate) fn remedy_of(finding: &Finding, symbols: &Symbols<'_>) -> &'static str {
+    advice_on(finding).remedy_in(finding.is_of_c(symbols))
 }

@@ -55,7 +55,7 @@ impl fmt::Display for SymbolFault {
             SymbolFaultKind::NotText => write!(f, "not a file of symbols: it isn't text"),
             SymbolFaultKind::NoFormat => write!(
                 f,
-                "not a file of symbols: use an RGBDS .sym (`rgblink -n`), or an SDCC .noi or .map"
+                "not a file of symbols: use a .sym (`rgblink -n` or `makebin -yS`), or an SDCC .noi or .map"
             ),
             SymbolFaultKind::Line => write!(
                 f,

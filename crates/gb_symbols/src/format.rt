@@ -7,6 +7,8 @@ use std::str::SplitWhitespace;
 pub enum Format {
     /// `rgblink -n`: lines `BB:AAAA NAME`.
     RgbdsSym,
+    /// `makebin -yS`: the same lines, with the names that SDCC's linker made.
+    SdccSym,
     /// SDCC's linker with `-j`: lines `DEF NAME 0xADDR`, the bank above the low sixteen bits.
     SdccNoi,
     /// SDCC's linker with `-m`: tables with lines `ADDR NAME`, the bank above the low sixteen bits.
@@ -141,21 +143,40 @@ fn map_line<'a>(line: &'a str) -> SymbolLine<'a> {
     }
 }
 
-/// Whether SDCC's linker made a name: one for debuggers (`C$game.c$7$1_0$3`, by `-y`), a local label's (`00101$`), or an area's
-/// length or start (`l__CODE`, `s__CODE`).
-fn is_the_linkers(name: &str) -> bool {
-    name.contains('$')
-        || name.starts_with("l__")
-        || name.starts_with("s__")
-        || name.starts_with(".__.")
+/// What the author calls a symbol of SDCC's linker; nothing if the linker made it.
+///
+/// The linker's own names are areas' lengths and starts (`l__CODE`, `s__CODE`), local labels (`00101$`), and by `-y` records for
+/// debuggers. Of these a `static` function or variable has its only name, as `Fgame$helper$0$0` or `Lgame.helper$count$1_0$3`.
+fn authors_name<'a>(name: &'a str) -> Option<&'a str> {
+    if name.starts_with("l__") || name.starts_with("s__") || name.starts_with(".__.") {
+        return None;
+    }
+    if !name.contains('$') {
+        return Some(name);
+    }
+    if !name.starts_with('F') && !name.starts_with('L') {
+        return None;
+    }
+    let (_, rest) = name.split_once('$')?;
+    let (name, _) = rest.split_once('$')?;
+    Some(name)
 }
 
-/// A line of SDCC's linker, which names no symbol where the name is its own.
-fn of_authors(line: SymbolLine<'_>) -> SymbolLine<'_> {
+/// A line of SDCC's linker, with the author's name for its symbol.
+fn of_authors<'a>(line: SymbolLine<'a>) -> SymbolLine<'a> {
     match line {
-        SymbolLine::Symbol(named) if is_the_linkers(named.name) => SymbolLine::Other,
+        SymbolLine::Symbol(named) => match authors_name(named.name) {
+            Some(name) => SymbolLine::Symbol(NamedAddress { name, ..named }),
+            None => SymbolLine::Other,
+        },
         other => other,
     }
+}
+
+/// Whether only makebin writes such a line into a file of RGBDS's form: its comment at the top, or a name that SDCC's linker
+/// always makes, as `.__.CPU.`.
+fn is_of_makebin(line: &str) -> bool {
+    line.contains("automagically by makebin") || line.contains(" .__.")
 }
 
 impl Format {
@@ -163,6 +184,7 @@ impl Format {
     pub(crate) fn line<'a>(self, line: &'a str) -> SymbolLine<'a> {
         match self {
             Format::RgbdsSym => sym_line(line),
+            Format::SdccSym => of_authors(sym_line(line)),
             Format::SdccNoi => of_authors(noi_line(line)),
             Format::SdccMap => of_authors(map_line(line)),
         }
@@ -174,6 +196,9 @@ impl Format {
         for line in text.lines() {
             if line.contains("Global Defined In Module") {
                 return Some(Format::SdccMap);
+            }
+            if is_of_makebin(line) && sym_line(line) != SymbolLine::Wrong {
+                return Some(Format::SdccSym);
             }
             if let SymbolLine::Symbol(_) = noi_line(line) {
                 return Some(Format::SdccNoi);

@@ -24,6 +24,13 @@ pub struct SourceLine<'a> {
     number: u32,
 }
 
+impl SourceLine<'_> {
+    /// Whether the source is in C.
+    pub fn is_of_c(&self) -> bool {
+        self.language == Language::C
+    }
+}
+
 impl fmt::Display for SourceLine<'_> {
     fn fmt<W: fmt::Write>(&self, f: &mut fmt::Formatter<W>) -> fmt::Result {
         let name = self.name;
@@ -241,6 +248,11 @@ impl<'a> SourceLines<'a> {
         } else {
             Ok(SourceLines { marks })
         }
+    }
+
+    /// Whether a source is in C.
+    pub(crate) fn has_c(&self) -> bool {
+        self.marks.iter().any(|mark| mark.line.is_of_c())
     }
 
     /// The line of the assembler, or of a listing, at an address.

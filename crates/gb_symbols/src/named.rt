@@ -28,7 +28,7 @@ pub struct ShownLabel<'a> {
     pub address: u16,
 }
 
-/// An address with its bank, where one is mapped there.
+/// An address with its bank, where one is mapped there: RAM has none.
 #[derive(Clone, Copy)]
 struct BankAddress {
     bank: Option<u16>,
@@ -39,8 +39,8 @@ impl fmt::Display for BankAddress {
     fn fmt<W: fmt::Write>(&self, f: &mut fmt::Formatter<W>) -> fmt::Result {
         let address = self.address;
         match self.bank {
-            Some(bank) => write!(f, "{bank:02X}:{address:04X}"),
-            None => write!(f, "${address:04X}"),
+            Some(bank) if address < 0x8000 => write!(f, "{bank:02X}:{address:04X}"),
+            _ => write!(f, "${address:04X}"),
         }
     }
 }

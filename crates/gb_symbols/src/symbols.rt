@@ -45,18 +45,27 @@ pub struct Symbols<'a> {
     lines: SourceLines<'a>,
 }
 
+/// The most bytes after a label that are named by it: a file of symbols doesn't say where what it names ends.
+const REACH: u16 = 0x0400;
+
 /// The first address of the part of memory in which an address lies; a symbol says nothing of addresses in other parts.
+///
+/// Below 0068 each vector is a part, since code there jumps away or ends before the next one. The entry point with the header,
+/// and each I/O register, are parts too (Pan Docs: Memory Map, Jump Vectors).
 fn part_of(address: u16) -> u16 {
     match address {
-        0x0000..=0x3FFF => 0x0000,
+        0x0000..=0x0067 => address & 0xFFF8,
+        0x0068..=0x00FF => 0x0068,
+        0x0100..=0x014F => 0x0100,
+        0x0150..=0x3FFF => 0x0150,
         0x4000..=0x7FFF => 0x4000,
         0x8000..=0x9FFF => 0x8000,
         0xA000..=0xBFFF => 0xA000,
         0xC000..=0xDFFF => 0xC000,
         0xE000..=0xFDFF => 0xE000,
         0xFE00..=0xFEFF => 0xFE00,
-        0xFF00..=0xFF7F => 0xFF00,
-        _ => 0xFF80,
+        0xFF00..=0xFF7F | 0xFFFF => address,
+        0xFF80..=0xFFFE => 0xFF80,
     }
 }
 
@@ -71,7 +80,29 @@ fn symbol_key(symbol: &Symbol<'_>) -> u32 {
     key_of(symbol.bank, symbol.address)
 }
 
-/// A file's symbols, as they are put in order: of those at one address the first stays.
+/// Whether a symbol says in which bank the function of another one is, and no address: `b_draw` for `_draw`, as SDCC writes it for
+/// a banked function, or `___bank_draw` for `___func_draw`, as GBDK's BANKREF does.
+fn is_bank_of(symbol: &Symbol<'_>, other: &Symbol<'_>) -> bool {
+    if symbol.bank != 0 || symbol.address != other.bank {
+        return false;
+    }
+    match symbol.name.strip_prefix("___bank_") {
+        Some(name) => other.name.strip_prefix("___func_") == Some(name),
+        None => other.name.starts_with('_') && symbol.name.strip_prefix("b") == Some(other.name),
+    }
+}
+
+/// Whether a symbol has a name as numbers of banks have, so that the others are looked at.
+fn may_be_bank(symbol: &Symbol<'_>) -> bool {
+    symbol.name.starts_with("b_") || symbol.name.starts_with("___bank_")
+}
+
+/// Whether a symbol is the number of a bank.
+fn is_bank(symbol: &Symbol<'_>, symbols: &[Symbol<'_>]) -> bool {
+    symbols.iter().any(|other| is_bank_of(symbol, other))
+}
+
+/// A file's symbols, as they are put in order, without numbers of banks: of those at one address the first stays.
 fn ordered<'a>(
     alloc: Global,
     format: Format,
@@ -82,7 +113,7 @@ fn ordered<'a>(
     let mut keys: Vec<u32> = Vec::new(alloc);
     for symbol in &found {
         let key = symbol_key(symbol);
-        if keys.last() != Some(&key) {
+        if keys.last() != Some(&key) && !(may_be_bank(symbol) && is_bank(symbol, &found)) {
             keys.push(key)?;
             symbols.push(*symbol)?;
         }
@@ -177,9 +208,33 @@ impl<'a> Symbols<'a> {
         self.symbols.is_empty()
     }
 
-    /// The last symbol at or before an address in the same part of memory. The bank counts for 4000-7FFF alone; of symbols at
-    /// one address the first counts.
+    /// Whether the program is in C: a source is, or else the compiler's `_main` is there.
+    pub fn is_of_c(&self) -> bool {
+        self.lines.has_c()
+            || (self.is_of_sdcc() && self.symbols.iter().any(|symbol| symbol.name == "_main"))
+    }
+
+    /// Whether SDCC's linker wrote the file.
+    fn is_of_sdcc(&self) -> bool {
+        matches!(
+            self.format,
+            Some(Format::SdccSym | Format::SdccNoi | Format::SdccMap)
+        )
+    }
+
+    /// The symbol that names an address: the last one at or before it, where that is near and in the same part of memory. The
+    /// bank counts for 4000-7FFF alone; of symbols at one address the first counts.
     pub fn place(&self, bank: u16, address: u16) -> Option<SymbolOffset<'a>> {
+        let place = self.last_before(bank, address)?;
+        if place.offset < REACH {
+            Some(place)
+        } else {
+            None
+        }
+    }
+
+    /// The last symbol at or before an address in the same part of memory, however far that is.
+    pub fn last_before(&self, bank: u16, address: u16) -> Option<SymbolOffset<'a>> {
         let key = key_of(bank, address);
         let place = match self.keys.binary_search(&key) {
             Ok(place) => place,
