@@ -135,7 +135,7 @@ fn changes(alloc: Global, kept: KeptCertificate) -> Option<Changes> {
     Changes::of(alloc, &new_rom, &new, &new_symbols, &older).ok()
 }
 
-/// Whether what was changed is told so.
+/// Whether the changes are printed so.
 fn is_told(alloc: Global, kept: KeptCertificate, wanted: &str) -> Option<bool> {
     let changes = changes(alloc, kept)?;
     let text = format!(in alloc; "{changes}").ok()?;
@@ -163,7 +163,7 @@ fn a_new_build_is_compared_for_programs(rt: HostRuntime) -> Result<(), Fail> {
     Ok(())
 }
 
-/// Whether a certificate beside itself has changed nothing.
+/// Whether a certificate has changed nothing since itself.
 fn is_none(alloc: Global, rom: &Rom<'_>, cert: &Cert<'_>, symbols: &Symbols<'_>) -> Option<bool> {
     let older = Older {
         cert,
@@ -178,7 +178,7 @@ fn is_none(alloc: Global, rom: &Rom<'_>, cert: &Cert<'_>, symbols: &Symbols<'_>)
     )
 }
 
-/// Whether the game's certificate beside itself has changed nothing.
+/// Whether the game's certificate has changed nothing since itself.
 fn is_same(alloc: Global) -> Option<bool> {
     let rom = game();
     let rom = Rom::parse(&rom).ok()?;

@@ -8,7 +8,7 @@ use crate::spelled::extended_certificate;
 use std::alloc::Global;
 use std::test::Fail;
 
-/// Whether what is told of an example's files is what it says.
+/// Whether what is printed of an example's files is what it says.
 fn agrees(alloc: Global, example: &PieceExample) -> Result<bool, Fail> {
     let cert = extended_certificate(example.procedures, example.nodes);
     is_told(

@@ -1,4 +1,4 @@
-//! What is in the way of calls in version 3: too much on the stack, or nothing where they lead.
+//! What stops calls in version 3: too much on the stack, or nothing where they lead.
 
 use crate::extended_pieces::{
     A_IS_2, A_PAGE, AT_0100, AT_0101, AT_0150, BEHIND, BYTE, CALLED, CALLED_ALONE, CALLEE, CALLS,
@@ -65,7 +65,7 @@ pub const DEPTHS: &[PieceExample] = &[
         reason: Reason::Depth,
         text: "  256 bytes would be on the stack, and a node can have 255",
     },
-    // CALL pushes two bytes beside the two that are held.
+    // CALL pushes two bytes in addition to the two that are held.
     PieceExample {
         program: PUSHES,
         procedures: &[ExtendedProcedure { need: 3, ..MAIN }, CALLEE],
@@ -202,7 +202,7 @@ pub const CALLED_OR_INLINED: &[PieceExample] = &[
         reason: Reason::Uncovered,
         text: "  Procedure 1 begins at $0156, but its first node differs:\n    A: $01; node 6 has $02\n  Procedure 0 could go on there itself, and doesn't cover this state. Node 5 is nearest, but differs:\n    bytes on the stack: 4; node 5 has 2",
     },
-    // A byte waits, and the callee expects two more beside its return word.
+    // A byte waits, and the callee expects two more besides its return word.
     PieceExample {
         program: TAKES_A_BYTE,
         procedures: &[

@@ -12,10 +12,10 @@ pub const TAKES_A_BYTE: &[u8] = &[0x3B, 0xCD, 0x56, 0x01, 0x18, 0xFE, 0xC9];
 /// CALL 0156 at 0150, a loop at 0153, and CALL 0160 at 0156.
 pub const CALLS: &[u8] = &[0xCD, 0x56, 0x01, 0x18, 0xFE, 0x00, 0xCD, 0x60, 0x01];
 
-/// CALL 0156 at 0150, EI at 0156, and a loop behind it.
+/// CALL 0156 at 0150, EI at 0156, and a loop after it.
 pub const CALLS_WITH_INTERRUPTS: &[u8] = &[0xCD, 0x56, 0x01, 0x18, 0xFE, 0x00, 0xFB, 0x18, 0xFE];
 
-/// EI at 0150, and a loop behind it.
+/// EI at 0150, and a loop after it.
 pub const ENABLES: &[u8] = &[0xFB, 0x18, 0xFE];
 
 /// Nothing is known together, and of no cell.
@@ -134,14 +134,14 @@ pub const AT_0150: ExtendedNode = ExtendedNode {
     ..AT_0100
 };
 
-/// CALL behind PUSH BC.
+/// CALL after PUSH BC.
 pub const PUSHED: ExtendedNode = ExtendedNode {
     address: 0x0151,
     state: HOLDS_BC,
     ..AT_0100
 };
 
-/// The loop behind that.
+/// The loop after that.
 pub const BEHIND: ExtendedNode = ExtendedNode {
     address: 0x0154,
     ..PUSHED
@@ -157,7 +157,7 @@ pub const BEFORE_INTERRUPTS: ExtendedNode = ExtendedNode {
     ..AT_0100
 };
 
-/// The loop behind it.
+/// The loop after it.
 pub const INTERRUPTED: ExtendedNode = ExtendedNode {
     address: 0x0151,
     state: ExtendedState {
@@ -216,7 +216,7 @@ pub const WITH_HANDLER: &[ExtendedNode] = &[
     HANDLED,
 ];
 
-/// A cartridge's program, a certificate, the node that is refused, the reason, and what is in the way.
+/// A cartridge's program, a certificate, the node that is refused, the reason, and what is missing.
 pub struct PieceExample {
     pub program: &'static [u8],
     pub procedures: &'static [ExtendedProcedure],

@@ -1,4 +1,4 @@
-//! What is in the way of returns and of interrupts in version 3.
+//! What stops returns and interrupts in version 3.
 
 use crate::extended_pieces::{
     A_IS_2, A_PAGE, AT_0100, AT_0101, AT_0150, BEFORE_INTERRUPTS, BEHIND, BYTE, BYTES, CALLED,

@@ -1,6 +1,6 @@
-//! Worked examples of what is told to a person: of a refused certificate what is in the way, by hand from the rules, on small
-//! cartridges, each with a certificate that lacks something; how instructions are spelled; the names of symbols; and of a
-//! certificate that can't be read, where in the file its fault is. The facts and the page of a small game stand here too, and what
+//! Worked examples of what is printed for a person: why a certificate is refused, by hand from the rules, on small cartridges,
+//! each with a certificate that lacks something; how instructions are spelled; the names of symbols; and of a
+//! certificate that can't be read, where in the file its fault is. The facts and the page of a small game are here too, and what
 //! a new build of it changed.
 //!
 //! Read refusals.rt first, then extended.rt, which has the same for version 3, then pages.rt, compared.rt and findings.rt;

@@ -16,7 +16,7 @@ const PROGRAM: &[u8] = &[0xE0, 0xFF, 0xFB, 0xCD, 0x58, 0x01, 0x18, 0xFB, 0x00, 0
 /// IE is 01, as A was; main's own was 00.
 pub const IE_IS_1: &[(usize, u8)] = &[(16, 1), (17, 1), (18, 0)];
 
-/// Behind EI, or once more: interrupts are on, or on after the next instruction.
+/// After EI, or once more: interrupts are on, or on after the next instruction.
 const PENDING: &[(usize, u8)] = &[(0, 6), (16, 1), (17, 1), (18, 0)];
 
 /// Interrupts are on, in main.
@@ -273,7 +273,7 @@ fn agrees(alloc: Global) -> Option<bool> {
     Some(are_told(&facts))
 }
 
-/// The page of a certificate of the game, with what else is told.
+/// The page of a certificate of the game, with what else is shown.
 fn page_with(alloc: Global, bytes: &Spelled, symbols: &[u8], extras: Extras<'_>) -> Option<String> {
     let rom = game();
     let rom = Rom::parse(&rom).ok()?;

@@ -72,7 +72,7 @@ const A: Field = Field::ValueGreatest(Owner::Register(Register::A));
 
 /// The least certificate with bytes replaced.
 const CHANGED: [Step; 23] = [
-    // The fault falls on the changed field, and reading stops behind it.
+    // The fault falls on the changed field, and reading stops after it.
     (&[(0, 0x48)], (MAGIC, HEAD, Field::Magic, 0, 4)),
     (&[(4, 0x00)], (VERSION, HEAD, Field::Version, 4, 5)),
     (&[(7, 0xFE)], (REGION, HEAD, Field::RegionLast, 7, 9)),
@@ -92,7 +92,7 @@ const CHANGED: [Step; 23] = [
     ),
     (&[(121, 0x01)], (FIELD, NODE, Field::TestValue, 121, 122)),
     (&[(128, 0x00)], (FIELD, NODE, Field::GateSet, 128, 129)),
-    // The test of two fields falls on the later one: the greatest of A, behind the least at 136.
+    // The test of two fields falls on the later one: the greatest of A, after the least at 136.
     (&[(136, 0x02)], (FIELD, NODE, A, 137, 138)),
     (&[(157, 0x01)], (FIELD, NODE, Field::ItemCount, 157, 158)),
     (&[(158, 0x21)], (COUNT, NODE, Field::CellCount, 158, 159)),
@@ -101,7 +101,7 @@ const CHANGED: [Step; 23] = [
         &[(119, 0x01), (157, 0x11)],
         (COUNT, NODE, Field::ItemCount, 157, 158),
     ),
-    // Two nodes are announced, and three stand there: the third is left over, from byte 112 on.
+    // Two nodes are announced, and there are three: the third is left over, from byte 112 on.
     (
         &[(10, 0x02)],
         (LEFT_OVER, Part::End, Field::LeftOver, 112, 112),
@@ -173,7 +173,7 @@ fn changed_bytes_of_version_3_are_found(rt: HostRuntime) {
     }
 }
 
-/// Whether a certificate that is cut stops at its end, in the field that goes on there.
+/// Whether a certificate that is cut stops at its end, in the field that isn't whole.
 fn is_cut(alloc: Global, bytes: &[u8]) -> bool {
     let length = bytes.len();
     match fault_place(alloc, bytes) {
@@ -197,7 +197,7 @@ fn cuts_stop_at_their_end(rt: HostRuntime) {
 
 const ONE_MORE: &[Step] = &[(&[], (LEFT_OVER, Part::End, Field::LeftOver, 159, 159))];
 
-/// The whole is a certificate; one byte more is left over, and is the first behind it.
+/// The whole is a certificate; one byte more is left over, and is the first after it.
 #[test]
 fn one_byte_more(rt: HostRuntime) {
     let mut bytes = [0; 160];
@@ -258,7 +258,7 @@ fn exits_and_ranges_are_found(rt: HostRuntime) {
     play(&rt, rt.alloc(), &mut bytes, EXITS);
 }
 
-/// A word, and a cell at DF23, as they stand from 157 on.
+/// A word, and a cell at DF23, as they are from 157 on.
 const WORD_AND_CELL: [u8; 13] = [
     0x01, 0x01, 0x02, 0x03, 0xFF, 0x00, 0x00, 0x01, 0x23, 0xDF, 0x05, 0x06, 0x01,
 ];
@@ -297,7 +297,7 @@ fn items_and_cells_are_found(rt: HostRuntime) {
 
 const ANOTHER: &[Step] = &[(&[(9, 0x02)], (FIELD, Part::End, Field::Entries, 165, 165))];
 
-/// A procedure 1 whose entry is main's node 2: each field is right by itself, and it is found behind the last node.
+/// A procedure 1 whose entry is main's node 2: each field alone is right, and it is found after the last node.
 #[test]
 fn an_entry_of_another_procedure(rt: HostRuntime) {
     let mut bytes = [0; 165];

@@ -107,7 +107,7 @@ const EXAMPLES: &[RefusalExample] = &[
         reason: Reason::Depth,
         text: "  1 word would be on the stack, and procedure 0 may use 0",
     },
-    // CALL needs one for the return address beside the one that is held.
+    // CALL needs one for the return address besides the one that is held.
     RefusalExample {
         program: CALLS,
         procedures: &[
@@ -452,7 +452,7 @@ const EXAMPLES: &[RefusalExample] = &[
         reason: Reason::Uncovered,
         text: "  The program goes on at $0152. Node 3 is nearest, but differs:\n    B: $00; node 3 has $03..$05\n    D: $00; node 3 has $01\n    L: $4D; node 3 has $4E\n    IE: $00; node 3 has $01..$FF\n    IME: off; node 3 has pending or on\n    bank: $01; node 3 has $02..$03\n    second bank register: $00; node 3 has $01..$02\n    cartridge RAM: disabled; node 3 has enabled\n    mode: 0; node 3 has 1\n    and 1 more difference",
     },
-    // LDH (46),A starts an OAM transfer, which has 161 M-cycles left behind it.
+    // LDH (46),A starts an OAM transfer, which has 161 M-cycles left after it.
     RefusalExample {
         program: &[0xE0, 0x46, 0x18, 0xFE],
         procedures: &[SpelledProcedure { need: 0, ..MAIN }],

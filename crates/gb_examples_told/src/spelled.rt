@@ -3,7 +3,7 @@
 use gb_samples::cartridges::put;
 use gb_samples::certificates::least;
 
-/// Offsets in a state, each with the byte that stands there in place of power-up's.
+/// Offsets in a state, each with the byte that is there instead of power-up's.
 pub type Changes = &'static [(usize, u8)];
 
 /// No words and no cells.

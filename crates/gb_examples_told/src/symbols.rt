@@ -19,7 +19,7 @@ const MARKED: &[u8] =
 const MAKEBIN: &[u8] =
     b"; no$gmb compatible .sym file\n; Generated automagically by makebin\n00:0000 .__.CPU.\n00:0002 b_draw\n00:0002 b_rest\n00:0150 s__CODE\n00:0150 start\n00:0158 A$game$20\n00:0158 C$game.c$9$1_0$3\n00:0158 Fgame$helper$0$0\n00:015C XFgame$helper$0$0\n00:0160 G$main$0$0\n00:0160 _main\n00:C0A0 Fgame$count$0_0$0\n00:C0A1 Lgame.helper$last$1_0$2\n02:4000 _draw\n";
 
-/// The same without its comments.
+/// What makebin writes, without its comments.
 const BARE_MAKEBIN: &[u8] = b"00:0000 .__.CPU.\n00:0150 s__CODE\n00:0150 start\n";
 
 /// GBDK's number of a bank for BANKREF, and the function that it is of.
@@ -267,7 +267,7 @@ fn lines_of_sources(rt: HostRuntime) {
     );
 }
 
-/// Files that tell of no line.
+/// Files that name no line.
 const NO_LINES: &[(&[u8], SymbolFaultKind)] = &[
     (b"\xFF\xFE", SymbolFaultKind::NotText),
     (b"", SymbolFaultKind::NoLines),

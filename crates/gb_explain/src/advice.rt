@@ -7,7 +7,7 @@ pub struct Advice {
     pub problem: &'static str,
     /// What to change, in the imperative, with a line of code where that helps.
     pub remedy: &'static str,
-    /// The same for a program in C, where it differs.
+    /// What to change in a program in C, where that differs.
     pub remedy_in_c: Option<&'static str>,
     /// The section's anchor.
     pub anchor: &'static str,
@@ -157,7 +157,7 @@ pub const CLEARS_STACK: Advice = Advice {
     problem: "Overwriting the stack changes return addresses, and a later `ret` jumps anywhere.",
     remedy: "Stop the loop below the stack, or clear RAM in main, before the first call. Bound an index before you add it: `and 31`.",
     remedy_in_c: Some(
-        "Bound the index right before the store: `if (i < 32) buffer[i] = x;`. Make local arrays `static`.",
+        "Mask the index right before the store: `buffer[i & 31] = x;`. Make local arrays `static`.",
     ),
     anchor: "store-reaches-stack",
 };
@@ -166,7 +166,7 @@ pub const KEPT_POINTER: Advice = Advice {
     problem: "A pointer that comes from RAM can hold any address, so the store can hit the stack, code or registers.",
     remedy: "Keep an index in RAM, not the pointer: `ld a, [index]` / `and 31` / `ld l, a` / `ld h, HIGH(buffer)`.",
     remedy_in_c: Some(
-        "Keep an index in RAM, not the pointer, and bound it: `if (i < 32) buffer[i] = x;`.",
+        "Keep a `uint8_t` index in RAM, not the pointer, and bound it: `if (i < 32) buffer[i] = x;`.",
     ),
     anchor: "pointer-from-ram",
 };
@@ -175,7 +175,7 @@ pub const POINTER: Advice = Advice {
     problem: "A pointer without a bound can hit the stack, code or registers.",
     remedy: "Bound the index before you add it (`and 31`, or `cp 32` / `ret nc`), or end the loop by a smaller count.",
     remedy_in_c: Some(
-        "Bound the index right before the store: `if (i < 32) buffer[i] = x;`, or `buffer[i & 31] = x;`.",
+        "Mask the index right before the store: `buffer[i & 31] = x;`. Or compare it as a `uint8_t`: `if (i < 32) buffer[i] = x;`.",
     ),
     anchor: "unbounded-pointer",
 };
@@ -205,7 +205,7 @@ pub const POINTER_TO_CARTRIDGE_RAM: Advice = Advice {
     problem: "While cartridge RAM is disabled, reads return garbage and writes are lost.",
     remedy: "Keep the pointer out of $A000-$BFFF: end its loop by a smaller count, or bound its index (`and 31`, or `cp 32` / `ret nc`).",
     remedy_in_c: Some(
-        "Bound the index, so that it stays out of $A000-$BFFF: `if (i < 32) x = buffer[i];`.",
+        "Mask the index, so that it stays out of $A000-$BFFF: `x = buffer[i & 31];`. Or compare it as a `uint8_t`: `if (i < 32)`.",
     ),
     anchor: "pointer-reaches-sram",
 };
@@ -334,7 +334,7 @@ pub const TOO_MANY_PLACES: Advice = Advice {
 pub const TOO_MANY_VALUES: Advice = Advice {
     remedy: "Raise the limit with --nodes. Else let this byte have fewer values: mask it (`and 15`) or compare it (`cp 16`) right before its use.",
     remedy_in_c: Some(
-        "Raise the limit with --nodes. Else let this variable have fewer values: bound it right before its use (`if (i < 16)` or `i & 15`).",
+        "Raise the limit with --nodes. Else let this variable have fewer values: mask it (`i & 15`) or compare it (`if (i < 16)`) right before its use.",
     ),
     ..TOO_MANY_NODES
 };

@@ -79,7 +79,7 @@ fn bytes_after(op: Op, held: usize) -> Option<usize>
     }
 }
 
-/// How many bytes are held after an instruction that may hold too many by itself. By the rules of versions 1 and 2
+/// How many bytes are held after an instruction that alone may hold too many. By the rules of versions 1 and 2
 /// that is PUSH alone: a call's return address is no item.
 fn bytes_left(rules: Rules, op: Op, held: usize) -> Option<usize>
     requires { held < 65536 }

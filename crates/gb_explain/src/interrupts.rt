@@ -4,15 +4,10 @@ use crate::calls::{entered_at, inlined_gaps, range_gaps};
 use crate::covering::back_gaps;
 use crate::depth::{called_too_deep, held_too_deep};
 use crate::gap::{After, GapKind, Gaps, GoesOn, TooDeep};
+use crate::vectors::{INTERRUPTS, vector_of};
 use gb_verify::{
     Abs, Cert, NodeRef, Reason, Rules, Setting, left_by_dispatch, may_come, setting_of,
 };
-
-/// The vector of interrupt 0; those of the others follow it, 8 bytes apart (Memory map: jump vectors).
-const FIRST_VECTOR: u16 = 0x40;
-
-/// How many interrupts there are.
-const INTERRUPTS: u8 = 5;
 
 /// A node of a procedure, its state, and an interrupt that may come there.
 #[derive(Clone, Copy)]
@@ -25,11 +20,6 @@ struct Dispatch<'a> {
 }
 
 impl<'a> Dispatch<'a> {
-    /// Where it leads to.
-    fn vector(&self) -> u16 {
-        FIRST_VECTOR.wrapping_add(u16::from(self.interrupt).wrapping_mul(8))
-    }
-
     /// What it leaves.
     fn left(&self) -> Abs {
         left_by_dispatch(self.setting.rules, self.address, self.state)
@@ -50,7 +40,12 @@ fn dispatch_too_deep(cert: &Cert<'_>, dispatch: &Dispatch<'_>) -> Option<TooDeep
     if deep.is_some() {
         return deep;
     }
-    let handler = entered_at(cert, setting, dispatch.vector(), &dispatch.left())?;
+    let handler = entered_at(
+        cert,
+        setting,
+        vector_of(dispatch.interrupt),
+        &dispatch.left(),
+    )?;
     called_too_deep(rules, cert, procedure, held, handler)
 }
 
@@ -92,7 +87,7 @@ fn unhandled_gaps(cert: &Cert<'_>, dispatch: &Dispatch<'_>) -> Option<Gaps> {
     if !state.core().stack_set {
         return Some(Gaps::plain(GapKind::StackNotSet));
     }
-    let vector = dispatch.vector();
+    let vector = vector_of(dispatch.interrupt);
     let left = dispatch.left();
     match entered_at(cert, setting, vector, &left) {
         Some(handler) => handler_gaps(cert, dispatch, &left, handler),

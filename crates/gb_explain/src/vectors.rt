@@ -1,4 +1,21 @@
-//! The interrupts by name.
+//! The addresses where RST and interrupts go, and the interrupts by name.
+
+/// Where RST 38 goes: unused ROM is filled with its opcode FF.
+pub const PADDING: u16 = 0x0038;
+
+/// Where VBlank goes; the vectors of the other interrupts follow it, 8 bytes apart (Pan Docs: Jump Vectors).
+const FIRST_VECTOR: u16 = 0x0040;
+
+/// How many interrupts there are.
+pub const INTERRUPTS: u8 = 5;
+
+/// The address after all vectors.
+pub const AFTER_VECTORS: u16 = 0x0068;
+
+/// The address of an interrupt's handler, by its bit of IE.
+pub fn vector_of(bit: u8) -> u16 {
+    FIRST_VECTOR.wrapping_add(u16::from(bit).wrapping_mul(8))
+}
 
 /// The interrupt of a bit of IE, counted from 0, with its vector (Pan Docs: Interrupt Sources).
 pub fn interrupt_name(bit: u8) -> &'static str {
@@ -11,14 +28,12 @@ pub fn interrupt_name(bit: u8) -> &'static str {
     }
 }
 
-/// The interrupt whose handler begins at an address, with that address (Pan Docs: Interrupt Sources).
+/// The interrupt whose handler begins at an address, with that address.
 pub fn interrupt_at(address: u16) -> Option<&'static str> {
-    match address {
-        0x40 => Some(interrupt_name(0)),
-        0x48 => Some(interrupt_name(1)),
-        0x50 => Some(interrupt_name(2)),
-        0x58 => Some(interrupt_name(3)),
-        0x60 => Some(interrupt_name(4)),
-        _ => None,
+    for bit in 0..INTERRUPTS {
+        if vector_of(bit) == address {
+            return Some(interrupt_name(bit));
+        }
     }
+    None
 }

@@ -4,12 +4,9 @@ use crate::names::{Address, usual_name};
 use gb_facts::{
     Difference, Facts, Key, Keyed, Outline, Sketch, StackStep, differences, is_same_way, way_from,
 };
-use gb_reports::{Cert, Rom, Symbols};
+use gb_reports::{AFTER_VECTORS, Cert, Rom, Symbols};
 use std::alloc::{AllocError, Global};
 use std::fmt;
-
-/// RST's addresses and those of the interrupts lie below, and mean the same in each build.
-const FIXED: u16 = 0x0068;
 
 /// An older certificate, with its cartridge and its symbols, where they are at hand.
 #[derive(Clone, Copy)]
@@ -95,7 +92,8 @@ fn key_of<'s>(sketch: &Sketch, symbols: Option<&Symbols<'s>>) -> Key<'s> {
     }
     let Sketch { bank, address, .. } = *sketch;
     match symbol_at(sketch, symbols) {
-        Some(name) if address >= FIXED => Key::Named(name),
+        // The vectors of RST and of interrupts mean the same in each build.
+        Some(name) if address >= AFTER_VECTORS => Key::Named(name),
         _ => Key::At { bank, address },
     }
 }

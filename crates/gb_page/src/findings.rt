@@ -224,8 +224,8 @@ fn texts_of(
     })
 }
 
-/// The page on why there is no certificate, with labels from symbols; it says whether all of it is new, since the older build has
-/// a certificate.
+/// The page on why there is no certificate, with labels from symbols. It says whether the findings are new, because the older build
+/// has a certificate.
 ///
 /// # Errors
 ///

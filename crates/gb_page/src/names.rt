@@ -2,7 +2,7 @@
 
 use crate::escaped::Escaped;
 use crate::page::Page;
-use gb_facts::ProcedureFacts;
+use gb_facts::{INTERRUPTS, Interrupt, ProcedureFacts};
 use gb_reports::{SymbolOffset, Symbols};
 use std::fmt;
 
@@ -11,6 +11,16 @@ use std::fmt;
 pub struct Address {
     pub bank: u16,
     pub address: u16,
+}
+
+impl Address {
+    /// Where a procedure begins.
+    pub(crate) fn of(procedure: &ProcedureFacts) -> Address {
+        Address {
+            bank: procedure.bank,
+            address: procedure.address,
+        }
+    }
 }
 
 impl fmt::Display for Address {
@@ -60,17 +70,28 @@ impl fmt::Display for SymbolAt<'_, '_> {
     }
 }
 
+/// What an interrupt's handler is called.
+fn handler_name(interrupt: Interrupt) -> &'static str {
+    match interrupt {
+        Interrupt::VBlank => "VBlank handler",
+        Interrupt::Lcd => "STAT handler",
+        Interrupt::Timer => "timer handler",
+        Interrupt::Serial => "serial handler",
+        Interrupt::Joypad => "joypad handler",
+    }
+}
+
 /// The name of a procedure without a symbol at its first address.
 pub(crate) fn usual_name(number: u8, address: u16) -> Option<&'static str> {
-    match (number, address) {
-        (0, _) => Some("main"),
-        (_, 0x40) => Some("VBlank handler"),
-        (_, 0x48) => Some("STAT handler"),
-        (_, 0x50) => Some("timer handler"),
-        (_, 0x58) => Some("serial handler"),
-        (_, 0x60) => Some("joypad handler"),
-        _ => None,
+    if number == 0 {
+        return Some("main");
     }
+    for interrupt in INTERRUPTS {
+        if interrupt.vector() == address {
+            return Some(handler_name(*interrupt));
+        }
+    }
+    None
 }
 
 /// The name of a procedure without a symbol at its first address: the usual one, or else the symbol before, or its address.
@@ -97,10 +118,7 @@ fn fmt_name<W: fmt::Write>(
     procedure: &ProcedureFacts,
     f: &mut fmt::Formatter<W>,
 ) -> fmt::Result {
-    let at = Address {
-        bank: procedure.bank,
-        address: procedure.address,
-    };
+    let at = Address::of(procedure);
     match symbols.place(at.bank, at.address) {
         Some(place) if place.offset == 0 => {
             let name = Escaped(place.name);

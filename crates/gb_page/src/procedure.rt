@@ -168,10 +168,7 @@ pub fn fmt_procedure<W: fmt::Write>(
     f: &mut fmt::Formatter<W>,
 ) -> fmt::Result {
     let name = ProcedureName { page, number };
-    let at = Address {
-        bank: procedure.bank,
-        address: procedure.address,
-    };
+    let at = Address::of(procedure);
     write!(
         f,
         "<article id=\"p{number}\"><h3>{name} <span class=\"quiet\">procedure {number}, <code>{at}</code></span></h3>\n<dl>\n"

@@ -31,10 +31,7 @@ fn fmt_row<W: fmt::Write>(
     f: &mut fmt::Formatter<W>,
 ) -> fmt::Result {
     let name = ProcedureLink { page, number };
-    let at = Address {
-        bank: procedure.bank,
-        address: procedure.address,
-    };
+    let at = Address::of(procedure);
     let nodes = procedure.nodes;
     let own = procedure.own.bytes;
     let depth = Depth {

@@ -34,7 +34,7 @@ pub use shown::{FindingPart, ShownFinding, ShownPart};
 pub use state::{ShownCell, ShownFlags, ShownRegisters, fmt_core};
 
 // What lies below, for the crates above.
-pub use gb_explain::{Code, Explanation, explain, interrupt_at};
+pub use gb_explain::{AFTER_VECTORS, Code, Explanation, explain, interrupt_at};
 pub use gb_fixpoint::code_point::CodePoint;
 pub use gb_fixpoint::{Abs, Cell, Cert, NodeRef, Range, Rom, Verdict, known_bank};
 pub use gb_symbols::{

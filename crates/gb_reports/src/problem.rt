@@ -1,7 +1,7 @@
 //! What can go wrong at an instruction, in a sentence.
 
 use crate::finding::InstructionFinding;
-use gb_explain::{interrupt_at, interrupt_name};
+use gb_explain::{PADDING, interrupt_at, interrupt_name};
 use gb_fixpoint::Span;
 use gb_fixpoint::cause::{Cause, StackMisuse, TransferMisuse};
 use gb_fixpoint::code_point::CodePoint;
@@ -102,7 +102,7 @@ fn plain_text(cause: Cause) -> Option<&'static str> {
         Cause::ReturnWithOthers => {
             Some("This return leaves more or fewer bytes on the stack than another one.")
         }
-        Cause::Recursion { target: 0x38 } => {
+        Cause::Recursion { target } if target == PADDING => {
             Some("The CPU runs into $FF bytes, and `rst $38` at $0038 calls itself.")
         }
         Cause::Stack(misuse) => stack_text(misuse),

@@ -400,7 +400,7 @@ pub enum FindingPart {
     State,
 }
 
-/// A part of what is said of a finding, by itself.
+/// One part alone of what is said of a finding.
 #[derive(Clone, Copy)]
 pub struct ShownPart<'a> {
     pub finding: &'a Finding,

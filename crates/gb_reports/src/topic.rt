@@ -5,7 +5,7 @@ use crate::crowd::{Crowd, Multiplied, Multiplier, ReachedLimit};
 use crate::finding::{Finding, InstructionFinding, Spent};
 use crate::problem::{is_echo, meets_stack};
 use gb_explain::advice::{self, Advice};
-use gb_explain::interrupt_at;
+use gb_explain::{PADDING, interrupt_at};
 use gb_fixpoint::Span;
 use gb_fixpoint::cause::{Cause, StackMisuse, TransferMisuse};
 use gb_ops::op::{Indirect, Op, Pair};
@@ -136,7 +136,7 @@ pub(crate) fn instruction_advice(finding: &InstructionFinding) -> Advice {
         Cause::Halt => advice::HALT,
         Cause::Stack(misuse) => stack_advice(finding, misuse),
         Cause::PushesTooMany => advice::PUSHES_TOO_MUCH,
-        Cause::Recursion { target: 0x38 } => padding_advice(finding),
+        Cause::Recursion { target } if target == PADDING => padding_advice(finding),
         Cause::Recursion { target } => recursion_advice(target),
         Cause::Store { span } => store_advice(finding, span),
         Cause::CartridgeRam { .. } => cartridge_advice(finding),
