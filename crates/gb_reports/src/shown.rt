@@ -9,7 +9,6 @@ use crate::reached::{ShownPassed, ShownReached};
 use crate::state::ShownState;
 use crate::topic::{advice_on, instruction_advice, remedy_of};
 use gb_explain::interrupt_at;
-use gb_fixpoint::code_point::CodePoint;
 use gb_ops::machine::Region;
 use gb_symbols::ShownAddress;
 use std::fmt;
@@ -183,15 +182,6 @@ fn fmt_limit<W: fmt::Write>(crowd: &Crowd, f: &mut fmt::Formatter<W>) -> fmt::Re
     }
 }
 
-/// A place in code by its label.
-fn shown_point<'a>(symbols: &'a Symbols<'a>, point: CodePoint) -> ShownAddress<'a> {
-    ShownAddress {
-        symbols,
-        bank: point.bank,
-        address: point.address,
-    }
-}
-
 /// Counts at places: `12 at draw (00:0250)`.
 fn fmt_counts<W: fmt::Write>(
     counts: &[Count],
@@ -201,7 +191,11 @@ fn fmt_counts<W: fmt::Write>(
 ) -> fmt::Result {
     let mut before = " ";
     for count in counts {
-        let place = shown_point(symbols, count.point);
+        let place = ShownAddress {
+            symbols: &*symbols,
+            bank: count.point.bank,
+            address: count.point.address,
+        };
         let count = count.count;
         write!(f, "{before}{count} {between} {place}")?;
         before = ", ";
