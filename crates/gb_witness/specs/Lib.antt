@@ -1,0 +1,4 @@
+pub mod Fault
+pub mod Witness
+pub mod Played
+pub mod Files
