@@ -12,7 +12,7 @@ pub mod frame;
 pub mod played;
 pub mod sighting;
 
-pub use frame::watch_frame;
+pub use frame::{place_now, watch_frame};
 pub use played::watched_frames_are_played;
 pub use sighting::{Sighting, Watched};
 

@@ -2,3 +2,4 @@ pub mod Fault
 pub mod Witness
 pub mod Played
 pub mod Files
+pub mod Below
