@@ -10,7 +10,7 @@ use std::alloc::{AllocError, Global};
 const MOST: usize = 4096;
 
 /// What was called.
-#[derive(Clone, Copy)]
+#[derive(Clone, Copy, PartialEq, Eq)]
 pub enum Called {
     /// The routine at a place.
     Routine(CodePlace),
@@ -26,6 +26,13 @@ pub struct OpenCall {
     pub called: Called,
     /// SP after the call: where the return address lies.
     sp: u16,
+}
+
+impl OpenCall {
+    /// Whether another call is the same one, at another depth.
+    pub fn is_like(&self, other: &OpenCall) -> bool {
+        self.from == other.from && self.called == other.called
+    }
 }
 
 /// The calls that have not returned, the innermost last.

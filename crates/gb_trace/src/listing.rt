@@ -57,10 +57,11 @@ impl fmt::Display for SpelledStep {
     }
 }
 
-/// A call that is open.
+/// A call that is open, and how many times in a row it is.
 fn fmt_call<W: fmt::Write>(
     symbols: &Symbols<'_>,
     call: &OpenCall,
+    times: usize,
     f: &mut fmt::Formatter<W>,
 ) -> fmt::Result {
     let from = ShownAddress {
@@ -75,13 +76,29 @@ fn fmt_call<W: fmt::Write>(
                 bank: bank_of(place),
                 address: place.address,
             };
-            write!(f, "\n    {label}, called at {from}")
+            write!(f, "\n    {label}, called at {from}")?;
         }
         Called::Interrupt(number) => {
             let name = interrupt_name(number);
-            write!(f, "\n    {name} interrupt, at {from}")
+            write!(f, "\n    {name} interrupt, at {from}")?;
         }
     }
+    if times > 1 {
+        write!(f, " ({times} times)")?;
+    }
+    Ok(())
+}
+
+/// How many of the last of some calls are the same one.
+fn repeats(calls: &[OpenCall]) -> usize {
+    let mut count = 0;
+    for (place, call) in calls.iter().rev().enumerate() {
+        match calls.last() {
+            Some(last) if last.is_like(call) => count = place + 1,
+            _ => return count,
+        }
+    }
+    count
 }
 
 /// The calls that are open, the innermost first.
@@ -94,10 +111,16 @@ pub fn fmt_calls<W: fmt::Write>(
         return write!(f, "\n  Open calls: none");
     }
     write!(f, "\n  Open calls, innermost first:")?;
-    for call in calls.iter().rev().take(CALLS) {
-        fmt_call(symbols, call, f)?;
+    let mut left = calls;
+    for _ in 0..CALLS {
+        let Some(call) = left.last() else {
+            return Ok(());
+        };
+        let times = repeats(left);
+        fmt_call(symbols, call, times, f)?;
+        left = &left[..left.len().saturating_sub(times)];
     }
-    let more = calls.len().saturating_sub(CALLS);
+    let more = left.len();
     if more > 0 {
         write!(f, "\n    and {more} more")?;
     }
