@@ -98,12 +98,13 @@ const CASES: [Case<'static>; 16] = [
         1,
         b"FAULT F4 frame 0 pc 0152 bank 000\n",
     ),
-    // LD A,C0; LDH (46),A; NOP: the NOP is fetched from ROM while the transfer runs.
+    // LD SP,D000; LD A,C0; LDH (46),A: the next byte is fetched from ROM while the transfer runs. The console gives FF there, RST 38,
+    // whose push is inside the stack and has the same fault.
     (
-        &[0x3E, 0xC0, 0xE0, 0x46, 0x00],
+        &[0x31, 0x00, 0xD0, 0x3E, 0xC0, 0xE0, 0x46],
         &[],
         1,
-        b"FAULT F5 frame 0 pc 0154 bank 000\n",
+        b"FAULT F5 frame 0 pc 0157 bank 000\n",
     ),
     // LD HL,4000; JP (HL) in bank 1 of a cartridge whose rest is 00: 16,384 NOPs lead from 4000 into video RAM, in the first frame of 17,556 M-cycles.
     (

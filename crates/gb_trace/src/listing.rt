@@ -94,7 +94,7 @@ fn repeats(calls: &[OpenCall]) -> usize {
     let mut count = 0;
     for (place, call) in calls.iter().rev().enumerate() {
         match calls.last() {
-            Some(last) if last.is_like(call) => count = place + 1,
+            Some(last) if last.is_like(call) => count = place.saturating_add(1),
             _ => return count,
         }
     }

@@ -21,7 +21,7 @@ watched_file file parsed script frames region s new told before after h cartridg
       cartridge = cartridge;
       new = new;
       written = subst (λ (x : ConsoleState). IsWrittenWatch region script frames x told new before after) same written;
-      verified = λ v. verified (subst (λ (r : List ℕ). IsVerifiedFor r region) (ap rom_of (sym same)) v);
+      verified = λ v. verified (subst (λ (x : ConsoleState). IsVerifiedFor (rom_of x) region) (sym same) v);
     }
 
 pub begun_file : (file parsed script : List ℕ) (frames : ℕ) (region : Region) (s new : ConsoleState) (before after : Option (List ℕ)) → Ok parsed ≡ Header.parsed file

@@ -1,5 +1,5 @@
 -- What the line says, as a run of the machine.
-use Rattle.std.proofs.Common.{◌≡◌, ℕ, refl, sym, ◌∙◌, ap}
+use Rattle.std.proofs.Common.{◌≡◌, ℕ, sym, ◌∙◌, ap, [], ◌∷◌, ◌++◌}
 use Rattle.gb_ops.specs.declared.machine.Faults.{Faults}
 use Rattle.gb_ops.specs.declared.machine.CodePlace.{CodePlace}
 use Rattle.gb_ops.specs.declared.machine.Region.{Region}
@@ -38,7 +38,7 @@ fault_played region keys seconds frames old number s new c =
     record {
       events = p.0;
       fault = p.1;
-      text = λ pc. ap (λ (f : Faults). fault_text f number s.place) (sym p.1.faults) ∙ ap (λ (a : CodePlace). fault_text _ number a) place;
+      text = λ pc. ap (λ (f : Faults). fault_text f number s.place) (sym p.1.faults) ∙ ap (λ (a : CodePlace). fault_text (play (rom_of old) region (machine_of old) (p.0 ++ s.event ∷ [])).faults number a) place;
     }
 
 pub runs_played : WatchedRunsArePlayed

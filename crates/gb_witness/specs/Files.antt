@@ -4,7 +4,7 @@ use Rattle.gb_ops.specs.declared.machine.Region.{Region}
 use Rattle.gb_text.specs.Sink.{Gains}
 use Rattle.gb_text.specs.Below.gb_header.Header.{IsCartridge, IsLowestFault}
 use Rattle.gb_text.specs.Cartridge.{cartridge_text}
-use Rattle.gb_printed.specs.Below.gb_console.Console.{ConsoleState, at_power_up}
+use Rattle.gb_printed.specs.Below.gb_console.Console.{ConsoleState, at_power_up, rom_of}
 use Rattle.gb_printed.specs.Below.gb_console.declared.frame.Ending.TheVariants as ending
 use Rattle.gb_printed.specs.Below.gb_watch.Verified.{IsVerifiedFor}
 use Rattle.gb_printed.specs.Below.gb_watch.declared.sighting.Watched.TheVariants as watched
@@ -15,12 +15,12 @@ use Rattle.gb_witness.specs.declared.files.WatchOutcome.TheVariants as outcome
 use Rattle.gb_witness.specs.declared.witness.WatchedRun.{WatchedRun}
 
 -- a cartridge, and a watched run of its console from power-up, whose line was written; it is whole where some certificate with the
--- region is right for the cartridge
+-- region is right for the cartridge in the console
 pub record IsWatchedFile (file script : List ℕ) (frames : ℕ) (region : Region) (told : WatchedRun) (before after : Option (List ℕ)) : Type 0 where
   pub cartridge : IsCartridge file
   pub new : ConsoleState
   pub written : IsWrittenWatch region script frames (at_power_up file) told new before after
-  pub verified : IsVerifiedFor file region → told.watched ≡ watched.Ended ending.Whole
+  pub verified : IsVerifiedFor (rom_of (at_power_up file)) region → told.watched ≡ watched.Ended ending.Whole
 
 -- the same, and a beginning of its line
 pub record IsBegunWatchedFile (file script : List ℕ) (frames : ℕ) (region : Region) (before after : Option (List ℕ)) : Type 0 where

@@ -1,11 +1,12 @@
 -- A script that is watched, and the line that says how it went (own).
-use Rattle.std.specs.Prelude.{◌≡◌, ℕ, List, ◌++◌, codes, decimal, Option}
+use Rattle.std.specs.Prelude.{ℕ, Bool, true, false, List, ◌++◌, codes, decimal, Option}
 use Rattle.gb_ops.specs.declared.machine.Faults.{Faults}
 use Rattle.gb_ops.specs.declared.machine.Region.{Region}
 use Rattle.gb_ops.specs.declared.machine.CodePlace.{CodePlace}
 use Rattle.gb_text.specs.Sink.{Gains}
 use Rattle.gb_text.specs.Text.{line_feed, hex_word, GainsBeginning}
 use Rattle.gb_printed.specs.Below.gb_console.Console.{ConsoleState}
+use Rattle.gb_printed.specs.Below.gb_console.declared.frame.Ending.TheVariants as ending
 use Rattle.gb_printed.specs.Below.gb_watch.Watch.{IsWatchedRun}
 use Rattle.gb_printed.specs.Below.gb_watch.declared.sighting.Watched.{Watched}
 use Rattle.gb_printed.specs.Below.gb_watch.declared.sighting.Watched.TheVariants as watched
@@ -24,6 +25,11 @@ fault_text faults frame place =
 abbrev pub watched_text : Watched → ℕ → ℕ → List ℕ
 watched_text (watched.Ended end) number pc = ending_text end number pc
 watched_text (watched.Faulted s) number pc = fault_text s.faults number s.place
+
+-- a frame was whole and without a fault
+abbrev pub is_whole : Watched → Bool
+is_whole (watched.Ended ending.Whole) = true
+is_whole _ = false
 
 -- the frames of a script, watched for the faults of a stack region
 abbrev pub IsWatchedScript : Region → List ℕ → ℕ → ConsoleState → WatchedRun → ConsoleState → Type 0

@@ -5,7 +5,7 @@ ghost use Rattle.gb_printed.specs.Below.gb_console.Console.{rom_of};
 ghost use Rattle.gb_printed.specs.Below.gb_console.declared.frame.Ending.TheVariants as ending;
 ghost use Rattle.gb_printed.specs.Below.gb_watch.Verified.{IsVerifiedFor};
 ghost use Rattle.gb_printed.specs.Below.gb_watch.declared.sighting.Watched.TheVariants as watched;
-ghost use Rattle.gb_witness.specs.Witness.{fault_text, watched_text, IsWatchedScript, IsWrittenWatch, IsBegunWatch};
+ghost use Rattle.gb_witness.specs.Witness.{fault_text, watched_text, is_whole, IsWatchedScript, IsWrittenWatch, IsBegunWatch};
 
 use crate::fault::lowest_fault;
 use gb_ops::machine::{CodePlace, Faults, Region};
@@ -51,8 +51,15 @@ pub fn watch_line(run: WatchedRun, pc: u16) -> Line
     }
 }
 
+/// Whether a frame was whole and without a fault.
+fn is_whole(watched: Watched) -> bool
+    ensures { result ≡ is_whole watched }
+{
+    matches!(watched, Watched::Ended(Ending::Whole))
+}
+
 /// Plays frames by a script, up to the first that isn't whole or has a fault.
-#[tactic(auto, using(crate::proofs::Watching::watches_none, crate::proofs::Watching::watches_more, crate::proofs::Watching::same_verified))]
+#[tactic(auto, using(crate::proofs::Watching::watches_none, crate::proofs::Watching::watches_more, crate::proofs::Watching::cut_is_run, crate::proofs::Watching::same_verified))]
 fn watch_frames<P: Progress>(
     console: &mut Console<'_>,
     script: &[u8],
@@ -66,11 +73,8 @@ fn watch_frames<P: Progress>(
     for number in 0..frames {
         progress.frame(number, frames);
         let watched = watch_frame(console, keys_at(script, number), seconds_of(number), region);
-        match watched {
-            Watched::Ended(Ending::Whole) => {}
-            Watched::Ended(Ending::Locked | Ending::Stopped) | Watched::Faulted(_) => {
-                return WatchedRun { watched, number };
-            }
+        if !is_whole(watched) {
+            return WatchedRun { watched, number };
         }
     }
     WatchedRun {
