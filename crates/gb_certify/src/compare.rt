@@ -1,11 +1,11 @@
 //! An older certificate, and what a new one changed since then.
 
-use crate::files::read_symbols;
-use crate::messages::{PROGRAM, tell_symbols};
+use crate::messages::PROGRAM;
 use crate::perform::work;
 use crate::words::{CertifyTask, OlderBuild};
 use gb_command_line::messages::{FileNames, tell_output, verify};
 use gb_command_line::status::Status;
+use gb_command_line::symbols::{read_symbols, tell_symbols};
 use gb_command_line::{Cert, Rom, Trouble, read_cartridge, read_certificate};
 use gb_page::{Changes, Older, changes_json};
 use gb_refine::Symbols;
@@ -40,7 +40,7 @@ pub fn read_before<R: Eprint + Input + Files + AllocGlobal>(
     Ok(OldFiles {
         cert: read_certificate(rt, PROGRAM, before.cert)?,
         rom: read_rom(rt, before.rom)?,
-        symbols: read_symbols(rt, before.symbols)?,
+        symbols: read_symbols(rt, PROGRAM, before.symbols)?,
     })
 }
 
@@ -135,7 +135,7 @@ pub fn work_with_older<R: Print + Eprint + Input + Files + AllocGlobal>(
             work_with_files(rt, task, bytes, symbols, files, &cert, Some(&old), is_shown)
         }
         (Ok(_), None) => work_with_files(rt, task, bytes, symbols, files, &cert, None, is_shown),
-        (Err(fault), Some(name)) => tell_symbols(rt, name, fault),
+        (Err(fault), Some(name)) => tell_symbols(rt, PROGRAM, name, fault),
         (Err(_), None) => Err(Trouble::Memory),
     }
 }

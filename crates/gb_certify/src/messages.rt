@@ -22,13 +22,3 @@ pub fn tell_written<R: Eprint>(rt: &R, name: &str, error: &io::Error) {
         _ => eprintln!(rt; "certify: {name}: {error}"),
     };
 }
-
-/// Says what is wrong with a file of symbols or of lines.
-pub fn tell_symbols<R: Eprint>(rt: &R, name: &str, fault: SymbolFault) -> Result<Status, Trouble> {
-    let shown = shown_name(name);
-    let _ = eprintln!(rt; "certify: {shown}: {fault}");
-    match fault.kind {
-        SymbolFaultKind::Memory => Err(Trouble::Memory),
-        _ => Ok(Status::Unreadable),
-    }
-}

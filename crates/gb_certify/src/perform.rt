@@ -1,14 +1,14 @@
 //! What becomes of the words.
 
 use crate::compare::{read_before, work_with_older};
-use crate::files::read_symbols;
 use crate::making::make_file;
-use crate::messages::{PROGRAM, tell_symbols};
+use crate::messages::PROGRAM;
 use crate::reading::{explain_file, list_file};
 use crate::report::report_file;
 use crate::words::{CertifyTask, Work, read_words};
 use gb_command_line::messages::tell_memory;
 use gb_command_line::status::Status;
+use gb_command_line::symbols::{read_symbols, tell_symbols};
 use gb_command_line::words::{explain, tell_words, words_of};
 use gb_command_line::{Trouble, is_input, read_cartridge};
 use gb_page::Older;
@@ -121,8 +121,8 @@ fn perform<R: Print + Eprint + Input + Files + AllocGlobal>(
         return Ok(tell_words(rt, text));
     }
     let bytes = read_cartridge(rt, PROGRAM, task.rom)?;
-    let text = read_symbols(rt, task.symbols)?;
-    let lines = read_symbols(rt, task.lines)?;
+    let text = read_symbols(rt, PROGRAM, task.symbols)?;
+    let lines = read_symbols(rt, PROGRAM, task.lines)?;
     let mut symbols = match Symbols::parse(rt.alloc(), &text) {
         Ok(symbols) => symbols,
         Err(fault) => return tell_fault(rt, task.symbols, fault),
@@ -146,7 +146,7 @@ fn tell_fault<R: Eprint>(
     fault: SymbolFault,
 ) -> Result<Status, Trouble> {
     match name {
-        Some(name) => tell_symbols(rt, name, fault),
+        Some(name) => tell_symbols(rt, PROGRAM, name, fault),
         None => Err(Trouble::Memory),
     }
 }

@@ -1,6 +1,6 @@
 -- What a program ends with after a verdict.
-use Rattle.gb_verify.specs.declared.verify.Outcome.{Outcome}
-use Rattle.gb_verify.specs.declared.verify.Outcome.TheVariants as outcome
+use Rattle.gb_explain.specs.Below.gb_verify.declared.verify.Outcome.{Outcome}
+use Rattle.gb_explain.specs.Below.gb_verify.declared.verify.Outcome.TheVariants as outcome
 use Rattle.gb_command_line.specs.declared.status.Status.{Status}
 use Rattle.gb_command_line.specs.declared.status.Status.TheVariants as status
 

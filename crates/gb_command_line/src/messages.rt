@@ -5,9 +5,8 @@ ghost use Rattle.gb_command_line.specs.declared.status.Status.TheVariants as sta
 
 use crate::status::{Status, verify_status};
 use gb_cert_place::place::{Sought, fault_place};
+use gb_explain::{HeaderFault, Outcome, Plain, Rom, verify_bytes};
 use gb_files::{Trouble, shown_name};
-use gb_verify::verify::{Outcome, verify_bytes};
-use gb_verify::{HeaderFault, Plain, Rom};
 use std::io;
 
 /// The names of the cartridge's and of the certificate's file, in messages.

@@ -4,8 +4,8 @@ ghost use Rattle.std.specs.Prelude.{◌≡◌};
 ghost use Rattle.gb_command_line.specs.Status.{verify_status};
 
 use crate::messages::complain;
+use gb_explain::Outcome;
 use gb_files::Trouble;
-use gb_verify::verify::Outcome;
 use std::process::ExitCode;
 
 /// The statuses that a program ends with.

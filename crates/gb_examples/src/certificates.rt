@@ -1,14 +1,14 @@
 //! What is written of certificates: their lines, and their bytes in version 2.
 
 use gb_cert::{Cert, CertFault};
-use gb_printed::{
-    Outcome, UpgradeTo, Upgraded, show_bytes, show_cert, upgrade_bytes, verify_bytes,
-};
 use gb_samples::cartridges::{PLAIN, put, small};
 use gb_samples::certificates::{least, least_in_version_2, least_in_version_3, two_procedures};
 use gb_samples::programs::LOOP;
 use gb_text::kept_bytes::KeptBytes;
 use gb_text::sink::{OutFault, Sink};
+use gb_witness::{
+    Outcome, UpgradeTo, Upgraded, show_bytes, show_cert, upgrade_bytes, verify_bytes,
+};
 use std::alloc::Global;
 use std::test::Fail;
 

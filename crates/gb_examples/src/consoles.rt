@@ -2,11 +2,11 @@
 
 use bitflags::Flags;
 use gb_ops::machine::Event;
-use gb_printed::{Console, Ending};
 use gb_samples::cartridges::{PLAIN, put, small};
 use gb_samples::programs::{LOCKS_AT_A, WAITS};
 use gb_text::Rom;
 use gb_timer::irqs::Keys;
+use gb_witness::{Console, Ending};
 use std::alloc::Global;
 use std::process::Abort;
 use std::test::Fail;

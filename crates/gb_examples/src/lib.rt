@@ -2,7 +2,7 @@
 //! what no contract says (text, want of memory, failing sinks), and each public call once. The functions here promise
 //! nothing but to be safe.
 //!
-//! Read processors.rt and consoles.rt first, then scripts.rt, texts.rt, certificates.rt and words.rt.
+//! Read processors.rt and consoles.rt first, then scripts.rt, watching.rt, texts.rt, certificates.rt and words.rt.
 #![tactic(auto)]
 
 #[cfg(test)]
@@ -15,5 +15,7 @@ mod processors;
 mod scripts;
 #[cfg(test)]
 mod texts;
+#[cfg(test)]
+mod watching;
 #[cfg(test)]
 mod words;

@@ -2,12 +2,12 @@
 
 ghost use Rattle.std.specs.Prelude.{◌≡◌, false};
 
-use gb_printed::{Console, Ending, Progress, RunOutcome, run_bytes, run_script, run_script_shown};
 use gb_samples::cartridges::{PLAIN, put, small};
 use gb_samples::programs::{DRAWS, LOCKS_AT_A, LOOP, OBJECTS, WAITS, WAITS_A_SECOND, tiles};
 use gb_text::kept_bytes::KeptBytes;
 use gb_text::sink::OutFault;
 use gb_text::{HeaderFault, Rom};
+use gb_witness::{Console, Ending, Progress, RunOutcome, run_bytes, run_script, run_script_shown};
 use std::alloc::{AllocError, Global};
 use std::test::Fail;
 

@@ -1,6 +1,5 @@
 //! Sinks, and the lines that are written of headers.
 
-use gb_printed::{header_bytes, header_line};
 use gb_samples::cartridges::{PLAIN, Sizes, file, put, small};
 use gb_samples::programs::LOOP;
 use gb_samples::streams::FailingWriter;
@@ -8,6 +7,7 @@ use gb_text::kept_bytes::KeptBytes;
 use gb_text::put::put_all;
 use gb_text::sink::{OutFault, Plain, Sink};
 use gb_text::{HeaderFault, Rom};
+use gb_witness::{header_bytes, header_line};
 use std::test::Fail;
 
 #[test]

@@ -1,7 +1,7 @@
 //! The program's words.
 
 use clap::error::ErrorKind;
-use gb_words::{TargetVersion, Task, read_words};
+use gb_words::{TargetVersion, Task, WatchOptions, read_words};
 use std::alloc::Global;
 
 const VERIFY: Task<'static> = Task::Verify {
@@ -14,8 +14,29 @@ const DASHES: Task<'static> = Task::Verify {
     cert: "--",
 };
 
+/// The task of watching the cartridge A.
+const fn watched(
+    script: &'static str,
+    frames: u32,
+    stack: Option<&'static str>,
+    cert: Option<&'static str>,
+    symbols: Option<&'static str>,
+) -> Task<'static> {
+    let options = WatchOptions {
+        stack,
+        cert,
+        symbols,
+    };
+    Task::Watch {
+        rom: "A",
+        script,
+        frames,
+        options,
+    }
+}
+
 /// Words, and the task that they stand for.
-const TASKS: [(&[&str], Task<'static>); 14] = [
+const TASKS: [(&[&str], Task<'static>); 18] = [
     (&[], Task::Stored),
     (&["verify", "A", "B"], VERIFY),
     (&["verify", "--", "-a", "--"], DASHES),
@@ -90,6 +111,33 @@ const TASKS: [(&[&str], Task<'static>); 14] = [
             frames: 0,
         },
     ),
+    (
+        &["watch", "A", "-", "60"],
+        watched("-", 60, None, None, None),
+    ),
+    (
+        &["watch", "--", "A", "B", "+7"],
+        watched("B", 7, None, None, None),
+    ),
+    (
+        &["watch", "A", "B", "36000", "--sym", "S"],
+        watched("B", 36_000, None, None, Some("S")),
+    ),
+    (
+        &[
+            "watch",
+            "A",
+            "B",
+            "1",
+            "--sym",
+            "--cert",
+            "--stack",
+            "D000..DFFF",
+            "--cert",
+            "-",
+        ],
+        watched("B", 1, Some("D000..DFFF"), Some("-"), Some("--cert")),
+    ),
 ];
 
 /// Whether words stand for this task.
@@ -108,7 +156,7 @@ fn reads_each_task(rt: HostRuntime) {
 }
 
 /// Words that stand for no task, and the kind of the error.
-const OTHERS: [(&[&str], ErrorKind); 24] = [
+const OTHERS: [(&[&str], ErrorKind); 30] = [
     (&["verify", "A"], ErrorKind::MissingRequiredArgument),
     (&["turn"], ErrorKind::InvalidSubcommand),
     (&["verify", "A", "B", "C"], ErrorKind::UnknownArgument),
@@ -133,6 +181,21 @@ const OTHERS: [(&[&str], ErrorKind); 24] = [
     (&["run", "--", "A", "B", "-1"], ErrorKind::ValueValidation),
     (&["run", "A", "B", ""], ErrorKind::ValueValidation),
     (&["run", "A", "B", "1", "2"], ErrorKind::UnknownArgument),
+    (&["watch", "A", "B"], ErrorKind::MissingRequiredArgument),
+    (&["watch", "A", "B", "36001"], ErrorKind::ValueValidation),
+    (
+        &["watch", "A", "B", "1", "--stack"],
+        ErrorKind::UnknownArgument,
+    ),
+    (
+        &["watch", "A", "B", "1", "--seed", "1"],
+        ErrorKind::UnknownArgument,
+    ),
+    (
+        &["watch", "A", "B", "1", "--sym", "S", "--sym", "S"],
+        ErrorKind::UnknownArgument,
+    ),
+    (&["watch", "--help"], ErrorKind::DisplayHelp),
 ];
 
 /// Whether words are refused with an error of this kind.

@@ -4,7 +4,7 @@ use crate::calls::{entered_at, inlined_gaps, range_gaps};
 use crate::covering::back_gaps;
 use crate::depth::{called_too_deep, held_too_deep};
 use crate::gap::{After, GapKind, Gaps, GoesOn, TooDeep};
-use crate::vectors::{INTERRUPTS, vector_of};
+use gb_spelling::{INTERRUPTS, vector_of};
 use gb_verify::{
     Abs, Cert, NodeRef, Reason, Rules, Setting, left_by_dispatch, may_come, setting_of,
 };

@@ -4,7 +4,7 @@
 //! Read `refusal`, then `explanation`, and `gaps`, which finds what the certificate lacks, with `depth`, `covering`, `calls`,
 //! `returns` and `interrupts`; `differences` has the parts of a state that another state doesn't cover. `advice` has the texts of
 //! all findings, those of gb_reports too, `reasons` which of them each reason gets, `told`, `difference` and `together` the
-//! texts of gaps, and `vectors` the addresses and names of interrupts. Of the texts nothing is promised but by tests.
+//! texts of gaps. Of the texts nothing is promised but by tests.
 #![tactic(auto)]
 
 pub mod advice;
@@ -23,7 +23,6 @@ mod refusal;
 mod returns;
 mod together;
 mod told;
-mod vectors;
 
 pub use advice::Advice;
 pub use code::Code;
@@ -34,4 +33,11 @@ pub use gap::{
     After, Amount, Claim, Gap, GapKind, Gaps, GoesOn, TooDeep, Uncallable, Uncovered, Unreturnable,
 };
 pub use refusal::explain;
-pub use vectors::{AFTER_VECTORS, INTERRUPTS, PADDING, interrupt_at, interrupt_name, vector_of};
+
+// What lies below, for the crates above.
+pub use gb_spelling::{
+    AFTER_VECTORS, INTERRUPTS, PADDING, interrupt_at, interrupt_name, vector_of,
+};
+pub use gb_verify::upgrade::{UpgradeTo, Upgraded, upgrade_bytes};
+pub use gb_verify::verify::{Outcome, verify_bytes};
+pub use gb_verify::{HeaderFault, Plain, Rom};

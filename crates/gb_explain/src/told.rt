@@ -4,8 +4,8 @@ use crate::difference::KnownPart;
 use crate::gap::{
     After, Amount, Claim, Gap, GapKind, Gaps, GoesOn, TooDeep, Uncallable, Uncovered, Unreturnable,
 };
-use crate::vectors::interrupt_name;
 use crate::{Differences, StateDifference};
+use gb_spelling::interrupt_name;
 use gb_verify::Halves;
 use std::fmt;
 

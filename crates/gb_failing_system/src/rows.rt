@@ -196,6 +196,30 @@ pub(crate) const RUN: Scenario = Scenario {
     ..VERIFY
 };
 
+/// The same, watched.
+pub(crate) const WATCH: Scenario = Scenario {
+    about: "watch with a script without an end",
+    words: &[b"gulmyrek", b"watch", b"game.gb", b"game.keys", b"2"],
+    written: ExpectedOutput::Text("WHOLE frames 2\n"),
+    ..RUN
+};
+
+/// The same for the stack of a certificate.
+const WATCH_CERTIFIED: Scenario = Scenario {
+    about: "watch with a certificate's stack",
+    words: &[
+        b"gulmyrek",
+        b"watch",
+        b"game.gb",
+        b"game.keys",
+        b"2",
+        b"--cert",
+        b"game.cert",
+    ],
+    cert: CERTIFICATE,
+    ..WATCH
+};
+
 pub(crate) const VERIFY_INPUT: Scenario = Scenario {
     about: "a cartridge on standard input, a byte with each read",
     words: &[b"gulmyrek", b"verify", b"-", b"game.cert"],
@@ -354,6 +378,8 @@ pub const READ: &[Scenario] = &[
     SHOW,
     UPGRADE,
     RUN,
+    WATCH,
+    WATCH_CERTIFIED,
     Scenario {
         about: "a byte with each read",
         game: Given::Read(Content::Cartridge, ALL, Pace::Slow, StreamEnding::End),
@@ -415,6 +441,74 @@ pub const FAULTY: &[Scenario] = &[
         written: ExpectedOutput::Screen("LOCKED frame 0 pc 0150\n"),
         status: 1,
         ..RUN
+    },
+    Scenario {
+        about: "a watched run with a fault",
+        game: UNDEFINED,
+        written: ExpectedOutput::Text("FAULT F1 frame 0 pc 0150 bank 000\n"),
+        status: 1,
+        told: "opcode $D3 doesn't exist",
+        ..WATCH
+    },
+    Scenario {
+        about: "a stack to be watched that isn't RAM; no file is opened",
+        words: &[
+            b"gulmyrek",
+            b"watch",
+            b"game.gb",
+            b"game.keys",
+            b"2",
+            b"--stack",
+            b"7FFE..7FFF",
+        ],
+        game: MISSING,
+        keys: MISSING,
+        written: NOTHING,
+        status: 2,
+        told: "--stack needs",
+        ..WATCH
+    },
+    Scenario {
+        about: "watch with a certificate that has a byte left over",
+        cert: Given::Read(Content::Longer, ALL, Pace::Whole, StreamEnding::End),
+        written: ExpectedOutput::Text("CERTIFICATE C8\n"),
+        status: 2,
+        told: "game.cert",
+        ..WATCH_CERTIFIED
+    },
+    Scenario {
+        about: "watch with symbols that are no text",
+        words: &[
+            b"gulmyrek",
+            b"watch",
+            b"game.gb",
+            b"-",
+            b"2",
+            b"--sym",
+            b"game.keys",
+        ],
+        keys: Given::Read(Content::Garbage, ALL, Pace::Whole, StreamEnding::End),
+        input: EMPTY,
+        written: NOTHING,
+        status: 2,
+        told: "it isn't text",
+        ..WATCH
+    },
+    Scenario {
+        about: "watch with a script and symbols on standard input",
+        words: &[
+            b"gulmyrek",
+            b"watch",
+            b"game.gb",
+            b"-",
+            b"2",
+            b"--sym",
+            b"-",
+        ],
+        written: NOTHING,
+        status: 2,
+        told: "standard input",
+        ..WATCH
     },
     Scenario {
         about: "no cartridge",

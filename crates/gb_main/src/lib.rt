@@ -46,16 +46,20 @@ pub use gb_mbc::{Clock, ClockRegister, Controller, Flat, Mapper, Mbc1, Mbc3, Mbc
 pub use gb_ppu::lanes::{shades, tile_row};
 pub use gb_ppu::line::render_line;
 pub use gb_ppu::{LcdRegister, Mode, Ppu, Scene};
-pub use gb_printed::{Console, Ending, Input, Keys, steps_are_played};
 pub use gb_timer::{Joypad, Timer};
-pub use gb_watch::{Sighting, Watched, watch_frame};
+pub use gb_trace::{
+    Console, Ending, FaultKind, FaultyRun, FoundStack, Input, Keys, Sighting, SymbolFault, Symbols,
+    Trace, WatchOutcome, Watched, WatchedRun, find_stack, keys_at, lowest_fault, seconds_of,
+    steps_are_played, trace, watch_bytes, watch_frame, watch_line, watch_script,
+    watch_script_shown, watched_runs_are_played,
+};
 
 // Certificates.
 pub use gb_cert::{
     Cert, CertFault, Found, NodePlan, NodeRef, ProcedurePlan, ProcedureRef, Search, WriteFault,
     encode, one_spelling, write_certificate,
 };
-pub use gb_printed::{
+pub use gb_trace::{
     Abs, Cell, Core, Ctl, Flg, ImeSet, May, OneByte, Origin, Range, Relations, Rules, Setting,
     Span, Test, Val,
 };
@@ -65,10 +69,10 @@ pub use gb_abs_memory::load::load;
 pub use gb_abs_memory::store::store;
 pub use gb_abs_memory::{Area, Stored};
 pub use gb_calls::{Resumed, Return};
-pub use gb_printed::{
+pub use gb_rows::{Rows, find_in, first_near, found_from};
+pub use gb_trace::{
     Reason, callee, check_irqs, check_node, covered_at, covers, enter, resume, successors_of,
 };
-pub use gb_rows::{Rows, find_in, first_near, found_from};
 pub use gb_vals::AbsComputed;
 pub use gb_vals::alu::{alu, alu_itself};
 pub use gb_vals::bits::{reset_bit, set_bit, test_bit};
@@ -79,9 +83,9 @@ pub use gb_vals::shifts::{rotate_a, shift};
 pub use gb_vals::sums::{decrement, increment};
 
 // The verdict, and texts.
-pub use gb_printed::{
-    Answer, Outcome, Progress, RunOutcome, UpgradeTo, Upgraded, Verdict, check, header_bytes,
-    header_line, run_bytes, run_script, run_script_shown, show_bytes, show_cert, upgrade_bytes,
-    verdict_ignores_version, verify_bytes,
+pub use gb_trace::{
+    Answer, Outcome, Progress, RunOutcome, UpgradeTo, Upgraded, Verdict, check, ending_line,
+    header_bytes, header_line, run_bytes, run_script, run_script_shown, show_bytes, show_cert,
+    upgrade_bytes, verdict_ignores_version, verify_bytes,
 };
-pub use gb_words::{TargetVersion, Task, read_words};
+pub use gb_words::{TargetVersion, Task, WatchOption, WatchOptions, read_words};

@@ -3,8 +3,8 @@ use Rattle.std.proofs.Common.{◌≡◌, ℕ, List, Option, Some, None, Ok, Err,
 use Rattle.gb_text.specs.Below.gb_header.declared.fault.HeaderFault.{HeaderFault}
 use Rattle.gb_text.specs.Below.gb_header.Header.{IsCartridge, IsLowestFault, fault_of, taken_or}
 use Rattle.gb_text.specs.Below.gb_header.Header as Header
-use Rattle.gb_console.specs.declared.frame.Ending.{Ending}
-use Rattle.gb_console.specs.Console.{ConsoleState, at_power_up}
+use Rattle.gb_watch.specs.Below.gb_console.declared.frame.Ending.{Ending}
+use Rattle.gb_watch.specs.Below.gb_console.Console.{ConsoleState, at_power_up}
 use Rattle.gb_printed.specs.HeaderLine.{header_text}
 use Rattle.gb_printed.specs.Script.{IsWrittenRun, IsBegunRun}
 use Rattle.gb_text.specs.Cartridge.{cartridge_text}
@@ -18,7 +18,7 @@ taken_fault : (o : Option HeaderFault) (file : List ℕ) (f : HeaderFault) → E
 taken_fault None file f h = cc
 taken_fault (Some g) file f h = cc
 
-parsed_same : (file parsed : List ℕ) → Ok parsed ≡ Header.parsed file → (parsed ≡ file) × (None ≡ fault_of file)
+pub parsed_same : (file parsed : List ℕ) → Ok parsed ≡ Header.parsed file → (parsed ≡ file) × (None ≡ fault_of file)
 unfolding Header.parsed
 parsed_same file parsed h = taken_same (fault_of file) file parsed h
 

@@ -3,3 +3,4 @@ pub mod Packing
 pub mod Playing
 pub mod Files
 pub mod ShowLaws
+pub mod Below

@@ -1,7 +1,7 @@
 -- Frames one after another.
 use Rattle.std.proofs.Common.{ℕ, ◌+◌, List, add-one, refl}
-use Rattle.gb_console.specs.Console.{ConsoleState}
-use Rattle.gb_console.specs.declared.frame.Ending.TheVariants as ending
+use Rattle.gb_watch.specs.Below.gb_console.Console.{ConsoleState}
+use Rattle.gb_watch.specs.Below.gb_console.declared.frame.Ending.TheVariants as ending
 use Rattle.gb_printed.specs.Script.{Plays, IsFrameAt}
 
 -- no frame

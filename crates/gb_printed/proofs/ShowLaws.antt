@@ -3,18 +3,18 @@ use Rattle.std.proofs.Common.{◌≡◌, ℕ, ◌+◌, ◌<◌, ◌≤◌, List,
 use Rattle.std.proofs.lemmas.Fmt.{length-decimal-le}
 use Rattle.std.proofs.lemmas.List.{drop_more, drop_all}
 use Rattle.std.proofs.lemmas.Option.{slice_get_within, get_or_from_slice_get}
-use Rattle.gb_console.specs.Below.gb_fields.declared.fault.CertFault.{CertFault}
-use Rattle.gb_console.specs.Below.gb_fields.declared.fault.CertFault.TheVariants as fault
-use Rattle.gb_console.specs.Below.gb_domain.declared.rules.Rules.{Rules}
-use Rattle.gb_console.specs.Below.gb_domain.Types.{ProcedureParts, Node}
-use Rattle.gb_console.specs.Below.gb_domain.Certificate.{Certificate}
-use Rattle.gb_console.specs.Below.gb_states.Reading.{read_certificate}
+use Rattle.gb_watch.specs.Below.gb_console.Below.gb_fields.declared.fault.CertFault.{CertFault}
+use Rattle.gb_watch.specs.Below.gb_console.Below.gb_fields.declared.fault.CertFault.TheVariants as fault
+use Rattle.gb_watch.specs.Below.gb_console.Below.gb_domain.declared.rules.Rules.{Rules}
+use Rattle.gb_watch.specs.Below.gb_console.Below.gb_domain.Types.{ProcedureParts, Node}
+use Rattle.gb_watch.specs.Below.gb_console.Below.gb_domain.Certificate.{Certificate}
+use Rattle.gb_watch.specs.Below.gb_console.Below.gb_states.Reading.{read_certificate}
 use Rattle.gb_text.specs.Sink.{Gains}
 use Rattle.gb_text.specs.Text.{GainsBeginning}
 use Rattle.gb_text.proofs.Remaining.{Remains, remains_less, remains_cut, remains_none}
-use Rattle.gb_console.specs.Below.gb_verify.Text.{certificate_text}
-use Rattle.gb_console.specs.Below.gb_verify.CertificateFile.{text_of, HasBeginning}
-use Rattle.gb_console.proofs.Below.gb_verify_laws.FileLaws.{text_of-fault, memory_or_other, certificate_written, certificate_begins}
+use Rattle.gb_watch.specs.Below.gb_verify.Text.{certificate_text}
+use Rattle.gb_watch.specs.Below.gb_verify.CertificateFile.{text_of, HasBeginning}
+use Rattle.gb_watch.proofs.Below.gb_verify_laws.FileLaws.{text_of-fault, memory_or_other, certificate_written, certificate_begins}
 use Rattle.gb_printed.specs.Show.{procedure_text, node_text, numbered, show_text}
 use Rattle.gb_printed.specs.Commands.{written_lines}
 

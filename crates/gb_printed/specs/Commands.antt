@@ -3,16 +3,16 @@ use Rattle.std.specs.Prelude.{◌≡◌, ℕ, List, Option, Some, None, Result, 
 use Rattle.gb_text.specs.Sink.{Gains}
 use Rattle.gb_text.specs.Below.gb_header.declared.fault.HeaderFault.{HeaderFault}
 use Rattle.gb_text.specs.Below.gb_header.Header.{IsCartridge, IsLowestFault, fault_of}
-use Rattle.gb_console.specs.declared.frame.Ending.{Ending}
-use Rattle.gb_console.specs.Console.{ConsoleState, at_power_up}
+use Rattle.gb_watch.specs.Below.gb_console.declared.frame.Ending.{Ending}
+use Rattle.gb_watch.specs.Below.gb_console.Console.{ConsoleState, at_power_up}
 use Rattle.gb_text.specs.Cartridge.{cartridge_text}
 use Rattle.gb_text.specs.Text.{GainsBeginning}
-use Rattle.gb_console.specs.Below.gb_fields.declared.fault.CertFault.{CertFault}
-use Rattle.gb_console.specs.Below.gb_fields.declared.fault.CertFault.TheVariants.{Memory}
-use Rattle.gb_console.specs.Below.gb_domain.Certificate.{Certificate}
-use Rattle.gb_console.specs.Below.gb_states.Reading.{read_certificate}
-use Rattle.gb_console.specs.Below.gb_verify.Text.{memory_line}
-use Rattle.gb_console.specs.Below.gb_verify.CertificateFile.{text_of}
+use Rattle.gb_watch.specs.Below.gb_console.Below.gb_fields.declared.fault.CertFault.{CertFault}
+use Rattle.gb_watch.specs.Below.gb_console.Below.gb_fields.declared.fault.CertFault.TheVariants.{Memory}
+use Rattle.gb_watch.specs.Below.gb_console.Below.gb_domain.Certificate.{Certificate}
+use Rattle.gb_watch.specs.Below.gb_console.Below.gb_states.Reading.{read_certificate}
+use Rattle.gb_watch.specs.Below.gb_verify.Text.{memory_line}
+use Rattle.gb_watch.specs.Below.gb_verify.CertificateFile.{text_of}
 use Rattle.gb_printed.specs.HeaderLine.{header_text}
 use Rattle.gb_printed.specs.Script.{IsWrittenRun, IsBegunRun}
 use Rattle.gb_printed.specs.Show.{show_text}

@@ -1,11 +1,11 @@
 -- A run of a script: whole frames, up to the first that isn't (own).
 use Rattle.std.specs.Prelude.{◌≡◌, ℕ, zero, suc, ◌+◌, ◌%◌, ◌<◌, ◌==◌, if◌then◌else◌, List, ◌++◌, codes, decimal, slice_index, Option}
 use Rattle.gb_text.specs.Sink.{Gains}
-use Rattle.gb_console.specs.Below.gb_timer.declared.irqs.Keys.{Keys}
-use Rattle.gb_console.specs.declared.frame.Ending.{Ending}
-use Rattle.gb_console.specs.declared.frame.Ending.TheVariants as ending
-use Rattle.gb_console.specs.Console.{ConsoleState}
-use Rattle.gb_console.specs.Frame.{IsFrame}
+use Rattle.gb_watch.specs.Below.gb_console.Below.gb_timer.declared.irqs.Keys.{Keys}
+use Rattle.gb_watch.specs.Below.gb_console.declared.frame.Ending.{Ending}
+use Rattle.gb_watch.specs.Below.gb_console.declared.frame.Ending.TheVariants as ending
+use Rattle.gb_watch.specs.Below.gb_console.Console.{ConsoleState}
+use Rattle.gb_watch.specs.Below.gb_console.Frame.{IsFrame}
 use Rattle.gb_text.specs.Text.{line_feed, hex_word, GainsBeginning}
 use Rattle.gb_printed.specs.Screen.{screen_text}
 

@@ -1,10 +1,10 @@
 -- The lines of a certificate (own texts).
 use Rattle.std.specs.Prelude.{ℕ, ◌+◌, ◌/◌, List, [], ◌∷◌, ◌++◌, length, drop, codes, decimal, is_some}
-use Rattle.gb_console.specs.Below.gb_domain.declared.rules.Rules.{Rules}
-use Rattle.gb_console.specs.Below.gb_domain.declared.rules.Rules.TheVariants.{Simple, Extended}
-use Rattle.gb_console.specs.Below.gb_domain.Limits.{rules_of}
-use Rattle.gb_console.specs.Below.gb_domain.Types.{ProcedureParts, Node}
-use Rattle.gb_console.specs.Below.gb_domain.Certificate.{Certificate}
+use Rattle.gb_watch.specs.Below.gb_console.Below.gb_domain.declared.rules.Rules.{Rules}
+use Rattle.gb_watch.specs.Below.gb_console.Below.gb_domain.declared.rules.Rules.TheVariants.{Simple, Extended}
+use Rattle.gb_watch.specs.Below.gb_console.Below.gb_domain.Limits.{rules_of}
+use Rattle.gb_watch.specs.Below.gb_console.Below.gb_domain.Types.{ProcedureParts, Node}
+use Rattle.gb_watch.specs.Below.gb_console.Below.gb_domain.Certificate.{Certificate}
 use Rattle.gb_text.specs.Text.{line_feed, hex_word}
 use Rattle.gb_printed.specs.HeaderLine.{yes_or_no}
 

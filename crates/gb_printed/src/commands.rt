@@ -4,19 +4,19 @@ ghost use Rattle.std.specs.Prelude.{◌≡◌, false, is_err, IfOk, OnOk, OnErr}
 ghost use Rattle.gb_text.specs.Sink.{Gains};
 ghost use Rattle.gb_text.specs.Below.gb_header.Header.{fault_of};
 ghost use Rattle.gb_text.specs.Text.{GainsBeginning};
-ghost use Rattle.gb_console.specs.Below.gb_verify.CertificateFile.{HasBeginning};
+ghost use Rattle.gb_watch.specs.Below.gb_verify.CertificateFile.{HasBeginning};
 ghost use Rattle.gb_printed.specs.Show.{show_text};
 ghost use Rattle.gb_printed.specs.Commands.{file_text, written_lines, IsCertificateFault, IsRunWritten, IsRunBegun};
 
 use crate::header::text_of;
 use crate::script::{Progress, run_script_shown};
 use crate::show::show_cert;
-use gb_console::{Cert, CertFault, Console, Ending, certificate_line};
 use gb_text::cartridge::cartridge_line;
 use gb_text::line::Line;
 use gb_text::put::put_all;
 use gb_text::sink::{OutFault, Sink};
 use gb_text::{HeaderFault, Rom};
+use gb_watch::{Cert, CertFault, Console, Ending, certificate_line};
 use std::alloc::Global;
 
 /// What became of a run.

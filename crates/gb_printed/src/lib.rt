@@ -13,14 +13,17 @@ pub mod show;
 
 pub use commands::{RunOutcome, header_bytes, run_bytes, show_bytes};
 pub use header::header_line;
-pub use script::{Progress, run_script, run_script_shown};
-pub use show::show_cert;
+pub use script::{
+    Progress, Silence, ending_line, keys_at, run_script, run_script_shown, seconds_of,
+};
+pub use show::{push_bank, show_cert};
 
 // What lies below, for the crates above.
-pub use gb_console::run::steps_are_played;
-pub use gb_console::{
-    Abs, Answer, Cell, Console, Core, Ctl, Ending, Flg, ImeSet, Input, Keys, May, OneByte, Origin,
-    Outcome, Range, Reason, Relations, Rules, Setting, Span, Test, UpgradeTo, Upgraded, Val,
-    Verdict, callee, check, check_irqs, check_node, covered_at, covers, enter, resume,
-    successors_of, upgrade_bytes, verdict_ignores_version, verify_bytes,
+pub use gb_watch::{
+    Abs, Answer, Cell, Cert, CertFault, Console, Core, Ctl, Ending, FRAME_CYCLES, Flg, ImeSet,
+    Input, Keys, May, Memory, Met, OneByte, Origin, Outcome, Range, Reason, Relations, Rules,
+    Setting, Sighting, Span, Stepped, Test, UpgradeTo, Upgraded, Val, Verdict, Watched, callee,
+    certificate_line, check, check_irqs, check_node, covered_at, covers, enter, place_now, resume,
+    steps_are_played, successors_of, upgrade_bytes, verdict_ignores_version, verify_bytes,
+    watch_frame, watched_frames_are_played,
 };

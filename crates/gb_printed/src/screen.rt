@@ -5,10 +5,10 @@ ghost use Rattle.gb_text.specs.Sink.{Gains};
 ghost use Rattle.gb_text.specs.Text.{GainsBeginning};
 ghost use Rattle.gb_printed.specs.Screen.{byte_of, packed, line_text, screen_text};
 
-use gb_console::{HEIGHT, WIDTH};
 use gb_text::line::Line;
 use gb_text::put::put_all;
 use gb_text::sink::{OutFault, Sink};
+use gb_watch::{HEIGHT, WIDTH};
 
 /// Four shades in a byte, the leftmost in the high bits.
 fn byte_of(four: &[u8; 4]) -> u8

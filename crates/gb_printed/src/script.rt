@@ -7,10 +7,10 @@ ghost use Rattle.gb_printed.specs.Script.{keys_at, seconds_of, IsRun, ending_tex
 
 use crate::screen::put_screen;
 use bitflags::Flags;
-use gb_console::{Console, Ending, Keys};
 use gb_text::line::Line;
 use gb_text::put::put_all;
 use gb_text::sink::{OutFault, Sink};
+use gb_watch::{Console, Ending, Keys};
 
 /// Hears how far a run has come.
 pub trait Progress {
@@ -23,7 +23,7 @@ pub trait Progress {
 
 /// Hears nothing.
 #[derive(Drop)]
-struct Silence;
+pub struct Silence;
 
 impl Progress for Silence {
     fn frame(&mut self, _number: u32, _frames: u32) {}
@@ -39,7 +39,7 @@ struct ScriptRun {
 }
 
 /// The keys of a frame: a byte of the script, none past its end.
-fn keys_at(script: &[u8], number: u32) -> Keys
+pub fn keys_at(script: &[u8], number: u32) -> Keys
     ensures { result ≡ keys_at script.now number }
 {
     let byte = script.get(number as usize).copied().unwrap_or(0);
@@ -48,7 +48,7 @@ fn keys_at(script: &[u8], number: u32) -> Keys
 
 /// The seconds that pass with a frame: one with each sixtieth.
 #[tactic(auto, unfolding(crate::specs::Script::seconds_of))]
-fn seconds_of(number: u32) -> u32
+pub fn seconds_of(number: u32) -> u32
     ensures { result ≡ seconds_of number }
 {
     u32::from(number % 60 == 59)
@@ -78,18 +78,18 @@ fn run_frames<P: Progress>(
     }
 }
 
-/// The line that says how a run ended.
-fn ending_line(run: ScriptRun, pc: u16) -> Line
-    ensures { result ≡ ending_text run.ending run.number pc }
+/// The line that says how a run ended, with the number of its frames or of the frame that wasn't whole.
+pub fn ending_line(ending: Ending, number: u32, pc: u16) -> Line
+    ensures { result ≡ ending_text ending number pc }
 {
     let mut line = Line::new();
-    line.push_text(match run.ending {
+    line.push_text(match ending {
         Ending::Whole => b"WHOLE frames ",
         Ending::Locked => b"LOCKED frame ",
         Ending::Stopped => b"STOPPED frame ",
     });
-    line.push_number(u64::from(run.number));
-    if run.ending != Ending::Whole {
+    line.push_number(u64::from(number));
+    if ending != Ending::Whole {
         line.push_text(b" pc ");
         line.push_word(pc);
     }
@@ -106,7 +106,8 @@ fn put_run<W: Sink>(console: &Console<'_>, run: ScriptRun, out: &mut W) -> Resul
     ensures failed { W.has_failed out.new ≡ is_err result }
 {
     put_screen(console.screen(), out)?;
-    put_all(out, ending_line(run, console.pc()).as_slice())
+    let line = ending_line(run.ending, run.number, console.pc());
+    put_all(out, line.as_slice())
 }
 
 /// Runs a cartridge for so many frames, or up to the first that isn't whole, and says to `progress` how far it has come.

@@ -6,11 +6,11 @@ ghost use Rattle.gb_text.specs.Text.{GainsBeginning};
 ghost use Rattle.gb_printed.specs.Show.{hex_bank, base_text, told_need, stack_text, procedure_text, node_text, numbered, show_text};
 
 use crate::header::yes_or_no;
-use gb_console::{Cert, NodeRef, ProcedureRef};
 use gb_domain::types::Rules;
 use gb_text::line::Line;
 use gb_text::put::put_all;
 use gb_text::sink::{OutFault, Sink};
+use gb_watch::{Cert, NodeRef, ProcedureRef};
 
 /// Puts a number below 65,536 at a line's end, in at most five digits.
 fn push_small(line: &mut Line, number: u16)
@@ -22,7 +22,7 @@ fn push_small(line: &mut Line, number: u16)
 }
 
 /// Puts a bank at a line's end, in three hexadecimal digits.
-fn push_bank(line: &mut Line, bank: u16)
+pub fn push_bank(line: &mut Line, bank: u16)
     requires { length line.old + 3 ≤ 96 }
     ensures text { line.new ≡ line.old ++ hex_bank bank }
     ensures length { length line.new ≡ length line.old + 3 }

@@ -1,14 +1,18 @@
 -- What the program ends with, by what became of a command.
 use Rattle.std.specs.Prelude.{Option, Some, None, Result, Ok, Err}
 use Rattle.gb_command_line.specs.Below.gb_header.declared.fault.HeaderFault.{HeaderFault}
-use Rattle.gb_printed.specs.Below.gb_console.declared.frame.Ending.{Ending}
-use Rattle.gb_printed.specs.Below.gb_console.declared.frame.Ending.TheVariants as ending
-use Rattle.gb_explain.specs.Below.gb_fields.declared.fault.CertFault.{CertFault}
-use Rattle.gb_explain.specs.Below.gb_fields.declared.fault.CertFault.TheVariants.{Memory}
+use Rattle.gb_trace.specs.Below.gb_console.declared.frame.Ending.{Ending}
+use Rattle.gb_trace.specs.Below.gb_console.declared.frame.Ending.TheVariants as ending
+use Rattle.gb_command_line.specs.Below.gb_fields.declared.fault.CertFault.{CertFault}
+use Rattle.gb_command_line.specs.Below.gb_fields.declared.fault.CertFault.TheVariants.{Memory}
 use Rattle.gb_command_line.specs.Below.gb_verify.declared.upgrade.Upgraded.{Upgraded}
 use Rattle.gb_command_line.specs.Below.gb_verify.declared.upgrade.Upgraded.TheVariants as upgrade
-use Rattle.gb_printed.specs.declared.commands.RunOutcome.{RunOutcome}
-use Rattle.gb_printed.specs.declared.commands.RunOutcome.TheVariants as played
+use Rattle.gb_trace.specs.Below.gb_printed.declared.commands.RunOutcome.{RunOutcome}
+use Rattle.gb_trace.specs.Below.gb_printed.declared.commands.RunOutcome.TheVariants as played
+use Rattle.gb_trace.specs.Below.gb_watch.declared.sighting.Watched.{Watched}
+use Rattle.gb_trace.specs.Below.gb_watch.declared.sighting.Watched.TheVariants as watched
+use Rattle.gb_trace.specs.Below.gb_witness.declared.files.WatchOutcome.{WatchOutcome}
+use Rattle.gb_trace.specs.Below.gb_witness.declared.files.WatchOutcome.TheVariants as watch
 use Rattle.gb_command_line.specs.declared.status.Status.{Status}
 use Rattle.gb_command_line.specs.declared.status.Status.TheVariants as status
 use Rattle.gb_command_line.specs.Below.gb_files.declared.trouble.Trouble.{Trouble}
@@ -40,3 +44,13 @@ abbrev pub run_status : RunOutcome → Result Status Trouble
 run_status (played.Ended end) = Ok (ending_status end)
 run_status (played.NoCartridge fault) = Ok status.Unreadable
 run_status played.NoMemory = Err trouble.Memory
+
+abbrev pub watched_status : Watched → Status
+watched_status (watched.Ended end) = ending_status end
+watched_status (watched.Faulted sighting) = status.Refused
+
+-- where memory ran out, nothing was printed yet
+abbrev pub watch_status : WatchOutcome → Result Status Trouble
+watch_status (watch.Told told) = Ok (watched_status told.watched)
+watch_status (watch.NoCartridge fault) = Ok status.Unreadable
+watch_status watch.NoMemory = Err trouble.Memory

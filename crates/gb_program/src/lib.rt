@@ -12,6 +12,7 @@ mod progress;
 mod status;
 mod stored;
 mod versions;
+mod watching;
 
 use gb_command_line::status::exit_code;
 use perform::start;

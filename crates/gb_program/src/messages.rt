@@ -1,7 +1,6 @@
 //! What the program alone says on standard error.
 
-use gb_command_line::shown_name;
-use gb_explain::explain;
+use gb_command_line::{explain, shown_name};
 
 /// The program's name, in its messages.
 pub const PROGRAM: &str = "gulmyrek";

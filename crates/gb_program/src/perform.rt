@@ -6,6 +6,7 @@ use crate::progress::FramesShown;
 use crate::status::{header_status, run_status, show_status, upgrade_status};
 use crate::stored;
 use crate::versions::upgrade_to;
+use crate::watching::{WatchedFiles, watch};
 use gb_command_line::messages::{
     FileNames, tell_cartridge, tell_fault, tell_memory, tell_output, verify,
 };
@@ -14,7 +15,7 @@ use gb_command_line::words::{explain, tell_words, words_of};
 use gb_command_line::{
     Plain, Trouble, UpgradeTo, read_cartridge, read_certificate, read_file, upgrade_bytes,
 };
-use gb_printed::{RunOutcome, header_bytes, run_bytes, show_bytes};
+use gb_trace::{RunOutcome, header_bytes, run_bytes, show_bytes};
 use gb_words::{Task, read_words};
 use std::io::{self, Input};
 use std::rt::{Env, Files};
@@ -53,7 +54,7 @@ fn header<R: Print + Eprint + Input + Files + AllocGlobal>(
 }
 
 /// Says why a certificate can't be read, or that there isn't enough memory for it.
-fn tell_certificate<R: Eprint + AllocGlobal>(rt: &R, name: &str, bytes: &[u8], status: Status) {
+pub fn tell_certificate<R: Eprint + AllocGlobal>(rt: &R, name: &str, bytes: &[u8], status: Status) {
     match status {
         Status::Unreadable => tell_fault(rt, PROGRAM, name, bytes),
         Status::Failed => tell_memory(rt, PROGRAM, name),
@@ -155,6 +156,20 @@ fn perform<R: Print + Eprint + Input + Files + AllocGlobal>(
             script,
             frames,
         } => run(rt, rom, script, frames, is_shown),
+        Task::Watch {
+            rom,
+            script,
+            frames,
+            options,
+        } => {
+            let files = WatchedFiles {
+                rom,
+                script,
+                frames,
+                options,
+            };
+            watch(rt, &files, is_shown)
+        }
     }
 }
 

@@ -1,6 +1,6 @@
 //! How far a run has come, for whoever waits for it.
 
-use gb_printed::Progress;
+use gb_trace::Progress;
 
 /// The frames from one message to the next.
 const STEP: u32 = 100;

@@ -1,11 +1,11 @@
 //! What the program ends with, by command; after a verdict gb_command_line says it.
 
 ghost use Rattle.std.specs.Prelude.{◌≡◌};
-ghost use Rattle.gb_program.specs.Status.{header_status, show_status, upgrade_status, run_status};
+ghost use Rattle.gb_program.specs.Status.{header_status, show_status, upgrade_status, run_status, watch_status};
 
 use gb_command_line::status::Status;
 use gb_command_line::{CertFault, HeaderFault, Trouble, Upgraded};
-use gb_printed::{Ending, RunOutcome};
+use gb_trace::{Ending, RunOutcome, WatchOutcome, Watched};
 
 /// The status of a header's line, or of the fault in its place.
 pub fn header_status(fault: Option<HeaderFault>) -> Status
@@ -48,5 +48,20 @@ pub fn run_status(outcome: RunOutcome) -> Result<Status, Trouble>
         RunOutcome::Ended(Ending::Locked | Ending::Stopped) => Ok(Status::Refused),
         RunOutcome::NoCartridge(_) => Ok(Status::Unreadable),
         RunOutcome::NoMemory => Err(Trouble::Memory),
+    }
+}
+
+/// The status of a watched run; where there was no room for it nothing was printed yet.
+pub fn watch_status(outcome: WatchOutcome) -> Result<Status, Trouble>
+    ensures { result ≡ watch_status outcome }
+{
+    match outcome {
+        WatchOutcome::Told(run) => Ok(match run.watched {
+            Watched::Ended(Ending::Whole) => Status::Done,
+            Watched::Ended(Ending::Locked | Ending::Stopped) | Watched::Faulted(_) =>
+                Status::Refused,
+        }),
+        WatchOutcome::NoCartridge(_) => Ok(Status::Unreadable),
+        WatchOutcome::NoMemory => Err(Trouble::Memory),
     }
 }

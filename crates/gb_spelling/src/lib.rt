@@ -1,10 +1,12 @@
-//! How instructions are spelled, for whoever reads what a program says.
+//! How instructions are spelled, and what interrupts are called, for whoever reads what a program says.
 //!
 //! A `Spelling` prints an instruction as assemblers write it: `LD ($C000),A`, `JR NZ,$0152`. Read `spelling`, with
-//! `names` beside it. Nothing is promised of the text but by tests.
+//! `names`; `vectors` has the interrupts' names. Nothing is promised of the text but by tests.
 #![tactic(auto)]
 
 mod names;
 mod spelling;
+mod vectors;
 
 pub use spelling::Spelling;
+pub use vectors::{AFTER_VECTORS, INTERRUPTS, PADDING, interrupt_at, interrupt_name, vector_of};

@@ -1,3 +1,4 @@
+pub mod Below
 pub mod Counting
 pub mod Judging
 pub mod Parsing

@@ -16,7 +16,7 @@ use Rattle.gb_console.specs.Run.{IsPlayed}
 use Rattle.gb_console.proofs.Running.{steps_more, steps_played}
 use Rattle.gb_watch.specs.declared.sighting.Sighting.{Sighting}
 use Rattle.gb_watch.specs.Watch.{faults_at, IsFaultyStep, IsFaultlessFrame, GoesFaultless, Watches}
-use Rattle.gb_watch.specs.Played.{IsPlayedWell, IsPlayedFault, FaultlessFramesArePlayed, FaultyFramesArePlayed, FaultyRunsArePlayed}
+use Rattle.gb_watch.specs.Played.{IsPlayedWell, IsPlayedFault, FaultlessFramesArePlayed, FaultyFramesArePlayed, FaultlessRunsArePlayed, CutRunsArePlayed, FaultyRunsArePlayed}
 
 -- ---- faults of either
 
@@ -188,3 +188,11 @@ faulty_runs region keys seconds n old before s new w f =
     let a = frames_well region keys seconds n old before w in
     let c = goes_well region old before a.number (keys n) (seconds n) s.number f.last a.counted f.goes in
     (c.events, step_faulty region old f.last new (a.number + s.number) (keys n) (seconds_at s.number (seconds n)) s c f.meets)
+
+pub faultless_runs : FaultlessRunsArePlayed
+faultless_runs region keys seconds n old new w = let a = frames_well region keys seconds n old new w in (a.counted.events, a.counted.well)
+
+pub cut_runs : CutRunsArePlayed
+cut_runs region keys seconds n old before end new w f =
+    let a = frame_well region old before (keys n) (seconds n) end new (frames_well region keys seconds n old before w) f in
+    (a.counted.events, a.counted.well)

@@ -2,3 +2,4 @@ pub mod Watch
 pub mod Played
 pub mod Ready
 pub mod Verified
+pub mod Below

@@ -40,6 +40,18 @@ FaultyFramesArePlayed =
     (region : Region) (old : ConsoleState) (keys : Keys) (seconds : ℕ) (s : Sighting) (new : ConsoleState) → IsFaultyFrame region old keys seconds s new
     → (events : List Event) × (length events ≡ s.number) × IsPlayedFault region old events s new
 
+-- frames without a fault: none of the events of the whole run has one
+abbrev pub FaultlessRunsArePlayed : Type 0
+FaultlessRunsArePlayed =
+    (region : Region) (keys : ℕ → Keys) (seconds : ℕ → ℕ) (n : ℕ) (old new : ConsoleState) → Watches region keys seconds n old new
+    → (events : List Event) × IsPlayedWell region old events new
+
+-- frames without a fault, and then one that ends without a fault: the same
+abbrev pub CutRunsArePlayed : Type 0
+CutRunsArePlayed =
+    (region : Region) (keys : ℕ → Keys) (seconds : ℕ → ℕ) (n : ℕ) (old before : ConsoleState) (end : Ending) (new : ConsoleState) → Watches region keys seconds n old before
+    → IsFaultlessFrame region before (keys n) (seconds n) end new → (events : List Event) × IsPlayedWell region old events new
+
 -- frames without a fault, and then one that has one: the first event of the whole run with a fault is its
 abbrev pub FaultyRunsArePlayed : Type 0
 FaultyRunsArePlayed =

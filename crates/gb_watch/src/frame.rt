@@ -31,7 +31,7 @@ enum Step {
 
 /// Where the processor is: PC, and the ROM bank shown there.
 #[tactic(auto, unfolding(gb_ops::specs::Faults::code_place))]
-fn place_now(console: &Console<'_>) -> CodePlace
+pub fn place_now(console: &Console<'_>) -> CodePlace
     ensures { result ≡ code_place console.now.contents.view console.now.cpu.processor.pc }
 {
     let address = console.pc();

@@ -17,7 +17,7 @@ use Rattle.clap.proofs.ValueTestLemmas.{Accepts-accepts, accepts-Accepts}
 use Rattle.clap.specs.declared.error.kind.ErrorKind.TheVariants as kind
 use Rattle.clap.specs.declared.builder.value_parser.ValueParser.TheVariants as parser
 use Rattle.gb_words.specs.Words.{IsFrames, begins_with_hyphen}
-use Rattle.gb_words.proofs.Leaves.{run}
+use Rattle.gb_words.proofs.Leaves.{run, watch}
 use Rattle.gb_words.proofs.CommandWalk.{settling}
 
 -- the word that `run` settles last is one that the parser takes
@@ -30,6 +30,10 @@ taken_if false clear = absurd cc
 
 pub is_taken : (rom script frames : Text) → settling run (rom ∷ script ∷ frames ∷ []) ≡ [] → IsSignedIn (pos 0) (pos 36000) frames
 is_taken rom script frames clear =
+    accepts-Accepts false (parser.Signed (pos 0) (pos 36000)) frames (taken_if (accepts false (parser.Signed (pos 0) (pos 36000)) frames) clear)
+
+pub watch_is_taken : (rom script frames : Text) → settling watch (rom ∷ script ∷ frames ∷ []) ≡ [] → IsSignedIn (pos 0) (pos 36000) frames
+watch_is_taken rom script frames clear =
     accepts-Accepts false (parser.Signed (pos 0) (pos 36000)) frames (taken_if (accepts false (parser.Signed (pos 0) (pos 36000)) frames) clear)
 
 pub settles : (rom script frames : Text) → IsSignedIn (pos 0) (pos 36000) frames → settling run (rom ∷ script ∷ frames ∷ []) ≡ []
@@ -74,7 +78,7 @@ module _ (E : Type 0) (G : List ℕ → Result ℕ E → Type 0) (only : (bs : L
       (got.0, got.1, reads_by word got.0 (starts_with_minus word) refl (subst (λ (u : List ℕ). ReadsOne G u (Some got.0)) (without_minus-cond word) same) taken)
 
 -- a number in decimal digits is such a word
-numeral_is_frames : (ds : List ℕ) (n : ℕ) → IsNumeral 10 ds → digits_value 10 ds ≡ n → n ≤ 36000 → IsFrames ds n × (begins_with_hyphen ds ≡ false)
+pub numeral_is_frames : (ds : List ℕ) (n : ℕ) → IsNumeral 10 ds → digits_value 10 ds ≡ n → n ≤ 36000 → IsFrames ds n × (begins_with_hyphen ds ≡ false)
 numeral_is_frames [] n numeral value few = absurd (omega (arith, numeral.0))
 numeral_is_frames (d ∷ ds) n numeral value few =
     let range = digit_from_value d numeral.1.0 in

@@ -15,6 +15,7 @@ pub data Command : Type 0 where
   show : Command
   upgrade : Command
   run : Command
+  watch : Command
 
 abbrev pub name_of : Command → Text
 name_of verify = codes "verify"
@@ -22,10 +23,11 @@ name_of header = codes "header"
 name_of show = codes "show"
 name_of upgrade = codes "upgrade"
 name_of run = codes "run"
+name_of watch = codes "watch"
 
 by_name : Text → Command
 by_name name = if bytes_eq (codes "verify") name then verify else (if bytes_eq (codes "header") name then header
-    else (if bytes_eq (codes "show") name then show else (if bytes_eq (codes "upgrade") name then upgrade else run)))
+    else (if bytes_eq (codes "show") name then show else (if bytes_eq (codes "upgrade") name then upgrade else (if bytes_eq (codes "run") name then run else watch))))
 
 by_name_is : (c : Command) → by_name (name_of c) ≡ c
 unfolding by_name
@@ -34,6 +36,7 @@ by_name_is header = refl
 by_name_is show = refl
 by_name_is upgrade = refl
 by_name_is run = refl
+by_name_is watch = refl
 
 pub same_command : (c d : Command) → name_of c ≡ name_of d → c ≡ d
 same_command c d e = sym (by_name_is c) ∙ ap by_name e ∙ by_name_is d
@@ -44,6 +47,7 @@ rules_for header = header_rules
 rules_for show = certificate_rules
 rules_for upgrade = certificate_rules
 rules_for run = run_rules
+rules_for watch = run_rules
 
 -- the program's command, as it is built
 abbrev pub whole : App
@@ -124,9 +128,23 @@ run_takes = record {
   no_defaults = λ a b c. refl;
 }
 
+watch_takes : Takes (leaf_of watch) run_rules
+unfolding defaults_fault
+watch_takes = record {
+  no_flags = flags_are_two (leaf_of watch) (λ name. refl) (λ x. refl);
+  has_room = (refl, λ a. (refl, λ b. (refl, λ c. tt)));
+  takes_one = λ t word. (refl, λ a. (refl, λ b. (refl, λ c. tt)));
+  is_full = λ a b c clear. cc;
+  misses = (λ clear. cc, λ a. (λ clear. cc, λ b. (λ clear. cc, λ c. tt)));
+  has_all = λ a b c. refl;
+  keeps_all = λ a b c. refl;
+  no_defaults = λ a b c. refl;
+}
+
 pub takes : (c : Command) → Takes (leaf_of c) (rules_for c)
 takes verify = verify_takes
 takes header = header_takes
 takes show = show_takes
 takes upgrade = upgrade_takes
 takes run = run_takes
+takes watch = watch_takes

@@ -6,3 +6,4 @@ pub mod CommandTaken
 pub mod Frames
 pub mod MetCommand
 pub mod UpgradeWords
+pub mod WatchWords

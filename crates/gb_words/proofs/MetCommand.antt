@@ -1,5 +1,5 @@
 -- The command that a parse met, and what the program reads of its matches.
-use Rattle.std.proofs.Common.{◌≡◌, ℕ, List, [], ◌∷◌, length, Option, Some, None, option_map, is_some, true, pos, ap, refl, sym, subst, ◌∙◌, codes, Box, box_value}
+use Rattle.std.proofs.Common.{◌≡◌, ℕ, List, [], ◌∷◌, length, Option, Some, None, option_map, is_some, true, pos, ap, refl, sym, subst, ◌∙◌, codes, Box, box_value, inl}
 use Rattle.std.specs.Str.Parse.{signed_digits_value}
 use Rattle.clap.specs.Words.{IsSignedIn}
 use Rattle.clap.specs.Faults.{fault_of, is_simple_and_free}
@@ -11,11 +11,11 @@ use Rattle.clap.specs.declared.parser.matches.ArgMatches.TheViews.{out-ArgMatche
 use Rattle.clap.specs.declared.parser.matches.SubCommand.{SubCommand}
 use Rattle.clap.proofs.WalkLemmas.{first_value-rows, one_text-rows}
 use Rattle.gb_words.specs.CommandLine.{file_rule, program_app, run_rules, verify_rules}
-use Rattle.gb_words.specs.Words.{IsCommand, IsRun}
+use Rattle.gb_words.specs.Words.{IsCommand, IsRun, IsWatch, WatchTexts, no_texts}
 use Rattle.gb_words.proofs.LeafWalk.{exactly, value_rows}
-use Rattle.gb_words.proofs.Leaves.{Command, header, name_of, rules_for, run, same_command, show, upgrade, verify}
+use Rattle.gb_words.proofs.Leaves.{Command, header, name_of, rules_for, run, same_command, show, upgrade, verify, watch}
 use Rattle.gb_words.proofs.CommandWalk.{parsed, settling}
-use Rattle.gb_words.proofs.Frames.{is_taken}
+use Rattle.gb_words.proofs.Frames.{is_taken, watch_is_taken}
 
 -- the subcommand that a parse met, by its name and its rows
 pub record IsMet (words : List Text) (name : Text) (rows : List Row) : Type 0 where
@@ -52,8 +52,8 @@ met words app m name rows is has clear name_is rows_are =
 
 -- it is one of the program's commands
 pub is_known : (words : List Text) (name : Text) (rows : List Row) → IsMet words name rows → (name ≡ codes "verify" → ⊥) → (name ≡ codes "header" → ⊥)
-    → (name ≡ codes "show" → ⊥) → (name ≡ codes "upgrade" → ⊥) → (name ≡ codes "run" → ⊥) → ⊥
-is_known words name rows g not_verify not_header not_show not_upgrade not_run = go g.command g.name_is
+    → (name ≡ codes "show" → ⊥) → (name ≡ codes "upgrade" → ⊥) → (name ≡ codes "run" → ⊥) → (name ≡ codes "watch" → ⊥) → ⊥
+is_known words name rows g not_verify not_header not_show not_upgrade not_run not_watch = go g.command g.name_is
   where
     go : (c : Command) → name ≡ name_of c → ⊥
     go verify e = not_verify e
@@ -61,6 +61,7 @@ is_known words name rows g not_verify not_header not_show not_upgrade not_run = 
     go show e = not_show e
     go upgrade e = not_upgrade e
     go run e = not_run e
+    go watch e = not_watch e
 
 -- ---- each command
 
@@ -76,11 +77,12 @@ pub record GivesFile (words : List Text) (rows : List Row) (name id : Text) : Ty
   pub is : IsCommand words name (file ∷ [])
   pub rows_are : rows ≡ value_rows (file ∷ []) (file_rule id ∷ [])
 
-pub record GivesRun (words : List Text) (rows : List Row) : Type 0 where
+-- of a command that plays a script
+pub record GivesRun (words : List Text) (rows : List Row) (name : Text) : Type 0 where
   pub rom : Text
   pub script : Text
   pub frames : Text
-  pub is : IsCommand words (codes "run") (rom ∷ script ∷ frames ∷ [])
+  pub is : IsCommand words name (rom ∷ script ∷ frames ∷ [])
   pub taken : IsSignedIn (pos 0) (pos 36000) frames
   pub rows_are : rows ≡ value_rows (rom ∷ script ∷ frames ∷ []) run_rules
 
@@ -112,17 +114,24 @@ gives_show = gives_file show (codes "cert") refl
 pub gives_upgrade : (words : List Text) (name : Text) (rows : List Row) → IsMet words name rows → name ≡ codes "upgrade" → GivesFile words rows (codes "upgrade") (codes "cert")
 gives_upgrade = gives_file upgrade (codes "cert") refl
 
-pub gives_run : (words : List Text) (name : Text) (rows : List Row) → IsMet words name rows → name ≡ codes "run" → GivesRun words rows
-gives_run words name rows g e = named (GivesRun words rows) words name rows g run e
-    (λ values r i s count. exactly 3 (λ vs. rows ≡ value_rows vs run_rules → IsCommand words (codes "run") vs → settling run vs ≡ [] → GivesRun words rows)
+gives_script : (c : Command) → rules_for c ≡ run_rules → ((rom script frames : Text) → settling c (rom ∷ script ∷ frames ∷ []) ≡ [] → IsSignedIn (pos 0) (pos 36000) frames)
+    → (words : List Text) (name : Text) (rows : List Row) → IsMet words name rows → name ≡ name_of c → GivesRun words rows (name_of c)
+gives_script c rules taken words name rows g e = named (GivesRun words rows (name_of c)) words name rows g c e
+    (λ values r i s count. exactly 3 (λ vs. rows ≡ value_rows vs (rules_for c) → IsCommand words (name_of c) vs → settling c vs ≡ [] → GivesRun words rows (name_of c))
     (λ rom script frames are is settles. record {
       rom = rom;
       script = script;
       frames = frames;
       is = is;
-      taken = is_taken rom script frames settles;
-      rows_are = are;
-    }) values count r i s)
+      taken = taken rom script frames settles;
+      rows_are = are ∙ ap (value_rows (rom ∷ script ∷ frames ∷ [])) rules;
+    }) values (count ∙ ap length rules) r i s)
+
+pub gives_run : (words : List Text) (name : Text) (rows : List Row) → IsMet words name rows → name ≡ codes "run" → GivesRun words rows (codes "run")
+gives_run = gives_script run refl is_taken
+
+pub gives_watch : (words : List Text) (name : Text) (rows : List Row) → IsMet words name rows → name ≡ codes "watch" → GivesRun words rows (codes "watch")
+gives_watch = gives_script watch refl watch_is_taken
 
 -- ---- the getters
 
@@ -148,9 +157,18 @@ pub as_verify : (words : List Text) (a b rom cert : Text) → rom ≡ a → cert
     → IsCommand words (codes "verify") (a ∷ b ∷ [])
 as_verify words a b rom cert e f is = subst (λ x. IsCommand words (codes "verify") (x ∷ b ∷ [])) e (subst (λ y. IsCommand words (codes "verify") (rom ∷ y ∷ [])) f is)
 
-pub as_run : (words : List Text) (a b : Text) (n : ℕ) (rows : List Row) (g : GivesRun words rows) → g.rom ≡ a → g.script ≡ b → signed_digits_value 10 g.frames ≡ pos n → IsRun words a b n
+pub as_run : (words : List Text) (a b : Text) (n : ℕ) (rows : List Row) (g : GivesRun words rows (codes "run")) → g.rom ≡ a → g.script ≡ b → signed_digits_value 10 g.frames ≡ pos n → IsRun words a b n
 as_run words a b n rows g e f number = record {
   word = g.frames;
   command = subst (λ x. IsCommand words (codes "run") (x ∷ b ∷ g.frames ∷ [])) e (subst (λ y. IsCommand words (codes "run") (g.rom ∷ y ∷ g.frames ∷ [])) f g.is);
   frames_are = record { is_taken = g.taken; number = number };
 }
+
+pub as_watch : (words : List Text) (a b : Text) (n : ℕ) (rows : List Row) (g : GivesRun words rows (codes "watch")) (texts : WatchTexts) → g.rom ≡ a → g.script ≡ b
+    → signed_digits_value 10 g.frames ≡ pos n → texts ≡ no_texts → IsWatch words a b n texts
+as_watch words a b n rows g texts e f number none = inl (record {
+  word = g.frames;
+  command = subst (λ x. IsCommand words (codes "watch") (x ∷ b ∷ g.frames ∷ [])) e (subst (λ y. IsCommand words (codes "watch") (g.rom ∷ y ∷ g.frames ∷ [])) f g.is);
+  frames_are = record { is_taken = g.taken; number = number };
+  no_options = none;
+})

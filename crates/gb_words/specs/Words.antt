@@ -1,10 +1,13 @@
 -- Which words stand for which task.
-use Rattle.std.specs.Prelude.{◌≡◌, ◌==◌, ◌||◌, ◌⊎◌, Bool, true, false, not, ℕ, pos, List, [], ◌∷◌, codes, if◌then◌else◌}
+use Rattle.std.specs.Prelude.{◌≡◌, ◌==◌, ◌||◌, ◌⊎◌, Bool, true, false, not, ℕ, pos, List, [], ◌∷◌, codes, if◌then◌else◌, Option, Some, None, option_map}
 use Rattle.std.specs.Str.{bytes_eq}
 use Rattle.std.specs.Str.Parse.{signed_digits_value}
 use Rattle.clap.specs.Words.{IsSignedIn, Text}
 use Rattle.gb_words.specs.declared.words.TargetVersion.{TargetVersion}
 use Rattle.gb_words.specs.declared.words.TargetVersion.TheVariants as version
+use Rattle.gb_words.specs.declared.watching.WatchOption.{WatchOption}
+use Rattle.gb_words.specs.declared.watching.WatchOption.TheVariants as option
+use Rattle.gb_words.specs.declared.watching.WatchOptions.{WatchOptions}
 use Rattle.gb_words.specs.declared.words.Task.{Task}
 use Rattle.gb_words.specs.declared.words.Task.TheVariants as task
 
@@ -12,6 +15,10 @@ use Rattle.gb_words.specs.declared.words.Task.TheVariants as task
 abbrev pub begins_with_hyphen : Text → Bool
 begins_with_hyphen [] = false
 begins_with_hyphen (x ∷ xs) = x == 45
+
+abbrev pub begins_with_plus : Text → Bool
+begins_with_plus [] = false
+begins_with_plus (x ∷ xs) = x == 43
 
 -- the values among a command's words: a first `--` says that each word after it is a value, also
 -- one that begins with a hyphen
@@ -54,6 +61,69 @@ pub record IsRun (words : List Text) (rom script : Text) (frames : ℕ) : Type 0
   pub command : IsCommand words (codes "run") (rom ∷ script ∷ word ∷ [])
   pub frames_are : IsFrames word frames
 
+-- the values of the options of `watch`
+pub record WatchTexts : Type 0 where
+  pub stack : Option Text
+  pub cert : Option Text
+  pub symbols : Option Text
+
+abbrev pub no_texts : WatchTexts
+no_texts = record { stack = None; cert = None; symbols = None }
+
+abbrev pub option_named : Text → Option WatchOption
+option_named word =
+    if bytes_eq word (codes "--stack") then Some option.Stack
+    else (if bytes_eq word (codes "--cert") then Some option.Cert
+    else (if bytes_eq word (codes "--sym") then Some option.Symbols
+    else None))
+
+-- an option comes once
+abbrev pub once : Option Text → WatchTexts → Option WatchTexts
+once None texts = Some texts
+once (Some value) texts = None
+
+abbrev pub with_option : WatchOption → Text → WatchTexts → Option WatchTexts
+with_option option.Stack value texts = once texts.stack (record texts { stack = Some value })
+with_option option.Cert value texts = once texts.cert (record texts { cert = Some value })
+with_option option.Symbols value texts = once texts.symbols (record texts { symbols = Some value })
+
+abbrev pub with_named : Option WatchOption → Text → Option WatchTexts → Option WatchTexts
+with_named (Some x) value (Some texts) = with_option x value texts
+with_named _ value _ = None
+
+-- the options that some words are: names, each with its value behind it, in any order
+unfoldable pub options_in : List Text → Option WatchTexts
+options_in [] = Some no_texts
+options_in (name ∷ []) = None
+options_in (name ∷ value ∷ rest) = with_named (option_named name) value (options_in rest)
+
+abbrev pub texts_of : WatchOptions → WatchTexts
+texts_of options = record {
+  stack = option_map (λ s. s.now) options.stack;
+  cert = option_map (λ s. s.now) options.cert;
+  symbols = option_map (λ s. s.now) options.symbols;
+}
+
+-- `watch`, the names of two files, a number of frames, and options
+pub record IsWatchWith (words : List Text) (rom script : Text) (frames : ℕ) (texts : WatchTexts) : Type 0 where
+  pub word : Text
+  pub options : List Text
+  pub are : words ≡ codes "watch" ∷ rom ∷ script ∷ word ∷ options
+  pub rom_is : is_file rom ≡ true
+  pub script_is : is_file script ≡ true
+  pub frames_are : IsFrames word frames
+  pub options_are : options_in options ≡ Some texts
+
+-- the same without options
+pub record IsPlainWatch (words : List Text) (rom script : Text) (frames : ℕ) (texts : WatchTexts) : Type 0 where
+  pub word : Text
+  pub command : IsCommand words (codes "watch") (rom ∷ script ∷ word ∷ [])
+  pub frames_are : IsFrames word frames
+  pub no_options : texts ≡ no_texts
+
+abbrev pub IsWatch : List Text → Text → Text → ℕ → WatchTexts → Type 0
+IsWatch words rom script frames texts = IsPlainWatch words rom script frames texts ⊎ IsWatchWith words rom script frames texts
+
 -- the words are those of the task
 abbrev pub StandFor : List Text → Task → Type 0
 StandFor words task.Stored = words ≡ []
@@ -62,3 +132,4 @@ StandFor words (task.Header rom) = IsCommand words (codes "header") (rom.now ∷
 StandFor words (task.Show cert) = IsCommand words (codes "show") (cert.now ∷ [])
 StandFor words (task.Upgrade cert to) = IsUpgrade words to cert.now
 StandFor words (task.Run rom script frames) = IsRun words rom.now script.now frames
+StandFor words (task.Watch rom script frames options) = IsWatch words rom.now script.now frames (texts_of options)

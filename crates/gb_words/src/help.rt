@@ -8,7 +8,7 @@ One file of a command can be - for standard input. For a file named -, write ./-
 
 Status:
   0  accepted; all frames ran; the header, the certificate's lines or its bytes were written
-  1  refused; a run locked up or stopped
+  1  refused; a run locked up, stopped or had a fault
   2  wrong arguments, not a valid ROM, or not a valid certificate
   3  not enough memory (FAULT memory, CERTIFICATE C9), or a file can't be read or written (FAULT device)
 stderr says which file is meant, and what is wrong with it.";
@@ -75,3 +75,24 @@ It prints the last screen as 144 lines of 80 hexadecimal digits. Each byte is fo
 If ROM isn't a valid ROM, it prints CARTRIDGE Hn only (status 2).
 
 ROM or SCRIPT can be - for standard input.";
+
+/// Below the help of `watch`.
+pub(crate) const WATCH: &str = "\
+It plays SCRIPT as run does, and stops at the first event that a certified game never has. It prints one line:
+  WHOLE frames N                     all frames ran without a fault (status 0)
+  FAULT Fn frame I pc AAAA bank BBB  a fault in frame I, counted from 0; the instruction is at AAAA (status 1)
+  LOCKED frame I pc AAAA             as for run (status 1)
+  STOPPED frame I pc AAAA            as for run (status 1)
+F1: an undefined opcode runs. F2: code is fetched from VRAM, SRAM, OAM, I/O or echo RAM. F3: a push stores outside the
+stack. F4: SRAM is used while it is disabled. F5: memory other than HRAM is used during OAM DMA.
+stderr shows the place, the instruction, the open calls and the last instructions.
+
+Write the options after FRAMES, in any order:
+  --stack FIRST..LAST  the stack's addresses, as in DF00..DFFF
+  --cert CERT          take them from this certificate
+  --sym FILE           show your labels: RGBDS .sym, SDCC .noi or .map
+Without --stack and --cert, the first `ld sp, n16` that runs gives the stack.
+It is the RAM from C000 or FF80 up to the byte below that address.
+
+If ROM isn't a valid ROM, it prints CARTRIDGE Hn only; for CERT, CERTIFICATE Cn only (status 2).
+ROM, SCRIPT or CERT can be - for standard input.";

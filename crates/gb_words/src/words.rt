@@ -6,12 +6,13 @@ ghost use Rattle.gb_words.specs.CommandLine;
 ghost use Rattle.gb_words.specs.Words;
 
 use crate::help;
+use crate::watching::{WatchOptions, watch_asked};
 use clap::error::ErrorKind;
 use clap::{Arg, ArgMatches, Command, Error};
 use std::alloc::{AllocError, Global};
 
 /// The most frames that one run may be asked for.
-const MOST_FRAMES: i64 = 36_000;
+pub(crate) const MOST_FRAMES: i64 = 36_000;
 
 /// A version of certificates that one can be upgraded to.
 #[derive(Clone, Copy, Debug, PartialEq, Eq)]
@@ -48,6 +49,13 @@ pub enum Task<'a> {
         rom: &'a str,
         script: &'a str,
         frames: u32,
+    },
+    /// The same, watched for faults.
+    Watch {
+        rom: &'a str,
+        script: &'a str,
+        frames: u32,
+        options: WatchOptions<'a>,
     },
 }
 
@@ -182,17 +190,16 @@ fn upgrade_command<'a>(alloc: Global) -> Result<Command<'a>, AllocError>
     with_usage(command, "gulmyrek upgrade [--to 2|3] <CERT>")
 }
 
-/// The command `run`.
-fn run_command<'a>(alloc: Global) -> Result<Command<'a>, AllocError>
-    ensures { CommandLine.Makes result CommandLine.run_app }
+/// A command that plays: its cartridge, its script and its frames.
+fn script_command<'a>(
+    alloc: Global,
+    name: &'a str,
+    about: &'a str,
+    below: &'a str,
+) -> Result<Command<'a>, AllocError>
+    ensures { CommandLine.Makes result (CommandLine.command_app name.now CommandLine.run_rules) }
 {
-    let command = file_command(
-        alloc,
-        "run",
-        "Runs a cartridge and prints its last picture",
-        help::RUN,
-        rom_arg(alloc),
-    );
+    let command = file_command(alloc, name, about, below, rom_arg(alloc));
     let script = file_arg(
         alloc,
         "script",
@@ -200,6 +207,34 @@ fn run_command<'a>(alloc: Global) -> Result<Command<'a>, AllocError>
         "The file of the keys, a byte for each frame",
     );
     with_arg(with_arg(command, script), frames_arg(alloc))
+}
+
+/// The command `run`.
+fn run_command<'a>(alloc: Global) -> Result<Command<'a>, AllocError>
+    ensures { CommandLine.Makes result CommandLine.run_app }
+{
+    script_command(
+        alloc,
+        "run",
+        "Runs a cartridge and prints its last picture",
+        help::RUN,
+    )
+}
+
+/// The command `watch`.
+fn watch_command<'a>(alloc: Global) -> Result<Command<'a>, AllocError>
+    ensures { CommandLine.Makes result CommandLine.watch_app }
+{
+    let command = script_command(
+        alloc,
+        "watch",
+        "Runs a cartridge and stops at the first fault",
+        help::WATCH,
+    );
+    with_usage(
+        command,
+        "gulmyrek watch <ROM> <SCRIPT> <FRAMES> [--stack FIRST..LAST] [--cert CERT] [--sym FILE]",
+    )
 }
 
 /// The program's own words, with no command yet.
@@ -235,7 +270,8 @@ fn program_command<'a>(alloc: Global) -> Result<Command<'a>, AllocError>
     let program = with_command(program, header_command(alloc));
     let program = with_command(program, show_command(alloc));
     let program = with_command(program, upgrade_command(alloc));
-    with_command(program, run_command(alloc))
+    let program = with_command(program, run_command(alloc));
+    with_command(program, watch_command(alloc))
 }
 
 /// What the program's command line makes of the words.
@@ -271,7 +307,7 @@ fn version_named(word: &str) -> Option<TargetVersion>
 }
 
 /// Whether a word may name a file: one that begins with a hyphen does only where it is no more than that.
-fn is_file(word: &str) -> bool
+pub(crate) fn is_file(word: &str) -> bool
     ensures { result ≡ Words.is_file word.now }
 {
     word == "-" || word.is_empty() || word.as_bytes()[0] != b'-'
@@ -313,11 +349,16 @@ pub fn read_words<'a>(alloc: Global, words: &'a [&'a str]) -> Result<Task<'a>, E
     ensures run_decimal { (rom script : List ℕ) (n : ℕ) → map (λ word. word.now) words.now ≡ codes "run" ∷ rom ∷ script ∷ decimal n ∷ []
         → Words.begins_with_hyphen rom ≡ false → Words.begins_with_hyphen script ≡ false → n ≤ 36000
         → IfErr result (λ e. kind_of e ≡ ErrorKind.OutOfMemory) }
+    ensures watch { (rom script : List ℕ) (n : ℕ) (options : List (List ℕ)) → map (λ word. word.now) words.now ≡ codes "watch" ∷ rom ∷ script ∷ decimal n ∷ options
+        → Words.is_file rom ≡ true → Words.is_file script ≡ true → n ≤ 36000 → is_some (Words.options_in options) ≡ true → IsOk result }
 {
     if words.is_empty() {
         return Ok(Task::Stored);
     }
     if let Some(task) = upgrade_asked(words) {
+        return Ok(task);
+    }
+    if let Some(task) = watch_asked(words) {
         return Ok(task);
     }
     let matches = matches_of(alloc, words)?;
@@ -355,6 +396,19 @@ pub fn read_words<'a>(alloc: Global, words: &'a [&'a str]) -> Result<Task<'a>, E
                 rom,
                 script,
                 frames,
+            })
+        }
+        "watch" => {
+            let rom = value(arguments, "rom");
+            let script = value(arguments, "script");
+            let Some(frames) = arguments.get_one::<u32>("frames") else {
+                unreachable!()
+            };
+            Ok(Task::Watch {
+                rom,
+                script,
+                frames,
+                options: WatchOptions::none(),
             })
         }
         _ => unreachable!(),

@@ -1,7 +1,7 @@
 use Rattle.std.proofs.Common.{◌∙◌, subst}
 use Rattle.gb_text.specs.Text.{GainsBeginning}
 use Rattle.gb_printed.specs.Show.{show_text}
-use Rattle.gb_console.proofs.Below.gb_verify_laws.FileLaws.{on_err, fault_begins}
+use Rattle.gb_watch.proofs.Below.gb_verify_laws.FileLaws.{on_err, fault_begins}
 use Rattle.gb_printed.proofs.commands.show_bytes.Goals as goal
 
 pub returns-in_err-put_all-in-Err-clause-beginning : goal.returns-in_err-put_all-in-Err-clause-beginning

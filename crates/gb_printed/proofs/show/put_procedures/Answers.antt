@@ -1,6 +1,6 @@
 use Rattle.std.proofs.Common.{◌≤◌, length, ◌∙◌, arith, subst}
 use Rattle.gb_text.specs.Text.{GainsBeginning}
-use Rattle.gb_console.proofs.Below.gb_verify_laws.FileLaws.{on_err}
+use Rattle.gb_watch.proofs.Below.gb_verify_laws.FileLaws.{on_err}
 use Rattle.gb_printed.specs.Show.{procedure_text}
 use Rattle.gb_printed.proofs.ShowLaws.{line_cut, lines_taken}
 use Rattle.gb_printed.proofs.show.put_procedures.Goals as goal

@@ -6,7 +6,7 @@ use Rattle.gb_words.specs.CommandLine.{program_app}
 use Rattle.gb_words.proofs.Leaves.{header, run, show, upgrade, verify}
 use Rattle.gb_words.proofs.CommandTaken.{wants_memory}
 use Rattle.gb_words.proofs.Frames.{decimal_is_frames, reads, settles}
-use Rattle.gb_words.proofs.MetCommand.{as_file, as_run, as_verify, met, gives_header, gives_run, gives_show, gives_upgrade, gives_verify, has_value, is_known, one_is, some_same, value_is}
+use Rattle.gb_words.proofs.MetCommand.{as_file, as_run, as_verify, met, gives_header, gives_run, gives_show, gives_upgrade, gives_verify, gives_watch, as_watch, has_value, is_known, one_is, some_same, value_is}
 use Rattle.gb_words.proofs.words.read_words.Goals as goal
 
 -- ---- `verify`
@@ -106,12 +106,45 @@ returns-in-run-clause-stands c =
     let n_is : frames_are.0 ≡ c.in-Some-get_one.frames = some_same (sym frames_are.1 ∙ c.in-Some-get_one.is) in
     as_run (map (λ s. s.now) c.args.words.now) _ _ _ _ r rom_is script_is (frames_are.2 ∙ ap pos n_is)
 
+-- ---- `watch`
+
+pub value-rom-requires-in-watch : goal.value-rom-requires-in-watch
+value-rom-requires-in-watch c =
+    let g = met (map (λ s. s.now) c.args.words.now) program_app c.in_ok-matches.matches c.in-Some-subcommand.name.now (rows_of (found_of c.in-Some-subcommand.arguments.now)) refl c.in_ok-matches.ensures.matches c.in_ok-matches.ensures.kinds c.in-Some-subcommand.ensures.name c.in-Some-subcommand.ensures.rows in
+    let r = gives_watch _ _ _ g c.in-watch.is in
+    record { present = has_value c.in-Some-subcommand.arguments.now (codes "rom") r.rom _ r.rows_are refl }
+
+pub value-script-requires-in-watch : goal.value-script-requires-in-watch
+value-script-requires-in-watch c =
+    let g = met (map (λ s. s.now) c.args.words.now) program_app c.in_ok-matches.matches c.in-Some-subcommand.name.now (rows_of (found_of c.in-Some-subcommand.arguments.now)) refl c.in_ok-matches.ensures.matches c.in_ok-matches.ensures.kinds c.in-Some-subcommand.ensures.name c.in-Some-subcommand.ensures.rows in
+    let r = gives_watch _ _ _ g c.in-watch.is in
+    record { present = has_value c.in-Some-subcommand.arguments.now (codes "script") r.script _ r.rows_are refl }
+
+pub unreachable-requires-in_default-get_one-2 : goal.unreachable-requires-in_default-get_one-2
+unreachable-requires-in_default-get_one-2 c =
+    let g = met (map (λ s. s.now) c.args.words.now) program_app c.in_ok-matches.matches c.in-Some-subcommand.name.now (rows_of (found_of c.in-Some-subcommand.arguments.now)) refl c.in_ok-matches.ensures.matches c.in_ok-matches.ensures.kinds c.in-Some-subcommand.ensures.name c.in-Some-subcommand.ensures.rows in
+    let r = gives_watch _ _ _ g c.in-watch.is in
+    let frames_are = reads _ (λ bs x. ParsesUnsigned 32 10 bs x × ExplainsUnsignedError 10 bs x × HasUnsignedDigitsIfOk bs x) (λ bs x gives. gives.0) r.frames c.get_one-in-watch.result
+    (c.get_one-in-watch.ensures.value (without_minus r.frames) (one_is c.in-Some-subcommand.arguments.now (codes "frames") (without_minus r.frames) _ r.rows_are refl)) r.taken in
+    c.in_default-get_one-2.not-Some frames_are.0 frames_are.1
+
+pub returns-in-watch-clause-stands : goal.returns-in-watch-clause-stands
+returns-in-watch-clause-stands c =
+    let g = met (map (λ s. s.now) c.args.words.now) program_app c.in_ok-matches.matches c.in-Some-subcommand.name.now (rows_of (found_of c.in-Some-subcommand.arguments.now)) refl c.in_ok-matches.ensures.matches c.in_ok-matches.ensures.kinds c.in-Some-subcommand.ensures.name c.in-Some-subcommand.ensures.rows in
+    let r = gives_watch _ _ _ g c.in-watch.is in
+    let frames_are = reads _ (λ bs x. ParsesUnsigned 32 10 bs x × ExplainsUnsignedError 10 bs x × HasUnsignedDigitsIfOk bs x) (λ bs x gives. gives.0) r.frames c.get_one-in-watch.result
+    (c.get_one-in-watch.ensures.value (without_minus r.frames) (one_is c.in-Some-subcommand.arguments.now (codes "frames") (without_minus r.frames) _ r.rows_are refl)) r.taken in
+    let rom_is = value_is c.in-Some-subcommand.arguments.now (codes "rom") r.rom c.value-rom-in-watch.result.now _ r.rows_are refl c.value-rom-in-watch.ensures in
+    let script_is = value_is c.in-Some-subcommand.arguments.now (codes "script") r.script c.value-script-in-watch.result.now _ r.rows_are refl c.value-script-in-watch.ensures in
+    let n_is : frames_are.0 ≡ c.in-Some-get_one-2.frames = some_same (sym frames_are.1 ∙ c.in-Some-get_one-2.is) in
+    as_watch (map (λ s. s.now) c.args.words.now) _ _ _ _ r _ rom_is script_is (frames_are.2 ∙ ap pos n_is) c.none.ensures
+
 -- ---- other words
 
 pub unreachable-requires-in_default-name : goal.unreachable-requires-in_default-name
 unreachable-requires-in_default-name c =
     let g = met (map (λ s. s.now) c.args.words.now) program_app c.in_ok-matches.matches c.in-Some-subcommand.name.now (rows_of (found_of c.in-Some-subcommand.arguments.now)) refl c.in_ok-matches.ensures.matches c.in_ok-matches.ensures.kinds c.in-Some-subcommand.ensures.name c.in-Some-subcommand.ensures.rows in
-    is_known _ _ _ g c.in_default-name.not-verify c.in_default-name.not-header c.in_default-name.not-show c.in_default-name.not-upgrade c.in_default-name.not-run
+    is_known _ _ _ g c.in_default-name.not-verify c.in_default-name.not-header c.in_default-name.not-show c.in_default-name.not-upgrade c.in_default-name.not-run c.in_default-name.not-watch
 
 -- ---- an error of words that are taken
 

@@ -1,0 +1,213 @@
+//! The command `watch`.
+
+use crate::messages::PROGRAM;
+use crate::perform::tell_certificate;
+use crate::progress::FramesShown;
+use crate::status::{show_status, watch_status};
+use gb_command_line::messages::{tell_cartridge, tell_memory, tell_output};
+use gb_command_line::stack::{WRONG_STACK, region_of};
+use gb_command_line::status::Status;
+use gb_command_line::symbols::{read_symbols, tell_symbols};
+use gb_command_line::words::tell_words;
+use gb_command_line::{
+    Cert, Plain, Rom, SymbolFault, Symbols, Trouble, read_cartridge, read_certificate, read_file,
+    shown_name,
+};
+use gb_ops::machine::Region;
+use gb_trace::{
+    Console, FaultyRun, FoundStack, WatchOutcome, Watched, certificate_line, find_stack, put_all,
+    trace, watch_bytes,
+};
+use gb_words::WatchOptions;
+use std::io::{self, Input};
+use std::rt::Files;
+
+/// What `watch` is asked to play.
+#[derive(Clone, Copy)]
+pub struct WatchedFiles<'a> {
+    pub rom: &'a str,
+    pub script: &'a str,
+    pub frames: u32,
+    pub options: WatchOptions<'a>,
+}
+
+/// The bytes of its files.
+#[derive(Drop)]
+struct WatchedBytes {
+    rom: Vec<u8>,
+    script: Vec<u8>,
+    cert: Vec<u8>,
+}
+
+/// A stack region, or the status where there is none.
+enum StackChoice {
+    Region(Region),
+    Ended(Status),
+}
+
+/// Reads the files. Of a script no more is read than there are frames.
+fn read_files<R: Eprint + Input + Files + AllocGlobal>(
+    rt: &R,
+    files: &WatchedFiles<'_>,
+) -> Result<WatchedBytes, Trouble> {
+    let rom = read_cartridge(rt, PROGRAM, files.rom)?;
+    let script = read_file(rt, PROGRAM, files.script, u64::from(files.frames))?;
+    let cert = match files.options.cert {
+        Some(name) => read_certificate(rt, PROGRAM, name)?,
+        None => Vec::new(rt.alloc()),
+    };
+    Ok(WatchedBytes { rom, script, cert })
+}
+
+/// The region of a certificate, or the line of its fault.
+fn certified_stack<R: Print + Eprint + AllocGlobal>(
+    rt: &R,
+    name: &str,
+    bytes: &[u8],
+) -> StackChoice {
+    let fault = match Cert::parse(rt.alloc(), bytes) {
+        Ok(cert) => return StackChoice::Region(cert.region()),
+        Err(fault) => fault,
+    };
+    let mut out = Plain::new(io::writer(rt));
+    if put_all(&mut out, certificate_line(fault).as_slice()).is_err() {
+        return StackChoice::Ended(tell_output(rt, PROGRAM));
+    }
+    let status = show_status(Some(fault));
+    tell_certificate(rt, name, bytes, status);
+    StackChoice::Ended(status)
+}
+
+/// The RAM below the first address that the run sets SP to.
+fn played_stack<R: Eprint + AllocGlobal>(
+    rt: &R,
+    files: &WatchedFiles<'_>,
+    rom: &Rom<'_>,
+    script: &[u8],
+) -> Result<StackChoice, Trouble> {
+    let mut console = Console::new(rt.alloc(), rom)?;
+    match find_stack(&mut console, script, files.frames) {
+        FoundStack::Below(region) => Ok(StackChoice::Region(region)),
+        FoundStack::NotRam(sp) => {
+            let name = shown_name(files.rom);
+            let _ = eprintln!(rt;
+                "{PROGRAM}: {name}: `ld sp, ${sp:04X}` leaves no WRAM or HRAM below SP: name the stack with --stack"
+            );
+            Ok(StackChoice::Ended(Status::Unreadable))
+        }
+    }
+}
+
+/// The stack region: the one that the words name, or the certificate's, or the one that the run sets SP above.
+fn stack_for<R: Print + Eprint + AllocGlobal>(
+    rt: &R,
+    files: &WatchedFiles<'_>,
+    bytes: &WatchedBytes,
+    named: Option<Region>,
+) -> Result<StackChoice, Trouble> {
+    let Ok(rom) = Rom::parse(&bytes.rom) else {
+        // Its fault is told where it is to be played.
+        let (first, last) = (0xC000, 0xDFFF);
+        return Ok(StackChoice::Region(Region { first, last }));
+    };
+    match (named, files.options.cert) {
+        (Some(region), _) => Ok(StackChoice::Region(region)),
+        (None, Some(name)) => Ok(certified_stack(rt, name, &bytes.cert)),
+        (None, None) => played_stack(rt, files, &rom, &bytes.script),
+    }
+}
+
+/// Says what happened before a fault. Where memory runs out, nothing is said.
+fn tell_fault<R: Eprint + AllocGlobal>(
+    rt: &R,
+    name: &str,
+    rom: &[u8],
+    run: &FaultyRun<'_>,
+    symbols: &Symbols<'_>,
+) {
+    if let Ok(rom) = Rom::parse(rom)
+        && let Some(trace) = trace(rt.alloc(), &rom, run, symbols)
+    {
+        let name = shown_name(name);
+        let _ = eprintln!(rt; "{PROGRAM}: {name}: {trace}");
+    }
+}
+
+/// Plays the script and says how that went.
+fn watch_region<R: Print + Eprint + AllocGlobal>(
+    rt: &R,
+    files: &WatchedFiles<'_>,
+    bytes: &WatchedBytes,
+    region: Region,
+    symbols: &Symbols<'_>,
+    is_shown: bool,
+) -> Result<Status, Trouble> {
+    let mut out = Plain::new(io::writer(rt));
+    let mut progress = FramesShown::new(rt, is_shown);
+    let (rom, script) = (&bytes.rom, &bytes.script);
+    let watched = watch_bytes(
+        rt.alloc(),
+        rom,
+        script,
+        files.frames,
+        region,
+        &mut out,
+        &mut progress,
+    );
+    let Ok(outcome) = watched else {
+        return Ok(tell_output(rt, PROGRAM));
+    };
+    match outcome {
+        WatchOutcome::NoMemory => tell_memory(rt, PROGRAM, files.rom),
+        WatchOutcome::NoCartridge(fault) => tell_cartridge(rt, PROGRAM, files.rom, fault),
+        WatchOutcome::Told(run) => {
+            if let Watched::Faulted(sighting) = run.watched {
+                let run = FaultyRun {
+                    script,
+                    frame: run.number,
+                    sighting,
+                    region,
+                };
+                tell_fault(rt, files.rom, rom, &run, symbols);
+            }
+        }
+    }
+    watch_status(outcome)
+}
+
+/// Says what is wrong with a file of symbols; where none is named, memory ran out.
+fn tell_wrong_symbols<R: Eprint>(
+    rt: &R,
+    name: Option<&str>,
+    fault: SymbolFault,
+) -> Result<Status, Trouble> {
+    match name {
+        Some(name) => tell_symbols(rt, PROGRAM, name, fault),
+        None => Err(Trouble::Memory),
+    }
+}
+
+/// The command `watch`.
+pub fn watch<R: Print + Eprint + Input + Files + AllocGlobal>(
+    rt: &R,
+    files: &WatchedFiles<'_>,
+    is_shown: bool,
+) -> Result<Status, Trouble> {
+    let named = match files.options.stack {
+        None => None,
+        Some(text) => match region_of(text) {
+            Some(region) => Some(region),
+            None => return Ok(tell_words(rt, WRONG_STACK)),
+        },
+    };
+    let bytes = read_files(rt, files)?;
+    let text = read_symbols(rt, PROGRAM, files.options.symbols)?;
+    let symbols = match Symbols::parse(rt.alloc(), &text) {
+        Ok(symbols) => symbols,
+        Err(fault) => return tell_wrong_symbols(rt, files.options.symbols, fault),
+    };
+    match stack_for(rt, files, &bytes, named)? {
+        StackChoice::Region(region) => watch_region(rt, files, &bytes, region, &symbols, is_shown),
+        StackChoice::Ended(status) => Ok(status),
+    }
+}

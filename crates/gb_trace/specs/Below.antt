@@ -1,0 +1,6 @@
+-- Definitions of the crates below, for those above.
+pub use Rattle.gb_witness.specs as gb_witness
+pub use Rattle.gb_witness.specs.Below.gb_printed as gb_printed
+pub use Rattle.gb_witness.specs.Below.gb_console as gb_console
+pub use Rattle.gb_witness.specs.Below.gb_watch as gb_watch
+pub use Rattle.gb_witness.specs.Below.gb_verify as gb_verify

@@ -1,0 +1,65 @@
+//! The last instructions before a fault.
+
+use gb_ops::machine::{CodePlace, Event};
+use gb_witness::Stepped;
+
+/// How many are kept.
+const STEPS: usize = 16;
+
+/// What the processor did at a place.
+#[derive(Clone, Copy)]
+pub enum StepKind {
+    /// The instruction with these bytes.
+    Instruction([u8; 3]),
+    /// The dispatch of an interrupt.
+    Interrupt(u8),
+}
+
+/// A step, and where it was.
+#[derive(Clone, Copy)]
+pub struct TraceStep {
+    pub place: CodePlace,
+    pub kind: StepKind,
+}
+
+impl TraceStep {
+    /// What an event did; None where time passed and nothing else.
+    pub fn of(place: CodePlace, stepped: &Stepped) -> Option<TraceStep> {
+        let kind = match stepped.event {
+            Event::Run { .. } => StepKind::Instruction(stepped.met.bytes),
+            Event::HaltStay | Event::HaltBug => StepKind::Instruction([0x76, 0, 0]),
+            Event::Irq(number) => StepKind::Interrupt(number),
+            Event::Wait(_) => return None,
+        };
+        Some(TraceStep { place, kind })
+    }
+}
+
+/// The last steps, the oldest at `next`.
+#[derive(Clone, Copy)]
+pub struct Recent {
+    steps: [Option<TraceStep>; STEPS],
+    next: u8,
+}
+
+impl Recent {
+    /// No steps.
+    pub fn none() -> Recent {
+        Recent {
+            steps: [None; STEPS],
+            next: 0,
+        }
+    }
+
+    /// Keeps one more, in place of the oldest.
+    pub fn push(&mut self, step: TraceStep) {
+        let place = usize::from(self.next) % STEPS;
+        self.steps[place] = Some(step);
+        self.next = ((place + 1) % STEPS) as u8;
+    }
+
+    /// The step that came so many steps after the oldest.
+    pub fn step(&self, number: u8) -> Option<TraceStep> {
+        self.steps[(usize::from(self.next) + usize::from(number)) % STEPS]
+    }
+}

@@ -1,0 +1,92 @@
+//! A run played again, up to its fault.
+
+use crate::calls::OpenCalls;
+use crate::recent::{Recent, TraceStep};
+use gb_ops::machine::CodePlace;
+use gb_witness::{Console, FRAME_CYCLES, Keys, keys_at, place_now, seconds_of};
+use std::alloc::{AllocError, Global};
+
+/// What is kept of a run.
+#[derive(Drop)]
+pub struct Recorder {
+    pub recent: Recent,
+    pub calls: OpenCalls,
+}
+
+/// A moment of a run: an event of a frame, both counted from 0.
+#[derive(Clone, Copy)]
+pub struct Moment {
+    pub frame: u32,
+    pub event: u16,
+}
+
+impl Recorder {
+    /// Nothing yet.
+    pub fn none(alloc: Global) -> Recorder {
+        Recorder {
+            recent: Recent::none(),
+            calls: OpenCalls::none(alloc),
+        }
+    }
+
+    /// Plays one event, and answers whether it ended the frame.
+    fn step(
+        &mut self,
+        console: &mut Console<'_>,
+        keys: Keys,
+        seconds: u32,
+    ) -> Result<bool, AllocError> {
+        let from: CodePlace = place_now(console);
+        let before = console.cycles();
+        let stepped = console.advance(keys, seconds);
+        if let Some(step) = TraceStep::of(from, &stepped) {
+            self.recent.push(step);
+            let sp = console.processor().sp;
+            self.calls.take(from, &stepped, place_now(console), sp)?;
+        }
+        let is_passed = before + u16::from(stepped.cycles) >= FRAME_CYCLES;
+        Ok(console.ending(is_passed).is_some())
+    }
+
+    /// Plays the events of a frame, up to the one with this number or to the frame's end.
+    fn frame(
+        &mut self,
+        console: &mut Console<'_>,
+        keys: Keys,
+        seconds: u32,
+        events: u16,
+    ) -> Result<(), AllocError> {
+        let mut passed = seconds;
+        for _ in 0..events {
+            if self.step(console, keys, passed)? {
+                return Ok(());
+            }
+            passed = 0;
+        }
+        Ok(())
+    }
+
+    /// Plays a script up to an event, which is next then.
+    ///
+    /// # Errors
+    ///
+    /// AllocError where memory ran out.
+    pub fn play(
+        &mut self,
+        console: &mut Console<'_>,
+        script: &[u8],
+        moment: Moment,
+    ) -> Result<(), AllocError> {
+        for number in 0..moment.frame {
+            // A step takes at least an M-cycle, or it ends the frame.
+            self.frame(
+                console,
+                keys_at(script, number),
+                seconds_of(number),
+                FRAME_CYCLES,
+            )?;
+        }
+        let keys = keys_at(script, moment.frame);
+        self.frame(console, keys, seconds_of(moment.frame), moment.event)
+    }
+}

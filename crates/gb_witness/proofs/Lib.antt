@@ -1,0 +1,4 @@
+pub mod Lowest
+pub mod Telling
+pub mod Watching
+pub mod FileLaws

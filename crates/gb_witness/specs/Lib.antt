@@ -1,0 +1,5 @@
+pub mod Fault
+pub mod Witness
+pub mod Played
+pub mod Files
+pub mod Below
