@@ -1,0 +1,4 @@
+pub mod Cells
+pub mod Addresses
+pub mod Facts
+pub mod Meaning
