@@ -165,7 +165,7 @@ one-address s a h i =
     let high : a ≤ s.last = b.most in
     omega arith
 
-to_cell-has : (after : List ByteCell) (s : AddressSet) (a : ℕ) → is_to_cell after s ≡ true → is_in s a ≡ true → has_cell after a ≡ true
+pub to_cell-has : (after : List ByteCell) (s : AddressSet) (a : ℕ) → is_to_cell after s ≡ true → is_in s a ≡ true → has_cell after a ≡ true
 unfolding is_to_cell
 to_cell-has after s a e i =
     let p = and_parts _ _ e in

@@ -1,4 +1,5 @@
 pub mod Cells
 pub mod Addresses
 pub mod Facts
+pub mod Fills
 pub mod Meaning

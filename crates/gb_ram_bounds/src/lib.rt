@@ -3,15 +3,21 @@
 //! end may be a pointer. Both are about addresses without a cell alone: a cell is an exception. They are for certificates that
 //! bound memory for the whole program; nothing reads them yet.
 //!
-//! Each operation is its definition (`exact`), and no memory is lost (`sound`): a store keeps the facts or lowers the level.
+//! Each operation is its definition (`exact`), and no memory is lost (`sound`): a store keeps the facts or lowers the level, and
+//! grows fills; a pointer that moves shifts the ends of fills, and one that is written otherwise fixes them; a byte that is read
+//! lies in what facts and fills say.
 //!
-//! Read `cells` and `addresses`, then `facts`. `Meaning` of the definitions says which memories are meant.
+//! Read `cells` and `addresses`, then `facts`, `pointers` and `fills`. `Meaning` of the definitions says which memories are meant.
 #![tactic(auto)]
 
 pub mod addresses;
 pub mod cells;
 pub mod facts;
+pub mod fills;
+pub mod pointers;
 
 pub use addresses::AddressSet;
 pub use cells::ByteCell;
 pub use facts::Fact;
+pub use fills::{Fill, FillEnd, Reach};
+pub use pointers::{Pointer, Pointers};
