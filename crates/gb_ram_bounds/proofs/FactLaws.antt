@@ -61,7 +61,7 @@ pub record IsBetween (first last a : ℕ) : Type 0 where
 at_most : (x y : ℕ) → nat_le x y ≡ true → x ≤ y
 at_most x y h = grind (arith, nat_tests)
 
-has_address-between : (f : Fact) (a : ℕ) → has_address f a ≡ true → IsBetween f.first f.last a
+pub has_address-between : (f : Fact) (a : ℕ) → has_address f a ≡ true → IsBetween f.first f.last a
 unfolding has_address
 has_address-between f a h =
     let p = and_parts _ _ h in

@@ -49,7 +49,7 @@ In-grown_new v f x h =
 
 -- ---- pointers
 
-same_pointer : (p q : Pointer) → is_same_pointer p q ≡ true → p ≡ q
+pub same_pointer : (p q : Pointer) → is_same_pointer p q ≡ true → p ≡ q
 same_pointer Bc Bc h = refl
 same_pointer De De h = refl
 same_pointer Hl Hl h = refl
@@ -153,7 +153,7 @@ HoldsFill-store before after memory stored x s v f g c w h wider elsewhere there
         let old = elsewhere a between reached other in
         subst (λ z. In (bytes_of g) z) (sym same) (wider (memory a) (h.gives a old.0 old.1 (c.gives a free)))
 
-at_most : (x y : ℕ) → nat_le x y ≡ true → x ≤ y
+pub at_most : (x y : ℕ) → nat_le x y ≡ true → x ≤ y
 at_most x y h = grind (arith, nat_tests)
 
 within_both : (a p q r s : ℕ) → p ≤ a → a ≤ q → r ≤ a → a ≤ s → (max p r ≤ a) × (a < max p r + (min q s + 1 - max p r))

@@ -2,4 +2,5 @@ pub mod Cells
 pub mod Addresses
 pub mod Facts
 pub mod Fills
+pub mod Covering
 pub mod Meaning

@@ -1,5 +1,5 @@
 -- Which memories are meant (abstract interpretation: concretization and soundness; own).
-use Rattle.std.specs.Prelude.{◌≡◌, ℕ, ◌+◌, ◌≤◌, Bool, true, false, List, take, Option, Some, None}
+use Rattle.std.specs.Prelude.{◌≡◌, ℕ, ◌+◌, ◌<◌, ◌≤◌, Bool, true, false, List, take, Option, Some, None}
 use Rattle.std.specs.List.{AllByRecursion}
 use Rattle.gb_domain.specs.declared.pairs.Bounds.{Bounds}
 use Rattle.gb_low_bits.specs.declared.interval.StridedInterval.{StridedInterval}
@@ -118,3 +118,25 @@ pub record IsSoundFall (q : Pointer) (n : ℕ) (p : Pointers Bounds) (f : Fill) 
       (cells : List ByteCell) (memory : ℕ → ℕ) (x y : Pointers ℕ)
       → PointersIn p x → OthersStay q x y → at_pointer q x ≡ at_pointer q y + n → HoldsFill cells memory x f
       → HoldsSome o cells memory y
+
+-- ---- covering
+
+-- cells, facts and fills of a state hold, its pointers are within bounds, and memory has bytes
+pub record HoldsState (facts : List Fact) (cells : List ByteCell) (fills : List Fill) (p : Pointers Bounds) (memory : ℕ → ℕ) (x : Pointers ℕ) : Type 0 where
+  pub bytes : (a : ℕ) → memory a < 256
+  pub cells_hold : HoldCells cells memory
+  pub facts_hold : HoldFacts facts cells memory
+  pub fills_hold : HoldFills fills cells memory x
+  pub pointers : PointersIn p x
+
+-- the byte at the address is one of these values
+pub record IsSoundByte (facts : List Fact) (cells : List ByteCell) (fills : List Fill) (p : Pointers Bounds) (a : ℕ) (o : StridedInterval) : Type 0 where
+  pub gives : (memory : ℕ → ℕ) (x : Pointers ℕ) → HoldsState facts cells fills p memory x → In o (memory a)
+
+-- with the cells that are kept these facts hold
+pub record GivesFacts (facts : List Fact) (cells : List ByteCell) (fills : List Fill) (p : Pointers Bounds) (kept : List ByteCell) (wanted : List Fact) : Type 0 where
+  pub gives : (memory : ℕ → ℕ) (x : Pointers ℕ) → HoldsState facts cells fills p memory x → HoldFacts wanted kept memory
+
+-- with them these fills hold
+pub record GivesFills (facts : List Fact) (cells : List ByteCell) (fills : List Fill) (p : Pointers Bounds) (kept : List ByteCell) (wanted : List Fill) : Type 0 where
+  pub gives : (memory : ℕ → ℕ) (x : Pointers ℕ) → HoldsState facts cells fills p memory x → HoldFills wanted kept memory x

@@ -63,6 +63,37 @@ fn nearest(reach: Reach, pointer: Bounds) -> u16
     }
 }
 
+/// The value of a pointer with which the most addresses are reached.
+fn farthest(reach: Reach, pointer: Bounds) -> u16
+    ensures { result ≡ Fills.farthest reach pointer }
+{
+    match reach {
+        Reach::Below => pointer.last,
+        Reach::Above => pointer.first,
+    }
+}
+
+#[tactic(auto, unfolding(crate::specs::Fills::may_be_reached))]
+fn may_be_reached(end: FillEnd, pointers: &Pointers<Bounds>, address: u16) -> bool
+    ensures { result ≡ Fills.may_be_reached end pointers.now address }
+{
+    is_reached(end, farthest(end.reach, pointers.get(end.pointer)), address)
+}
+
+/// Whether an address is on an end's side with some value that the pointer may have.
+pub(crate) fn may_reach(
+    end: Option<FillEnd>,
+    pointers: &Pointers<Bounds>,
+    address: u16,
+) -> bool
+    ensures { result ≡ Fills.may_reach end pointers.now address }
+{
+    match end {
+        Some(end) => may_be_reached(end, pointers, address),
+        None => true,
+    }
+}
+
 #[tactic(auto, unfolding(crate::specs::Fills::is_surely_reached))]
 fn is_surely_reached(end: FillEnd, pointers: &Pointers<Bounds>, address: u16) -> bool
     ensures { result ≡ Fills.is_surely_reached end pointers.now address }

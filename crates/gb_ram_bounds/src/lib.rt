@@ -7,11 +7,13 @@
 //! grows fills; a pointer that moves shifts the ends of fills, and one that is written otherwise fixes them; a byte that is read
 //! lies in what facts and fills say.
 //!
-//! Read `cells` and `addresses`, then `facts`, `pointers` and `fills`. `Meaning` of the definitions says which memories are meant.
+//! Read `cells` and `addresses`, then `facts`, `pointers` and `fills`, and last `covering`. `Meaning` of the definitions says which
+//! memories are meant.
 #![tactic(auto)]
 
 pub mod addresses;
 pub mod cells;
+pub mod covering;
 pub mod facts;
 pub mod fills;
 pub mod pointers;
