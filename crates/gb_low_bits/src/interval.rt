@@ -81,7 +81,11 @@ pub fn with_low_bits(lo: u8, hi: u8, known: LowBits) -> Option<StridedInterval>
 fn agree(left: LowBits, right: LowBits) -> bool
     ensures { result ≡ Interval.agree left right }
 {
-    are_congruent(left.count.min(right.count), left.bits.into(), right.bits.into())
+    are_congruent(
+        left.count.min(right.count),
+        left.bits.into(),
+        right.bits.into(),
+    )
 }
 
 fn more(left: LowBits, right: LowBits) -> LowBits

@@ -1,11 +1,11 @@
 -- What a state knows of a byte holds, and so do the facts and fills that it gives.
-use Rattle.std.proofs.Common.{◌≡◌, ℕ, zero, suc, ◌+◌, ◌-◌, ◌<◌, ◌≤◌, Bool, true, false, not, ◌&&◌, ◌||◌, ◌==◌, nat_le, nat_lt, cond, List, [], ◌∷◌, Option, Some, None, inl, inr, refl, sym, ◌∙◌, ap, subst, arith}
-use Rattle.std.proofs.lemmas.Bool.{and_parts, or_cases, eqb-true}
+use Rattle.std.proofs.Common.{◌≡◌, ℕ, ◌+◌, ◌-◌, ◌<◌, ◌≤◌, Bool, true, false, not, ◌&&◌, ◌||◌, nat_le, nat_lt, List, [], ◌∷◌, Option, Some, None, inl, inr, refl, sym, ◌∙◌, ap, subst, arith}
+use Rattle.std.proofs.lemmas.Bool.{and_parts, or_cases}
 use Rattle.std.proofs.lemmas.Bool.Decides.{nat_tests}
-use Rattle.std.specs.List.{AllByRecursion, list_all, list_any}
+use Rattle.std.specs.List.{list_all, list_any}
 use Rattle.gb_domain.specs.declared.pairs.Bounds.{Bounds}
 use Rattle.gb_low_bits.specs.declared.interval.StridedInterval.{StridedInterval}
-use Rattle.gb_low_bits.specs.Interval.{bounds, any_byte, lies_in}
+use Rattle.gb_low_bits.specs.Interval.{any_byte, lies_in}
 use Rattle.gb_low_bits.specs.Meaning.{In}
 use Rattle.gb_low_bits.proofs.IntervalLaws.{In-lies_in}
 use Rattle.gb_ram_bounds.specs.declared.cells.ByteCell.{ByteCell}
@@ -16,11 +16,10 @@ use Rattle.gb_ram_bounds.specs.declared.fills.Reach.TheVariants.{Below, Above}
 use Rattle.gb_ram_bounds.specs.declared.fills.FillEnd.{FillEnd}
 use Rattle.gb_ram_bounds.specs.declared.fills.Fill.{Fill}
 use Rattle.gb_ram_bounds.specs.Cells.{cell_at, is_there, has_cell}
-use Rattle.gb_ram_bounds.specs.Addresses.{each_of}
 use Rattle.gb_ram_bounds.specs.Facts.{has_address, cut_by_facts}
-use Rattle.gb_ram_bounds.specs.Fills.{at_pointer, is_same_pointer, is_on, is_reached, farthest, may_be_reached, may_reach, reaches, is_between, bytes_of, cut_by_fills}
+use Rattle.gb_ram_bounds.specs.Fills.{at_pointer, is_same_pointer, is_on, is_reached, farthest, may_be_reached, may_reach, reaches, bytes_of, cut_by_fills}
 use Rattle.gb_ram_bounds.specs.Covering.{cell_or, byte_at, is_given_at, gives_fact, gives_facts, reaches_as_far, ends_as_far, says_at, is_said_at, is_filled_at, gives_fill, gives_fills}
-use Rattle.gb_ram_bounds.specs.Meaning.{HoldCells, HoldsFact, HoldFacts, HoldsFill, HoldFills, PointersIn, HoldsState, IsSoundByte, GivesFacts, GivesFills}
+use Rattle.gb_ram_bounds.specs.Meaning.{HoldsFact, HoldFacts, HoldsFill, HoldFills, PointersIn, HoldsState, IsSoundByte, GivesFacts, GivesFills}
 use Rattle.gb_ram_bounds.proofs.AddressLaws.{each_of-at}
 use Rattle.gb_ram_bounds.proofs.FactLaws.{has_address-between, cut_by_facts-In}
 use Rattle.gb_ram_bounds.proofs.FillLaws.{In-bounds, cut_by_fills-In, same_pointer, at_most}
@@ -181,8 +180,8 @@ In-said_by_one :
     → In (bytes_of f) (memory a)
 In-said_by_one f [] cells memory x a s h reached free = cc
 In-said_by_one f (g ∷ fills) cells memory x a s h reached free = elim (or_cases _ _ s) [
-    inl one ↦ In-said f g cells memory x a one h.0 reached free
-    | inr others ↦ In-said_by_one f fills cells memory x a others h.1 reached free
+  | inl one ↦ In-said f g cells memory x a one h.0 reached free
+  | inr others ↦ In-said_by_one f fills cells memory x a others h.1 reached free
 ]
 
 -- four ways to be filled, of which the first two don't apply

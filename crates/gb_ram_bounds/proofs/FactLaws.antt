@@ -1,18 +1,18 @@
 -- Facts hold after stores, and give a byte's values.
-use Rattle.std.proofs.Common.{◌≡◌, ℕ, zero, suc, ◌+◌, ◌-◌, ◌<◌, ◌≤◌, Bool, true, false, not, ◌&&◌, ◌||◌, ◌==◌, nat_le, cond, List, [], ◌∷◌, length, take, Option, Some, None, refl, sym, ◌∙◌, ap, subst, arith}
-use Rattle.std.proofs.lemmas.Bool.{and_parts, or_cases, eqb-true}
+use Rattle.std.proofs.Common.{◌≡◌, ℕ, suc, ◌+◌, ◌-◌, ◌<◌, ◌≤◌, Bool, true, false, not, ◌&&◌, ◌||◌, ◌==◌, nat_le, cond, List, [], ◌∷◌, length, take, Option, Some, None, refl, sym, ◌∙◌, ap, subst, arith}
+use Rattle.std.proofs.lemmas.Bool.{and_parts, eqb-true}
 use Rattle.std.proofs.lemmas.Bool.Decides.{nat_tests}
 use Rattle.std.specs.Prelude.{min, max}
-use Rattle.std.specs.List.{AllByRecursion, list_all}
+use Rattle.std.specs.List.{list_all}
 use Rattle.gb_low_bits.specs.declared.interval.StridedInterval.{StridedInterval}
 use Rattle.gb_low_bits.specs.Interval.{cut, lies_in}
-use Rattle.gb_low_bits.specs.Meaning.{In, InSome, AreIn, Leaves}
+use Rattle.gb_low_bits.specs.Meaning.{In, InSome}
 use Rattle.gb_low_bits.proofs.IntervalLaws.{cut_leaves, In-lies_in}
 use Rattle.gb_ram_bounds.specs.declared.cells.ByteCell.{ByteCell}
 use Rattle.gb_ram_bounds.specs.declared.addresses.AddressSet.{AddressSet}
 use Rattle.gb_ram_bounds.specs.declared.facts.Fact.{Fact}
 use Rattle.gb_ram_bounds.specs.Cells.{cell_at, is_there, has_cell}
-use Rattle.gb_ram_bounds.specs.Addresses.{is_in, is_one, some_of}
+use Rattle.gb_ram_bounds.specs.Addresses.{is_in, is_one}
 use Rattle.gb_ram_bounds.specs.Facts.{has_address, or_same, cut_or_same, cut_by_fact, cut_by_facts, is_met_at, meets, is_broken, unbroken, is_to_cell, level_after, gives_back, keeps_fact, keeps_facts}
 use Rattle.gb_ram_bounds.specs.Meaning.{HoldCells, HoldsFact, HoldFacts, IsStored, HasCellsOf, IsSoundByFacts, IsSoundLevel, AreKept}
 use Rattle.gb_ram_bounds.proofs.AddressLaws.{some_of-at}
@@ -133,10 +133,11 @@ HoldFacts-unbroken (f ∷ facts) before after memory stored s v c w h =
         (b : Bool) → is_broken s v f ≡ b → HoldFacts (take (unbroken s v facts) facts) after stored
         → HoldFacts (take (cond b 0 (suc (unbroken s v facts))) (f ∷ facts)) after stored
     choose true e rest = tt
-    choose false e rest =
-        (HoldsFact-stored before after memory stored s v f c w h.0
-        (λ has free. In-lies_in v f.value (stored w.address) (lies-unbroken s v f w.address e has w.among) w.value),
-        rest)
+    choose false e rest = (
+      HoldsFact-stored before after memory stored s v f c w h.0
+          (λ has free. In-lies_in v f.value (stored w.address) (lies-unbroken s v f w.address e has w.among) w.value),
+      rest,
+    )
 
 -- a store to a byte that has a cell now
 HoldFacts-to_cell :
@@ -144,9 +145,10 @@ HoldFacts-to_cell :
     → HasCellsOf before after → (w : IsStored s v memory stored) → has_cell after w.address ≡ true → HoldFacts facts before memory
     → HoldFacts facts after stored
 HoldFacts-to_cell [] before after memory stored s v c w has h = tt
-HoldFacts-to_cell (f ∷ facts) before after memory stored s v c w has h =
-    (HoldsFact-stored before after memory stored s v f c w h.0 (λ p free. absurd (not_both (has_cell after w.address) has free)),
-    HoldFacts-to_cell facts before after memory stored s v c w has h.1)
+HoldFacts-to_cell (f ∷ facts) before after memory stored s v c w has h = (
+  HoldsFact-stored before after memory stored s v f c w h.0 (λ p free. absurd (not_both (has_cell after w.address) has free)),
+  HoldFacts-to_cell facts before after memory stored s v c w has h.1,
+)
   where
     not_both : (b : Bool) → b ≡ true → b ≡ false → ⊥
     not_both true p q = cc

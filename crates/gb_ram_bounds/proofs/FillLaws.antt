@@ -1,13 +1,13 @@
 -- Fills hold after stores and as pointers change, and give a byte's values.
-use Rattle.std.proofs.Common.{◌≡◌, ℕ, zero, suc, ◌+◌, ◌-◌, ◌<◌, ◌≤◌, ◌%◌, Bool, true, false, not, ◌&&◌, ◌||◌, ◌==◌, nat_le, nat_lt, cond, List, [], ◌∷◌, Option, Some, None, refl, sym, ◌∙◌, ap, subst, arith}
+use Rattle.std.proofs.Common.{◌≡◌, ℕ, ◌+◌, ◌-◌, ◌<◌, ◌≤◌, ◌%◌, Bool, true, false, not, ◌&&◌, ◌==◌, nat_le, nat_lt, cond, List, [], ◌∷◌, Option, Some, None, refl, sym, ◌∙◌, ap, subst, arith}
 use Rattle.std.proofs.lemmas.Bool.{and_parts, eqb-true}
 use Rattle.std.proofs.lemmas.Bool.Decides.{nat_tests}
 use Rattle.std.specs.Prelude.{min, max}
 use Rattle.gb_domain.specs.declared.pairs.Bounds.{Bounds}
 use Rattle.gb_low_bits.specs.declared.interval.StridedInterval.{StridedInterval}
-use Rattle.gb_low_bits.specs.LowBits.{modulus, low_bits}
+use Rattle.gb_low_bits.specs.LowBits.{modulus}
 use Rattle.gb_low_bits.specs.Interval.{bounds}
-use Rattle.gb_low_bits.specs.Meaning.{Has, In}
+use Rattle.gb_low_bits.specs.Meaning.{In}
 use Rattle.gb_low_bits.proofs.ModulusLaws.{Has-low_bits}
 use Rattle.gb_ram_bounds.specs.declared.cells.ByteCell.{ByteCell}
 use Rattle.gb_ram_bounds.specs.declared.addresses.AddressSet.{AddressSet}
@@ -19,9 +19,9 @@ use Rattle.gb_ram_bounds.specs.declared.fills.Reach.TheVariants.{Below, Above}
 use Rattle.gb_ram_bounds.specs.declared.fills.FillEnd.{FillEnd}
 use Rattle.gb_ram_bounds.specs.declared.fills.Fill.{Fill}
 use Rattle.gb_ram_bounds.specs.Cells.{has_cell}
-use Rattle.gb_ram_bounds.specs.Addresses.{is_in, is_one, some_of}
+use Rattle.gb_ram_bounds.specs.Addresses.{is_in}
 use Rattle.gb_ram_bounds.specs.Facts.{cut_or_same, is_to_cell}
-use Rattle.gb_ram_bounds.specs.Fills.{at_pointer, is_same_pointer, is_on, is_reached, nearest, farthest, is_surely_reached, surely_reaches, reaches, is_between, bytes_of, is_in_extent, cut_by_fill, cut_by_fills, grown, one_more, ends_at, is_touched, grown_if_touched, extended_if, filled_by, filled, near_end, cut_to_extent, fixed_at, after_write, written, with_offset, after_rise, after_fall, raised, lowered}
+use Rattle.gb_ram_bounds.specs.Fills.{at_pointer, is_same_pointer, is_on, is_reached, nearest, is_surely_reached, surely_reaches, reaches, is_between, bytes_of, is_in_extent, cut_by_fill, cut_by_fills, grown, one_more, ends_at, is_touched, grown_if_touched, extended_if, filled_by, filled, near_end, cut_to_extent, fixed_at, after_write, written, with_offset, after_rise, after_fall, raised, lowered}
 use Rattle.gb_ram_bounds.specs.Meaning.{HoldsFill, HoldFills, HoldsSome, PointersIn, OthersStay, GoesThrough, IsStored, HasCellsOf, IsSoundByFills, IsSoundStore, IsSoundWrite, IsSoundRise, IsSoundFall}
 use Rattle.gb_ram_bounds.proofs.AddressLaws.{some_of-at}
 use Rattle.gb_ram_bounds.proofs.FactLaws.{cut_or_same-In, is_in-between, to_cell-has}
@@ -327,7 +327,7 @@ HoldsSome-fixed e p f cells memory x y i ends h = choose (is_surely_reached e p 
     choose :
         (b : Bool) → is_surely_reached e p (near_end e.reach f) ≡ b
         → HoldsSome
-          (cond b (Some (cut_to_extent e.reach (nearest e.reach (at_pointer e.pointer p) + e.offset) f)) None) cells memory y
+        (cond b (Some (cut_to_extent e.reach (nearest e.reach (at_pointer e.pointer p) + e.offset) f)) None) cells memory y
     choose true near = HoldsFill-extent e p f cells memory x y i ends h near
     choose false near = tt
 

@@ -1,5 +1,5 @@
 -- Sets of addresses (abstract interpretation: strided intervals; own).
-use Rattle.std.specs.Prelude.{ℕ, zero, suc, ◌+◌, ◌-◌, Bool, true, false, ◌&&◌, ◌||◌, ◌==◌, nat_le, min, max}
+use Rattle.std.specs.Prelude.{ℕ, zero, suc, ◌+◌, ◌-◌, Bool, true, false, ◌&&◌, ◌||◌, ◌==◌, nat_le}
 use Rattle.gb_low_bits.specs.LowBits.{are_congruent}
 use Rattle.gb_ram_bounds.specs.declared.addresses.AddressSet.{AddressSet}
 

@@ -1,5 +1,5 @@
 -- What a state knows of a byte, and covering (abstract interpretation: inclusion; own).
-use Rattle.std.specs.Prelude.{ℕ, ◌+◌, ◌-◌, Bool, true, false, not, ◌&&◌, ◌||◌, ◌==◌, nat_le, List, Option, Some, None}
+use Rattle.std.specs.Prelude.{ℕ, Bool, false, not, ◌&&◌, ◌||◌, nat_le, List, Option, Some, None}
 use Rattle.std.specs.List.{list_all, list_any}
 use Rattle.gb_domain.specs.declared.pairs.Bounds.{Bounds}
 use Rattle.gb_low_bits.specs.declared.interval.StridedInterval.{StridedInterval}

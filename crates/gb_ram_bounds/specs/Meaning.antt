@@ -1,5 +1,5 @@
 -- Which memories are meant (abstract interpretation: concretization and soundness; own).
-use Rattle.std.specs.Prelude.{◌≡◌, ℕ, ◌+◌, ◌<◌, ◌≤◌, Bool, true, false, List, take, Option, Some, None}
+use Rattle.std.specs.Prelude.{◌≡◌, ℕ, ◌+◌, ◌<◌, ◌≤◌, true, false, List, take, Option, Some, None}
 use Rattle.std.specs.List.{AllByRecursion}
 use Rattle.gb_domain.specs.declared.pairs.Bounds.{Bounds}
 use Rattle.gb_low_bits.specs.declared.interval.StridedInterval.{StridedInterval}

@@ -97,9 +97,7 @@ fn give_facts(
 ) -> bool
     ensures { result ≡ Covering.gives_facts facts.now cells.now fills.now pointers.now kept.now wanted.now }
 {
-    wanted
-        .iter()
-        .all(|fact| gives_fact(facts, cells, fills, pointers, kept, fact))
+    wanted.iter().all(|fact| gives_fact(facts, cells, fills, pointers, kept, fact))
 }
 
 /// Whether facts hold that didn't hold yet, where only the other cells are kept: at each of their addresses without such a cell what
@@ -209,9 +207,7 @@ fn give_fills(
 ) -> bool
     ensures { result ≡ Covering.gives_fills facts.now cells.now fills.now pointers.now kept.now wanted.now }
 {
-    wanted
-        .iter()
-        .all(|fill| gives_fill(facts, cells, fills, pointers, kept, fill))
+    wanted.iter().all(|fill| gives_fill(facts, cells, fills, pointers, kept, fill))
 }
 
 /// Whether fills hold where only the other cells are kept: at each of their addresses without such a cell what the state knows of the

@@ -119,12 +119,7 @@ pub(crate) fn is_to_cell(cells: &[ByteCell], stored: AddressSet) -> bool
 }
 
 #[tactic(auto, unfolding(crate::specs::Facts::level_after))]
-fn level(
-    facts: &[Fact],
-    cells: &[ByteCell],
-    stored: AddressSet,
-    value: StridedInterval,
-) -> usize
+fn level(facts: &[Fact], cells: &[ByteCell], stored: AddressSet, value: StridedInterval) -> usize
     ensures { result ≡ Facts.level_after facts.now cells.now stored value }
 {
     if is_to_cell(cells, stored) {

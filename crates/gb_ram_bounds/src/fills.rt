@@ -81,11 +81,7 @@ fn may_be_reached(end: FillEnd, pointers: &Pointers<Bounds>, address: u16) -> bo
 }
 
 /// Whether an address is on an end's side with some value that the pointer may have.
-pub(crate) fn may_reach(
-    end: Option<FillEnd>,
-    pointers: &Pointers<Bounds>,
-    address: u16,
-) -> bool
+pub(crate) fn may_reach(end: Option<FillEnd>, pointers: &Pointers<Bounds>, address: u16) -> bool
     ensures { result ≡ Fills.may_reach end pointers.now address }
 {
     match end {
@@ -115,9 +111,7 @@ fn surely_reaches(end: Option<FillEnd>, pointers: &Pointers<Bounds>, address: u1
 pub fn is_in_extent(pointers: &Pointers<Bounds>, fill: &Fill, address: u16) -> bool
     ensures { result ≡ Fills.is_in_extent pointers.now fill.now address }
 {
-    fill.first <= address
-        && address <= fill.last
-        && surely_reaches(fill.end, pointers, address)
+    fill.first <= address && address <= fill.last && surely_reaches(fill.end, pointers, address)
 }
 
 #[tactic(auto, unfolding(crate::specs::Fills::cut_by_fill))]
@@ -325,12 +319,7 @@ fn with_offset(end: FillEnd, offset: u16, fill: Fill) -> Fill
 }
 
 #[tactic(auto, unfolding(crate::specs::Fills::raised))]
-fn after_rise(
-    pointer: Pointer,
-    by: u16,
-    pointers: &Pointers<Bounds>,
-    fill: Fill,
-) -> Option<Fill>
+fn after_rise(pointer: Pointer, by: u16, pointers: &Pointers<Bounds>, fill: Fill) -> Option<Fill>
     ensures { result ≡ Fills.raised pointer by pointers.now fill }
 {
     let end = match fill.end {
@@ -347,12 +336,7 @@ fn after_rise(
 /// A fill as a pointer gets so much more, for all its values: of one that ends there the distance is so much less. Where the distance
 /// would be below -32,768 it is as after any other write.
 #[tactic(auto, using(crate::proofs::FillLaws::raised_sound))]
-pub fn raised(
-    pointer: Pointer,
-    by: u16,
-    pointers: &Pointers<Bounds>,
-    fill: Fill,
-) -> Option<Fill>
+pub fn raised(pointer: Pointer, by: u16, pointers: &Pointers<Bounds>, fill: Fill) -> Option<Fill>
     ensures exact { result ≡ Fills.raised pointer by pointers.now fill }
     ensures sound { IsSoundRise pointer by pointers.now fill result }
 {
@@ -360,12 +344,7 @@ pub fn raised(
 }
 
 #[tactic(auto, unfolding(crate::specs::Fills::lowered))]
-fn after_fall(
-    pointer: Pointer,
-    by: u16,
-    pointers: &Pointers<Bounds>,
-    fill: Fill,
-) -> Option<Fill>
+fn after_fall(pointer: Pointer, by: u16, pointers: &Pointers<Bounds>, fill: Fill) -> Option<Fill>
     ensures { result ≡ Fills.lowered pointer by pointers.now fill }
 {
     let end = match fill.end {
@@ -381,12 +360,7 @@ fn after_fall(
 /// A fill as a pointer gets so much less, for all its values: of one that ends there the distance is so much more. Where the distance
 /// would be above 32,767 it is as after any other write.
 #[tactic(auto, using(crate::proofs::FillLaws::lowered_sound))]
-pub fn lowered(
-    pointer: Pointer,
-    by: u16,
-    pointers: &Pointers<Bounds>,
-    fill: Fill,
-) -> Option<Fill>
+pub fn lowered(pointer: Pointer, by: u16, pointers: &Pointers<Bounds>, fill: Fill) -> Option<Fill>
     ensures exact { result ≡ Fills.lowered pointer by pointers.now fill }
     ensures sound { IsSoundFall pointer by pointers.now fill result }
 {
