@@ -1,0 +1,9 @@
+use Rattle.std.proofs.Common.{◌≡◌, ◌-◌}
+use Rattle.gb_low_bits.specs.LowBits.{passing, count_passing}
+use Rattle.gb_low_bits.specs.Logic.{is_known}
+use Rattle.gb_low_bits.proofs.logic.known_bits.Given as goal
+
+abbrev pub invariant-loop-bit : goal.invariant-loop-bit
+invariant-loop-bit l =
+    count_passing (is_known l.fn.deciding l.fn.left l.fn.right)
+    ≡ passing (is_known l.fn.deciding l.fn.left l.fn.right) (8 - l.bit) l.bit

@@ -1,0 +1,6 @@
+pub mod LowBits
+pub mod Sums
+pub mod Logic
+pub mod Shifts
+pub mod Interval
+pub mod Meaning

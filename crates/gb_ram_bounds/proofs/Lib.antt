@@ -1,0 +1,4 @@
+pub mod AddressLaws
+pub mod CoveringLaws
+pub mod FactLaws
+pub mod FillLaws

@@ -1,0 +1,6 @@
+pub mod Cells
+pub mod Addresses
+pub mod Facts
+pub mod Fills
+pub mod Covering
+pub mod Meaning

@@ -1,0 +1,178 @@
+//! Facts: what a certificate says of bytes of RAM for the whole program.
+
+ghost use Rattle.std.specs.Prelude.{◌≡◌, true};
+ghost use Rattle.gb_ram_bounds.specs.Facts as Facts;
+ghost use Rattle.gb_ram_bounds.specs.Meaning.{IsSoundByFacts, IsSoundLevel, AreKept};
+
+use crate::addresses::{AddressSet, is_in, is_one};
+use crate::cells::{ByteCell, has_cell};
+use gb_low_bits::StridedInterval;
+use gb_low_bits::interval::{cut, lies_in};
+
+/// The bytes at `first`, `first` + `step` and so on to `last` have one of these values each, cells apart.
+#[derive(Clone, Copy)]
+pub struct Fact {
+    pub first: u16,
+    pub last: u16,
+    /// Of 0 there is no address.
+    pub step: u8,
+    pub value: StridedInterval,
+}
+
+/// Whether a fact is about an address.
+#[tactic(auto, unfolding(crate::specs::Facts::has_address))]
+pub fn has_address(fact: &Fact, address: u16) -> bool
+    ensures { result ≡ Facts.has_address fact.now address }
+{
+    fact.first <= address
+        && address <= fact.last
+        && 0 < fact.step
+        && (address - fact.first) % u16::from(fact.step) == 0
+}
+
+/// The values that both have; where they have none in common, those of the first one.
+#[tactic(auto, unfolding(crate::specs::Facts::cut_or_same))]
+pub(crate) fn cut_or_same(value: StridedInterval, other: StridedInterval) -> StridedInterval
+    ensures { result ≡ Facts.cut_or_same value other }
+{
+    match cut(value, other) {
+        Some(left) => left,
+        None => value,
+    }
+}
+
+#[tactic(auto, unfolding(crate::specs::Facts::cut_by_fact))]
+fn cut_by_fact(fact: &Fact, address: u16, value: StridedInterval) -> StridedInterval
+    ensures { result ≡ Facts.cut_by_fact fact.now address value }
+{
+    if has_address(fact, address) {
+        cut_or_same(value, fact.value)
+    } else {
+        value
+    }
+}
+
+fn cut_in_turn(facts: &[Fact], address: u16, value: StridedInterval) -> StridedInterval
+    ensures { result ≡ Facts.cut_by_facts facts.now address value }
+{
+    let mut value = value;
+    for fact in facts {
+        value = cut_by_fact(fact, address, value);
+    }
+    value
+}
+
+/// What is known of a byte without a cell by facts that hold: the value, cut in turn to each that has the address. A cut that
+/// leaves nothing is left out.
+#[tactic(auto, using(crate::proofs::FactLaws::cut_by_facts_sound))]
+pub fn cut_by_facts(facts: &[Fact], address: u16, value: StridedInterval) -> StridedInterval
+    ensures exact { result ≡ Facts.cut_by_facts facts.now address value }
+    ensures sound { IsSoundByFacts facts.now address value result }
+{
+    cut_in_turn(facts, address, value)
+}
+
+#[tactic(auto, unfolding(crate::specs::Facts::is_met_at))]
+fn is_met_at(fact: &Fact, stored: AddressSet, address: u16) -> bool
+    ensures { result ≡ Facts.is_met_at fact.now stored address }
+{
+    has_address(fact, address) && is_in(stored, address)
+}
+
+/// Whether some address is the fact's and one of these. It is asked address by address.
+#[tactic(auto, using(crate::proofs::AddressLaws::some_of_none, crate::proofs::AddressLaws::some_of_found, crate::proofs::AddressLaws::some_of_next), unfolding(crate::specs::Facts::meets))]
+fn meets(fact: &Fact, stored: AddressSet) -> bool
+    ensures { result ≡ Facts.meets fact.now stored }
+{
+    for address in fact.first.max(stored.first)..=fact.last.min(stored.last) {
+        if is_met_at(fact, stored, address) {
+            return true;
+        }
+    }
+    false
+}
+
+#[tactic(auto, unfolding(crate::specs::Facts::is_broken))]
+fn is_broken(stored: AddressSet, value: StridedInterval, fact: &Fact) -> bool
+    ensures { result ≡ Facts.is_broken stored value fact.now }
+{
+    !lies_in(value, fact.value) && meets(fact, stored)
+}
+
+fn unbroken(stored: AddressSet, value: StridedInterval, facts: &[Fact]) -> usize
+    ensures { result ≡ Facts.unbroken stored value facts.now }
+{
+    for (number, fact) in facts.iter().enumerate() {
+        if is_broken(stored, value, fact) {
+            return number;
+        }
+    }
+    facts.len()
+}
+
+/// Whether a store is to one address, which has a cell now.
+#[tactic(auto, unfolding(crate::specs::Facts::is_to_cell))]
+pub(crate) fn is_to_cell(cells: &[ByteCell], stored: AddressSet) -> bool
+    ensures { result ≡ Facts.is_to_cell cells.now stored }
+{
+    is_one(stored) && has_cell(cells, stored.first)
+}
+
+#[tactic(auto, unfolding(crate::specs::Facts::level_after))]
+fn level(facts: &[Fact], cells: &[ByteCell], stored: AddressSet, value: StridedInterval) -> usize
+    ensures { result ≡ Facts.level_after facts.now cells.now stored value }
+{
+    if is_to_cell(cells, stored) {
+        facts.len()
+    } else {
+        unbroken(stored, value, facts)
+    }
+}
+
+/// How many of the facts still hold after a store of a value to one of the addresses: those before the first that it breaks.
+/// The cells are those after it.
+#[tactic(auto, using(crate::proofs::FactLaws::level_after_sound))]
+pub fn level_after(
+    facts: &[Fact],
+    cells: &[ByteCell],
+    stored: AddressSet,
+    value: StridedInterval,
+) -> usize
+    ensures exact { result ≡ Facts.level_after facts.now cells.now stored value }
+    ensures sound { IsSoundLevel facts.now cells.now stored value result }
+{
+    level(facts, cells, stored, value)
+}
+
+#[tactic(auto, unfolding(crate::specs::Facts::gives_back))]
+fn gives_back(fact: &Fact, kept: &[ByteCell], cell: &ByteCell) -> bool
+    ensures { result ≡ Facts.gives_back fact.now kept.now cell.now }
+{
+    !has_address(fact, cell.address)
+        || has_cell(kept, cell.address)
+        || lies_in(cell.value, fact.value)
+}
+
+#[tactic(auto, unfolding(crate::specs::Facts::keeps_fact))]
+fn keeps_fact(cells: &[ByteCell], kept: &[ByteCell], fact: &Fact) -> bool
+    ensures { result ≡ Facts.keeps_fact cells.now kept.now fact.now }
+{
+    cells.iter().all(|cell| gives_back(fact, kept, cell))
+}
+
+#[tactic(auto, unfolding(crate::specs::Facts::keeps_facts))]
+fn keep_all(facts: &[Fact], cells: &[ByteCell], kept: &[ByteCell]) -> bool
+    ensures { result ≡ Facts.keeps_facts facts.now cells.now kept.now }
+{
+    facts.iter().all(|fact| keeps_fact(cells, kept, fact))
+}
+
+/// Whether facts that hold still hold where only the other cells are kept: each cell that goes lies in the facts that have its
+/// address.
+#[tactic(auto, using(crate::proofs::FactLaws::keeps_facts_sound))]
+pub fn keeps_facts(facts: &[Fact], cells: &[ByteCell], kept: &[ByteCell]) -> bool
+    ensures exact { result ≡ Facts.keeps_facts facts.now cells.now kept.now }
+    ensures sound { result ≡ true → AreKept facts.now cells.now kept.now }
+{
+    keep_all(facts, cells, kept)
+}
