@@ -6,7 +6,9 @@ use crate::rounds::{
 };
 use crate::written::{is_accepted, written};
 use gb_draft::limits::{DEAR_STEPS, EDITS, EDITS_OF_KEPT, OBSTACLES, STEPS_BACK};
-use gb_draft::{Cause, CodePoint, Failure, Rules, Run, RunEnd, TargetPlace, find_needs};
+use gb_draft::{
+    Cause, CodePoint, Failure, Rules, Run, RunEnd, TargetPlace, Wish, find_needs,
+};
 use gb_ops::machine::Region;
 use gb_plans::{Plan, inline_plan, plan_for, targets_to_follow};
 use gb_reports::{Crowd, Finding, InstructionFinding};
@@ -298,13 +300,25 @@ impl<'a> Refinement<'a> {
             return Ok(lesson);
         }
         match outcome {
-            RunEnd::Wanted(wish) => Ok(Lesson::Change(Change::Wish(wish, self.news(run)?))),
+            RunEnd::Wanted(wish) => self.learn_wishes(run, wish),
             RunEnd::TooLarge => Ok(Lesson::TooLarge(Crowd::of(self.alloc, run)?)),
             RunEnd::Crowded => self.learn_crowded(run),
             RunEnd::StackSet { sp } => self.learn_stack(sp),
             RunEnd::Failed(failure) => self.learn_failed(run, &failure),
             RunEnd::Finished => self.learn_finished(run),
         }
+    }
+
+    /// What a run wants, of which one is given at least.
+    fn learn_wishes(&self, run: &Run<'_>, first: Wish) -> Result<Lesson, AllocError> {
+        let mut wishes = Vec::new(self.alloc);
+        for wish in &run.wishes {
+            wishes.push(*wish)?;
+        }
+        if wishes.is_empty() {
+            wishes.push(first)?;
+        }
+        Ok(Lesson::Change(Change::Grant(wishes, self.news(run)?)))
     }
 
     /// There would be too many procedures: some are followed in their callers, where that is cheap. Where the last edit
@@ -325,10 +339,8 @@ impl<'a> Refinement<'a> {
     /// A failure is looked into only where no more can be known of cells and widening, but in a long run.
     fn learn_failed(&self, run: &Run<'_>, failure: &Failure) -> Result<Lesson, AllocError> {
         let news = self.news(run)?;
-        if run.steps >= DEAR_STEPS {
+        if run.steps >= DEAR_STEPS || news.is_empty() {
             self.learn_at_once(run, failure, news)
-        } else if news.is_empty() {
-            self.learn_failure(run, failure)
         } else {
             Ok(Lesson::Change(Change::Track(news)))
         }
@@ -356,6 +368,9 @@ impl<'a> Refinement<'a> {
 
     /// What may help against the failures that a run went past, one in the procedures of each target.
     fn add_passed(&self, run: &Run<'_>, mendings: &mut Vec<Mending>) -> Result<(), AllocError> {
+        if self.is_single {
+            return Ok(());
+        }
         for failure in &run.passed {
             let Some(place) = run.place_of(failure.node) else {
                 continue;

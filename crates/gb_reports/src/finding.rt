@@ -49,6 +49,8 @@ pub enum Spent {
     Rounds,
     /// The steps of all rounds together.
     Steps,
+    /// The time that the user allows.
+    Time,
 }
 
 /// Why no certificate could be made.

@@ -261,6 +261,7 @@ fn spent_text(spent: Spent) -> &'static str {
     match spent {
         Spent::Rounds => "the limit of rounds",
         Spent::Steps => "the limit of steps",
+        Spent::Time => "the limit of time",
     }
 }
 
