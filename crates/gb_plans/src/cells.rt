@@ -1,5 +1,6 @@
 //! Memory cells: which are tracked, and which registers were loaded from them.
 
+use crate::losses::add_new_keys;
 use crate::plan::{Edit, Plan, number_of, unless_taken_back};
 use crate::sources::{copied, high_registers, pointer_of, sources, stacked, without};
 use crate::spots::{has_entry, is_known, op_at, open_at, pointed_at, pointed_by, value_of};
@@ -422,8 +423,8 @@ pub(crate) fn key_cells(
     spot: Spot,
     wanted: &RegisterSet,
 ) -> Result<Option<Plan>, AllocError> {
-    let cells = cells_behind(alloc, run, spot, wanted, Sources::Unknown)?;
-    plan_of_cells(alloc, run, &cells)
+    let found = searched(alloc, run, spot, wanted, Sources::Unknown)?;
+    plan_of_cells(alloc, run, &found)
 }
 
 /// Makes key cells of the cells that known registers came from: they were told apart value by value.
@@ -433,28 +434,28 @@ pub(crate) fn key_all_cells(
     spot: Spot,
     wanted: &RegisterSet,
 ) -> Result<Option<Plan>, AllocError> {
-    let cells = cells_behind(alloc, run, spot, wanted, Sources::All)?;
-    plan_of_cells(alloc, run, &cells)
+    let found = searched(alloc, run, spot, wanted, Sources::All)?;
+    plan_of_cells(alloc, run, &found)
 }
 
+/// Cells that were found become key cells, and the procedures that load them and don't know them where they begin are parted by
+/// them.
 fn plan_of_cells(
     alloc: Global,
     run: &Run<'_>,
-    cells: &BTreeSet<u16>,
+    found: &CellSearch,
 ) -> Result<Option<Plan>, AllocError> {
     let mut plan = Plan::new(alloc);
-    let mut has_some = false;
-    for cell in cells.iter() {
+    for cell in found.cells.iter() {
         if !run.configuration.key_cells.contains(cell) {
             plan.add(Edit::Cell(*cell))?;
-            has_some = true;
         }
     }
-    if has_some {
-        Ok(unless_taken_back(run, plan))
-    } else {
-        Ok(None)
+    if plan.is_empty() {
+        return Ok(None);
     }
+    add_new_keys(alloc, run, &found.loads, &mut plan)?;
+    Ok(unless_taken_back(run, plan))
 }
 
 /// The tracked cells that the high byte of a pointer is a copy of: the pointer itself is kept in RAM.

@@ -90,12 +90,13 @@ fn parting(run: &Run<'_>, number: usize, part: Part) -> Option<Edit> {
     }
 }
 
-/// The procedures that lead to a procedure and don't know a part where they begin, with it.
+/// The procedures that lead to a procedure and don't know a part where they begin, with it: by calls alone, or by interrupts too.
 fn leading_to(
     alloc: Global,
     run: &Run<'_>,
     number: usize,
     part: Part,
+    by_calls: bool,
 ) -> Result<BTreeSet<usize>, AllocError> {
     let mut seen = BTreeSet::new(alloc);
     let mut left = Vec::new(alloc);
@@ -106,6 +107,9 @@ fn leading_to(
             continue;
         };
         if !is_open_at_entry(run, procedure, part) || !seen.insert(at)? {
+            continue;
+        }
+        if by_calls && procedure.key.is_handler {
             continue;
         }
         for site in &procedure.sites {
@@ -128,7 +132,7 @@ fn add_partings(
     within: Option<&BTreeSet<usize>>,
     plan: &mut Plan,
 ) -> Result<(), AllocError> {
-    for member in &leading_to(alloc, run, number, part)? {
+    for member in &leading_to(alloc, run, number, part, false)? {
         let is_within = match within {
             Some(within) => within.contains(member),
             None => true,
@@ -236,8 +240,106 @@ pub(crate) fn plan_shown(
     if plan.is_empty() { Ok(None) } else { Ok(unless_taken_back(run, plan)) }
 }
 
-/// Registers come from a table in a bank that isn't known.
-pub(crate) fn plan_banked(
+/// Procedures that load cells are parted by them, as they become key cells, and so are those that lead there by calls, where they
+/// don't know them.
+pub(crate) fn add_new_keys(
+    alloc: Global,
+    run: &Run<'_>,
+    loads: &BTreeSet<CellLoad>,
+    plan: &mut Plan,
+) -> Result<(), AllocError> {
+    if run.rules() == Rules::Simple {
+        return Ok(());
+    }
+    for load in loads {
+        let part = Part::Cell(load.cell);
+        for member in &leading_to(alloc, run, load.procedure, part, true)? {
+            if *member != 0
+                && let Some(edit) = parting(run, *member, part)
+            {
+                plan.add_new(edit)?;
+            }
+        }
+    }
+    Ok(())
+}
+
+/// Procedures that leave with several values of a key cell, as they don't know it where they begin, are parted by it where calls
+/// know it.
+pub(crate) fn plan_written_keys(
+    alloc: Global,
+    run: &Run<'_>,
+) -> Result<Option<Plan>, AllocError> {
+    let mut plan = Plan::new(alloc);
+    for cell in &run.configuration.key_cells {
+        for (number, procedure) in run.procedures.iter().enumerate() {
+            if leaves_open(procedure, *cell) && is_lost_by_calls(run, number, Part::Cell(*cell))
+                && let Some(edit) = parting(run, number, Part::Cell(*cell))
+            {
+                plan.add_new(edit)?;
+            }
+        }
+    }
+    if plan.is_empty() { Ok(None) } else { Ok(unless_taken_back(run, plan)) }
+}
+
+/// Whether a procedure may write a cell, and leaves with several values of it.
+fn leaves_open(procedure: &RunProcedure, cell: u16) -> bool {
+    let is_written = procedure
+        .ranges
+        .as_slice()
+        .iter()
+        .any(|range| range.first <= cell && cell <= range.last);
+    match &procedure.exit {
+        Some(exit) if is_written => {
+            let val = cell_at(cell, exit.cells());
+            val.lo < val.hi
+        }
+        _ => false,
+    }
+}
+
+/// All that calls know of key cells, and of what is shown, is kept apart, wherever it is lost: that is tried last.
+pub(crate) fn plan_all_keys(alloc: Global, run: &Run<'_>) -> Result<Option<Plan>, AllocError> {
+    let mut plan = Plan::new(alloc);
+    if run.rules() == Rules::Simple {
+        return Ok(None);
+    }
+    for number in 1..run.procedures.len() {
+        add_lost(run, number, Part::Shown, &mut plan)?;
+        for cell in &run.configuration.key_cells {
+            add_lost(run, number, Part::Cell(*cell), &mut plan)?;
+        }
+    }
+    if plan.is_empty() { Ok(None) } else { Ok(unless_taken_back(run, plan)) }
+}
+
+/// A procedure is parted by what its calls know and it doesn't.
+fn add_lost(run: &Run<'_>, number: usize, part: Part, plan: &mut Plan) -> Result<(), AllocError> {
+    if is_lost_by_calls(run, number, part)
+        && let Some(edit) = parting(run, number, part)
+    {
+        plan.add_new(edit)?;
+    }
+    Ok(())
+}
+
+/// A cell is lost before it is read in a procedure.
+pub(crate) fn plan_cell(
+    alloc: Global,
+    run: &Run<'_>,
+    number: usize,
+    cell: u16,
+) -> Result<Option<Plan>, AllocError> {
+    let mut plan = Plan::new(alloc);
+    if run.rules() == Rules::Extended {
+        add_partings(alloc, run, number, Part::Cell(cell), None, &mut plan)?;
+    }
+    if plan.is_empty() { Ok(None) } else { Ok(unless_taken_back(run, plan)) }
+}
+
+/// Registers come from a key cell, or from a table in a bank, that isn't known, though calls know it.
+pub(crate) fn plan_lost(
     alloc: Global,
     run: &Run<'_>,
     spot: Spot,
@@ -247,6 +349,15 @@ pub(crate) fn plan_banked(
         return Ok(None);
     }
     let origins = origins_of(alloc, run, spot, wanted)?;
+    let mut plan = Plan::new(alloc);
+    for load in &origins.loads {
+        if run.configuration.key_cells.contains(&load.cell) {
+            add_partings(alloc, run, load.procedure, Part::Cell(load.cell), None, &mut plan)?;
+        }
+    }
+    if !plan.is_empty() && let Some(plan) = unless_taken_back(run, plan) {
+        return Ok(Some(plan));
+    }
     for spot in &origins.banked {
         for number in run.nodes_at(*spot) {
             if let Some(plan) = plan_shown(alloc, run, *number)? {

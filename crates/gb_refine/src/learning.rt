@@ -366,9 +366,10 @@ impl<'a> Refinement<'a> {
         }
     }
 
-    /// What may help against the failures that a run went past, one in the procedures of each target.
+    /// What may help against the failures that a run went past, one in the procedures of each target and each bank. Where the bank
+    /// isn't known, what follows is often no code of the program's: such a failure is mended alone.
     fn add_passed(&self, run: &Run<'_>, mendings: &mut Vec<Mending>) -> Result<(), AllocError> {
-        if self.is_single {
+        if self.is_single || mendings.iter().any(|mending| is_of_bank(mending.finding.cause)) {
             return Ok(());
         }
         for failure in &run.passed {
@@ -377,8 +378,9 @@ impl<'a> Refinement<'a> {
             };
             let is_met = mendings
                 .iter()
-                .any(|mending| mending.place.target == place.target);
+                .any(|mending| is_near(mending.place, place));
             if !is_met
+                && !is_of_bank(failure.cause)
                 && let Lesson::Change(Change::Mend(mending)) = self.learn_failure(run, failure)?
             {
                 mendings.push(mending)?;
@@ -395,6 +397,16 @@ impl<'a> Refinement<'a> {
             Ok(Lesson::Change(Change::Track(news)))
         }
     }
+}
+
+/// Whether what is shown isn't known.
+fn is_of_bank(cause: Cause) -> bool {
+    matches!(cause, Cause::Bank | Cause::CartridgeRam { .. })
+}
+
+/// Whether places are in procedures of one target, and in one bank.
+fn is_near(place: TargetPlace, other: TargetPlace) -> bool {
+    place.target == other.target && place.point.bank == other.point.bank
 }
 
 /// The stack region of so many bytes, at least one, up to an address.
