@@ -120,7 +120,9 @@ impl Wish {
     /// The target that it is about; none of the place of main's stack.
     pub fn target(self) -> Option<CodePoint> {
         match self {
-            Wish::Inline(target) | Wish::Base(target) | Wish::Arguments { target, .. } => Some(target),
+            Wish::Inline(target) | Wish::Base(target) | Wish::Arguments { target, .. } => Some(
+                target,
+            ),
             Wish::Top(_) => None,
         }
     }

@@ -17,7 +17,7 @@ pub struct TargetPlace {
 }
 
 /// How many cells the procedures of a target are parted by at most.
-const ENTRY_CELLS: usize = 12;
+const ENTRY_CELLS: usize = 4;
 
 /// The cells by whose known values the procedures of a target are parted.
 #[derive(Clone, Copy, Default, PartialEq, Eq)]

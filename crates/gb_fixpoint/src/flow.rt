@@ -16,23 +16,6 @@ use arrayvec::ArrayVec;
 use gb_ops::op::Register;
 use gb_verify::{Abs, Cell, Core, Rules, Val, reduced};
 
-/// Whose keys cells are part of.
-#[derive(Clone, Copy, PartialEq, Eq)]
-enum KeyPart {
-    Node,
-    /// A procedure's, at whose target these tell procedures apart.
-    Procedure(EntryCells),
-}
-
-impl KeyPart {
-    fn is_without_cells(self) -> bool {
-        match self {
-            KeyPart::Node => true,
-            KeyPart::Procedure(entry) => entry == EntryCells::default(),
-        }
-    }
-}
-
 impl<'a> Run<'a> {
     /// A state goes on from a node to an address of the same procedure.
     pub(crate) fn flow(&mut self, from: usize, to: u16, state: &mut Abs) -> Result<(), RunStop> {
@@ -200,7 +183,7 @@ impl<'a> Run<'a> {
         place: TargetPlace,
         state: &Abs,
     ) -> Result<(), RunStop> {
-        let cells = self.number_values(KeyPart::Node, state.cells())?;
+        let cells = self.number_values(EntryCells::default(), state.cells())?;
         let is_keyed = self.is_keyed(place, state.core());
         let counted = self.configuration.items_at(place);
         let words = self.number_words(state, is_keyed, counted)?;
@@ -218,12 +201,13 @@ impl<'a> Run<'a> {
         self.arrive(Some(from), key, state)
     }
 
-    /// The cells among these that have one value alone and are part of keys: of nodes', or of procedures'.
-    fn cell_values(&self, part: KeyPart, cells: &[Cell]) -> ArrayVec<CellValue, 64> {
+    /// The key cells that have one value alone, and those of a procedure's own that have.
+    fn cell_values(&self, own: EntryCells, cells: &[Cell]) -> ArrayVec<CellValue, 64> {
         let mut values = ArrayVec::new();
         for cell in cells {
             let address = cell.address;
-            if cell.val.lo == cell.val.hi && self.is_key_cell(part, address) {
+            let is_part = own.contains(address) || self.configuration.key_cells.contains(&address);
+            if is_part && cell.val.lo == cell.val.hi {
                 let _ = values.try_push(CellValue {
                     address,
                     value: cell.val.lo,
@@ -233,52 +217,33 @@ impl<'a> Run<'a> {
         values
     }
 
-    /// Whether a cell is part of a key: by the rules of versions 1 and 2 all key cells are part of procedures' too.
-    fn is_key_cell(&self, part: KeyPart, cell: u16) -> bool {
-        match part {
-            KeyPart::Node => self.configuration.key_cells.contains(&cell),
-            KeyPart::Procedure(entry) => {
-                entry.contains(cell)
-                    || (self.rules() == Rules::Simple
-                        && self.configuration.key_cells.contains(&cell))
-            }
-        }
-    }
-
-    /// Whether no cell is part of a key.
-    fn has_no_cell(&self, part: KeyPart) -> bool {
-        let is_node = part == KeyPart::Node || self.rules() == Rules::Simple;
-        part.is_without_cells() && (!is_node || self.configuration.key_cells.is_empty())
-    }
-
-    /// The number of the values of cells in a key, if they had it before: 0 where none is known.
-    fn find_values(&self, part: KeyPart, cells: &[Cell]) -> Option<usize> {
-        if self.has_no_cell(part) {
+    /// The number of the values of key cells and a procedure's own, if they had them before: 0 where none is known.
+    fn find_values(&self, own: EntryCells, cells: &[Cell]) -> Option<usize> {
+        if self.configuration.key_cells.is_empty() && own == EntryCells::default() {
             return Some(0);
         }
-        let values = self.cell_values(part, cells);
+        let values = self.cell_values(own, cells);
         if values.is_empty() {
             return Some(0);
         }
         self.cell_index.get(values.as_slice()).copied()
     }
 
-    /// The number of the values of cells in a key.
-    fn number_values(&mut self, part: KeyPart, cells: &[Cell]) -> Result<usize, RunStop> {
-        if let Some(number) = self.find_values(part, cells) {
+    /// The number of the values of key cells and a procedure's own.
+    fn number_values(&mut self, own: EntryCells, cells: &[Cell]) -> Result<usize, RunStop> {
+        if let Some(number) = self.find_values(own, cells) {
             return Ok(number);
         }
-        let values = self.cell_values(part, cells);
+        let values = self.cell_values(own, cells);
         let number = self.cell_index.len().saturating_add(1);
         let key = Vec::from_slice(self.alloc, values.as_slice())?;
         self.cell_index.insert(key, number)?;
         Ok(number)
     }
 
-    /// The number of the values by which the procedures of a target are parted, if they had it before.
+    /// The number of the values by which the procedures of a target are parted, if they had them before.
     pub(crate) fn find_entry_cells(&self, target: CodePoint, cells: &[Cell]) -> Option<usize> {
-        let entry = self.configuration.entry_cells(target);
-        self.find_values(KeyPart::Procedure(entry), cells)
+        self.find_values(self.configuration.entry_cells(target), cells)
     }
 
     /// The number of the values by which the procedures of a target are parted.
@@ -287,8 +252,7 @@ impl<'a> Run<'a> {
         target: CodePoint,
         cells: &[Cell],
     ) -> Result<usize, RunStop> {
-        let entry = self.configuration.entry_cells(target);
-        self.number_values(KeyPart::Procedure(entry), cells)
+        self.number_values(self.configuration.entry_cells(target), cells)
     }
 
     /// A state arrives at the node of a key.

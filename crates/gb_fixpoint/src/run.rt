@@ -206,7 +206,10 @@ impl<'a> Run<'a> {
     /// The run goes past a wish, and keeps the first for each target, unless it has gone past a failure before.
     fn pass_wish(&mut self, wish: Wish) -> Result<(), RunStop> {
         self.go_half_again();
-        let is_met = self.wishes.iter().any(|other| other.target() == wish.target());
+        let is_met = self
+            .wishes
+            .iter()
+            .any(|other| other.target() == wish.target());
         if self.passed.is_empty() && !is_met {
             self.wishes.push(wish)?;
         }

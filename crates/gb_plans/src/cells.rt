@@ -1,13 +1,12 @@
 //! Memory cells: which are tracked, and which registers were loaded from them.
 
-use crate::losses::add_new_keys;
-use crate::plan::{Edit, Plan, number_of, unless_taken_back};
+use crate::plan::{Edit, Plan, number_of, unless_empty};
 use crate::sources::{copied, high_registers, pointer_of, sources, stacked, without};
 use crate::spots::{has_entry, is_known, op_at, open_at, pointed_at, pointed_by, value_of};
 use crate::ways::Ways;
 use gb_fixpoint::code_point::CodePoint;
-use gb_fixpoint::limits::SPOTS;
 use gb_fixpoint::known_bank;
+use gb_fixpoint::limits::SPOTS;
 use gb_fixpoint::register_set::{REGISTERS, RegisterSet};
 use gb_fixpoint::types::{Run, RunNode, Spot};
 use gb_ops::op::{AluOp, Indirect, Op, Operand, Register, StackPair};
@@ -423,8 +422,8 @@ pub(crate) fn key_cells(
     spot: Spot,
     wanted: &RegisterSet,
 ) -> Result<Option<Plan>, AllocError> {
-    let found = searched(alloc, run, spot, wanted, Sources::Unknown)?;
-    plan_of_cells(alloc, run, &found)
+    let cells = cells_behind(alloc, run, spot, wanted, Sources::Unknown)?;
+    plan_of_cells(alloc, run, &cells)
 }
 
 /// Makes key cells of the cells that known registers came from: they were told apart value by value.
@@ -434,28 +433,23 @@ pub(crate) fn key_all_cells(
     spot: Spot,
     wanted: &RegisterSet,
 ) -> Result<Option<Plan>, AllocError> {
-    let found = searched(alloc, run, spot, wanted, Sources::All)?;
-    plan_of_cells(alloc, run, &found)
+    let cells = cells_behind(alloc, run, spot, wanted, Sources::All)?;
+    plan_of_cells(alloc, run, &cells)
 }
 
-/// Cells that were found become key cells, and the procedures that load them and don't know them where they begin are parted by
-/// them.
+/// Cells become key cells.
 fn plan_of_cells(
     alloc: Global,
     run: &Run<'_>,
-    found: &CellSearch,
+    cells: &BTreeSet<u16>,
 ) -> Result<Option<Plan>, AllocError> {
     let mut plan = Plan::new(alloc);
-    for cell in found.cells.iter() {
+    for cell in cells.iter() {
         if !run.configuration.key_cells.contains(cell) {
             plan.add(Edit::Cell(*cell))?;
         }
     }
-    if plan.is_empty() {
-        return Ok(None);
-    }
-    add_new_keys(alloc, run, &found.loads, &mut plan)?;
-    Ok(unless_taken_back(run, plan))
+    Ok(unless_empty(run, plan))
 }
 
 /// The tracked cells that the high byte of a pointer is a copy of: the pointer itself is kept in RAM.

@@ -2,7 +2,6 @@
 
 use crate::cells::{key_cells, pointer_cells, unknown_stores};
 use crate::loops::pointers_read;
-use crate::losses::plan_written_keys;
 use crate::plan::{Edit, Plan, unless_taken_back};
 use crate::plans::{FailurePoint, plan_loops, plan_near};
 use crate::ways::Ways;
@@ -34,9 +33,6 @@ fn joins_cell(run: &Run<'_>, procedure: &RunProcedure, cell: u16) -> bool {
 pub(crate) fn part_exits(alloc: Global, run: &Run<'_>) -> Result<Option<Plan>, AllocError> {
     if run.rules() == Rules::Simple {
         return Ok(None);
-    }
-    if let Some(plan) = plan_written_keys(alloc, run)? {
-        return Ok(Some(plan));
     }
     let mut target = None;
     for cell in run.configuration.key_cells.iter() {

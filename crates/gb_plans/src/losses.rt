@@ -2,7 +2,7 @@
 //! parted by what the controller shows, nor by cells; where a failure comes from such a join, the procedures there are parted.
 
 use crate::cells::{CellLoad, Entering, origins_of};
-use crate::plan::{Edit, Plan, parted_by, unless_taken_back};
+use crate::plan::{Edit, Plan, parted_by, unless_empty};
 use crate::spots::is_known;
 use gb_fixpoint::limits::VISITS;
 use gb_fixpoint::register_set::{REGISTERS, RegisterSet};
@@ -79,24 +79,31 @@ fn parting(run: &Run<'_>, number: usize, part: Part) -> Option<Edit> {
         Part::Cell(cell) => {
             let cells = run.configuration.entry_cells(target);
             let is_new = !cells.contains(cell) && cells.has_room();
-            if is_new { Some(Edit::PartCell(target, cell)) } else { None }
+            if is_new {
+                Some(Edit::PartCell(target, cell))
+            } else {
+                None
+            }
         }
         Part::Register(register) => {
             let registers = RegisterSet::of(&[register]);
             let is_new = !registers.is_inside(&parted_by(run.configuration, target));
-            if is_new { Some(Edit::Part(target, registers)) } else { None }
+            if is_new {
+                Some(Edit::Part(target, registers))
+            } else {
+                None
+            }
         }
         Part::Shown => None,
     }
 }
 
-/// The procedures that lead to a procedure and don't know a part where they begin, with it: by calls alone, or by interrupts too.
+/// The procedures that lead to a procedure and don't know a part where they begin, with it.
 fn leading_to(
     alloc: Global,
     run: &Run<'_>,
     number: usize,
     part: Part,
-    by_calls: bool,
 ) -> Result<BTreeSet<usize>, AllocError> {
     let mut seen = BTreeSet::new(alloc);
     let mut left = Vec::new(alloc);
@@ -107,9 +114,6 @@ fn leading_to(
             continue;
         };
         if !is_open_at_entry(run, procedure, part) || !seen.insert(at)? {
-            continue;
-        }
-        if by_calls && procedure.key.is_handler {
             continue;
         }
         for site in &procedure.sites {
@@ -132,12 +136,13 @@ fn add_partings(
     within: Option<&BTreeSet<usize>>,
     plan: &mut Plan,
 ) -> Result<(), AllocError> {
-    for member in &leading_to(alloc, run, number, part, false)? {
+    for member in &leading_to(alloc, run, number, part)? {
         let is_within = match within {
             Some(within) => within.contains(member),
             None => true,
         };
-        if is_within && is_lost_by_calls(run, *member, part)
+        if is_within
+            && is_lost_by_calls(run, *member, part)
             && let Some(edit) = parting(run, *member, part)
         {
             plan.add_new(edit)?;
@@ -237,109 +242,11 @@ pub(crate) fn plan_shown(
     if plan.is_empty() {
         add_partings(alloc, run, procedure, Part::Shown, None, &mut plan)?;
     }
-    if plan.is_empty() { Ok(None) } else { Ok(unless_taken_back(run, plan)) }
+    Ok(unless_empty(run, plan))
 }
 
-/// Procedures that load cells are parted by them, as they become key cells, and so are those that lead there by calls, where they
-/// don't know them.
-pub(crate) fn add_new_keys(
-    alloc: Global,
-    run: &Run<'_>,
-    loads: &BTreeSet<CellLoad>,
-    plan: &mut Plan,
-) -> Result<(), AllocError> {
-    if run.rules() == Rules::Simple {
-        return Ok(());
-    }
-    for load in loads {
-        let part = Part::Cell(load.cell);
-        for member in &leading_to(alloc, run, load.procedure, part, true)? {
-            if *member != 0
-                && let Some(edit) = parting(run, *member, part)
-            {
-                plan.add_new(edit)?;
-            }
-        }
-    }
-    Ok(())
-}
-
-/// Procedures that leave with several values of a key cell, as they don't know it where they begin, are parted by it where calls
-/// know it.
-pub(crate) fn plan_written_keys(
-    alloc: Global,
-    run: &Run<'_>,
-) -> Result<Option<Plan>, AllocError> {
-    let mut plan = Plan::new(alloc);
-    for cell in &run.configuration.key_cells {
-        for (number, procedure) in run.procedures.iter().enumerate() {
-            if leaves_open(procedure, *cell) && is_lost_by_calls(run, number, Part::Cell(*cell))
-                && let Some(edit) = parting(run, number, Part::Cell(*cell))
-            {
-                plan.add_new(edit)?;
-            }
-        }
-    }
-    if plan.is_empty() { Ok(None) } else { Ok(unless_taken_back(run, plan)) }
-}
-
-/// Whether a procedure may write a cell, and leaves with several values of it.
-fn leaves_open(procedure: &RunProcedure, cell: u16) -> bool {
-    let is_written = procedure
-        .ranges
-        .as_slice()
-        .iter()
-        .any(|range| range.first <= cell && cell <= range.last);
-    match &procedure.exit {
-        Some(exit) if is_written => {
-            let val = cell_at(cell, exit.cells());
-            val.lo < val.hi
-        }
-        _ => false,
-    }
-}
-
-/// All that calls know of key cells, and of what is shown, is kept apart, wherever it is lost: that is tried last.
-pub(crate) fn plan_all_keys(alloc: Global, run: &Run<'_>) -> Result<Option<Plan>, AllocError> {
-    let mut plan = Plan::new(alloc);
-    if run.rules() == Rules::Simple {
-        return Ok(None);
-    }
-    for number in 1..run.procedures.len() {
-        add_lost(run, number, Part::Shown, &mut plan)?;
-        for cell in &run.configuration.key_cells {
-            add_lost(run, number, Part::Cell(*cell), &mut plan)?;
-        }
-    }
-    if plan.is_empty() { Ok(None) } else { Ok(unless_taken_back(run, plan)) }
-}
-
-/// A procedure is parted by what its calls know and it doesn't.
-fn add_lost(run: &Run<'_>, number: usize, part: Part, plan: &mut Plan) -> Result<(), AllocError> {
-    if is_lost_by_calls(run, number, part)
-        && let Some(edit) = parting(run, number, part)
-    {
-        plan.add_new(edit)?;
-    }
-    Ok(())
-}
-
-/// A cell is lost before it is read in a procedure.
-pub(crate) fn plan_cell(
-    alloc: Global,
-    run: &Run<'_>,
-    number: usize,
-    cell: u16,
-) -> Result<Option<Plan>, AllocError> {
-    let mut plan = Plan::new(alloc);
-    if run.rules() == Rules::Extended {
-        add_partings(alloc, run, number, Part::Cell(cell), None, &mut plan)?;
-    }
-    if plan.is_empty() { Ok(None) } else { Ok(unless_taken_back(run, plan)) }
-}
-
-/// Registers come from a key cell, or from a table in a bank, that isn't known, though calls know it.
-pub(crate) fn plan_lost(
+/// Registers come from a table in a bank that isn't known where it is read.
+pub(crate) fn plan_banked(
     alloc: Global,
     run: &Run<'_>,
     spot: Spot,
@@ -349,15 +256,6 @@ pub(crate) fn plan_lost(
         return Ok(None);
     }
     let origins = origins_of(alloc, run, spot, wanted)?;
-    let mut plan = Plan::new(alloc);
-    for load in &origins.loads {
-        if run.configuration.key_cells.contains(&load.cell) {
-            add_partings(alloc, run, load.procedure, Part::Cell(load.cell), None, &mut plan)?;
-        }
-    }
-    if !plan.is_empty() && let Some(plan) = unless_taken_back(run, plan) {
-        return Ok(Some(plan));
-    }
     for spot in &origins.banked {
         for number in run.nodes_at(*spot) {
             if let Some(plan) = plan_shown(alloc, run, *number)? {
@@ -366,6 +264,22 @@ pub(crate) fn plan_lost(
         }
     }
     Ok(None)
+}
+
+/// All procedures that join what their calls know of what is shown are parted by it: that is tried last.
+pub(crate) fn part_all(alloc: Global, run: &Run<'_>) -> Result<Option<Plan>, AllocError> {
+    let mut plan = Plan::new(alloc);
+    if run.rules() == Rules::Simple {
+        return Ok(None);
+    }
+    for number in 1..run.procedures.len() {
+        if is_lost_by_calls(run, number, Part::Shown)
+            && let Some(edit) = parting(run, number, Part::Shown)
+        {
+            plan.add_new(edit)?;
+        }
+    }
+    Ok(unless_empty(run, plan))
 }
 
 /// Procedures that call and are called in a circle are parted by what the controller shows, where calls of them know it.
@@ -380,11 +294,12 @@ pub(crate) fn part_circle(
         return Ok(None);
     }
     for member in callers {
-        if callees.contains(member) && is_lost_by_calls(run, *member, Part::Shown)
+        if callees.contains(member)
+            && is_lost_by_calls(run, *member, Part::Shown)
             && let Some(edit) = parting(run, *member, Part::Shown)
         {
             plan.add_new(edit)?;
         }
     }
-    if plan.is_empty() { Ok(None) } else { Ok(unless_taken_back(run, plan)) }
+    Ok(unless_empty(run, plan))
 }

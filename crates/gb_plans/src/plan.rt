@@ -188,6 +188,15 @@ pub(crate) fn unless_taken_back(run: &Run<'_>, plan: Plan) -> Option<Plan> {
     }
 }
 
+/// The plan, if it has a change and wasn't taken back before.
+pub(crate) fn unless_empty(run: &Run<'_>, plan: Plan) -> Option<Plan> {
+    if plan.is_empty() {
+        None
+    } else {
+        unless_taken_back(run, plan)
+    }
+}
+
 /// A set of registers as a number.
 pub(crate) fn number_of(set: &RegisterSet) -> u64 {
     let mut number: u64 = 0;

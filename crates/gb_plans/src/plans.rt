@@ -3,7 +3,7 @@
 use crate::cells::{key_all_cells, key_cells};
 use crate::kept::{part_exits, plan_kept, plan_stored, plan_written};
 use crate::loops::refine_loops;
-use crate::losses::{part_circle, plan_all_keys, plan_cell, plan_lost, plan_shown};
+use crate::losses::{part_all, part_circle, plan_banked, plan_shown};
 use crate::plan::{Edit, Plan, parted_by, unless_taken_back};
 use crate::slices::{SliceBy, SliceGoal, slice, slice_through_loop, slice_to_call};
 use crate::sources::high_registers;
@@ -453,19 +453,6 @@ fn plan_code(alloc: Global, run: &Run<'_>, byte: u16) -> Result<Option<Plan>, Al
     Ok(None)
 }
 
-/// A byte of code in RAM isn't known in a procedure: calls may know it, or what stores it is refined.
-fn plan_byte(
-    alloc: Global,
-    run: &Run<'_>,
-    number: usize,
-    byte: u16,
-) -> Result<Option<Plan>, AllocError> {
-    match plan_cell(alloc, run, number, byte)? {
-        Some(plan) => Ok(Some(plan)),
-        None => plan_code(alloc, run, byte),
-    }
-}
-
 /// The bank isn't known at a node: joins of calls that know it, the cells that it was switched by, the calls of what switches
 /// it, or its value there.
 fn plan_bank(alloc: Global, run: &Run<'_>, node: usize) -> Result<Option<Plan>, AllocError> {
@@ -570,7 +557,7 @@ fn plan_pointer(
             _ => Ok(None),
         };
     }
-    if let Some(plan) = plan_lost(alloc, run, spot, &wanted)? {
+    if let Some(plan) = plan_banked(alloc, run, spot, &wanted)? {
         return Ok(Some(plan));
     }
     let trouble = FailurePoint {
@@ -699,7 +686,7 @@ pub fn plan_for(
 ) -> Result<Option<Plan>, AllocError> {
     match plan_by_cause(alloc, run, failure, is_kept_in_ram)? {
         Some(plan) => Ok(Some(plan)),
-        None if may_be_inlined(failure.cause) => plan_all_keys(alloc, run),
+        None if may_be_inlined(failure.cause) => part_all(alloc, run),
         None => Ok(None),
     }
 }
@@ -718,7 +705,7 @@ fn plan_by_cause(
     match failure.cause {
         Cause::Recursion { .. } => plan_recursion(alloc, run, spot.procedure),
         Cause::Bank => plan_bank(alloc, run, failure.node),
-        Cause::Unreadable { byte } => match plan_byte(alloc, run, spot.procedure, byte)? {
+        Cause::Unreadable { byte } => match plan_code(alloc, run, byte)? {
             Some(plan) => Ok(Some(plan)),
             None => {
                 let trouble = FailurePoint {

@@ -6,9 +6,7 @@ use crate::rounds::{
 };
 use crate::written::{is_accepted, written};
 use gb_draft::limits::{DEAR_STEPS, EDITS, EDITS_OF_KEPT, OBSTACLES, STEPS_BACK};
-use gb_draft::{
-    Cause, CodePoint, Failure, Rules, Run, RunEnd, TargetPlace, Wish, find_needs,
-};
+use gb_draft::{Cause, CodePoint, Failure, Rules, Run, RunEnd, TargetPlace, Wish, find_needs};
 use gb_ops::machine::Region;
 use gb_plans::{Plan, inline_plan, plan_for, targets_to_follow};
 use gb_reports::{Crowd, Finding, InstructionFinding};
@@ -369,16 +367,18 @@ impl<'a> Refinement<'a> {
     /// What may help against the failures that a run went past, one in the procedures of each target and each bank. Where the bank
     /// isn't known, what follows is often no code of the program's: such a failure is mended alone.
     fn add_passed(&self, run: &Run<'_>, mendings: &mut Vec<Mending>) -> Result<(), AllocError> {
-        if self.is_single || mendings.iter().any(|mending| is_of_bank(mending.finding.cause)) {
+        if self.is_single
+            || mendings
+                .iter()
+                .any(|mending| is_of_bank(mending.finding.cause))
+        {
             return Ok(());
         }
         for failure in &run.passed {
             let Some(place) = run.place_of(failure.node) else {
                 continue;
             };
-            let is_met = mendings
-                .iter()
-                .any(|mending| is_near(mending.place, place));
+            let is_met = mendings.iter().any(|mending| is_near(mending.place, place));
             if !is_met
                 && !is_of_bank(failure.cause)
                 && let Lesson::Change(Change::Mend(mending)) = self.learn_failure(run, failure)?

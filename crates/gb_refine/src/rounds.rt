@@ -318,11 +318,7 @@ impl<'a> Refinement<'a> {
         Ok(())
     }
 
-    fn keep_before(
-        &mut self,
-        mending: &Mending,
-        is_one_of_many: bool,
-    ) -> Result<(), AllocError> {
+    fn keep_before(&mut self, mending: &Mending, is_one_of_many: bool) -> Result<(), AllocError> {
         let configuration = self.configuration.clone()?;
         self.before = Some(Before {
             configuration,
