@@ -41,6 +41,10 @@ impl<R: Eprint> SearchProgress for RoundsShown<'_, R> {
         }
     }
 
+    fn goes_on(&mut self) -> bool {
+        true
+    }
+
     fn done(&mut self) {
         if self.is_shown {
             // The longest of the lines above.

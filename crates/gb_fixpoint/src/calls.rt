@@ -37,7 +37,7 @@ impl<'a> Run<'a> {
         let context = self.context(procedure, caller, point);
         let mut entered = enter(self.rules(), context.taken, caller);
         keep_tracked(&mut entered, self.tracked.as_slice());
-        let cells = self.number_cells(entered.cells())?;
+        let cells = self.number_entry_cells(point, entered.cells())?;
         let key = self.procedure_key(entered.core(), point, is_handler, cells, context);
         let callee = self.procedure_with(key)?;
         self.link(number, procedure, callee, target)?;
@@ -80,10 +80,10 @@ impl<'a> Run<'a> {
             is_handler,
             ime: (core.ime.off, core.ime.pending, core.ime.on),
             bound: core.bound,
-            controller: if is_flat {
-                None
-            } else {
+            controller: if self.configuration.is_by_controller(target) {
                 Some(ControllerKey::of(&core.ctl))
+            } else {
+                None
             },
             ie: if is_handler {
                 (0, 0)

@@ -116,6 +116,18 @@ pub enum RunEnd {
     TooLarge,
 }
 
+impl Wish {
+    /// The target that it is about; none of the place of main's stack.
+    pub fn target(self) -> Option<CodePoint> {
+        match self {
+            Wish::Inline(target) | Wish::Base(target) | Wish::Arguments { target, .. } => Some(
+                target,
+            ),
+            Wish::Top(_) => None,
+        }
+    }
+}
+
 impl Cause {
     /// The checker's reason.
     pub fn reason(self) -> Reason {

@@ -16,6 +16,41 @@ pub struct TargetPlace {
     pub point: CodePoint,
 }
 
+/// How many cells the procedures of a target are parted by at most.
+const ENTRY_CELLS: usize = 4;
+
+/// The cells by whose known values the procedures of a target are parted.
+#[derive(Clone, Copy, Default, PartialEq, Eq)]
+pub struct EntryCells {
+    /// 0 where there are fewer.
+    cells: [u16; ENTRY_CELLS],
+}
+
+impl EntryCells {
+    pub fn contains(&self, cell: u16) -> bool {
+        self.cells.iter().any(|member| *member == cell)
+    }
+
+    /// Whether there is room for one more.
+    pub fn has_room(&self) -> bool {
+        self.contains(0)
+    }
+
+    /// These, and a cell if there is room for it.
+    pub fn with(&self, cell: u16) -> EntryCells {
+        let mut more = *self;
+        if !self.contains(cell) {
+            for member in more.cells.iter_mut() {
+                if *member == 0 {
+                    *member = cell;
+                    break;
+                }
+            }
+        }
+        more
+    }
+}
+
 /// What refinement has decided so far. Each failure adds an edit; the last one may be taken back, and at the end what a
 /// certificate doesn't need is.
 #[derive(Clone, Drop)]
@@ -49,6 +84,10 @@ pub struct Configuration {
     pub peeled: HashMap<TargetPlace, RegisterSet>,
     /// By where procedures begin, the registers by whose known values they are parted.
     pub parted: HashMap<CodePoint, RegisterSet>,
+    /// Where procedures begin that are parted by the controller, by the rules of version 3; by those of versions 1 and 2 all are.
+    pub by_controller: HashSet<CodePoint>,
+    /// By where procedures begin, the cells by whose known values they are parted.
+    pub by_cells: HashMap<CodePoint, EntryCells>,
     /// Where procedures begin that are not parted by the controller and the key cells.
     pub flat: HashSet<CodePoint>,
     /// The cells whose known values are part of every key: shadows of the bank, states.
@@ -95,6 +134,8 @@ impl Configuration {
             carried: HashSet::new(alloc),
             peeled: HashMap::new(alloc),
             parted: HashMap::new(alloc),
+            by_controller: HashSet::new(alloc),
+            by_cells: HashMap::new(alloc),
             flat: HashSet::new(alloc),
             key_cells: BTreeSet::new(alloc),
             inlined: HashSet::new(alloc),
@@ -121,6 +162,20 @@ impl Configuration {
         match self.arguments.get(&target) {
             Some(bytes) => *bytes,
             None => 0,
+        }
+    }
+
+    /// Whether the procedures that begin at a target are parted by the controller.
+    pub fn is_by_controller(&self, target: CodePoint) -> bool {
+        let is_asked = self.rules == Rules::Simple || self.by_controller.contains(&target);
+        is_asked && !self.flat.contains(&target)
+    }
+
+    /// The cells by which the procedures that begin at a target are parted, besides the key cells.
+    pub fn entry_cells(&self, target: CodePoint) -> EntryCells {
+        match self.by_cells.get(&target) {
+            Some(cells) => *cells,
+            None => EntryCells::default(),
         }
     }
 

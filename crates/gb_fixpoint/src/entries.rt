@@ -88,7 +88,7 @@ impl<'a> Run<'a> {
 
     /// The procedure that the run enters there.
     pub fn own_procedure(&self, entered: &Entered) -> Option<usize> {
-        let cells = self.find_cells(entered.state.cells())?;
+        let cells = self.find_entry_cells(entered.target, entered.state.cells())?;
         let core = entered.state.core();
         let key = self.procedure_key(
             core,

@@ -1,7 +1,7 @@
 //! States flow to the nodes of their keys.
 
 use crate::code_point::CodePoint;
-use crate::configuration::TargetPlace;
+use crate::configuration::{EntryCells, TargetPlace};
 use crate::covering::is_covered;
 use crate::keys::{KnownRegisters, NodeKey};
 use crate::limits::{
@@ -14,7 +14,7 @@ use crate::tracking::keep_tracked;
 use crate::types::{CellValue, Edge, Run, RunNode, Spot};
 use arrayvec::ArrayVec;
 use gb_ops::op::Register;
-use gb_verify::{Abs, Cell, Core, Rules, Val, cell_at, reduced};
+use gb_verify::{Abs, Cell, Core, Rules, Val, reduced};
 
 impl<'a> Run<'a> {
     /// A state goes on from a node to an address of the same procedure.
@@ -183,7 +183,7 @@ impl<'a> Run<'a> {
         place: TargetPlace,
         state: &Abs,
     ) -> Result<(), RunStop> {
-        let cells = self.number_cells(state.cells())?;
+        let cells = self.number_values(EntryCells::default(), state.cells())?;
         let is_keyed = self.is_keyed(place, state.core());
         let counted = self.configuration.items_at(place);
         let words = self.number_words(state, is_keyed, counted)?;
@@ -201,43 +201,58 @@ impl<'a> Run<'a> {
         self.arrive(Some(from), key, state)
     }
 
-    /// The key cells that have one value alone.
-    fn cell_values(&self, cells: &[Cell]) -> ArrayVec<CellValue, 64> {
+    /// The key cells that have one value alone, and those of a procedure's own that have.
+    fn cell_values(&self, own: EntryCells, cells: &[Cell]) -> ArrayVec<CellValue, 64> {
         let mut values = ArrayVec::new();
-        for address in &self.configuration.key_cells {
-            let val = cell_at(*address, cells);
-            if val.lo == val.hi {
+        for cell in cells {
+            let address = cell.address;
+            let is_part = own.contains(address) || self.configuration.key_cells.contains(&address);
+            if is_part && cell.val.lo == cell.val.hi {
                 let _ = values.try_push(CellValue {
-                    address: *address,
-                    value: val.lo,
+                    address,
+                    value: cell.val.lo,
                 });
             }
         }
         values
     }
 
-    /// The number of the values that the key cells have, if they had them before: 0 where none is known.
-    pub(crate) fn find_cells(&self, cells: &[Cell]) -> Option<usize> {
-        if self.configuration.key_cells.is_empty() {
+    /// The number of the values of key cells and a procedure's own, if they had them before: 0 where none is known.
+    fn find_values(&self, own: EntryCells, cells: &[Cell]) -> Option<usize> {
+        if self.configuration.key_cells.is_empty() && own == EntryCells::default() {
             return Some(0);
         }
-        let values = self.cell_values(cells);
+        let values = self.cell_values(own, cells);
         if values.is_empty() {
             return Some(0);
         }
         self.cell_index.get(values.as_slice()).copied()
     }
 
-    /// The number of the values that the key cells have.
-    pub(crate) fn number_cells(&mut self, cells: &[Cell]) -> Result<usize, RunStop> {
-        if let Some(number) = self.find_cells(cells) {
+    /// The number of the values of key cells and a procedure's own.
+    fn number_values(&mut self, own: EntryCells, cells: &[Cell]) -> Result<usize, RunStop> {
+        if let Some(number) = self.find_values(own, cells) {
             return Ok(number);
         }
-        let values = self.cell_values(cells);
+        let values = self.cell_values(own, cells);
         let number = self.cell_index.len().saturating_add(1);
         let key = Vec::from_slice(self.alloc, values.as_slice())?;
         self.cell_index.insert(key, number)?;
         Ok(number)
+    }
+
+    /// The number of the values by which the procedures of a target are parted, if they had them before.
+    pub(crate) fn find_entry_cells(&self, target: CodePoint, cells: &[Cell]) -> Option<usize> {
+        self.find_values(self.configuration.entry_cells(target), cells)
+    }
+
+    /// The number of the values by which the procedures of a target are parted.
+    pub(crate) fn number_entry_cells(
+        &mut self,
+        target: CodePoint,
+        cells: &[Cell],
+    ) -> Result<usize, RunStop> {
+        self.number_values(self.configuration.entry_cells(target), cells)
     }
 
     /// A state arrives at the node of a key.

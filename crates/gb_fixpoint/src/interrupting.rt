@@ -182,7 +182,7 @@ impl<'a> Run<'a> {
 
     /// The handler at a vector that was entered in a node's states before, whose core it begins with is given.
     fn handler_of(&self, node: &RunNode, vector: CodePoint, entered: &Core) -> Option<usize> {
-        let cells = self.find_cells(node.state.cells())?;
+        let cells = self.find_entry_cells(vector, node.state.cells())?;
         let context = Context {
             base: 0,
             taken: RETURN_WORD,

@@ -44,7 +44,7 @@ pub mod types;
 mod words;
 
 pub use cause::{Cause, Failure, RunEnd, StackMisuse, TransferMisuse, Wish};
-pub use configuration::{Configuration, TargetPlace};
+pub use configuration::{Configuration, EntryCells, TargetPlace};
 pub use entries::Entered;
 pub use keys::{ControllerKey, KnownRegisters, NodeKey, ProcedureKey};
 pub use register_set::RegisterSet;

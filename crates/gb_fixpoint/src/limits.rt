@@ -29,6 +29,12 @@ pub const STEPS_A_NODE: u64 = 200;
 /// From how many steps of a run on a round is dear.
 pub const DEAR_STEPS: u64 = 10_000;
 
+/// After how many steps of a run it is asked whether it may go on.
+pub const STEPS_ASKED: u64 = 16_384;
+
+/// How many steps a run goes on at least past its first failure.
+pub const STEPS_PAST: u64 = 2_000;
+
 /// The most obstacles that are told.
 pub const OBSTACLES: usize = 10;
 

@@ -1,10 +1,10 @@
 //! A run from power-up to the fixpoint.
 
-use crate::cause::{Cause, Failure, RunEnd};
+use crate::cause::{Cause, Failure, RunEnd, Wish};
 use crate::code_point::CodePoint;
 use crate::configuration::{Configuration, TargetPlace};
 use crate::keys::{NodeKey, ProcedureKey};
-use crate::limits::{DEAR_STEPS, PROCEDURES, RUN_STEPS};
+use crate::limits::{DEAR_STEPS, PROCEDURES, RUN_STEPS, STEPS_PAST};
 use crate::ranges::RangeSet;
 use crate::register_set::RegisterSet;
 use crate::stacks::main_base;
@@ -13,7 +13,7 @@ use crate::stop::RunStop;
 use crate::types::{Run, RunProcedure, Spot, Turn};
 use gb_ops::op::Register;
 use gb_verify::check::core_at_power_up;
-use gb_verify::{Abs, Rom, known_bytes};
+use gb_verify::{Abs, Rom, Rules, known_bytes};
 use std::alloc::{AllocError, Global};
 use std::collections::{BTreeMap, BTreeSet, HashMap, HashSet};
 
@@ -69,6 +69,7 @@ impl<'a> Run<'a> {
             lowest: u16::MAX,
             failures: Vec::new(alloc),
             passed: Vec::new(alloc),
+            wishes: Vec::new(alloc),
             last_step: u64::MAX,
             steps: 0,
             alloc,
@@ -86,43 +87,57 @@ impl<'a> Run<'a> {
         })
     }
 
-    /// Goes from power-up to the fixpoint, to the first failure at a place that wasn't given up, or to a limit. A run that was
-    /// long goes on past it, since others may be met besides.
+    /// Goes from power-up to the fixpoint, to a failure at a place that wasn't given up, or to a limit. By the rules of version 3,
+    /// or where it was long, it goes on past the first failure, since others may be met besides, and so it does past wishes.
     pub fn run(&mut self) -> Result<RunEnd, AllocError> {
-        match self.run_to_stop() {
-            Ok(()) => Ok(self.outcome(RunEnd::Finished)),
-            Err(RunStop::Failed(failure)) => Ok(self.outcome(RunEnd::Failed(failure))),
-            Err(RunStop::StackSet(sp)) => Ok(self.outcome(RunEnd::StackSet { sp })),
-            Err(RunStop::Wanted(wish)) => Ok(self.outcome(RunEnd::Wanted(wish))),
-            Err(RunStop::Crowded) => Ok(self.outcome(RunEnd::Crowded)),
-            Err(RunStop::TooLarge) => Ok(self.outcome(RunEnd::TooLarge)),
-            Err(RunStop::Memory(error)) => Err(error),
+        match self.run_for(RUN_STEPS)? {
+            Some(end) => Ok(end),
+            None => Ok(self.outcome(RunEnd::TooLarge)),
         }
     }
 
-    /// What a run came to: the first failure that it went past, if there is one.
+    /// Goes on as `run` does, by at most so many steps; what it came to, if it is at its end.
+    pub fn run_for(&mut self, steps: u64) -> Result<Option<RunEnd>, AllocError> {
+        let end = match self.take_turns(steps) {
+            Ok(false) => return Ok(None),
+            Ok(true) => RunEnd::Finished,
+            Err(RunStop::Failed(failure)) => RunEnd::Failed(failure),
+            Err(RunStop::StackSet(sp)) => RunEnd::StackSet { sp },
+            Err(RunStop::Wanted(wish)) => RunEnd::Wanted(wish),
+            Err(RunStop::Crowded) => RunEnd::Crowded,
+            Err(RunStop::TooLarge) => RunEnd::TooLarge,
+            Err(RunStop::Memory(error)) => return Err(error),
+        };
+        Ok(Some(self.outcome(end)))
+    }
+
+    /// What a run came to: the first failure that it went past, or the first wish, if there is one.
     fn outcome(&self, last: RunEnd) -> RunEnd {
-        match self.passed.first() {
-            Some(failure) => RunEnd::Failed(*failure),
-            None => last,
+        match (self.passed.first(), self.wishes.first()) {
+            (Some(failure), _) => RunEnd::Failed(*failure),
+            (None, Some(wish)) => RunEnd::Wanted(*wish),
+            (None, None) => last,
         }
     }
 
-    fn run_to_stop(&mut self) -> Result<(), RunStop> {
-        self.begin()?;
-        for _ in 0..RUN_STEPS {
+    /// Takes at most so many turns; whether there are no more to take.
+    fn take_turns(&mut self, turns: u64) -> Result<bool, RunStop> {
+        if self.nodes.is_empty() {
+            self.begin()?;
+        }
+        for _ in 0..turns {
             let Some(turn) = self.queue.pop_first() else {
-                return Ok(());
+                return Ok(true);
             };
             if self.steps > self.last_step {
-                return Ok(());
+                return Ok(true);
             }
             if self.nodes.len() > self.configuration.limit {
                 return Err(RunStop::TooLarge);
             }
             self.take_turn(turn)?;
         }
-        Err(RunStop::TooLarge)
+        Ok(false)
     }
 
     /// Main is entered.
@@ -158,18 +173,45 @@ impl<'a> Run<'a> {
                 }
                 Ok(())
             }
-            Err(RunStop::Failed(failure)) if self.steps >= DEAR_STEPS => self.pass(failure),
+            Err(RunStop::Failed(failure)) if self.goes_past() => self.pass(failure),
+            Err(RunStop::Wanted(wish)) if self.goes_past() && wish.target().is_some() => {
+                self.pass_wish(wish)
+            }
             outcome => outcome,
         }
     }
 
-    /// The run goes past a failure, half as far again as it has come, and keeps the first of each place.
-    fn pass(&mut self, failure: Failure) -> Result<(), RunStop> {
-        if self.passed.is_empty() {
-            self.last_step = self.steps.saturating_add(self.steps / 2);
+    /// Whether a run goes on past what it would stop at.
+    fn goes_past(&self) -> bool {
+        self.rules() == Rules::Extended || self.steps >= DEAR_STEPS
+    }
+
+    /// From the first failure or wish on the run goes half as far again as it has come.
+    fn go_half_again(&mut self) {
+        if self.passed.is_empty() && self.wishes.is_empty() {
+            let more = (self.steps / 2).max(STEPS_PAST);
+            self.last_step = self.steps.saturating_add(more);
         }
-        if !self.is_passed(self.place_of(failure.node)) {
+    }
+
+    /// The run goes past a failure, and keeps the first of each place, unless it has a wish: that comes first then.
+    fn pass(&mut self, failure: Failure) -> Result<(), RunStop> {
+        self.go_half_again();
+        if self.wishes.is_empty() && !self.is_passed(self.place_of(failure.node)) {
             self.passed.push(failure)?;
+        }
+        Ok(())
+    }
+
+    /// The run goes past a wish, and keeps the first for each target, unless it has gone past a failure before.
+    fn pass_wish(&mut self, wish: Wish) -> Result<(), RunStop> {
+        self.go_half_again();
+        let is_met = self
+            .wishes
+            .iter()
+            .any(|other| other.target() == wish.target());
+        if self.passed.is_empty() && !is_met {
+            self.wishes.push(wish)?;
         }
         Ok(())
     }

@@ -1,6 +1,6 @@
 //! What a run is made of: nodes, procedures, and what refinement asks of them.
 
-use crate::cause::Failure;
+use crate::cause::{Failure, Wish};
 use crate::code_point::CodePoint;
 use crate::configuration::Configuration;
 use crate::keys::{NodeKey, ProcedureKey};
@@ -166,8 +166,10 @@ pub struct Run<'a> {
     pub lowest: u16,
     /// The failures at places that were given up, the first of each.
     pub failures: Vec<Failure>,
-    /// The failures at other places that a long run went past, the first of each.
+    /// The failures at other places that the run went past, the first of each.
     pub passed: Vec<Failure>,
+    /// What it wants its configuration to say, once for each target.
+    pub wishes: Vec<Wish>,
     /// How many nodes are stepped at most, once there is one of these.
     pub(crate) last_step: u64,
     /// How many nodes were stepped.

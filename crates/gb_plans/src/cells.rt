@@ -1,12 +1,13 @@
 //! Memory cells: which are tracked, and which registers were loaded from them.
 
-use crate::plan::{Edit, Plan, number_of, unless_taken_back};
+use crate::plan::{Edit, Plan, number_of, unless_empty};
 use crate::sources::{copied, high_registers, pointer_of, sources, stacked, without};
-use crate::spots::{has_entry, is_known, op_at, open_at, pointed_at, pointed_by};
+use crate::spots::{has_entry, is_known, op_at, open_at, pointed_at, pointed_by, value_of};
 use crate::ways::Ways;
 use gb_fixpoint::code_point::CodePoint;
+use gb_fixpoint::known_bank;
 use gb_fixpoint::limits::SPOTS;
-use gb_fixpoint::register_set::RegisterSet;
+use gb_fixpoint::register_set::{REGISTERS, RegisterSet};
 use gb_fixpoint::types::{Run, RunNode, Spot};
 use gb_ops::op::{AluOp, Indirect, Op, Operand, Register, StackPair};
 use std::alloc::{AllocError, Global};
@@ -33,12 +34,43 @@ enum Sources {
     All,
 }
 
+/// A tracked cell that is loaded in a procedure.
+#[derive(Clone, Copy, PartialEq, Eq, PartialOrd, Ord)]
+pub(crate) struct CellLoad {
+    /// The number of the procedure.
+    pub procedure: usize,
+    pub cell: u16,
+}
+
+/// A register that isn't known where a procedure begins, though it matters there.
+#[derive(Clone, Copy, PartialEq, Eq, PartialOrd, Ord)]
+pub(crate) struct Entering {
+    /// The number of the procedure.
+    pub procedure: usize,
+    /// The register, by its place among `REGISTERS`.
+    pub register: usize,
+}
+
+/// Where registers come from, over calls and the stack.
+#[derive(Drop)]
+pub(crate) struct Origins {
+    pub loads: BTreeSet<CellLoad>,
+    pub entries: BTreeSet<Entering>,
+    pub banked: BTreeSet<Spot>,
+}
+
 /// A search back from registers to the cells that they were loaded from: over joins, calls, and PUSH with POP.
 #[derive(Drop)]
 struct CellSearch {
     alloc: Global,
     by: Sources,
     cells: BTreeSet<u16>,
+    /// In which procedures tracked cells were loaded.
+    loads: BTreeSet<CellLoad>,
+    /// Where procedures begin to which a question came.
+    entries: BTreeSet<Entering>,
+    /// Where a byte is loaded from ROM of which the bank isn't known.
+    banked: BTreeSet<Spot>,
     seen: BTreeSet<(Spot, u64)>,
     left: Vec<Question>,
     ways: BTreeMap<usize, Ways>,
@@ -77,6 +109,14 @@ impl CellSearch {
         if procedure.key.is_handler || !has_entry(run, spot) {
             return Ok(());
         }
+        for (number, register) in REGISTERS.iter().enumerate() {
+            if wanted.contains(*register) {
+                self.entries.insert(Entering {
+                    procedure: spot.procedure,
+                    register: number,
+                })?;
+            }
+        }
         for site in procedure.sites.iter() {
             if let Some(node) = run.nodes.get(*site) {
                 self.ask(node.spot(), wanted)?;
@@ -93,10 +133,20 @@ impl CellSearch {
         cell: u16,
         wanted: &RegisterSet,
     ) -> Result<(), AllocError> {
+        self.find(run, spot, cell)?;
+        self.ask(spot, without(wanted, Register::A))
+    }
+
+    /// A cell is found, if it is tracked.
+    fn find(&mut self, run: &Run<'_>, spot: Spot, cell: u16) -> Result<(), AllocError> {
         if run.configuration.tracked.contains(&cell) {
             self.cells.insert(cell)?;
+            self.loads.insert(CellLoad {
+                procedure: spot.procedure,
+                cell,
+            })?;
         }
-        self.ask(spot, without(wanted, Register::A))
+        Ok(())
     }
 
     /// A register is loaded from a cell through a pair: the cell is found, if it is tracked.
@@ -108,9 +158,7 @@ impl CellSearch {
         op: Op,
         wanted: &RegisterSet,
     ) -> Result<(), AllocError> {
-        if run.configuration.tracked.contains(&cell) {
-            self.cells.insert(cell)?;
-        }
+        self.find(run, spot, cell)?;
         match op {
             Op::Load(Operand::Register(target), _) => self.ask(spot, without(wanted, target)),
             _ => self.ask(spot, without(wanted, Register::A)),
@@ -126,9 +174,7 @@ impl CellSearch {
     ) -> Result<(), AllocError> {
         match pointed_at(run, spot, (Register::H, Register::L)) {
             Some(cell) => {
-                if run.configuration.tracked.contains(&cell) {
-                    self.cells.insert(cell)?;
-                }
+                self.find(run, spot, cell)?;
                 self.ask(spot, *wanted)
             }
             None => Ok(()),
@@ -194,6 +240,11 @@ impl CellSearch {
         let Some(op) = op_at(run, spot) else {
             return Ok(());
         };
+        if let Some(pair) = pointer_of(op, wanted)
+            && reads_unknown_bank(run, spot, pair)
+        {
+            self.banked.insert(spot)?;
+        }
         // A byte of ROM at a known address is known itself, so that what is computed comes from elsewhere.
         if let Some(cell) = pointer_of(op, wanted).and_then(|pair| pointed_at(run, spot, pair))
             && (self.by == Sources::Copies || ROM < cell)
@@ -243,6 +294,18 @@ impl CellSearch {
     }
 }
 
+/// Whether a pair at a spot may point into the switched bank while that isn't known.
+fn reads_unknown_bank(run: &Run<'_>, spot: Spot, pair: (Register, Register)) -> bool {
+    run.nodes_at(spot).iter().any(|number| match run.nodes.get(*number) {
+        Some(node) => {
+            let high = value_of(node, pair.0);
+            let ctl = &node.state.core().ctl;
+            high.lo < 0x80 && high.hi >= 0x40 && known_bank(run.rom, ctl, 0x4000).is_none()
+        }
+        None => false,
+    })
+}
+
 /// The tracked cells that registers at a spot were loaded from, or are copies of.
 fn cells_behind(
     alloc: Global,
@@ -251,10 +314,44 @@ fn cells_behind(
     wanted: &RegisterSet,
     by: Sources,
 ) -> Result<BTreeSet<u16>, AllocError> {
+    let CellSearch { cells, .. } = searched(alloc, run, spot, wanted, by)?;
+    Ok(cells)
+}
+
+/// Where registers at a spot that aren't known come from.
+pub(crate) fn origins_of(
+    alloc: Global,
+    run: &Run<'_>,
+    spot: Spot,
+    wanted: &RegisterSet,
+) -> Result<Origins, AllocError> {
+    let CellSearch {
+        loads,
+        entries,
+        banked,
+        ..
+    } = searched(alloc, run, spot, wanted, Sources::Unknown)?;
+    Ok(Origins {
+        loads,
+        entries,
+        banked,
+    })
+}
+
+fn searched(
+    alloc: Global,
+    run: &Run<'_>,
+    spot: Spot,
+    wanted: &RegisterSet,
+    by: Sources,
+) -> Result<CellSearch, AllocError> {
     let mut search = CellSearch {
         alloc,
         by,
         cells: BTreeSet::new(alloc),
+        loads: BTreeSet::new(alloc),
+        entries: BTreeSet::new(alloc),
+        banked: BTreeSet::new(alloc),
         seen: BTreeSet::new(alloc),
         left: Vec::new(alloc),
         ways: BTreeMap::new(alloc),
@@ -266,8 +363,7 @@ fn cells_behind(
         };
         search.answer(run, question)?;
     }
-    let CellSearch { cells, .. } = search;
-    Ok(cells)
+    Ok(search)
 }
 
 /// The register that a node's instruction stores, and the address where, if it is one.
@@ -341,24 +437,19 @@ pub(crate) fn key_all_cells(
     plan_of_cells(alloc, run, &cells)
 }
 
+/// Cells become key cells.
 fn plan_of_cells(
     alloc: Global,
     run: &Run<'_>,
     cells: &BTreeSet<u16>,
 ) -> Result<Option<Plan>, AllocError> {
     let mut plan = Plan::new(alloc);
-    let mut has_some = false;
     for cell in cells.iter() {
         if !run.configuration.key_cells.contains(cell) {
             plan.add(Edit::Cell(*cell))?;
-            has_some = true;
         }
     }
-    if has_some {
-        Ok(unless_taken_back(run, plan))
-    } else {
-        Ok(None)
-    }
+    Ok(unless_empty(run, plan))
 }
 
 /// The tracked cells that the high byte of a pointer is a copy of: the pointer itself is kept in RAM.

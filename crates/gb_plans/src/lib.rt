@@ -10,6 +10,7 @@ mod carries;
 mod cells;
 mod kept;
 mod loops;
+mod losses;
 mod plan;
 mod plans;
 mod saving;

@@ -27,6 +27,10 @@ pub enum Edit {
     Split(TargetPlace, Register),
     /// The procedures at a target are parted by registers.
     Part(CodePoint, RegisterSet),
+    /// The procedures at a target are parted by the controller.
+    PartBank(CodePoint),
+    /// The procedures at a target are parted by a cell.
+    PartCell(CodePoint, u16),
     /// A cell becomes part of every key.
     Cell(u16),
     /// A register's known values become part of the key at a place.
@@ -60,6 +64,19 @@ impl Plan {
         let mut plan = Plan::new(alloc);
         plan.add(edit)?;
         Ok(plan)
+    }
+
+    /// Whether there is no change yet.
+    pub(crate) fn is_empty(&self) -> bool {
+        self.edits.is_empty()
+    }
+
+    /// One more change, unless it is among them.
+    pub(crate) fn add_new(&mut self, edit: Edit) -> Result<(), AllocError> {
+        if !self.edits.contains(&edit) {
+            self.add(edit)?;
+        }
+        Ok(())
     }
 
     /// One more change.
@@ -141,6 +158,8 @@ impl Plan {
                 | Edit::Page(_)
                 | Edit::Unpage(_)
                 | Edit::Part(..)
+                | Edit::PartBank(_)
+                | Edit::PartCell(..)
                 | Edit::Cell(_)
                 | Edit::Count(..)
                 | Edit::CountItems(..)
@@ -166,6 +185,15 @@ pub(crate) fn unless_taken_back(run: &Run<'_>, plan: Plan) -> Option<Plan> {
         None
     } else {
         Some(plan)
+    }
+}
+
+/// The plan, if it has a change and wasn't taken back before.
+pub(crate) fn unless_empty(run: &Run<'_>, plan: Plan) -> Option<Plan> {
+    if plan.is_empty() {
+        None
+    } else {
+        unless_taken_back(run, plan)
     }
 }
 
@@ -195,6 +223,8 @@ fn parts_of(edit: Edit) -> [u64; 4] {
         Edit::Inline(target) => return [8, target.number(), 0, 0],
         Edit::Carry(place) => (9, place, 0),
         Edit::Unpage(place) => (10, place, 0),
+        Edit::PartBank(target) => return [11, target.number(), 0, 0],
+        Edit::PartCell(target, cell) => return [12, target.number(), u64::from(cell), 0],
     };
     [kind, place.target.number(), place.point.number(), more]
 }
@@ -222,6 +252,13 @@ fn apply_edit(edit: Edit, configuration: &mut Configuration) -> Result<(), Alloc
         Edit::Part(target, registers) => {
             let registers = parted_by(configuration, target).union(&registers);
             configuration.parted.insert(target, registers)?;
+        }
+        Edit::PartBank(target) => {
+            configuration.by_controller.insert(target)?;
+        }
+        Edit::PartCell(target, cell) => {
+            let cells = configuration.entry_cells(target).with(cell);
+            configuration.by_cells.insert(target, cells)?;
         }
         Edit::Cell(cell) => {
             configuration.key_cells.insert(cell)?;

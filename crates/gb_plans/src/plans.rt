@@ -3,6 +3,7 @@
 use crate::cells::{key_all_cells, key_cells};
 use crate::kept::{part_exits, plan_kept, plan_stored, plan_written};
 use crate::loops::refine_loops;
+use crate::losses::{part_all, part_circle, plan_banked, plan_shown};
 use crate::plan::{Edit, Plan, parted_by, unless_taken_back};
 use crate::slices::{SliceBy, SliceGoal, slice, slice_through_loop, slice_to_call};
 use crate::sources::high_registers;
@@ -452,9 +453,13 @@ fn plan_code(alloc: Global, run: &Run<'_>, byte: u16) -> Result<Option<Plan>, Al
     Ok(None)
 }
 
-/// The bank isn't known: the cells that it was switched by, the calls of what switches it, or its value there.
-fn plan_bank(alloc: Global, run: &Run<'_>) -> Result<Option<Plan>, AllocError> {
+/// The bank isn't known at a node: joins of calls that know it, the cells that it was switched by, the calls of what switches
+/// it, or its value there.
+fn plan_bank(alloc: Global, run: &Run<'_>, node: usize) -> Result<Option<Plan>, AllocError> {
     if let Some(plan) = plan_loops(alloc, run, &run.killers)? {
+        return Ok(Some(plan));
+    }
+    if let Some(plan) = plan_shown(alloc, run, node)? {
         return Ok(Some(plan));
     }
     let a = RegisterSet::of(&[Register::A]);
@@ -513,6 +518,9 @@ fn reached(
 fn plan_recursion(alloc: Global, run: &Run<'_>, number: usize) -> Result<Option<Plan>, AllocError> {
     let callers = reached(alloc, run, number, true)?;
     let callees = reached(alloc, run, number, false)?;
+    if let Some(plan) = part_circle(alloc, run, &callers, &callees)? {
+        return Ok(Some(plan));
+    }
     for registers in [all_but_a(), all_registers()] {
         for member in callers.iter() {
             if callees.contains(member) {
@@ -545,9 +553,12 @@ fn plan_pointer(
     if wanted.is_empty() {
         // The instruction names its address, so it is the gate that isn't known.
         return match failure.cause {
-            Cause::CartridgeRam { .. } => plan_bank(alloc, run),
+            Cause::CartridgeRam { .. } => plan_bank(alloc, run, failure.node),
             _ => Ok(None),
         };
+    }
+    if let Some(plan) = plan_banked(alloc, run, spot, &wanted)? {
+        return Ok(Some(plan));
     }
     let trouble = FailurePoint {
         wanted,
@@ -673,13 +684,27 @@ pub fn plan_for(
     failure: &Failure,
     is_kept_in_ram: bool,
 ) -> Result<Option<Plan>, AllocError> {
+    match plan_by_cause(alloc, run, failure, is_kept_in_ram)? {
+        Some(plan) => Ok(Some(plan)),
+        None if may_be_inlined(failure.cause) => part_all(alloc, run),
+        None => Ok(None),
+    }
+}
+
+/// What to refine after a failure by its cause.
+fn plan_by_cause(
+    alloc: Global,
+    run: &Run<'_>,
+    failure: &Failure,
+    is_kept_in_ram: bool,
+) -> Result<Option<Plan>, AllocError> {
     let Some(node) = run.nodes.get(failure.node) else {
         return Ok(None);
     };
     let spot = node.spot();
     match failure.cause {
         Cause::Recursion { .. } => plan_recursion(alloc, run, spot.procedure),
-        Cause::Bank => plan_bank(alloc, run),
+        Cause::Bank => plan_bank(alloc, run, failure.node),
         Cause::Unreadable { byte } => match plan_code(alloc, run, byte)? {
             Some(plan) => Ok(Some(plan)),
             None => {

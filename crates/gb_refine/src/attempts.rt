@@ -68,13 +68,13 @@ impl<'a> Attempts<'a> {
         progress: &mut P,
     ) -> Result<Both, AllocError> {
         let mut limited = Limited::neither();
-        if before.by_extended && self.are_wanted(Rules::Extended) {
+        if before.by_extended && self.are_wanted(Rules::Extended) && progress.goes_on() {
             match self.attempt(Rules::Extended, nodes, progress)? {
                 Attempted::Certificate(bytes) => return Ok(Both::Certificate(bytes)),
                 Attempted::Nothing { is_limited } => limited.by_extended = is_limited,
             }
         }
-        if before.by_simple && self.are_wanted(Rules::Simple) {
+        if before.by_simple && self.are_wanted(Rules::Simple) && progress.goes_on() {
             match self.attempt(Rules::Simple, nodes, progress)? {
                 Attempted::Certificate(bytes) => return Ok(Both::Certificate(bytes)),
                 Attempted::Nothing { is_limited } => limited.by_simple = is_limited,

@@ -6,7 +6,7 @@ use crate::rounds::{
 };
 use crate::written::{is_accepted, written};
 use gb_draft::limits::{DEAR_STEPS, EDITS, EDITS_OF_KEPT, OBSTACLES, STEPS_BACK};
-use gb_draft::{Cause, CodePoint, Failure, Rules, Run, RunEnd, TargetPlace, find_needs};
+use gb_draft::{Cause, CodePoint, Failure, Rules, Run, RunEnd, TargetPlace, Wish, find_needs};
 use gb_ops::machine::Region;
 use gb_plans::{Plan, inline_plan, plan_for, targets_to_follow};
 use gb_reports::{Crowd, Finding, InstructionFinding};
@@ -298,13 +298,25 @@ impl<'a> Refinement<'a> {
             return Ok(lesson);
         }
         match outcome {
-            RunEnd::Wanted(wish) => Ok(Lesson::Change(Change::Wish(wish, self.news(run)?))),
+            RunEnd::Wanted(wish) => self.learn_wishes(run, wish),
             RunEnd::TooLarge => Ok(Lesson::TooLarge(Crowd::of(self.alloc, run)?)),
             RunEnd::Crowded => self.learn_crowded(run),
             RunEnd::StackSet { sp } => self.learn_stack(sp),
             RunEnd::Failed(failure) => self.learn_failed(run, &failure),
             RunEnd::Finished => self.learn_finished(run),
         }
+    }
+
+    /// What a run wants, of which one is given at least.
+    fn learn_wishes(&self, run: &Run<'_>, first: Wish) -> Result<Lesson, AllocError> {
+        let mut wishes = Vec::new(self.alloc);
+        for wish in &run.wishes {
+            wishes.push(*wish)?;
+        }
+        if wishes.is_empty() {
+            wishes.push(first)?;
+        }
+        Ok(Lesson::Change(Change::Grant(wishes, self.news(run)?)))
     }
 
     /// There would be too many procedures: some are followed in their callers, where that is cheap. Where the last edit
@@ -325,10 +337,8 @@ impl<'a> Refinement<'a> {
     /// A failure is looked into only where no more can be known of cells and widening, but in a long run.
     fn learn_failed(&self, run: &Run<'_>, failure: &Failure) -> Result<Lesson, AllocError> {
         let news = self.news(run)?;
-        if run.steps >= DEAR_STEPS {
+        if run.steps >= DEAR_STEPS || news.is_empty() {
             self.learn_at_once(run, failure, news)
-        } else if news.is_empty() {
-            self.learn_failure(run, failure)
         } else {
             Ok(Lesson::Change(Change::Track(news)))
         }
@@ -354,16 +364,23 @@ impl<'a> Refinement<'a> {
         }
     }
 
-    /// What may help against the failures that a run went past, one in the procedures of each target.
+    /// What may help against the failures that a run went past, one in the procedures of each target and each bank. Where the bank
+    /// isn't known, what follows is often no code of the program's: such a failure is mended alone.
     fn add_passed(&self, run: &Run<'_>, mendings: &mut Vec<Mending>) -> Result<(), AllocError> {
+        if self.is_single
+            || mendings
+                .iter()
+                .any(|mending| is_of_bank(mending.finding.cause))
+        {
+            return Ok(());
+        }
         for failure in &run.passed {
             let Some(place) = run.place_of(failure.node) else {
                 continue;
             };
-            let is_met = mendings
-                .iter()
-                .any(|mending| mending.place.target == place.target);
+            let is_met = mendings.iter().any(|mending| is_near(mending.place, place));
             if !is_met
+                && !is_of_bank(failure.cause)
                 && let Lesson::Change(Change::Mend(mending)) = self.learn_failure(run, failure)?
             {
                 mendings.push(mending)?;
@@ -380,6 +397,16 @@ impl<'a> Refinement<'a> {
             Ok(Lesson::Change(Change::Track(news)))
         }
     }
+}
+
+/// Whether what is shown isn't known.
+fn is_of_bank(cause: Cause) -> bool {
+    matches!(cause, Cause::Bank | Cause::CartridgeRam { .. })
+}
+
+/// Whether places are in procedures of one target, and in one bank.
+fn is_near(place: TargetPlace, other: TargetPlace) -> bool {
+    place.target == other.target && place.point.bank == other.point.bank
 }
 
 /// The stack region of so many bytes, at least one, up to an address.

@@ -3,9 +3,10 @@
 use crate::failures::tell;
 use crate::tracking::Cells;
 use gb_draft::limits::{
-    ALL_STEPS, FEW_NODES, OBSTACLES, STEPS_A_NODE, TAKEN_BACK, TAKEN_BACK_OF_MANY,
+    ALL_STEPS, FEW_NODES, OBSTACLES, RUN_STEPS, STEPS_A_NODE, STEPS_ASKED, TAKEN_BACK,
+    TAKEN_BACK_OF_MANY,
 };
-use gb_draft::{Cause, CodePoint, Configuration, Rom, Rules, Run, TargetPlace, Wish};
+use gb_draft::{Cause, CodePoint, Configuration, Rom, Rules, Run, RunEnd, TargetPlace, Wish};
 use gb_ops::machine::Region;
 use gb_plans::Plan;
 use gb_reports::{Crowd, Finding, InstructionFinding, Spent};
@@ -25,6 +26,10 @@ pub trait SearchProgress {
 
     /// There is a certificate, and smaller ones are sought.
     fn shrinks(&mut self);
+
+    /// Whether the search may go on. This is asked before each round and each attempt at a smaller certificate, and every
+    /// 16,384 steps of a run. After the first no, what was found is given as it is.
+    fn goes_on(&mut self) -> bool;
 
     /// No more is to be told.
     fn done(&mut self);
@@ -60,6 +65,8 @@ pub(crate) struct Before {
     pub(crate) cause: Cause,
     /// The number of the plan.
     plan: u64,
+    /// Whether others were made with it.
+    is_one_of_many: bool,
 }
 
 /// A place and a reason, by whose number edits are counted.
@@ -99,8 +106,8 @@ pub(crate) enum Change {
     Region(Region),
     /// It reaches down to this one's first address.
     Deepen(Region),
-    /// What a run wants of its configuration, and what it has met beside it.
-    Wish(Wish, News),
+    /// What a run wants of its configuration, and what it has met besides.
+    Grant(Vec<Wish>, News),
     /// More cells and more values at which widening stops.
     Track(News),
     Mend(Mending),
@@ -120,6 +127,8 @@ pub(crate) enum Lesson {
     Change(Change),
     /// The run was too large.
     TooLarge(Crowd),
+    /// The search may not go on.
+    OutOfTime,
     /// Nothing helps against these findings.
     End(Vec<Finding>),
     /// Nothing helps against what was first met at a place.
@@ -150,6 +159,8 @@ pub(crate) struct Refinement<'a> {
     pub(crate) given_up: Vec<TargetPlace>,
     /// How many plans were taken back.
     taken_back: u32,
+    /// Whether one failure alone is to be mended, since it was too much to mend several.
+    pub(crate) is_single: bool,
     /// Where a finer configuration made the run too large.
     pub(crate) too_large: BTreeSet<TargetPlace>,
     /// How many procedures began at each point of code in the last run.
@@ -162,6 +173,8 @@ pub(crate) struct Refinement<'a> {
     pub(crate) pairs: u64,
     /// The steps of all runs.
     spent: u64,
+    /// How many rounds were begun.
+    rounds: u32,
     /// Whether the limit of nodes was met.
     pub(crate) is_limited: bool,
 }
@@ -215,12 +228,14 @@ impl<'a> Refinement<'a> {
             tried: BTreeMap::new(alloc),
             given_up: Vec::new(alloc),
             taken_back: 0,
+            is_single: false,
             too_large: BTreeSet::new(alloc),
             targets: BTreeMap::new(alloc),
             nodes: 0,
             steps: 0,
             pairs: 0,
             spent: 0,
+            rounds: 0,
             is_limited: false,
         })
     }
@@ -255,7 +270,9 @@ impl<'a> Refinement<'a> {
         run: &mut Run<'_>,
         progress: &mut P,
     ) -> Result<Lesson, AllocError> {
-        let outcome = run.run()?;
+        let Some(outcome) = outcome_of(run, progress)? else {
+            return Ok(Lesson::OutOfTime);
+        };
         progress.ran(run.nodes.len(), run.procedures.len());
         self.cells.learn(run)?;
         self.nodes = run.nodes.len();
@@ -268,21 +285,19 @@ impl<'a> Refinement<'a> {
 
     /// Something is refined; what was before is kept.
     fn refine(&mut self, mending: Mending) -> Result<(), AllocError> {
-        let number = mending.plan.number();
-        self.keep_before(mending.place, mending.finding.cause, number)?;
+        self.keep_before(&mending, false)?;
+        self.is_single = false;
         self.mend(mending)
     }
 
     /// Some things are refined; what was before all of them is kept.
     fn refine_all(&mut self, mendings: Vec<Mending>) -> Result<(), AllocError> {
-        let mut is_first = true;
+        if let Some(first) = mendings.first() {
+            self.keep_before(first, mendings.len() > 1)?;
+        }
+        self.is_single = false;
         for mending in mendings {
-            if is_first {
-                self.refine(mending)?;
-            } else {
-                self.mend(mending)?;
-            }
-            is_first = false;
+            self.mend(mending)?;
         }
         Ok(())
     }
@@ -303,18 +318,14 @@ impl<'a> Refinement<'a> {
         Ok(())
     }
 
-    fn keep_before(
-        &mut self,
-        place: TargetPlace,
-        cause: Cause,
-        plan: u64,
-    ) -> Result<(), AllocError> {
+    fn keep_before(&mut self, mending: &Mending, is_one_of_many: bool) -> Result<(), AllocError> {
         let configuration = self.configuration.clone()?;
         self.before = Some(Before {
             configuration,
-            place,
-            cause,
-            plan,
+            place: mending.place,
+            cause: mending.finding.cause,
+            plan: mending.plan.number(),
+            is_one_of_many,
         });
         Ok(())
     }
@@ -348,8 +359,11 @@ impl<'a> Refinement<'a> {
         match self.before.take() {
             Some(before) => {
                 let place = before.place;
+                let is_one_of_many = before.is_one_of_many;
                 self.go_back(before)?;
-                if self.taken_back < most {
+                if is_one_of_many {
+                    self.is_single = true;
+                } else if self.taken_back < most {
                     self.taken_back = self.taken_back.saturating_add(1);
                 } else {
                     self.stand(place)?;
@@ -373,10 +387,13 @@ impl<'a> Refinement<'a> {
         let Before {
             mut configuration,
             plan,
+            is_one_of_many,
             ..
         } = before;
         self.keep_learnt(&mut configuration)?;
-        configuration.taken_back.insert(plan)?;
+        if !is_one_of_many {
+            configuration.taken_back.insert(plan)?;
+        }
         self.configuration = configuration;
         Ok(())
     }
@@ -387,7 +404,9 @@ impl<'a> Refinement<'a> {
         let most = self.most_taken_back();
         match self.take_back(most)? {
             Some(place) if self.given_up.len() < OBSTACLES => {
-                self.too_large.insert(place)?;
+                if !self.is_single {
+                    self.too_large.insert(place)?;
+                }
                 Ok(None)
             }
             Some(place) => Ok(Some(self.end_at(place, Finding::TooLarge(crowd))?)),
@@ -476,6 +495,7 @@ impl<'a> Refinement<'a> {
                 Ok(None)
             }
             Lesson::TooLarge(crowd) => self.shrink_back(crowd),
+            Lesson::OutOfTime => Ok(Some(self.out_of_rounds(self.rounds, Spent::Time)?)),
             Lesson::End(findings) => Ok(Some(self.end(findings)?)),
             Lesson::EndAt(place) => Ok(Some(self.end_as_first(place)?)),
             Lesson::Certificate(bytes) => Ok(Some(Made::Certificate(bytes))),
@@ -490,8 +510,8 @@ impl<'a> Refinement<'a> {
         match change {
             Change::Region(region) => self.set_region(region),
             Change::Deepen(region) => self.deepen(region),
-            Change::Wish(wish, news) => {
-                self.grant(wish)?;
+            Change::Grant(wishes, news) => {
+                self.grant_all(&wishes)?;
                 self.track(&news)
             }
             Change::Track(news) => self.track(&news),
@@ -507,6 +527,13 @@ impl<'a> Refinement<'a> {
                 Ok(())
             }
         }
+    }
+
+    fn grant_all(&mut self, wishes: &[Wish]) -> Result<(), AllocError> {
+        for wish in wishes {
+            self.grant(*wish)?;
+        }
+        Ok(())
     }
 
     /// What a run wants becomes part of the configuration.
@@ -577,12 +604,16 @@ impl<'a> Refinement<'a> {
     /// Rounds, until there is a certificate or nothing more helps.
     pub(crate) fn make<P: SearchProgress>(&mut self, progress: &mut P) -> Result<Made, AllocError> {
         for round in 0..self.limits.rounds {
-            progress.round(round.saturating_add(1));
+            self.rounds = round.saturating_add(1);
+            progress.round(self.rounds);
             if let Some(made) = self.round(progress)? {
                 return Ok(made);
             }
             if self.spent > self.most_steps() {
-                return self.out_of_rounds(round.saturating_add(1), Spent::Steps);
+                return self.out_of_rounds(self.rounds, Spent::Steps);
+            }
+            if !progress.goes_on() {
+                return self.out_of_rounds(self.rounds, Spent::Time);
             }
         }
         self.out_of_rounds(self.limits.rounds, Spent::Rounds)
@@ -595,6 +626,22 @@ impl<'a> Refinement<'a> {
     pub(crate) fn rom(&self) -> &'a Rom<'a> {
         self.rom
     }
+}
+
+/// What a run comes to; None where it may not go on so far.
+fn outcome_of<P: SearchProgress>(
+    run: &mut Run<'_>,
+    progress: &mut P,
+) -> Result<Option<RunEnd>, AllocError> {
+    for _ in 0..RUN_STEPS / STEPS_ASKED {
+        if let Some(end) = run.run_for(STEPS_ASKED)? {
+            return Ok(Some(end));
+        }
+        if !progress.goes_on() {
+            return Ok(None);
+        }
+    }
+    Ok(Some(RunEnd::TooLarge))
 }
 
 fn add_points(more: &BTreeSet<u8>, points: &mut BTreeSet<u8>) -> Result<(), AllocError> {

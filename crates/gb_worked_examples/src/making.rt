@@ -32,6 +32,10 @@ impl SearchProgress for Rounds {
 
     fn shrinks(&mut self) {}
 
+    fn goes_on(&mut self) -> bool {
+        true
+    }
+
     fn done(&mut self) {}
 }
 

@@ -1,0 +1,305 @@
+//! Where what calls know is lost: a procedure that several calls enter joins what each of them knows. At first procedures aren't
+//! parted by what the controller shows, nor by cells; where a failure comes from such a join, the procedures there are parted.
+
+use crate::cells::{CellLoad, Entering, origins_of};
+use crate::plan::{Edit, Plan, parted_by, unless_empty};
+use crate::spots::is_known;
+use gb_fixpoint::limits::VISITS;
+use gb_fixpoint::register_set::{REGISTERS, RegisterSet};
+use gb_fixpoint::types::{Run, RunNode, RunProcedure, Spot};
+use gb_fixpoint::{Abs, Rules, cell_at, known_bank};
+use gb_ops::op::Register;
+use std::alloc::{AllocError, Global};
+use std::collections::BTreeSet;
+
+/// The first address of the switched bank.
+const SWITCHED: u16 = 0x4000;
+
+/// What a call may know, and the procedure that it enters may not.
+#[derive(Clone, Copy, PartialEq, Eq)]
+enum Part {
+    /// The bank that is shown, and whether cartridge RAM is enabled.
+    Shown,
+    Cell(u16),
+    Register(Register),
+}
+
+/// Whether a state knows which bank is shown, and whether cartridge RAM is enabled.
+fn is_shown_known(run: &Run<'_>, state: &Abs) -> bool {
+    let ctl = &state.core().ctl;
+    ctl.gate.clear != ctl.gate.set && known_bank(run.rom, ctl, SWITCHED).is_some()
+}
+
+/// Whether a node knows a part.
+fn knows(run: &Run<'_>, node: &RunNode, part: Part) -> bool {
+    match part {
+        Part::Shown => is_shown_known(run, &node.state),
+        Part::Cell(cell) => {
+            let val = cell_at(cell, node.state.cells());
+            val.lo == val.hi
+        }
+        Part::Register(register) => is_known(node, register),
+    }
+}
+
+/// Whether a procedure's first node doesn't know a part.
+fn is_open_at_entry(run: &Run<'_>, procedure: &RunProcedure, part: Part) -> bool {
+    match procedure.entry {
+        Some(entry) => match run.nodes.get(entry) {
+            Some(node) => !knows(run, node, part),
+            None => false,
+        },
+        None => false,
+    }
+}
+
+/// Whether a call of a procedure knows a part, that is in one of these procedures if there are some.
+fn is_known_by_some(run: &Run<'_>, procedure: &RunProcedure, part: Part) -> bool {
+    procedure.sites.iter().any(|site| match run.nodes.get(*site) {
+        Some(node) => knows(run, node, part),
+        None => false,
+    })
+}
+
+/// Whether a procedure joins calls of which some know a part.
+fn is_lost_by_calls(run: &Run<'_>, number: usize, part: Part) -> bool {
+    match run.procedures.get(number) {
+        Some(procedure) => {
+            is_open_at_entry(run, procedure, part) && is_known_by_some(run, procedure, part)
+        }
+        None => false,
+    }
+}
+
+/// The change by which a procedure's calls are kept apart by a part, where that is new.
+fn parting(run: &Run<'_>, number: usize, part: Part) -> Option<Edit> {
+    let target = run.target(number);
+    match part {
+        Part::Shown if !run.configuration.is_by_controller(target) => Some(Edit::PartBank(target)),
+        Part::Cell(cell) => {
+            let cells = run.configuration.entry_cells(target);
+            let is_new = !cells.contains(cell) && cells.has_room();
+            if is_new {
+                Some(Edit::PartCell(target, cell))
+            } else {
+                None
+            }
+        }
+        Part::Register(register) => {
+            let registers = RegisterSet::of(&[register]);
+            let is_new = !registers.is_inside(&parted_by(run.configuration, target));
+            if is_new {
+                Some(Edit::Part(target, registers))
+            } else {
+                None
+            }
+        }
+        Part::Shown => None,
+    }
+}
+
+/// The procedures that lead to a procedure and don't know a part where they begin, with it.
+fn leading_to(
+    alloc: Global,
+    run: &Run<'_>,
+    number: usize,
+    part: Part,
+) -> Result<BTreeSet<usize>, AllocError> {
+    let mut seen = BTreeSet::new(alloc);
+    let mut left = Vec::new(alloc);
+    left.push(number)?;
+    for _ in 0..VISITS {
+        let Some(at) = left.pop() else { break };
+        let Some(procedure) = run.procedures.get(at) else {
+            continue;
+        };
+        if !is_open_at_entry(run, procedure, part) || !seen.insert(at)? {
+            continue;
+        }
+        for site in &procedure.sites {
+            if let Some(node) = run.nodes.get(*site)
+                && !knows(run, node, part)
+            {
+                left.push(node.key.procedure)?;
+            }
+        }
+    }
+    Ok(seen)
+}
+
+/// The changes by which a part is known in a procedure that isn't where it begins.
+fn add_partings(
+    alloc: Global,
+    run: &Run<'_>,
+    number: usize,
+    part: Part,
+    within: Option<&BTreeSet<usize>>,
+    plan: &mut Plan,
+) -> Result<(), AllocError> {
+    for member in &leading_to(alloc, run, number, part)? {
+        let is_within = match within {
+            Some(within) => within.contains(member),
+            None => true,
+        };
+        if is_within
+            && is_lost_by_calls(run, *member, part)
+            && let Some(edit) = parting(run, *member, part)
+        {
+            plan.add_new(edit)?;
+        }
+    }
+    Ok(())
+}
+
+/// Whether a procedure leaves with a bank that its callers don't know.
+fn loses_bank(run: &Run<'_>, number: usize) -> bool {
+    match run.procedures.get(number) {
+        Some(procedure) => match &procedure.exit {
+            Some(exit) => !exit.core().ctl.is_kept && !is_shown_known(run, exit),
+            None => false,
+        },
+        None => false,
+    }
+}
+
+/// The procedures that a procedure calls, or that may interrupt it, and that lose the bank, and those that they call: but where
+/// a procedure stores an unknown bank itself, none that it calls.
+fn losers(alloc: Global, run: &Run<'_>, number: usize) -> Result<BTreeSet<usize>, AllocError> {
+    let mut seen = BTreeSet::new(alloc);
+    let mut left = Vec::new(alloc);
+    left.push(number)?;
+    for _ in 0..VISITS {
+        let Some(at) = left.pop() else { break };
+        if !seen.insert(at)? || run.switches.iter().any(|spot| spot.procedure == at) {
+            continue;
+        }
+        let Some(procedure) = run.procedures.get(at) else {
+            continue;
+        };
+        for callee in &procedure.callees {
+            if loses_bank(run, *callee) {
+                left.push(*callee)?;
+            }
+        }
+    }
+    Ok(seen)
+}
+
+/// The changes by which the bank is known that is stored at a spot.
+fn add_stored(
+    alloc: Global,
+    run: &Run<'_>,
+    spot: Spot,
+    within: &BTreeSet<usize>,
+    plan: &mut Plan,
+) -> Result<(), AllocError> {
+    let origins = origins_of(alloc, run, spot, &RegisterSet::of(&[Register::A]))?;
+    for entering in &origins.entries {
+        let Entering {
+            procedure,
+            register,
+        } = *entering;
+        if let Some(register) = REGISTERS.get(register)
+            && is_lost_by_calls(run, procedure, Part::Register(*register))
+            && let Some(edit) = parting(run, procedure, Part::Register(*register))
+        {
+            plan.add_new(edit)?;
+        }
+    }
+    if !plan.is_empty() {
+        return Ok(());
+    }
+    for load in &origins.loads {
+        let CellLoad { procedure, cell } = *load;
+        add_partings(alloc, run, procedure, Part::Cell(cell), Some(within), plan)?;
+    }
+    Ok(())
+}
+
+/// The bank, or whether cartridge RAM is enabled, isn't known at a node: what its procedure joins where it begins, or what
+/// procedures join that it calls and that leave with an unknown bank.
+pub(crate) fn plan_shown(
+    alloc: Global,
+    run: &Run<'_>,
+    number: usize,
+) -> Result<Option<Plan>, AllocError> {
+    let Some(node) = run.nodes.get(number) else {
+        return Ok(None);
+    };
+    if run.rules() == Rules::Simple || is_shown_known(run, &node.state) {
+        return Ok(None);
+    }
+    let mut plan = Plan::new(alloc);
+    let procedure = node.key.procedure;
+    if !node.state.core().ctl.is_kept {
+        let members = losers(alloc, run, procedure)?;
+        for spot in &run.switches {
+            if members.contains(&spot.procedure) {
+                add_stored(alloc, run, *spot, &members, &mut plan)?;
+            }
+        }
+    }
+    if plan.is_empty() {
+        add_partings(alloc, run, procedure, Part::Shown, None, &mut plan)?;
+    }
+    Ok(unless_empty(run, plan))
+}
+
+/// Registers come from a table in a bank that isn't known where it is read.
+pub(crate) fn plan_banked(
+    alloc: Global,
+    run: &Run<'_>,
+    spot: Spot,
+    wanted: &RegisterSet,
+) -> Result<Option<Plan>, AllocError> {
+    if run.rules() == Rules::Simple {
+        return Ok(None);
+    }
+    let origins = origins_of(alloc, run, spot, wanted)?;
+    for spot in &origins.banked {
+        for number in run.nodes_at(*spot) {
+            if let Some(plan) = plan_shown(alloc, run, *number)? {
+                return Ok(Some(plan));
+            }
+        }
+    }
+    Ok(None)
+}
+
+/// All procedures that join what their calls know of what is shown are parted by it: that is tried last.
+pub(crate) fn part_all(alloc: Global, run: &Run<'_>) -> Result<Option<Plan>, AllocError> {
+    let mut plan = Plan::new(alloc);
+    if run.rules() == Rules::Simple {
+        return Ok(None);
+    }
+    for number in 1..run.procedures.len() {
+        if is_lost_by_calls(run, number, Part::Shown)
+            && let Some(edit) = parting(run, number, Part::Shown)
+        {
+            plan.add_new(edit)?;
+        }
+    }
+    Ok(unless_empty(run, plan))
+}
+
+/// Procedures that call and are called in a circle are parted by what the controller shows, where calls of them know it.
+pub(crate) fn part_circle(
+    alloc: Global,
+    run: &Run<'_>,
+    callers: &BTreeSet<usize>,
+    callees: &BTreeSet<usize>,
+) -> Result<Option<Plan>, AllocError> {
+    let mut plan = Plan::new(alloc);
+    if run.rules() == Rules::Simple {
+        return Ok(None);
+    }
+    for member in callers {
+        if callees.contains(member)
+            && is_lost_by_calls(run, *member, Part::Shown)
+            && let Some(edit) = parting(run, *member, Part::Shown)
+        {
+            plan.add_new(edit)?;
+        }
+    }
+    Ok(unless_empty(run, plan))
+}
