@@ -36,11 +36,13 @@ impl Snapshot {
         let _is_held = state.set_banks(self.banks);
         state.set_ie(self.ie);
         state.set_count(self.count.min(longest_transfer()));
-        for (i, byte) in (0..8192u16).zip(self.work.iter()) {
-            state.set_work_byte(i, *byte);
+        for i in 0..8192u16 {
+            let byte = self.work.get(usize::from(i)).copied().unwrap_or(0);
+            state.set_work_byte(i, byte);
         }
-        for (i, byte) in (0..127u16).zip(self.high.iter()) {
-            state.set_high_byte(i, *byte);
+        for i in 0..127u16 {
+            let byte = self.high.get(usize::from(i)).copied().unwrap_or(0);
+            state.set_high_byte(i, byte);
         }
     }
 }

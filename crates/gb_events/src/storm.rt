@@ -23,7 +23,7 @@ const MOST: usize = 384;
 /// The bytes by which the stack has to grow further than ever for its state to be kept.
 const GROWTH: u16 = 64;
 
-/// The events from one question to the pace to the next: a power of two.
+/// The events from one question to the patience to the next: a power of two.
 const ASK: u64 = 4096;
 
 /// The addresses 8000 to FFFF, whose flags come before those of ROM.
@@ -33,9 +33,9 @@ const RAM: usize = 0x8000;
 const USUAL: [u8; 8] = [0x00, 0x90, 0x91, 0xFF, 0x94, 0x01, 0x0F, 0x80];
 
 /// Whoever waits for the search.
-pub trait Pace {
+pub trait Patience {
     /// Whether the search goes on. It is asked after each few thousand events, and hears how many there were.
-    fn goes_on(&mut self, events: u64) -> bool;
+    fn lasts(&mut self, events: u64) -> bool;
 }
 
 /// How often things come in a burst: each is the number of events in which it comes about once.
@@ -47,7 +47,7 @@ struct Mood {
 
 /// A state that was kept: the one before it, and the events from there.
 #[derive(Drop)]
-struct Lead {
+struct StormLead {
     snapshot: Snapshot,
     before: usize,
     events: EventList,
@@ -55,7 +55,7 @@ struct Lead {
 
 /// How a burst ended.
 #[derive(Clone, Copy, PartialEq, Eq)]
-enum Burst {
+enum Stormed {
     Done,
     Found,
     Halted,
@@ -69,7 +69,7 @@ pub struct Storm {
     region: Region,
     random: Xoshiro256PlusPlus,
     seen: Vec<u8>,
-    leads: Vec<Lead>,
+    leads: Vec<StormLead>,
     /// The lead that the burst goes on from, and the events since.
     before: usize,
     since: EventList,
@@ -97,11 +97,16 @@ impl Storm {
     /// # Errors
     ///
     /// AllocError where there is no room.
-    pub fn new(alloc: Global, rom: &[u8], region: Region, seed: u64) -> Result<Option<Storm>, AllocError> {
+    pub fn new(
+        alloc: Global,
+        rom: &[u8],
+        region: Region,
+        seed: u64,
+    ) -> Result<Option<Storm>, AllocError> {
         let Some(machine) = machine_of(alloc, rom)? else {
             return Ok(None);
         };
-        let first = Lead {
+        let first = StormLead {
             snapshot: Snapshot::of(alloc, &machine.state)?,
             before: 0,
             events: EventList::new(alloc),
@@ -193,7 +198,7 @@ impl Storm {
             return None;
         }
         let first = self.below(5);
-        enabled_from(ie, first as u8)
+        enabled_from(ie, (first % 5) as u8)
     }
 
     /// The next event.
@@ -220,7 +225,7 @@ impl Storm {
         let snapshot = Snapshot::of(self.alloc, &self.machine.state)?;
         let mut events = EventList::new(self.alloc);
         events.append(self.since.as_slice())?;
-        self.leads.push(Lead {
+        self.leads.push(StormLead {
             snapshot,
             before: self.before,
             events,
@@ -247,23 +252,23 @@ impl Storm {
     }
 
     /// So many events from where the machine is.
-    fn burst<P: Pace>(&mut self, length: u64, pace: &mut P) -> Result<Burst, AllocError> {
+    fn burst<P: Patience>(&mut self, length: u64, patience: &mut P) -> Result<Stormed, AllocError> {
         for _ in 0..length {
-            if self.events % ASK == 0 && !pace.goes_on(self.events) {
-                return Ok(Burst::Halted);
+            if self.events % ASK == 0 && !patience.lasts(self.events) {
+                return Ok(Stormed::Halted);
             }
             if self.step()? {
-                return Ok(Burst::Found);
+                return Ok(Stormed::Found);
             }
             let idle = Event::Run {
                 fetch: [0; 3],
                 reads: [0; 2],
             };
             if !is_possible(&self.machine.state, idle) {
-                return Ok(Burst::Done);
+                return Ok(Stormed::Done);
             }
         }
-        Ok(Burst::Done)
+        Ok(Stormed::Done)
     }
 
     /// Goes back to a lead, mostly one of the newest, in another mood.
@@ -312,12 +317,16 @@ impl Storm {
         Ok(all)
     }
 
-    /// Tries at most so many events, while the pace goes on. Answers the events up to the first one with a fault.
+    /// Tries at most so many events, while the patience lasts. Answers the events up to the first one with a fault.
     ///
     /// # Errors
     ///
     /// AllocError where there is no room.
-    pub fn search<P: Pace>(&mut self, events: u64, pace: &mut P) -> Result<Option<EventList>, AllocError> {
+    pub fn search<P: Patience>(
+        &mut self,
+        events: u64,
+        patience: &mut P,
+    ) -> Result<Option<EventList>, AllocError> {
         for _ in 0..events {
             if self.events >= events {
                 break;
@@ -325,10 +334,10 @@ impl Storm {
             self.begin();
             self.bursts = self.bursts.wrapping_add(1);
             let doublings = self.bursts.trailing_zeros().min(6);
-            match self.burst(BURST << doublings, pace)? {
-                Burst::Done => {}
-                Burst::Found => return Ok(Some(self.history()?)),
-                Burst::Halted => break,
+            match self.burst(BURST << doublings, patience)? {
+                Stormed::Done => {}
+                Stormed::Found => return Ok(Some(self.history()?)),
+                Stormed::Halted => break,
             }
         }
         Ok(None)

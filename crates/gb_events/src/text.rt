@@ -126,7 +126,10 @@ pub fn read_events(alloc: Global, text: &str) -> Result<Result<EventList, BadLin
 fn write_run<W: Write>(out: &mut W, fetch: [u8; 3], reads: [u8; 2]) -> io::Result<()> {
     let [first, second, third] = fetch;
     let [low, high] = reads;
-    write!(out, "run {first:02X}{second:02X}{third:02X} {low:02X}{high:02X}")
+    write!(
+        out,
+        "run {first:02X}{second:02X}{third:02X} {low:02X}{high:02X}"
+    )
 }
 
 /// Writes a word and a number.

@@ -23,15 +23,8 @@ pub(crate) enum Explored {
     Faulted,
 }
 
-/// What a step was.
-#[derive(Clone, Copy)]
-enum Step {
-    Goes,
-    Ends(Explored),
-}
-
 /// A frame's ending, where it had no fault.
-fn explored(ending: Ending) -> Explored {
+fn outcome_of(ending: Ending) -> Explored {
     match ending {
         Ending::Whole => Explored::Whole,
         Ending::Locked | Ending::Stopped => Explored::Still,
@@ -50,8 +43,8 @@ fn note(console: &Console<'_>, seen: &mut Seen) {
     seen.visit(bank, address);
 }
 
-/// One event, whose faults are computed.
-fn take_step(console: &mut Console<'_>, keys: Keys, seconds: u32, guard: &Guard) -> Step
+/// One event, whose faults are computed. Answers how the frame ended, if it did.
+fn take_step(console: &mut Console<'_>, keys: Keys, seconds: u32, guard: &Guard) -> Option<Explored>
     requires { IsGuard (rom_of console.old) guard.now }
     ensures { IsGuard (rom_of console.new) guard.now }
 {
@@ -61,12 +54,10 @@ fn take_step(console: &mut Console<'_>, keys: Keys, seconds: u32, guard: &Guard)
     let stepped = console.advance(keys, seconds);
     let faults = event_faults(guard.region, &limits, processor, stepped.event, stepped.met);
     if faults != no_faults() {
-        return Step::Ends(Explored::Faulted);
+        return Some(Explored::Faulted);
     }
-    match console.ending(before + u16::from(stepped.cycles) >= FRAME_CYCLES) {
-        Some(ending) => Step::Ends(explored(ending)),
-        None => Step::Goes,
-    }
+    let is_passed = before + u16::from(stepped.cycles) >= FRAME_CYCLES;
+    console.ending(is_passed).map(outcome_of)
 }
 
 /// Whether an instruction comes next with nothing else, and surely has no fault.
@@ -90,8 +81,9 @@ fn wait(console: &mut Console<'_>, keys: Keys, guard: &Guard)
     }
 }
 
-/// Instructions, while one comes next that surely has no fault and the frame isn't ended; then a processor that waits waits for a change.
-fn go_on(console: &mut Console<'_>, keys: Keys, guard: &Guard, seen: &mut Seen) -> Step
+/// Instructions, while one comes next that surely has no fault and the frame isn't ended; then a processor that waits
+/// waits for a change. Answers how the frame ended, if it did.
+fn go_on(console: &mut Console<'_>, keys: Keys, guard: &Guard, seen: &mut Seen) -> Option<Explored>
     requires { IsGuard (rom_of console.old) guard.now }
     ensures { IsGuard (rom_of console.new) guard.now }
 {
@@ -101,11 +93,11 @@ fn go_on(console: &mut Console<'_>, keys: Keys, guard: &Guard, seen: &mut Seen) 
         }
         note(console, seen);
         if console.run(keys) {
-            return Step::Ends(Explored::Whole);
+            return Some(Explored::Whole);
         }
     }
     wait(console, keys, guard);
-    Step::Goes
+    None
 }
 
 /// The guard of a region in a console's cartridge.
@@ -131,11 +123,11 @@ fn take_steps(
     let mut passed = seconds;
     for _ in 0..FRAME_CYCLES {
         note(console, seen);
-        if let Step::Ends(explored) = take_step(console, keys, passed, guard) {
+        if let Some(explored) = take_step(console, keys, passed, guard) {
             return explored;
         }
         passed = 0;
-        if let Step::Ends(explored) = go_on(console, keys, guard, seen) {
+        if let Some(explored) = go_on(console, keys, guard, seen) {
             return explored;
         }
     }

@@ -27,7 +27,7 @@ const ROUND: usize = 900;
 const LOOK: usize = 4;
 
 /// Whoever waits for the search.
-pub trait Pace {
+pub trait HuntProgress {
     /// Whether the search goes on. It is asked after each few frames, and hears how many there were.
     fn goes_on(&mut self, frames: u64) -> bool;
 }
@@ -52,7 +52,7 @@ pub struct Hunt<'a> {
 
 /// What rounds do to the stack.
 #[derive(Drop)]
-enum Rounds {
+enum StackRounds {
     /// Each leaves something on it.
     Grow,
     /// One leaves nothing, or the console does nothing any more.
@@ -90,7 +90,12 @@ impl<'a> Hunt<'a> {
     /// # Errors
     ///
     /// AllocError where there is no room.
-    pub fn new(alloc: Global, rom: &Rom<'a>, region: Region, seed: u64) -> Result<Hunt<'a>, AllocError> {
+    pub fn new(
+        alloc: Global,
+        rom: &Rom<'a>,
+        region: Region,
+        seed: u64,
+    ) -> Result<Hunt<'a>, AllocError> {
         let seen = Seen::new(alloc, rom.bytes().len())?;
         let first = Lead {
             console: Console::new(alloc, rom)?,
@@ -202,29 +207,40 @@ impl<'a> Hunt<'a> {
     }
 
     /// Plays a round of keys again and again, while each leaves something on the stack, at most so often.
-    fn play_rounds<P: Pace>(&mut self, from: &Lead<'a>, round: &[u8], most: usize, pace: &mut P) -> Result<Rounds, AllocError> {
+    fn play_rounds<P: HuntProgress>(
+        &mut self,
+        from: &Lead<'a>,
+        round: &[u8],
+        most: usize,
+        progress: &mut P,
+    ) -> Result<StackRounds, AllocError> {
         let mut lead = from.try_clone(self.alloc)?;
         for _ in 0..most {
             let before = lead.console.processor().sp;
             for keys in round {
-                if lead.script.len() >= LONGEST || !pace.goes_on(self.frames) {
-                    return Ok(Rounds::Even);
+                if lead.script.len() >= LONGEST || !progress.goes_on(self.frames) {
+                    return Ok(StackRounds::Even);
                 }
                 match self.plain_frame(&mut lead, *keys)? {
                     Explored::Whole => {}
-                    Explored::Still => return Ok(Rounds::Even),
-                    Explored::Faulted => return Ok(Rounds::Found(lead.script)),
+                    Explored::Still => return Ok(StackRounds::Even),
+                    Explored::Faulted => return Ok(StackRounds::Found(lead.script)),
                 }
             }
             if lead.console.processor().sp >= before {
-                return Ok(Rounds::Even);
+                return Ok(StackRounds::Even);
             }
         }
-        Ok(Rounds::Grow)
+        Ok(StackRounds::Grow)
     }
 
     /// A shorter round that leaves something on the stack twice in a row.
-    fn shorter_round<P: Pace>(&mut self, from: &Lead<'a>, mut round: Vec<u8>, pace: &mut P) -> Result<Vec<u8>, AllocError> {
+    fn shorter_round<P: HuntProgress>(
+        &mut self,
+        from: &Lead<'a>,
+        mut round: Vec<u8>,
+        progress: &mut P,
+    ) -> Result<Vec<u8>, AllocError> {
         let mut count = round.len() / 2;
         for _ in 0..10 {
             let mut at = 0usize;
@@ -233,9 +249,9 @@ impl<'a> Hunt<'a> {
                     break;
                 }
                 let shorter = without(self.alloc, &round, at, count)?;
-                match self.play_rounds(from, &shorter, 2, pace)? {
-                    Rounds::Grow => round = shorter,
-                    Rounds::Even | Rounds::Found(_) => at = at.saturating_add(count),
+                match self.play_rounds(from, &shorter, 2, progress)? {
+                    StackRounds::Grow => round = shorter,
+                    StackRounds::Even | StackRounds::Found(_) => at = at.saturating_add(count),
                 }
             }
             count /= 2;
@@ -244,7 +260,12 @@ impl<'a> Hunt<'a> {
     }
 
     /// Tries whether what led from one record of the stack to the next leaves something on it each time.
-    fn try_round<P: Pace>(&mut self, from: &Lead<'a>, to: &Lead<'a>, pace: &mut P) -> Result<Option<Vec<u8>>, AllocError> {
+    fn try_round<P: HuntProgress>(
+        &mut self,
+        from: &Lead<'a>,
+        to: &Lead<'a>,
+        progress: &mut P,
+    ) -> Result<Option<Vec<u8>>, AllocError> {
         let start = from.script.len();
         let Some(keys) = to.script.get(start..) else {
             return Ok(None);
@@ -254,42 +275,46 @@ impl<'a> Hunt<'a> {
         }
         self.rounds = self.rounds.saturating_sub(1);
         let round = Vec::from_slice(self.alloc, keys)?;
-        match self.play_rounds(from, &round, 3, pace)? {
-            Rounds::Even => return Ok(None),
-            Rounds::Found(script) => return Ok(Some(script)),
-            Rounds::Grow => {}
+        match self.play_rounds(from, &round, 3, progress)? {
+            StackRounds::Even => return Ok(None),
+            StackRounds::Found(script) => return Ok(Some(script)),
+            StackRounds::Grow => {}
         }
-        let round = self.shorter_round(from, round, pace)?;
-        match self.play_rounds(from, &round, LONGEST, pace)? {
-            Rounds::Found(script) => Ok(Some(script)),
-            Rounds::Even | Rounds::Grow => Ok(None),
+        let round = self.shorter_round(from, round, progress)?;
+        match self.play_rounds(from, &round, LONGEST, progress)? {
+            StackRounds::Found(script) => Ok(Some(script)),
+            StackRounds::Even | StackRounds::Grow => Ok(None),
         }
     }
 
     /// A console where the stack is longer than ever before: tries the round that led here from the last such console.
-    fn grown<P: Pace>(&mut self, lead: &Lead<'a>, pace: &mut P) -> Result<Option<Vec<u8>>, AllocError> {
+    fn grown<P: HuntProgress>(
+        &mut self,
+        lead: &Lead<'a>,
+        progress: &mut P,
+    ) -> Result<Option<Vec<u8>>, AllocError> {
         let copy = lead.try_clone(self.alloc)?;
         let last = self.longest.replace(copy);
         match last {
-            Some(from) if self.rounds != 0 => self.try_round(&from, lead, pace),
+            Some(from) if self.rounds != 0 => self.try_round(&from, lead, progress),
             _ => Ok(None),
         }
     }
 
     /// Frames from a lead on, at most so many; where `again` isn't 0 the keys are those of so many frames before.
-    fn burst<P: Pace>(
+    fn burst<P: HuntProgress>(
         &mut self,
         mut lead: Lead<'a>,
         length: u64,
         again: usize,
-        pace: &mut P,
+        progress: &mut P,
     ) -> Result<Burst, AllocError> {
         self.presses.begin();
         for _ in 0..length {
             if lead.script.len() >= LONGEST {
                 return Ok(Burst::Done);
             }
-            if !pace.goes_on(self.frames) {
+            if !progress.goes_on(self.frames) {
                 return Ok(Burst::Halted);
             }
             match self.frame(&mut lead, again)? {
@@ -299,7 +324,7 @@ impl<'a> Hunt<'a> {
             }
             if self.is_stack_longer(&lead.console) {
                 self.keep(&lead)?;
-                if let Some(script) = self.grown(&lead, pace)? {
+                if let Some(script) = self.grown(&lead, progress)? {
                     return Ok(Burst::Found(script));
                 }
             }
@@ -315,12 +340,16 @@ impl<'a> Hunt<'a> {
         8 + self.presses.below(120) as usize
     }
 
-    /// Plays at most so many frames, while the pace goes on. Answers the keys up to the frame of the first fault that it finds.
+    /// Plays at most so many frames, while the progress goes on. Answers the keys up to the frame of the first fault that it finds.
     ///
     /// # Errors
     ///
     /// AllocError where there is no room.
-    pub fn search<P: Pace>(&mut self, frames: u64, pace: &mut P) -> Result<Option<Vec<u8>>, AllocError> {
+    pub fn search<P: HuntProgress>(
+        &mut self,
+        frames: u64,
+        progress: &mut P,
+    ) -> Result<Option<Vec<u8>>, AllocError> {
         for _ in 0..frames {
             if self.frames >= frames {
                 break;
@@ -331,7 +360,7 @@ impl<'a> Hunt<'a> {
             let Some(lead) = self.leads.copy_of(self.alloc, number)? else {
                 break;
             };
-            match self.burst(lead, length, again, pace)? {
+            match self.burst(lead, length, again, progress)? {
                 Burst::Done => {}
                 Burst::Found(script) => return Ok(Some(script)),
                 Burst::Halted => break,

@@ -43,7 +43,11 @@ impl<'a> Leads<'a> {
     }
 
     /// A copy of a lead, of the first one where there is none with this number.
-    pub(crate) fn copy_of(&self, alloc: Global, number: usize) -> Result<Option<Lead<'a>>, AllocError> {
+    pub(crate) fn copy_of(
+        &self,
+        alloc: Global,
+        number: usize,
+    ) -> Result<Option<Lead<'a>>, AllocError> {
         match self.list.get(number) {
             Some(lead) => Ok(Some(lead.try_clone(alloc)?)),
             None => Ok(None),

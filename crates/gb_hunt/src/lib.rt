@@ -15,7 +15,7 @@ mod seen;
 pub mod shorten;
 pub mod stack;
 
-pub use hunt::{Hunt, Pace};
+pub use hunt::{Hunt, HuntProgress};
 pub use play::{Find, play_again};
 pub use shorten::shorten;
 pub use stack::stack_region;

@@ -4,8 +4,11 @@ use rand_core::{Rng, SeedableRng};
 use rand_xoshiro::Xoshiro256PlusPlus;
 
 const A: u8 = 0x01;
+
 const B: u8 = 0x02;
+
 const SELECT: u8 = 0x04;
+
 const START: u8 = 0x08;
 
 /// How long keys are held: the greatest number of frames of a press of a button, of a direction, and of no key.
@@ -90,7 +93,9 @@ impl Presses {
     /// The next press: its keys, and the most frames that it is held.
     fn press(&mut self) -> (u8, u64) {
         let Tempo {
-            button, direction, ..
+            button,
+            direction,
+            ..
         } = self.tempo;
         match self.below(16) {
             0 | 1 | 2 => (A, button),

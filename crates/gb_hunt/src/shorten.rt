@@ -1,6 +1,6 @@
 //! Scripts made shorter, while the same fault stays.
 
-use crate::hunt::Pace;
+use crate::hunt::HuntProgress;
 use crate::play::{Find, play_again};
 use gb_header::Rom;
 use gb_ops::machine::Region;
@@ -31,9 +31,13 @@ fn is_same(one: &Find, other: &Find) -> bool {
 
 impl Shorter<'_, '_> {
     /// Takes a script, up to its fault, if that is the wanted one; answers whether it is.
-    fn offer<P: Pace>(&mut self, mut script: Vec<u8>, pace: &mut P) -> Result<bool, AllocError> {
+    fn offer<P: HuntProgress>(
+        &mut self,
+        mut script: Vec<u8>,
+        progress: &mut P,
+    ) -> Result<bool, AllocError> {
         let frames = script.len() as u64;
-        if frames > self.left || !pace.goes_on(frames) {
+        if frames > self.left || !progress.goes_on(frames) {
             self.left = 0;
             return Ok(false);
         }
@@ -71,14 +75,14 @@ impl Shorter<'_, '_> {
     }
 
     /// Cuts so many frames wherever that can be.
-    fn cut<P: Pace>(&mut self, count: usize, pace: &mut P) -> Result<(), AllocError> {
+    fn cut<P: HuntProgress>(&mut self, count: usize, progress: &mut P) -> Result<(), AllocError> {
         let mut at = 0usize;
         for _ in 0..self.best.len() {
             if at >= self.best.len() || self.left == 0 {
                 break;
             }
             let shorter = self.without(at, at.saturating_add(count))?;
-            if !self.offer(shorter, pace)? {
+            if !self.offer(shorter, progress)? {
                 at = at.saturating_add(count);
             }
         }
@@ -99,7 +103,7 @@ impl Shorter<'_, '_> {
     }
 
     /// Leaves out each press, where the fault comes without it.
-    fn release<P: Pace>(&mut self, pace: &mut P) -> Result<(), AllocError> {
+    fn release<P: HuntProgress>(&mut self, progress: &mut P) -> Result<(), AllocError> {
         let mut at = 0usize;
         for _ in 0..self.best.len() {
             if at >= self.best.len() || self.left == 0 {
@@ -110,7 +114,7 @@ impl Shorter<'_, '_> {
                 let key = 1u8 << bit;
                 if self.best.get(at).copied().unwrap_or(0) & key != 0 {
                     let freer = self.released(at, end, key)?;
-                    self.offer(freer, pace)?;
+                    self.offer(freer, progress)?;
                 }
             }
             at = end.max(at.saturating_add(1));
@@ -120,18 +124,18 @@ impl Shorter<'_, '_> {
 }
 
 /// A script that leads to the same fault at the same place as this one, with fewer frames and keys where that was found within so
-/// many frames and while the pace goes on.
+/// many frames and while the progress goes on.
 ///
 /// # Errors
 ///
 /// AllocError where there is no room.
-pub fn shorten<P: Pace>(
+pub fn shorten<P: HuntProgress>(
     alloc: Global,
     rom: &Rom<'_>,
     region: Region,
     script: Vec<u8>,
     frames: u64,
-    pace: &mut P,
+    progress: &mut P,
 ) -> Result<Vec<u8>, AllocError> {
     let Some(wanted) = play_again(alloc, rom, &script, region)? else {
         return Ok(script);
@@ -150,8 +154,8 @@ pub fn shorten<P: Pace>(
         if count < LEAST_CUT {
             break;
         }
-        shorter.cut(count, pace)?;
-        shorter.release(pace)?;
+        shorter.cut(count, progress)?;
+        shorter.release(progress)?;
     }
     Ok(shorter.best)
 }
