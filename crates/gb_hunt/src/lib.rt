@@ -3,7 +3,7 @@
 //! `Hunt` plays a cartridge by keys of its own, from power-up and from consoles that it kept, towards code that hasn't run yet and
 //! pictures that weren't seen. Each frame is watched for faults of a stack region. Nothing is promised of the search but that it is safe,
 //! ends, and hands on a want of memory; what it finds is a script, which anybody can play again. `shorten` makes that script
-//! shorter. Read `hunt` first, then `explore`, `seen`, `presses` and `shorten`.
+//! shorter. Read `hunt` first, then `explore`, `seen`, `presses` and `shortening`.
 #![tactic(auto)]
 
 mod explore;
@@ -12,10 +12,10 @@ mod leads;
 pub mod play;
 mod presses;
 mod seen;
-pub mod shorten;
+pub mod shortening;
 pub mod stack;
 
 pub use hunt::{Hunt, HuntProgress};
 pub use play::{Find, play_again};
-pub use shorten::shorten;
+pub use shortening::shorten;
 pub use stack::stack_region;
