@@ -78,6 +78,8 @@ pub struct Storm {
     bursts: u64,
     /// The least stack pointer of a state that was kept for it.
     least_sp: u16,
+    /// Whether the stack grew further than ever in the last burst.
+    is_growing: bool,
 }
 
 /// The lowest interrupt from this one on that is enabled, around.
@@ -129,6 +131,7 @@ impl Storm {
             events: 0,
             bursts: 0,
             least_sp: region.last,
+            is_growing: false,
         }))
     }
 
@@ -185,6 +188,7 @@ impl Storm {
         let is_longer = self.region.first <= sp && sp < self.least_sp.saturating_sub(GROWTH);
         if is_longer {
             self.least_sp = sp;
+            self.is_growing = true;
         }
         is_longer
     }
@@ -285,11 +289,12 @@ impl Storm {
         }
         self.before = number;
         self.since = EventList::new(self.alloc);
-        let interrupt = match self.below(5) {
-            0 => 2,
-            1 => 8,
-            2 => 64,
-            3 => 512,
+        let interrupt = match self.below(6) {
+            0 => 1,
+            1 => 2,
+            2 => 8,
+            3 => 64,
+            4 => 512,
             _ => 4096,
         };
         let usual = self.below(3).saturating_add(1);
@@ -331,7 +336,10 @@ impl Storm {
             if self.events >= events {
                 break;
             }
-            self.begin();
+            if !self.is_growing {
+                self.begin();
+            }
+            self.is_growing = false;
             self.bursts = self.bursts.wrapping_add(1);
             let doublings = self.bursts.trailing_zeros().min(6);
             match self.burst(BURST << doublings, patience)? {
