@@ -111,12 +111,7 @@ impl Witness {
         }
     }
 
-    fn play_list<W: Write>(
-        &self,
-        alloc: Global,
-        out: &mut W,
-        list: &EventList,
-    ) -> io::Result<()> {
+    fn play_list<W: Write>(&self, alloc: Global, out: &mut W, list: &EventList) -> io::Result<()> {
         let Some(mut machine) = machine_of(alloc, &self.rom)? else {
             return writeln!(out, "not a cartridge");
         };
@@ -181,16 +176,14 @@ fn write_fault<W: Write>(
 ) -> io::Result<()> {
     let fault = number_of_fault(faults);
     let CodePlace { address, bank } = place;
-    writeln!(out, "FAULT F{fault} {unit} {number} pc {address:04X} bank {bank:03X}")
+    writeln!(
+        out,
+        "FAULT F{fault} {unit} {number} pc {address:04X} bank {bank:03X}"
+    )
 }
 
 /// Does what a line says.
-fn play<W: Write>(
-    alloc: Global,
-    out: &mut W,
-    witness: &mut Witness,
-    line: &str,
-) -> io::Result<()> {
+fn play<W: Write>(alloc: Global, out: &mut W, witness: &mut Witness, line: &str) -> io::Result<()> {
     let (word, rest) = word_of(line);
     match word {
         "about" => {

@@ -337,7 +337,7 @@ impl<'a> Hunt<'a> {
         if length <= BURST || self.presses.below(4) != 0 {
             return 0;
         }
-        8 + self.presses.below(120) as usize
+        (self.presses.below(120) as usize).saturating_add(8)
     }
 
     /// Plays at most so many frames, while the progress goes on. Answers the keys up to the frame of the first fault that it finds.

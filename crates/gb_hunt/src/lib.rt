@@ -19,3 +19,6 @@ pub use hunt::{Hunt, HuntProgress};
 pub use play::{Find, play_again};
 pub use shortening::shorten;
 pub use stack::stack_region;
+
+// What lies below, for the crates above.
+pub use gb_console::{Console, Keys, Verdict, check};

@@ -155,7 +155,7 @@ pub fn shorten<P: HuntProgress>(
             break;
         }
         shorter.cut(count, progress)?;
-        shorter.release(progress)?;
     }
+    shorter.release(progress)?;
     Ok(shorter.best)
 }
