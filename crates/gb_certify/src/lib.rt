@@ -7,7 +7,6 @@
 mod compare;
 mod files;
 mod help;
-mod hunting;
 mod making;
 mod messages;
 mod perform;
@@ -21,11 +20,11 @@ use gb_command_line::status::exit_code;
 use perform::start;
 use std::io::Input;
 use std::process::ExitCode;
-use std::rt::{Clock, Env, Files};
+use std::rt::{Env, Files};
 
 /// Runs the program on the words after its name, and answers its status. `is_shown` says whether a person sees standard
 /// error as it comes.
-pub fn run<R: Print + Eprint + Input + Files + Env + Clock + AllocGlobal>(
+pub fn run<R: Print + Eprint + Input + Files + Env + AllocGlobal>(
     rt: &R,
     is_shown: bool,
 ) -> ExitCode {

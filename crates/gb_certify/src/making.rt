@@ -2,7 +2,6 @@
 
 use crate::compare::tell_made;
 use crate::files::write_file;
-use crate::hunting::hunt_crash;
 use crate::messages::PROGRAM;
 use crate::progress::RoundsShown;
 use crate::words::CertifyTask;
@@ -14,7 +13,7 @@ use gb_command_line::{
 use gb_page::Older;
 use gb_refine::{Finding, Made, SearchLimits, ShownFinding, Symbols, finding_json, make};
 use std::io;
-use std::rt::{Clock, Files};
+use std::rt::Files;
 
 /// The most rounds of refinement.
 const ROUNDS: u32 = 400;
@@ -121,7 +120,7 @@ pub fn report<R: Print + Eprint + AllocGlobal>(
 
 /// Makes a certificate, writes it where the checker accepts it, and prints the verdict's line, and what changed since an older
 /// one.
-pub fn make_file<R: Print + Eprint + Files + Clock + AllocGlobal>(
+pub fn make_file<R: Print + Eprint + Files + AllocGlobal>(
     rt: &R,
     task: &CertifyTask<'_>,
     bytes: &[u8],
@@ -134,10 +133,7 @@ pub fn make_file<R: Print + Eprint + Files + Clock + AllocGlobal>(
         return Ok(verify(rt, PROGRAM, task.names(), bytes, b""));
     };
     match made(rt, task, &rom, is_shown)? {
-        Made::Findings(findings) => {
-            hunt_crash(rt, task, &rom, symbols, is_shown)?;
-            report(rt, task, &findings, symbols)
-        }
+        Made::Findings(findings) => report(rt, task, &findings, symbols),
         Made::Certificate(cert) if is_accepted(rt, bytes, &cert) => {
             let cert = in_newest_version(rt, task, bytes, cert);
             write_file(rt, task.cert, &cert)?;

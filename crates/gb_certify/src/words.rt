@@ -14,9 +14,6 @@ const MOST_NODES: i64 = 1_048_576;
 /// The most nodes, where nothing is said.
 const NODES: u32 = 400_000;
 
-/// The most seconds of a hunt: an hour.
-const MOST_SECONDS: i64 = 3_600;
-
 /// What is to be done with the certificate's file.
 #[derive(Clone, Copy, PartialEq, Eq)]
 pub enum Work<'a> {
@@ -54,8 +51,6 @@ pub struct CertifyTask<'a> {
     /// The rules by which alone a certificate is sought.
     pub rules: Option<Rules>,
     pub is_json: bool,
-    /// The seconds in which keys that crash the game are looked for, where there is no certificate.
-    pub hunt: Option<u32>,
 }
 
 impl<'a> CertifyTask<'a> {
@@ -171,18 +166,8 @@ fn with_options<'a>(alloc: Global) -> Result<Command<'a>, AllocError> {
         "FILE",
         "Write a report page (HTML) into FILE; makes CERT first if it doesn't exist",
     );
-    let hunt = option_arg(
-        alloc,
-        "hunt",
-        "SECONDS",
-        "If the game doesn't pass, look for keys that crash it; default: 10 on a terminal, else 0",
-    )
-    .value_parser(clap::value_parser!(u32).range(0..=MOST_SECONDS));
     let command = with_arg(with_arg(with_arg(command, symbols), lines), nodes);
-    with_arg(
-        with_arg(with_arg(with_arg(command, stack), rules), report),
-        hunt,
-    )
+    with_arg(with_arg(with_arg(command, stack), rules), report)
 }
 
 /// The program with the options for an older certificate.
@@ -349,6 +334,5 @@ pub fn read_words<'a>(alloc: Global, words: &'a [&'a str]) -> Result<CertifyTask
         region: stack_of(alloc, &matches)?,
         rules: rules_of(&matches),
         is_json: matches.get_flag("json"),
-        hunt: matches.get_one::<u32>("hunt"),
     })
 }

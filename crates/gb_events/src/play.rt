@@ -2,7 +2,6 @@
 
 use crate::list::Repeated;
 use gb_cpu::step::Cpu;
-use gb_faults::no_faults;
 use gb_ops::machine::{CodePlace, Event, Faults, Region};
 use gb_plain::faults::faults;
 use gb_plain::{Cartridge, MachineState, PlainMachine};
@@ -55,13 +54,22 @@ pub(crate) fn place_now(state: &MachineState) -> CodePlace {
     CodePlace { address, bank }
 }
 
+/// Whether there is a fault among these.
+pub(crate) fn has_fault(faults: Faults) -> bool {
+    faults.undefined_opcode
+        || faults.fetched_outside
+        || faults.stack_outside
+        || faults.ram_closed
+        || faults.transfer_met
+}
+
 /// Plays events, up to the first with a fault of a stack region, which isn't applied.
 pub fn play_events(machine: &mut PlainMachine, list: &[Repeated], region: Region) -> Fates {
     let mut number = 0u64;
     for item in list {
         for _ in 0..item.count {
             let faults = faults(region, &machine.state, item.event);
-            if faults != no_faults() {
+            if has_fault(faults) {
                 return Fates::Faulty(Faulty {
                     number,
                     faults,

@@ -2,9 +2,8 @@
 
 use crate::free::reads_hardware;
 use crate::list::EventList;
-use crate::play::{machine_of, place_now};
+use crate::play::{has_fault, machine_of, place_now};
 use crate::snapshot::Snapshot;
-use gb_faults::no_faults;
 use gb_ops::machine::{Event, Region};
 use gb_ops::registers::Ime;
 use gb_plain::faults::faults;
@@ -248,7 +247,7 @@ impl Storm {
         let event = self.choose();
         self.since.push(event, 1)?;
         self.events = self.events.wrapping_add(1);
-        if faults(self.region, &self.machine.state, event) != no_faults() {
+        if has_fault(faults(self.region, &self.machine.state, event)) {
             return Ok(true);
         }
         self.machine.apply(event);

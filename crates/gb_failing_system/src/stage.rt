@@ -11,8 +11,7 @@ use std::env::FillError;
 use std::fmt::Display;
 use std::fs::{Metadata, OpenOptions};
 use std::io::{self, BufRead, ErrorKind, Input, Lines};
-use std::rt::{Clock, Env, Files};
-use std::time::Duration;
+use std::rt::{Env, Files};
 
 /// What becomes of a name that is opened.
 #[derive(Clone, Copy)]
@@ -228,17 +227,6 @@ impl Env for Stage<'_> {
 
     fn var_at(&self, _i: usize, _buf: &mut [u8]) -> Result<usize, FillError> {
         Err(FillError::NotPresent)
-    }
-}
-
-/// A clock that stands still.
-impl Clock for Stage<'_> {
-    fn monotonic(&self) -> io::Result<Duration> {
-        Ok(Duration::ZERO)
-    }
-
-    fn since_1970(&self) -> io::Result<Duration> {
-        Ok(Duration::ZERO)
     }
 }
 

@@ -355,7 +355,7 @@ impl<'a> Hunt<'a> {
                 break;
             }
             let number = self.choose();
-            let length = self.length().min(frames - self.frames);
+            let length = self.length().min(frames.saturating_sub(self.frames));
             let again = self.again(length);
             let Some(lead) = self.leads.copy_of(self.alloc, number)? else {
                 break;
