@@ -1,0 +1,7 @@
+use Rattle.gb_console.specs.Console.{rom_of}
+use Rattle.gb_faults.specs.Quiet.{IsGuard}
+use Rattle.gb_hunt.proofs.explore.go_on.Given as goal
+
+-- the guard is the cartridge's
+abbrev pub invariant-loop : goal.invariant-loop
+invariant-loop l = IsGuard (rom_of l.console) l.guard

@@ -1,0 +1,48 @@
+//! Scripts that are played.
+
+use bitflags::Flags;
+use gb_console::{Console, Ending, Keys};
+use gb_header::Rom;
+use gb_ops::machine::Region;
+use gb_watch::{Sighting, Watched, watch_frame};
+use std::alloc::{AllocError, Global};
+
+/// A fault that a script leads to.
+#[derive(Clone, Copy)]
+pub struct Find {
+    /// The number of the frame.
+    pub frame: usize,
+    pub sighting: Sighting,
+}
+
+/// The keys of a byte of a script.
+pub(crate) fn keys_of(byte: u8) -> Keys {
+    Keys::from_bits_retain(byte)
+}
+
+/// The seconds that pass with a frame: one with each sixtieth.
+pub(crate) fn seconds_of(number: usize) -> u32 {
+    u32::from(number % 60 == 59)
+}
+
+/// Plays a script from power-up, frame by frame to its end. Answers the first fault of the stack region, if one comes.
+///
+/// # Errors
+///
+/// AllocError where there is no room.
+pub fn play_again(
+    alloc: Global,
+    rom: &Rom<'_>,
+    script: &[u8],
+    region: Region,
+) -> Result<Option<Find>, AllocError> {
+    let mut console = Console::new(alloc, rom)?;
+    for (frame, byte) in script.iter().enumerate() {
+        match watch_frame(&mut console, keys_of(*byte), seconds_of(frame), region) {
+            Watched::Ended(Ending::Whole) => {}
+            Watched::Ended(Ending::Locked | Ending::Stopped) => return Ok(None),
+            Watched::Faulted(sighting) => return Ok(Some(Find { frame, sighting })),
+        }
+    }
+    Ok(None)
+}
