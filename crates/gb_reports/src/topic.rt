@@ -198,7 +198,7 @@ pub(crate) fn advice_on(finding: &Finding) -> Advice {
             ..
         } => advice::OUT_OF_ROUNDS,
         Finding::OutOfRounds {
-            spent: Spent::Steps | Spent::Time,
+            spent: Spent::Steps,
             ..
         } => advice::OUT_OF_STEPS,
         Finding::OutOfRounds {
