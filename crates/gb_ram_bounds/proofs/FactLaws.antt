@@ -266,9 +266,10 @@ HoldFacts-kept :
     (facts : List Fact) (cells kept : List ByteCell) (memory : ℕ → ℕ)
     → AreAllowed facts cells kept → HoldCells cells memory → HoldFacts facts cells memory → HoldFacts facts kept memory
 HoldFacts-kept [] cells kept memory k c h = tt
-HoldFacts-kept (f ∷ facts) cells kept memory k c h =
-    (HoldsFact-kept f cells kept memory (λ a v e free. (and_parts _ _ (k a v e free)).0) c h.0,
-    HoldFacts-kept facts cells kept memory (λ a v e free. (and_parts _ _ (k a v e free)).1) c h.1)
+HoldFacts-kept (f ∷ facts) cells kept memory k c h = (
+  HoldsFact-kept f cells kept memory (λ a v e free. (and_parts _ _ (k a v e free)).0) c h.0,
+  HoldFacts-kept facts cells kept memory (λ a v e free. (and_parts _ _ (k a v e free)).1) c h.1,
+)
 
 pub keeps_facts_sound :
     (facts : List Fact) (cells kept : List ByteCell) (o : Bool) → o ≡ keeps_facts facts cells kept → o ≡ true → AreKept facts cells kept
