@@ -189,9 +189,9 @@ data IsFilled (lies said : Bool) : Type 0 where
   Lies : lies ≡ true → IsFilled lies said
   Said : said ≡ true → IsFilled lies said
 
-filled-by : (kept may lies said : Bool) → (kept || not may || lies || said) ≡ true → kept ≡ false → may ≡ true → IsFilled lies said
-filled-by false true true said h p q = Lies refl
-filled-by false true false said h p q = Said h
+filled-by : (kept may lies said : Bool) → (not may || kept || said || lies) ≡ true → kept ≡ false → may ≡ true → IsFilled lies said
+filled-by false true lies true h p q = Said refl
+filled-by false true lies false h p q = Lies h
 filled-by true may lies said h p q = cc
 filled-by false false lies said h p q = cc
 

@@ -13,7 +13,7 @@ use Rattle.gb_ram_bounds.specs.declared.addresses.AddressSet.{AddressSet}
 use Rattle.gb_ram_bounds.specs.declared.facts.Fact.{Fact}
 use Rattle.gb_ram_bounds.specs.Cells.{cell_at, is_there, has_cell}
 use Rattle.gb_ram_bounds.specs.Addresses.{is_in, is_one}
-use Rattle.gb_ram_bounds.specs.Facts.{has_address, or_same, cut_or_same, cut_by_fact, cut_by_facts, is_met_at, meets, is_broken, unbroken, is_to_cell, level_after, gives_back, keeps_fact, keeps_facts}
+use Rattle.gb_ram_bounds.specs.Facts.{has_address, or_same, cut_or_same, cut_by_fact, cut_by_facts, is_met_at, meets, is_broken, unbroken, is_to_cell, level_after, allows, is_given_back, keeps_facts}
 use Rattle.gb_ram_bounds.specs.Meaning.{HoldCells, HoldsFact, HoldFacts, IsStored, HasCellsOf, IsSoundByFacts, IsSoundLevel, AreKept}
 use Rattle.gb_ram_bounds.proofs.AddressLaws.{some_of-at}
 
@@ -198,65 +198,85 @@ level_after_sound facts after s v n e =
 -- ---- cells that go
 
 -- a cell that is found is one of them
-gives_back-found :
-    (f : Fact) (kept cells : List ByteCell) (a : ℕ) (v : StridedInterval)
-    → list_all (gives_back f kept) cells ≡ true → cell_at cells a ≡ Some v
-    → gives_back f kept (record { address = a; value = v }) ≡ true
-gives_back-found f kept [] a v h e = cc
-gives_back-found f kept (c ∷ cells) a v h e =
+is_given_back-found :
+    (facts : List Fact) (kept cells : List ByteCell) (a : ℕ) (v : StridedInterval)
+    → list_all (is_given_back facts kept) cells ≡ true → cell_at cells a ≡ Some v
+    → is_given_back facts kept (record { address = a; value = v }) ≡ true
+is_given_back-found facts kept [] a v h e = cc
+is_given_back-found facts kept (c ∷ cells) a v h e =
     let p = and_parts _ _ h in
-    choose (c.address == a) refl p.0 e (gives_back-found f kept cells a v p.1)
+    choose (c.address == a) refl p.0 e (is_given_back-found facts kept cells a v p.1)
   where
+    some_same : (x y : StridedInterval) → Some x ≡ Some y → x ≡ y
+    some_same x y e = cc
+
     choose :
-        (b : Bool) → (c.address == a) ≡ b → gives_back f kept c ≡ true → cond b (Some c.value) (cell_at cells a) ≡ Some v
-        → (cell_at cells a ≡ Some v → gives_back f kept (record { address = a; value = v }) ≡ true)
-        → gives_back f kept (record { address = a; value = v }) ≡ true
+        (b : Bool) → (c.address == a) ≡ b → is_given_back facts kept c ≡ true → cond b (Some c.value) (cell_at cells a) ≡ Some v
+        → (cell_at cells a ≡ Some v → is_given_back facts kept (record { address = a; value = v }) ≡ true)
+        → is_given_back facts kept (record { address = a; value = v }) ≡ true
     choose true same first found rest =
         let at : c.address ≡ a = eqb-true c.address a same in
         let value : c.value ≡ v = some_same c.value v found in
-        subst (λ z. gives_back f kept (record { address = a; value = z }) ≡ true) value
-        (subst (λ z. gives_back f kept (record { address = z; value = c.value }) ≡ true) at first)
-      where
-        some_same : (x y : StridedInterval) → Some x ≡ Some y → x ≡ y
-        some_same x y e = cc
+        subst (λ z. is_given_back facts kept (record { address = a; value = z }) ≡ true) value
+        (subst (λ z. is_given_back facts kept (record { address = z; value = c.value }) ≡ true) at first)
     choose false other first found rest = rest found
 
-lies-given_back :
-    (f : Fact) (kept : List ByteCell) (a : ℕ) (v : StridedInterval)
-    → gives_back f kept (record { address = a; value = v }) ≡ true → has_address f a ≡ true → has_cell kept a ≡ false
-    → lies_in v f.value ≡ true
-unfolding gives_back
-lies-given_back f kept a v h has free = third (has_address f a) (has_cell kept a) (lies_in v f.value) h has free
+-- where it isn't kept, each fact allows it
+allowed-given_back :
+    (facts : List Fact) (kept : List ByteCell) (a : ℕ) (v : StridedInterval)
+    → is_given_back facts kept (record { address = a; value = v }) ≡ true → has_cell kept a ≡ false
+    → list_all (allows (record { address = a; value = v })) facts ≡ true
+unfolding is_given_back
+allowed-given_back facts kept a v h free = second (has_cell kept a) (list_all (allows (record { address = a; value = v })) facts) h free
   where
-    third : (x y z : Bool) → (not x || y || z) ≡ true → x ≡ true → y ≡ false → z ≡ true
-    third true false z h p q = h
-    third true true z h p q = cc
-    third false y z h p q = cc
+    second : (x y : Bool) → (x || y) ≡ true → x ≡ false → y ≡ true
+    second false y h p = h
+    second true y h p = cc
+
+lies-allowed :
+    (f : Fact) (a : ℕ) (v : StridedInterval)
+    → allows (record { address = a; value = v }) f ≡ true → has_address f a ≡ true → lies_in v f.value ≡ true
+unfolding allows
+lies-allowed f a v h has = second (has_address f a) (lies_in v f.value) h has
+  where
+    second : (x y : Bool) → (not x || y) ≡ true → x ≡ true → y ≡ true
+    second true y h p = h
+    second false y h p = cc
+
+-- what each cell that goes says, each of the facts allows
+abbrev AreAllowed : List Fact → List ByteCell → List ByteCell → Type 0
+AreAllowed facts cells kept =
+    (a : ℕ) (v : StridedInterval)
+    → cell_at cells a ≡ Some v → has_cell kept a ≡ false → list_all (allows (record { address = a; value = v })) facts ≡ true
 
 HoldsFact-kept :
     (f : Fact) (cells kept : List ByteCell) (memory : ℕ → ℕ)
-    → keeps_fact cells kept f ≡ true → HoldCells cells memory → HoldsFact cells memory f → HoldsFact kept memory f
-unfolding keeps_fact has_cell
+    → ((a : ℕ) (v : StridedInterval) → cell_at cells a ≡ Some v → has_cell kept a ≡ false → allows (record { address = a; value = v }) f ≡ true)
+    → HoldCells cells memory → HoldsFact cells memory f → HoldsFact kept memory f
+unfolding has_cell
 HoldsFact-kept f cells kept memory k c h = record { gives = λ a has free. choose a has free (cell_at cells a) refl }
   where
     choose :
         (a : ℕ) → has_address f a ≡ true → has_cell kept a ≡ false → (o : Option StridedInterval) → cell_at cells a ≡ o
         → In f.value (memory a)
     choose a has free None e = h.gives a has (ap is_there e)
-    choose a has free (Some v) e =
-        In-lies_in v f.value (memory a) (lies-given_back f kept a v (gives_back-found f kept cells a v k e) has free) (c.gives a v e)
+    choose a has free (Some v) e = In-lies_in v f.value (memory a) (lies-allowed f a v (k a v e free) has) (c.gives a v e)
 
 HoldFacts-kept :
     (facts : List Fact) (cells kept : List ByteCell) (memory : ℕ → ℕ)
-    → list_all (keeps_fact cells kept) facts ≡ true → HoldCells cells memory → HoldFacts facts cells memory
-    → HoldFacts facts kept memory
+    → AreAllowed facts cells kept → HoldCells cells memory → HoldFacts facts cells memory → HoldFacts facts kept memory
 HoldFacts-kept [] cells kept memory k c h = tt
-HoldFacts-kept (f ∷ facts) cells kept memory k c h =
-    let p = and_parts _ _ k in
-    (HoldsFact-kept f cells kept memory p.0 c h.0, HoldFacts-kept facts cells kept memory p.1 c h.1)
+HoldFacts-kept (f ∷ facts) cells kept memory k c h = (
+  HoldsFact-kept f cells kept memory (λ a v e free. (and_parts _ _ (k a v e free)).0) c h.0,
+  HoldFacts-kept facts cells kept memory (λ a v e free. (and_parts _ _ (k a v e free)).1) c h.1,
+)
 
 pub keeps_facts_sound :
     (facts : List Fact) (cells kept : List ByteCell) (o : Bool) → o ≡ keeps_facts facts cells kept → o ≡ true → AreKept facts cells kept
 unfolding keeps_facts
 keeps_facts_sound facts cells kept o e h =
-    record { gives = λ memory. HoldFacts-kept facts cells kept memory (sym e ∙ h) }
+    record {
+      gives = λ memory.
+          HoldFacts-kept facts cells kept memory
+          (λ a v found free. allowed-given_back facts kept a v (is_given_back-found facts kept cells a v (sym e ∙ h) found) free);
+    }

@@ -58,13 +58,13 @@ says_at f a g = ends_as_far g.end f.end && is_between g a && nat_le f.lo g.lo &&
 abbrev pub is_said_at : Fill → ℕ → List Fill → Bool
 is_said_at f a fills = list_any (says_at f a) fills
 
--- a cell is kept there, or the fill isn't about the address, or the byte's value lies in the fill's, or a fill says it
+-- the fill isn't about the address, or a cell is kept there, or a fill of the state says it, or the byte's value lies in the fill's
 unfoldable pub is_filled_at : List Fact → List ByteCell → List Fill → Pointers Bounds → List ByteCell → Fill → ℕ → Bool
 is_filled_at facts cells fills p kept f a =
-    has_cell kept a
-    || not (may_reach f.end p a)
-    || lies_in (byte_at facts cells fills p a) (bytes_of f)
+    not (may_reach f.end p a)
+    || has_cell kept a
     || not (has_cell cells a) && is_said_at f a fills
+    || lies_in (byte_at facts cells fills p a) (bytes_of f)
 
 -- with the cells that are kept the fill holds
 unfoldable pub gives_fill : List Fact → List ByteCell → List Fill → Pointers Bounds → List ByteCell → Fill → Bool

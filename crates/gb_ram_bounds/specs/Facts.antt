@@ -59,14 +59,17 @@ level_after facts cells s v = if is_to_cell cells s then length facts else unbro
 
 -- ---- cells that go
 
--- the cell stays, or the fact has another address, or the cell's value lies in the fact's
-unfoldable pub gives_back : Fact → List ByteCell → ByteCell → Bool
-gives_back f kept c = not (has_address f c.address) || has_cell kept c.address || lies_in c.value f.value
+-- the fact has another address, or the cell's value lies in the fact's
+unfoldable pub allows : ByteCell → Fact → Bool
+allows c f = not (has_address f c.address) || lies_in c.value f.value
 
--- with fewer cells the fact still holds
-unfoldable pub keeps_fact : List ByteCell → List ByteCell → Fact → Bool
-keeps_fact cells kept f = list_all (gives_back f kept) cells
+abbrev pub all_allow : List Fact → ByteCell → Bool
+all_allow facts c = list_all (allows c) facts
 
--- with fewer cells all of them still hold
+-- the cell is kept, or each fact allows what it says
+unfoldable pub is_given_back : List Fact → List ByteCell → ByteCell → Bool
+is_given_back facts kept c = has_cell kept c.address || all_allow facts c
+
+-- with fewer cells all facts still hold
 unfoldable pub keeps_facts : List Fact → List ByteCell → List ByteCell → Bool
-keeps_facts facts cells kept = list_all (keeps_fact cells kept) facts
+keeps_facts facts cells kept = list_all (is_given_back facts kept) cells

@@ -168,13 +168,13 @@ fn is_filled_at(
 ) -> bool
     ensures { result ≡ Covering.is_filled_at facts.now cells.now fills.now pointers.now kept.now fill.now address }
 {
-    has_cell(kept, address)
-        || !may_reach(fill.end, pointers, address)
+    !may_reach(fill.end, pointers, address)
+        || has_cell(kept, address)
+        || !has_cell(cells, address) && is_said_at(fill, address, fills)
         || lies_in(
             known_byte(facts, cells, fills, pointers, address),
             bounds(fill.lo, fill.hi),
         )
-        || !has_cell(cells, address) && is_said_at(fill, address, fills)
 }
 
 #[tactic(auto, using(crate::proofs::AddressLaws::each_of_none, crate::proofs::AddressLaws::each_of_failed, crate::proofs::AddressLaws::each_of_next), unfolding(crate::specs::Covering::gives_fill))]

@@ -144,27 +144,31 @@ pub fn level_after(
     level(facts, cells, stored, value)
 }
 
-#[tactic(auto, unfolding(crate::specs::Facts::gives_back))]
-fn gives_back(fact: &Fact, kept: &[ByteCell], cell: &ByteCell) -> bool
-    ensures { result ≡ Facts.gives_back fact.now kept.now cell.now }
+#[tactic(auto, unfolding(crate::specs::Facts::allows))]
+fn allows(cell: &ByteCell, fact: &Fact) -> bool
+    ensures { result ≡ Facts.allows cell.now fact.now }
 {
-    !has_address(fact, cell.address)
-        || has_cell(kept, cell.address)
-        || lies_in(cell.value, fact.value)
+    !has_address(fact, cell.address) || lies_in(cell.value, fact.value)
 }
 
-#[tactic(auto, unfolding(crate::specs::Facts::keeps_fact))]
-fn keeps_fact(cells: &[ByteCell], kept: &[ByteCell], fact: &Fact) -> bool
-    ensures { result ≡ Facts.keeps_fact cells.now kept.now fact.now }
+fn all_allow(facts: &[Fact], cell: &ByteCell) -> bool
+    ensures { result ≡ Facts.all_allow facts.now cell.now }
 {
-    cells.iter().all(|cell| gives_back(fact, kept, cell))
+    facts.iter().all(|fact| allows(cell, fact))
+}
+
+#[tactic(auto, unfolding(crate::specs::Facts::is_given_back))]
+fn is_given_back(facts: &[Fact], kept: &[ByteCell], cell: &ByteCell) -> bool
+    ensures { result ≡ Facts.is_given_back facts.now kept.now cell.now }
+{
+    has_cell(kept, cell.address) || all_allow(facts, cell)
 }
 
 #[tactic(auto, unfolding(crate::specs::Facts::keeps_facts))]
-fn keep_all(facts: &[Fact], cells: &[ByteCell], kept: &[ByteCell]) -> bool
+fn are_given_back(facts: &[Fact], cells: &[ByteCell], kept: &[ByteCell]) -> bool
     ensures { result ≡ Facts.keeps_facts facts.now cells.now kept.now }
 {
-    facts.iter().all(|fact| keeps_fact(cells, kept, fact))
+    cells.iter().all(|cell| is_given_back(facts, kept, cell))
 }
 
 /// Whether facts that hold still hold where only the other cells are kept: each cell that goes lies in the facts that have its
@@ -174,5 +178,5 @@ pub fn keeps_facts(facts: &[Fact], cells: &[ByteCell], kept: &[ByteCell]) -> boo
     ensures exact { result ≡ Facts.keeps_facts facts.now cells.now kept.now }
     ensures sound { result ≡ true → AreKept facts.now cells.now kept.now }
 {
-    keep_all(facts, cells, kept)
+    are_given_back(facts, cells, kept)
 }
