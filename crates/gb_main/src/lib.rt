@@ -50,7 +50,7 @@ pub use gb_timer::{Joypad, Timer};
 pub use gb_trace::{
     Console, Ending, FaultKind, FaultyRun, FoundStack, Input, Keys, Sighting, SymbolFault, Symbols,
     Trace, WatchOutcome, Watched, WatchedRun, find_stack, keys_at, lowest_fault, seconds_of,
-    steps_are_played, trace, watch_bytes, watch_frame, watch_line, watch_script,
+    steps_are_played, trace_fault, watch_bytes, watch_frame, watch_line, watch_script,
     watch_script_shown, watched_runs_are_played,
 };
 

@@ -16,7 +16,7 @@ use gb_command_line::{
 use gb_ops::machine::Region;
 use gb_trace::{
     Console, FaultyRun, FoundStack, WatchOutcome, Watched, certificate_line, find_stack, put_all,
-    trace, watch_bytes,
+    trace_fault, watch_bytes,
 };
 use gb_words::WatchOptions;
 use std::io::{self, Input};
@@ -126,7 +126,7 @@ fn tell_fault<R: Eprint + AllocGlobal>(
     symbols: &Symbols<'_>,
 ) {
     if let Ok(rom) = Rom::parse(rom)
-        && let Some(trace) = trace(rt.alloc(), &rom, run, symbols)
+        && let Some(trace) = trace_fault(rt.alloc(), &rom, run, symbols)
     {
         let name = shown_name(name);
         let _ = eprintln!(rt; "{PROGRAM}: {name}: {trace}");

@@ -50,7 +50,7 @@ fn is_call(bytes: &[u8; 3]) -> bool {
 }
 
 /// What an event calls, with SP after it; `place` is where it leads.
-fn called(stepped: &Stepped, place: CodePlace) -> Option<(Called, u16)> {
+fn call_made(stepped: &Stepped, place: CodePlace) -> Option<(Called, u16)> {
     let Write::Push(sp, _) = stepped.met.write else {
         return None;
     };
@@ -94,7 +94,7 @@ impl OpenCalls {
         sp: u16,
     ) -> Result<(), AllocError> {
         self.close(sp);
-        if let Some((called, sp)) = called(stepped, place) {
+        if let Some((called, sp)) = call_made(stepped, place) {
             if self.calls.len() < MOST {
                 self.calls.push(OpenCall { from, called, sp })?;
             }

@@ -1,6 +1,6 @@
 //! What happened before a fault, in an author's words.
 //!
-//! `trace` plays a script again from power-up, since a console plays the same each time, and keeps the last instructions and the calls
+//! `trace_fault` plays a script again from power-up, since a console plays the same each time, and keeps the last instructions and the calls
 //! that are open. The `Trace` prints what went wrong, where, and how the code got there. Read `trace` first, then `recorder` and
 //! `happening`. It promises nothing but that it is safe and ends.
 #![tactic(auto)]
@@ -13,7 +13,7 @@ mod recorder;
 mod touch;
 mod trace;
 
-pub use trace::{FaultyRun, Trace, trace};
+pub use trace::{FaultyRun, Trace, trace_fault};
 
 // What lies below, for the crates above.
 pub use gb_symbols::{SymbolFault, Symbols};

@@ -137,7 +137,7 @@ pub fn fmt_recent<W: fmt::Write>(
     for number in 0..16 {
         if let Some(step) = recent.step(number) {
             let at = ListedAddress {
-                symbols,
+                symbols: &*symbols,
                 bank: bank_of(step.place),
                 address: step.place.address,
             };

@@ -39,7 +39,7 @@ pub struct Trace<'a> {
 }
 
 /// Plays a run again, up to its fault. None where memory ran out.
-pub fn trace<'a>(
+pub fn trace_fault<'a>(
     alloc: Global,
     rom: &Rom<'_>,
     run: &FaultyRun<'_>,
