@@ -22,6 +22,6 @@ mod ways;
 
 pub use cells::pointer_cells;
 pub use plan::{Edit, Plan, parted_by};
-pub use plans::{inline_plan, plan_for};
+pub use plans::{inline_plan, last_plan, plan_for};
 pub use saving::targets_to_follow;
 pub use sources::without;

@@ -17,7 +17,7 @@ const SWITCHED: u16 = 0x4000;
 
 /// What a call may know, and the procedure that it enters may not.
 #[derive(Clone, Copy, PartialEq, Eq)]
-enum Part {
+enum KnownPart {
     /// The bank that is shown, and whether cartridge RAM is enabled.
     Shown,
     Cell(u16),
@@ -31,19 +31,19 @@ fn is_shown_known(run: &Run<'_>, state: &Abs) -> bool {
 }
 
 /// Whether a node knows a part.
-fn knows(run: &Run<'_>, node: &RunNode, part: Part) -> bool {
+fn knows(run: &Run<'_>, node: &RunNode, part: KnownPart) -> bool {
     match part {
-        Part::Shown => is_shown_known(run, &node.state),
-        Part::Cell(cell) => {
+        KnownPart::Shown => is_shown_known(run, &node.state),
+        KnownPart::Cell(cell) => {
             let val = cell_at(cell, node.state.cells());
             val.lo == val.hi
         }
-        Part::Register(register) => is_known(node, register),
+        KnownPart::Register(register) => is_known(node, register),
     }
 }
 
 /// Whether a procedure's first node doesn't know a part.
-fn is_open_at_entry(run: &Run<'_>, procedure: &RunProcedure, part: Part) -> bool {
+fn is_open_at_entry(run: &Run<'_>, procedure: &RunProcedure, part: KnownPart) -> bool {
     match procedure.entry {
         Some(entry) => match run.nodes.get(entry) {
             Some(node) => !knows(run, node, part),
@@ -54,7 +54,7 @@ fn is_open_at_entry(run: &Run<'_>, procedure: &RunProcedure, part: Part) -> bool
 }
 
 /// Whether a call of a procedure knows a part, that is in one of these procedures if there are some.
-fn is_known_by_some(run: &Run<'_>, procedure: &RunProcedure, part: Part) -> bool {
+fn is_known_by_some(run: &Run<'_>, procedure: &RunProcedure, part: KnownPart) -> bool {
     procedure.sites.iter().any(|site| match run.nodes.get(*site) {
         Some(node) => knows(run, node, part),
         None => false,
@@ -62,7 +62,7 @@ fn is_known_by_some(run: &Run<'_>, procedure: &RunProcedure, part: Part) -> bool
 }
 
 /// Whether a procedure joins calls of which some know a part.
-fn is_lost_by_calls(run: &Run<'_>, number: usize, part: Part) -> bool {
+fn is_lost_by_calls(run: &Run<'_>, number: usize, part: KnownPart) -> bool {
     match run.procedures.get(number) {
         Some(procedure) => {
             is_open_at_entry(run, procedure, part) && is_known_by_some(run, procedure, part)
@@ -72,11 +72,13 @@ fn is_lost_by_calls(run: &Run<'_>, number: usize, part: Part) -> bool {
 }
 
 /// The change by which a procedure's calls are kept apart by a part, where that is new.
-fn parting(run: &Run<'_>, number: usize, part: Part) -> Option<Edit> {
+fn parting(run: &Run<'_>, number: usize, part: KnownPart) -> Option<Edit> {
     let target = run.target(number);
     match part {
-        Part::Shown if !run.configuration.is_by_controller(target) => Some(Edit::PartBank(target)),
-        Part::Cell(cell) => {
+        KnownPart::Shown if !run.configuration.is_by_controller(target) => Some(Edit::PartBank(
+            target,
+        )),
+        KnownPart::Cell(cell) => {
             let cells = run.configuration.entry_cells(target);
             let is_new = !cells.contains(cell) && cells.has_room();
             if is_new {
@@ -85,7 +87,7 @@ fn parting(run: &Run<'_>, number: usize, part: Part) -> Option<Edit> {
                 None
             }
         }
-        Part::Register(register) => {
+        KnownPart::Register(register) => {
             let registers = RegisterSet::of(&[register]);
             let is_new = !registers.is_inside(&parted_by(run.configuration, target));
             if is_new {
@@ -94,7 +96,7 @@ fn parting(run: &Run<'_>, number: usize, part: Part) -> Option<Edit> {
                 None
             }
         }
-        Part::Shown => None,
+        KnownPart::Shown => None,
     }
 }
 
@@ -103,7 +105,7 @@ fn leading_to(
     alloc: Global,
     run: &Run<'_>,
     number: usize,
-    part: Part,
+    part: KnownPart,
 ) -> Result<BTreeSet<usize>, AllocError> {
     let mut seen = BTreeSet::new(alloc);
     let mut left = Vec::new(alloc);
@@ -132,7 +134,7 @@ fn add_partings(
     alloc: Global,
     run: &Run<'_>,
     number: usize,
-    part: Part,
+    part: KnownPart,
     within: Option<&BTreeSet<usize>>,
     plan: &mut Plan,
 ) -> Result<(), AllocError> {
@@ -200,8 +202,8 @@ fn add_stored(
             register,
         } = *entering;
         if let Some(register) = REGISTERS.get(register)
-            && is_lost_by_calls(run, procedure, Part::Register(*register))
-            && let Some(edit) = parting(run, procedure, Part::Register(*register))
+            && is_lost_by_calls(run, procedure, KnownPart::Register(*register))
+            && let Some(edit) = parting(run, procedure, KnownPart::Register(*register))
         {
             plan.add_new(edit)?;
         }
@@ -211,7 +213,14 @@ fn add_stored(
     }
     for load in &origins.loads {
         let CellLoad { procedure, cell } = *load;
-        add_partings(alloc, run, procedure, Part::Cell(cell), Some(within), plan)?;
+        add_partings(
+            alloc,
+            run,
+            procedure,
+            KnownPart::Cell(cell),
+            Some(within),
+            plan,
+        )?;
     }
     Ok(())
 }
@@ -240,7 +249,7 @@ pub(crate) fn plan_shown(
         }
     }
     if plan.is_empty() {
-        add_partings(alloc, run, procedure, Part::Shown, None, &mut plan)?;
+        add_partings(alloc, run, procedure, KnownPart::Shown, None, &mut plan)?;
     }
     Ok(unless_empty(run, plan))
 }
@@ -273,8 +282,8 @@ pub(crate) fn part_all(alloc: Global, run: &Run<'_>) -> Result<Option<Plan>, All
         return Ok(None);
     }
     for number in 1..run.procedures.len() {
-        if is_lost_by_calls(run, number, Part::Shown)
-            && let Some(edit) = parting(run, number, Part::Shown)
+        if is_lost_by_calls(run, number, KnownPart::Shown)
+            && let Some(edit) = parting(run, number, KnownPart::Shown)
         {
             plan.add_new(edit)?;
         }
@@ -295,8 +304,8 @@ pub(crate) fn part_circle(
     }
     for member in callers {
         if callees.contains(member)
-            && is_lost_by_calls(run, *member, Part::Shown)
-            && let Some(edit) = parting(run, *member, Part::Shown)
+            && is_lost_by_calls(run, *member, KnownPart::Shown)
+            && let Some(edit) = parting(run, *member, KnownPart::Shown)
         {
             plan.add_new(edit)?;
         }

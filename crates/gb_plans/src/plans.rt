@@ -677,22 +677,21 @@ pub fn inline_plan(
     Ok(unless_taken_back(run, plan))
 }
 
-/// What to refine after a failure, if anything may help; whether its pointer is kept in RAM is given.
-pub fn plan_for(
+/// What is tried where nothing else helps against a failure: all routines are analysed once for each bank that their calls know.
+pub fn last_plan(
     alloc: Global,
     run: &Run<'_>,
     failure: &Failure,
-    is_kept_in_ram: bool,
 ) -> Result<Option<Plan>, AllocError> {
-    match plan_by_cause(alloc, run, failure, is_kept_in_ram)? {
-        Some(plan) => Ok(Some(plan)),
-        None if may_be_inlined(failure.cause) => part_all(alloc, run),
-        None => Ok(None),
+    if may_be_inlined(failure.cause) {
+        part_all(alloc, run)
+    } else {
+        Ok(None)
     }
 }
 
-/// What to refine after a failure by its cause.
-fn plan_by_cause(
+/// What to refine after a failure, if anything may help; whether its pointer is kept in RAM is given.
+pub fn plan_for(
     alloc: Global,
     run: &Run<'_>,
     failure: &Failure,

@@ -8,7 +8,7 @@ use crate::written::{is_accepted, written};
 use gb_draft::limits::{DEAR_STEPS, EDITS, EDITS_OF_KEPT, OBSTACLES, STEPS_BACK};
 use gb_draft::{Cause, CodePoint, Failure, Rules, Run, RunEnd, TargetPlace, Wish, find_needs};
 use gb_ops::machine::Region;
-use gb_plans::{Plan, inline_plan, plan_for, targets_to_follow};
+use gb_plans::{Plan, inline_plan, last_plan, plan_for, targets_to_follow};
 use gb_reports::{Crowd, Finding, InstructionFinding};
 use std::alloc::{AllocError, Global};
 use std::collections::BTreeSet;
@@ -203,7 +203,7 @@ impl<'a> Refinement<'a> {
         }
     }
 
-    /// What may help against a failure; else its procedure is followed in its callers.
+    /// What may help against a failure; else its procedure is followed in its callers, or at last all are parted by the bank.
     fn plan_or_inline(
         &self,
         run: &Run<'_>,
@@ -211,9 +211,12 @@ impl<'a> Refinement<'a> {
         place: TargetPlace,
         is_kept: bool,
     ) -> Result<Option<Plan>, AllocError> {
-        match self.plan_at(run, failure, place, is_kept)? {
+        if let Some(plan) = self.plan_at(run, failure, place, is_kept)? {
+            return Ok(Some(plan));
+        }
+        match inline_plan(self.alloc, run, failure)? {
             Some(plan) => Ok(Some(plan)),
-            None => inline_plan(self.alloc, run, failure),
+            None => last_plan(self.alloc, run, failure),
         }
     }
 
