@@ -148,22 +148,17 @@ struct NodesAt<'a> {
 
 impl<'a> NodesAt<'a> {
     /// How many different values something has at them.
-    fn count(&self, value: impl Fn(&RunNode) -> u64) -> Result<usize, AllocError> {
+    fn count(&self, by: Multiplier) -> Result<usize, AllocError> {
         let mut values = BTreeSet::new(self.alloc);
         for node in &self.nodes {
-            values.insert(value(node))?;
+            values.insert(value_of(by, node))?;
         }
         Ok(values.len())
     }
 
     /// What has more values than the most so far.
-    fn raise(
-        &self,
-        most: &mut Multiplied,
-        by: Multiplier,
-        value: impl Fn(&RunNode) -> u64,
-    ) -> Result<(), AllocError> {
-        let values = self.count(value)?;
+    fn raise(&self, most: &mut Multiplied, by: Multiplier) -> Result<(), AllocError> {
+        let values = self.count(by)?;
         if most.values < values {
             *most = Multiplied { by, values };
         }
@@ -176,21 +171,16 @@ impl<'a> NodesAt<'a> {
             by: Multiplier::Bank,
             values: 1,
         };
-        self.raise(&mut most, Multiplier::Bank, bank_value)?;
+        self.raise(&mut most, Multiplier::Bank)?;
         for register in REGISTERS {
-            self.raise(&mut most, Multiplier::Register(register), |node| {
-                val_value(node.state.core().registers.get(register))
-            })?;
+            self.raise(&mut most, Multiplier::Register(register))?;
         }
         if let Some(node) = self.nodes.first() {
             for cell in node.state.cells() {
-                let address = cell.address;
-                self.raise(&mut most, Multiplier::Cell(address), |node| {
-                    val_value(cell_at(address, node.state.cells()))
-                })?;
+                self.raise(&mut most, Multiplier::Cell(cell.address))?;
             }
         }
-        self.raise(&mut most, Multiplier::Stack, stack_value)?;
+        self.raise(&mut most, Multiplier::Stack)?;
         Ok(if most.values > 1 { Some(most) } else { None })
     }
 }
@@ -200,15 +190,16 @@ fn val_value(val: Val) -> u64 {
     u64::from(val.lo) << 8 | u64::from(val.hi)
 }
 
-/// The ROM banks that may be mapped at a node, as a number.
-fn bank_value(node: &RunNode) -> u64 {
-    let ctl = node.state.core().ctl;
-    u64::from(ctl.bank_lo) << 16 | u64::from(ctl.bank_hi)
-}
-
-/// What is on the stack at a node, as a number: how many bytes, and which of the words that keep nodes apart.
-fn stack_value(node: &RunNode) -> u64 {
-    (node.key.words as u64) << 16 | node.key.items as u64
+/// What something is at a node, as a number that nothing else has: of the stack how many bytes, and which of the words that keep
+/// nodes apart.
+fn value_of(by: Multiplier, node: &RunNode) -> u64 {
+    let core = node.state.core();
+    match by {
+        Multiplier::Register(register) => val_value(core.registers.get(register)),
+        Multiplier::Cell(address) => val_value(cell_at(address, node.state.cells())),
+        Multiplier::Bank => u64::from(core.ctl.bank_lo) << 16 | u64::from(core.ctl.bank_hi),
+        Multiplier::Stack => (node.key.words as u64) << 16 | node.key.items as u64,
+    }
 }
 
 /// The places with most nodes, and what multiplies the first.
