@@ -11,7 +11,7 @@ use gb_page::{Changes, Older, changes_json};
 use gb_refine::Symbols;
 use std::alloc::{AllocError, Global};
 use std::io::Input;
-use std::rt::Files;
+use std::rt::{Clock, Files};
 
 /// The older files' bytes; none of those that aren't named.
 #[derive(Drop)]
@@ -45,7 +45,7 @@ pub fn read_before<R: Eprint + Input + Files + AllocGlobal>(
 }
 
 /// Does what a task says, with an older certificate and its symbols, if they are named.
-fn work_with_certificate<'x, R: Print + Eprint + Input + Files + AllocGlobal>(
+fn work_with_certificate<'x, R: Print + Eprint + Input + Files + Clock + AllocGlobal>(
     rt: &R,
     task: &CertifyTask<'_>,
     bytes: &[u8],
@@ -63,7 +63,7 @@ fn work_with_certificate<'x, R: Print + Eprint + Input + Files + AllocGlobal>(
 }
 
 /// Compares with the older build, whose cartridge is given.
-fn work_with_cartridge<'x, R: Print + Eprint + Input + Files + AllocGlobal>(
+fn work_with_cartridge<'x, R: Print + Eprint + Input + Files + Clock + AllocGlobal>(
     rt: &R,
     task: &CertifyTask<'_>,
     bytes: &[u8],
@@ -82,7 +82,7 @@ fn work_with_cartridge<'x, R: Print + Eprint + Input + Files + AllocGlobal>(
 }
 
 /// Compares with the older build, and reads its cartridge if it is named.
-fn work_with_files<'x, R: Print + Eprint + Input + Files + AllocGlobal>(
+fn work_with_files<'x, R: Print + Eprint + Input + Files + Clock + AllocGlobal>(
     rt: &R,
     task: &CertifyTask<'_>,
     bytes: &[u8],
@@ -113,7 +113,7 @@ fn work_with_files<'x, R: Print + Eprint + Input + Files + AllocGlobal>(
 }
 
 /// Does what a task says, with an older certificate.
-pub fn work_with_older<R: Print + Eprint + Input + Files + AllocGlobal>(
+pub fn work_with_older<R: Print + Eprint + Input + Files + Clock + AllocGlobal>(
     rt: &R,
     task: &CertifyTask<'_>,
     before: &OlderBuild<'_>,

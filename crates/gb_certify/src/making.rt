@@ -13,7 +13,7 @@ use gb_command_line::{
 use gb_page::Older;
 use gb_refine::{Finding, Made, SearchLimits, ShownFinding, Symbols, finding_json, make};
 use std::io;
-use std::rt::Files;
+use std::rt::{Clock, Files};
 
 /// The most rounds of refinement.
 const ROUNDS: u32 = 400;
@@ -54,7 +54,7 @@ pub fn in_newest_version<R: AllocGlobal>(
 }
 
 /// What the maker gives.
-pub fn made<R: Eprint + AllocGlobal>(
+pub fn made<R: Eprint + Clock + AllocGlobal>(
     rt: &R,
     task: &CertifyTask<'_>,
     rom: &Rom<'_>,
@@ -66,7 +66,7 @@ pub fn made<R: Eprint + AllocGlobal>(
         region: task.region,
         rules: task.rules,
     };
-    let mut progress = RoundsShown::new(rt, is_shown);
+    let mut progress = RoundsShown::new(rt, is_shown, task.seconds);
     Ok(make(rt.alloc(), rom, limits, &mut progress)?)
 }
 
@@ -120,7 +120,7 @@ pub fn report<R: Print + Eprint + AllocGlobal>(
 
 /// Makes a certificate, writes it where the checker accepts it, and prints the verdict's line, and what changed since an older
 /// one.
-pub fn make_file<R: Print + Eprint + Files + AllocGlobal>(
+pub fn make_file<R: Print + Eprint + Files + Clock + AllocGlobal>(
     rt: &R,
     task: &CertifyTask<'_>,
     bytes: &[u8],

@@ -14,7 +14,7 @@ use gb_command_line::{Trouble, is_input, read_cartridge};
 use gb_page::Older;
 use gb_refine::{SymbolFault, Symbols};
 use std::io::Input;
-use std::rt::{Env, Files};
+use std::rt::{Clock, Env, Files};
 
 /// The names of the older files.
 fn names_before<'a>(task: &CertifyTask<'a>) -> [Option<&'a str>; 3] {
@@ -75,7 +75,7 @@ fn is_read(task: &CertifyTask<'_>, name: &str) -> bool {
 }
 
 /// Does what a task says, with the bytes of its cartridge, its symbols, and an older certificate, if there is one.
-pub fn work<R: Print + Eprint + Input + Files + AllocGlobal>(
+pub fn work<R: Print + Eprint + Input + Files + Clock + AllocGlobal>(
     rt: &R,
     task: &CertifyTask<'_>,
     bytes: &[u8],
@@ -92,7 +92,7 @@ pub fn work<R: Print + Eprint + Input + Files + AllocGlobal>(
 }
 
 /// Does the task; the older certificate isn't read yet.
-fn work_on<R: Print + Eprint + Input + Files + AllocGlobal>(
+fn work_on<R: Print + Eprint + Input + Files + Clock + AllocGlobal>(
     rt: &R,
     task: &CertifyTask<'_>,
     bytes: &[u8],
@@ -109,7 +109,7 @@ fn work_on<R: Print + Eprint + Input + Files + AllocGlobal>(
 }
 
 /// Does what a task says; `is_shown` says whether a person sees standard error.
-fn perform<R: Print + Eprint + Input + Files + AllocGlobal>(
+fn perform<R: Print + Eprint + Input + Files + Clock + AllocGlobal>(
     rt: &R,
     task: &CertifyTask<'_>,
     is_shown: bool,
@@ -152,7 +152,7 @@ fn tell_fault<R: Eprint>(
 }
 
 /// Runs the program on the words after its name.
-pub fn start<R: Print + Eprint + Input + Files + Env + AllocGlobal>(
+pub fn start<R: Print + Eprint + Input + Files + Env + Clock + AllocGlobal>(
     rt: &R,
     is_shown: bool,
 ) -> Result<Status, Trouble> {

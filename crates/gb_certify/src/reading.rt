@@ -8,7 +8,7 @@ use gb_command_line::status::Status;
 use gb_command_line::{Cert, Rom, Trouble, read_certificate, shown_name};
 use gb_refine::{Listing, Made, Symbols, explain};
 use std::io::Input;
-use std::rt::Files;
+use std::rt::{Clock, Files};
 
 /// Says why a certificate is refused, with the node's label before what gulmyrek says.
 fn tell_refusal<R: Eprint + AllocGlobal>(
@@ -33,7 +33,7 @@ fn tell_refusal<R: Eprint + AllocGlobal>(
 }
 
 /// Says whether a new certificate can be made for the same cartridge.
-fn tell_made<R: Eprint + AllocGlobal>(
+fn tell_made<R: Eprint + Clock + AllocGlobal>(
     rt: &R,
     task: &CertifyTask<'_>,
     rom: &Rom<'_>,
@@ -55,7 +55,7 @@ fn tell_made<R: Eprint + AllocGlobal>(
 }
 
 /// Prints the verdict's line of a certificate that is there, and says why it is refused.
-pub fn explain_file<R: Print + Eprint + Input + Files + AllocGlobal>(
+pub fn explain_file<R: Print + Eprint + Input + Files + Clock + AllocGlobal>(
     rt: &R,
     task: &CertifyTask<'_>,
     bytes: &[u8],

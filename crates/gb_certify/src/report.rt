@@ -14,7 +14,7 @@ use gb_refine::{Finding, Made, Symbols, finding_json};
 use std::alloc::{AllocError, Global};
 use std::fmt;
 use std::io::Input;
-use std::rt::Files;
+use std::rt::{Clock, Files};
 
 /// A page with the screen, where the certificate is accepted: only then is every frame known to be whole.
 fn page_with_screen(
@@ -137,7 +137,7 @@ fn write_obstacles<R: Print + Eprint + Files + AllocGlobal>(
 }
 
 /// Makes the certificate first, and writes it where the checker accepts it.
-fn report_made<R: Print + Eprint + Files + AllocGlobal>(
+fn report_made<R: Print + Eprint + Files + Clock + AllocGlobal>(
     rt: &R,
     task: &CertifyTask<'_>,
     name: &str,
@@ -164,7 +164,7 @@ fn report_made<R: Print + Eprint + Files + AllocGlobal>(
 }
 
 /// Writes a page on a certificate; where its file isn't there, one is made first.
-pub fn report_file<R: Print + Eprint + Input + Files + AllocGlobal>(
+pub fn report_file<R: Print + Eprint + Input + Files + Clock + AllocGlobal>(
     rt: &R,
     task: &CertifyTask<'_>,
     name: &str,

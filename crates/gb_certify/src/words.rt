@@ -12,6 +12,9 @@ use std::alloc::{AllocError, Global};
 /// The most nodes that may be allowed: a certificate of versions 2 and 3 has no more.
 const MOST_NODES: i64 = 1_048_576;
 
+/// The most seconds that may be said: a day.
+const MOST_SECONDS: i64 = 86_400;
+
 /// The most nodes, where nothing is said.
 const NODES: u32 = 400_000;
 
@@ -48,6 +51,8 @@ pub struct CertifyTask<'a> {
     /// With what the certificate is compared.
     pub before: Option<OlderBuild<'a>>,
     pub nodes: u32,
+    /// How many seconds the search may take, where the user has said.
+    pub seconds: Option<u32>,
     pub region: Option<Region>,
     /// The rules by which alone a certificate is sought.
     pub rules: Option<Rules>,
@@ -148,6 +153,13 @@ fn with_options<'a>(alloc: Global) -> Result<Command<'a>, AllocError> {
         "Limit of nodes, at most 1048576; default 400000",
     )
     .value_parser(clap::value_parser!(u32).range(1..=MOST_NODES));
+    let seconds = option_arg(
+        alloc,
+        "seconds",
+        "N",
+        "Stop the search after N seconds; default: no limit",
+    )
+    .value_parser(clap::value_parser!(u32).range(1..=MOST_SECONDS));
     let stack = option_arg(
         alloc,
         "stack",
@@ -168,6 +180,7 @@ fn with_options<'a>(alloc: Global) -> Result<Command<'a>, AllocError> {
         "Write a report page (HTML) into FILE; makes CERT first if it doesn't exist",
     );
     let command = with_arg(with_arg(with_arg(command, symbols), lines), nodes);
+    let command = with_arg(command, seconds);
     with_arg(with_arg(with_arg(command, stack), rules), report)
 }
 
@@ -296,6 +309,7 @@ pub fn read_words<'a>(alloc: Global, words: &'a [&'a str]) -> Result<CertifyTask
         lines: matches.get_str("lines"),
         before: before_of(alloc, &matches, work)?,
         nodes,
+        seconds: matches.get_one::<u32>("seconds"),
         region: stack_of(alloc, &matches)?,
         rules: rules_of(&matches),
         is_json: matches.get_flag("json"),

@@ -11,12 +11,19 @@ mod order;
 
 pub use certificate::certificate_of;
 pub use needs::find_needs;
+pub use order::{Precedence, add_in_order};
 
 // What lies below, for the crates above.
-pub use gb_cert::WriteFault;
+pub use gb_cert::{NodePlan, ProcedurePlan, Version, WriteFault, write_certificate};
 pub use gb_fixpoint::cause::{Cause, Failure, RunEnd, StackMisuse, Wish};
 pub use gb_fixpoint::code_point::CodePoint;
 pub use gb_fixpoint::configuration::{Configuration, TargetPlace};
 pub use gb_fixpoint::register_set::REGISTERS;
 pub use gb_fixpoint::types::{Run, Spot};
-pub use gb_fixpoint::{Cert, Rom, Rules, Verdict, check, is_ram, limits};
+pub use gb_fixpoint::{
+    Abs, AbsRead, AbsWrite, Cell, Cert, Core, Ctl, Flg, May, NOTHING_KNOWN, OneByte, Origin,
+    PairFacts, Pairs, Range, Relations, Resumed, Rom, Rules, Span, Stack, Successor, Successors,
+    Target, Val, Verdict, any, callee_at, check, check_irqs, check_node, covers, covers_core,
+    enter, exit_of, handler, is_ram, known_bytes, left_by_dispatch, limits, may_come, ranges_of,
+    resume, stack_of, successors_of, taken_by,
+};

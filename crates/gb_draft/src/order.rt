@@ -12,9 +12,9 @@ use std::collections::{BTreeMap, BTreeSet};
 
 /// A procedure that has to come before another one, since it is entered in a state that the other one covers too.
 #[derive(Clone, Copy, PartialEq, Eq, PartialOrd, Ord)]
-struct Precedence {
-    before: usize,
-    after: usize,
+pub struct Precedence {
+    pub before: usize,
+    pub after: usize,
 }
 
 /// A procedure, and how much its first node leaves open.
@@ -83,8 +83,12 @@ pub(crate) fn order(alloc: Global, run: &Run<'_>) -> Result<Vec<usize>, AllocErr
     Ok(order)
 }
 
-/// Takes open procedures one after another, until there are as many as the run has.
-fn add_in_order(
+/// Takes open procedures one after another, none before one that has to precede it, until there are so many.
+///
+/// # Errors
+///
+/// Where memory ran out.
+pub fn add_in_order(
     count: usize,
     open: &mut Vec<usize>,
     precedences: &mut BTreeSet<Precedence>,

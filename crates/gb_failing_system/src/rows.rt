@@ -826,6 +826,19 @@ pub const FAULTY: &[Scenario] = &[
         ..CERTIFY
     },
     Scenario {
+        about: "certify: no second to search",
+        words: &[b"certify", b"game.gb", b"game.cert", b"--seconds", b"0"],
+        written: NOTHING,
+        status: 2,
+        told: "86400",
+        ..CERTIFY
+    },
+    Scenario {
+        about: "certify: a limit of time, but no clock",
+        words: &[b"certify", b"game.gb", b"game.cert", b"--seconds", b"1"],
+        ..CERTIFY
+    },
+    Scenario {
         about: "certify: a stack outside of RAM",
         words: &[
             b"certify",

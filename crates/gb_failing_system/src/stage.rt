@@ -11,7 +11,8 @@ use std::env::FillError;
 use std::fmt::Display;
 use std::fs::{Metadata, OpenOptions};
 use std::io::{self, BufRead, ErrorKind, Input, Lines};
-use std::rt::{Env, Files};
+use std::rt::{Clock, Env, Files};
+use std::time::Duration;
 
 /// What becomes of a name that is opened.
 #[derive(Clone, Copy)]
@@ -235,6 +236,17 @@ impl Alloc for Stage<'_> {
 
     fn alloc(&self) -> Global {
         self.alloc
+    }
+}
+
+/// There is no clock: what asks for one goes on without.
+impl Clock for Stage<'_> {
+    fn monotonic(&self) -> io::Result<Duration> {
+        unsupported()
+    }
+
+    fn since_1970(&self) -> io::Result<Duration> {
+        unsupported()
     }
 }
 

@@ -4,8 +4,8 @@
 
 use crate::rounds::{Made, Refinement, SearchLimits, SearchProgress};
 use crate::shrink::shrink;
-use gb_draft::limits::FEW_NODES;
-use gb_draft::{Rom, Rules};
+use gb_prune::limits::FEW_NODES;
+use gb_prune::{Rom, Rules};
 use gb_reports::Finding;
 use std::alloc::{AllocError, Global};
 

@@ -1,7 +1,7 @@
 //! What there is to tell of failures.
 
-use gb_draft::{Cause, Failure, Run, TargetPlace};
 use gb_plans::pointer_cells;
+use gb_prune::{Cause, Failure, Run, TargetPlace};
 use gb_reports::{Finding, InstructionFinding};
 use std::alloc::{AllocError, Global};
 use std::collections::BTreeSet;

@@ -5,10 +5,10 @@ use crate::rounds::{
     Change, Lesson, Mending, News, Refinement, Tried, WORD, alone, is_in_ram, region_below,
 };
 use crate::written::{is_accepted, written};
-use gb_draft::limits::{DEAR_STEPS, EDITS, EDITS_OF_KEPT, OBSTACLES, STEPS_BACK};
-use gb_draft::{Cause, CodePoint, Failure, Rules, Run, RunEnd, TargetPlace, Wish, find_needs};
 use gb_ops::machine::Region;
 use gb_plans::{Plan, inline_plan, last_plan, plan_for, targets_to_follow};
+use gb_prune::limits::{DEAR_STEPS, EDITS, EDITS_OF_KEPT, OBSTACLES, STEPS_BACK};
+use gb_prune::{Cause, CodePoint, Failure, Rules, Run, RunEnd, TargetPlace, Wish, find_needs};
 use gb_reports::{Crowd, Finding, InstructionFinding};
 use std::alloc::{AllocError, Global};
 use std::collections::BTreeSet;

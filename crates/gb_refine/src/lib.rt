@@ -9,18 +9,19 @@
 mod attempts;
 mod failures;
 mod learning;
+mod pruning;
 mod rounds;
 mod shrink;
 mod tracking;
 mod written;
 
 use attempts::made_certificate;
-use gb_draft::Rom;
+use gb_prune::Rom;
 pub use rounds::{Made, SearchLimits, SearchProgress};
 use std::alloc::{AllocError, Global};
 
 // What lies below, for the crates above.
-pub use gb_draft::Rules;
+pub use gb_prune::Rules;
 pub use gb_reports::{
     Finding, FindingPart, InstructionFinding, Listing, ShownFinding, ShownPart, SymbolFault,
     SymbolFaultKind, Symbols, explain, finding_json,

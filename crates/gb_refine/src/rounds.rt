@@ -2,13 +2,13 @@
 
 use crate::failures::tell;
 use crate::tracking::Cells;
-use gb_draft::limits::{
+use gb_ops::machine::Region;
+use gb_plans::Plan;
+use gb_prune::limits::{
     ALL_STEPS, FEW_NODES, OBSTACLES, RUN_STEPS, STEPS_A_NODE, STEPS_ASKED, TAKEN_BACK,
     TAKEN_BACK_OF_MANY,
 };
-use gb_draft::{Cause, CodePoint, Configuration, Rom, Rules, Run, RunEnd, TargetPlace, Wish};
-use gb_ops::machine::Region;
-use gb_plans::Plan;
+use gb_prune::{Cause, CodePoint, Configuration, Rom, Rules, Run, RunEnd, TargetPlace, Wish};
 use gb_reports::{Crowd, Finding, InstructionFinding, Spent};
 use std::alloc::{AllocError, Global};
 use std::collections::{BTreeMap, BTreeSet};

@@ -1,11 +1,12 @@
 //! Shrinking: what a certificate doesn't need is taken back while the checker accepts what is left.
 
+use crate::pruning::made_smaller;
 use crate::rounds::{Refinement, SearchProgress};
 use crate::written::{is_accepted, written};
-use gb_draft::limits::{SHRINK_ATTEMPTS, SHRINK_STEPS, SPARE_NODES, STEPS_A_PAIR};
-use gb_draft::{CodePoint, Configuration, REGISTERS, Rom, Run, RunEnd, TargetPlace, find_needs};
 use gb_ops::op::Register;
 use gb_plans::{parted_by, without};
+use gb_prune::limits::{SHRINK_ATTEMPTS, SHRINK_STEPS, SPARE_NODES, STEPS_A_PAIR};
+use gb_prune::{CodePoint, Configuration, REGISTERS, Rom, Run, RunEnd, TargetPlace, find_needs};
 use std::alloc::{AllocError, Global};
 
 /// What is taken back by halves.
@@ -70,15 +71,16 @@ fn without_some(
 
 /// A certificate that gets smaller.
 #[derive(Drop)]
-struct Shrinking<'a> {
+struct Shrinking<'a, 'p, P> {
     alloc: Global,
     rom: &'a Rom<'a>,
     configuration: Configuration,
     best: Vec<u8>,
     attempts: u64,
+    progress: &'p mut P,
 }
 
-impl Shrinking<'_> {
+impl<P: SearchProgress> Shrinking<'_, '_, P> {
     /// Takes back all that can be, one kind after another.
     fn shrink(&mut self, refinement: &Refinement<'_>) -> Result<(), AllocError> {
         self.flatten(refinement)?;
@@ -184,7 +186,8 @@ impl Shrinking<'_> {
 
     /// The certificate under a configuration, if it is smaller. One attempt fewer is left.
     fn smaller(&mut self, coarser: &Configuration) -> Result<Option<Vec<u8>>, AllocError> {
-        if self.attempts == 0 {
+        if self.attempts == 0 || !self.progress.goes_on() {
+            self.attempts = 0;
             return Ok(None);
         }
         self.attempts -= 1;
@@ -251,10 +254,12 @@ pub(crate) fn shrink<P: SearchProgress>(
         configuration,
         best,
         attempts: attempts_of(refinement.steps, refinement.pairs),
+        progress,
     };
     shrinking.shrink(refinement)?;
     let Shrinking { best, .. } = shrinking;
-    Ok(best)
+    let less = made_smaller(refinement.alloc(), refinement.rom(), &best)?;
+    Ok(less.unwrap_or(best))
 }
 
 /// The most nodes of an attempt at a smaller certificate than one with so many: a run of more is given up.

@@ -1,7 +1,7 @@
 //! Which memory cells are tracked: at most 64 by the rules of version 3, 32 by the others; code and what keys go by first.
 
-use gb_draft::{Configuration, Run, is_ram};
 use gb_ops::machine::Region;
+use gb_prune::{Configuration, Run, is_ram};
 use std::alloc::{AllocError, Global};
 use std::collections::BTreeSet;
 

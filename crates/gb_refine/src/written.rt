@@ -1,7 +1,7 @@
 //! The certificate of a run, if it keeps the limits, and whether the checker accepts it.
 
-use gb_draft::{Cert, Rom, Run, Verdict, WriteFault, certificate_of, check};
 use gb_ops::machine::Region;
+use gb_prune::{Cert, Rom, Run, Verdict, WriteFault, certificate_of, check};
 use std::alloc::{AllocError, Global};
 
 /// The certificate of a run with a stack region; none where the run doesn't keep a limit of certificates.

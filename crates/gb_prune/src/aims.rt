@@ -1,0 +1,274 @@
+//! What is asked of a node's state: what comes out must stay within the nodes, exits and entries that it leads to. So the
+//! least parts are found with which it does.
+
+use crate::onward::NodeSite;
+use crate::parts::{
+    BOUNDS, EACH, ORIGINS, TOGETHER, Wanted, bounds_of, cell_bit, cell_number, origin_of, told_in,
+    weakened,
+};
+use gb_draft::{
+    Abs, AbsRead, AbsWrite, Cell, REGISTERS, Resumed, Rules, Span, Successor, Successors, covers,
+    enter,
+};
+
+/// What has to stand for what comes out on a way.
+#[derive(Drop)]
+pub(crate) enum Aim {
+    /// A node's state, or an exit.
+    Covered(Abs),
+    /// The entry of a procedure that takes so many bytes over.
+    Entered { count: u8, entry: Abs },
+    /// What stands for the state after a procedure with this exit.
+    Resumed { callee: u8, exit: Abs, back: Abs },
+}
+
+/// An aim, and the way that it is of.
+#[derive(Drop)]
+pub(crate) struct WayAim {
+    pub(crate) way: u8,
+    pub(crate) aim: Aim,
+}
+
+/// The most items of a state: none has this number.
+const ITEMS: usize = 255;
+
+/// The port that begins an OAM transfer.
+const TRANSFER: u16 = 0xFF46;
+
+fn may_transfer(span: Span) -> bool {
+    span.first <= TRANSFER && TRANSFER <= span.last
+}
+
+/// Whether two writes go to the same addresses, and begin the same transfer.
+fn are_same_writes(a: AbsWrite, b: AbsWrite) -> bool {
+    match (a, b) {
+        (AbsWrite::Nothing, AbsWrite::Nothing) => true,
+        (AbsWrite::Byte(span, val), AbsWrite::Byte(other, with)) => {
+            span == other && (!may_transfer(span) || (val.lo == with.lo && val.hi == with.hi))
+        }
+        (AbsWrite::Word(at, _, _), AbsWrite::Word(other, _, _)) => at == other,
+        (AbsWrite::Push { .. }, AbsWrite::Push { .. }) => true,
+        _ => false,
+    }
+}
+
+/// Whether two successors go on at the same address and access the same ones.
+fn are_alike(a: &Option<Successor<'_>>, b: &Option<Successor<'_>>) -> bool {
+    match (a, b) {
+        (None, None) => true,
+        (Some(a), Some(b)) => {
+            a.target == b.target && a.read == b.read && are_same_writes(a.write, b.write)
+        }
+        _ => false,
+    }
+}
+
+/// Whether the state after a way meets an aim.
+fn meets(site: &NodeSite<'_, '_>, after: &Abs, aim: &Aim) -> bool {
+    match aim {
+        Aim::Covered(state) => covers(after, state),
+        Aim::Entered { count, entry } => covers(&enter(Rules::Extended, *count, after), entry),
+        Aim::Resumed { callee, exit, back } => is_resumed_in(site, *callee, after, exit, back),
+    }
+}
+
+/// Whether a state stands for what is gone on with after a procedure with an exit.
+pub(crate) fn is_resumed_in(
+    site: &NodeSite<'_, '_>,
+    callee: u8,
+    after: &Abs,
+    exit: &Abs,
+    back: &Abs,
+) -> bool {
+    match site.resumed(callee, after, exit) {
+        Resumed::States(resumed) => covers(&resumed, back),
+        Resumed::Nothing => true,
+        Resumed::TooDeep => false,
+    }
+}
+
+/// A node's state, what comes out of it, and what that has to keep.
+#[derive(Clone, Copy)]
+pub(crate) struct Asked<'s> {
+    pub(crate) site: &'s NodeSite<'s, 's>,
+    pub(crate) state: &'s Abs,
+    pub(crate) ways: &'s Successors<'s>,
+    pub(crate) aims: &'s [WayAim],
+}
+
+impl Asked<'_> {
+    /// Whether so much of the state is enough.
+    fn is_enough(&self, wanted: Wanted) -> bool {
+        let weaker = weakened(self.state, wanted);
+        let ways = self.site.step(&weaker);
+        are_alike(&self.ways.taken, &ways.taken)
+            && are_alike(&self.ways.not_taken, &ways.not_taken)
+            && are_alike(&self.ways.stays, &ways.stays)
+            && self.aims.iter().all(|aimed| {
+                match self.site.state_after(&ways, aimed.way, &weaker) {
+                    Some(after) => meets(self.site, &after, &aimed.aim),
+                    None => false,
+                }
+            })
+    }
+
+    /// The cells and items that one instruction may look at: what it loads or pops, and the cell whose byte is known to be a
+    /// register's.
+    pub(crate) fn at_hand(&self) -> Wanted {
+        let mut wanted = Wanted::nothing();
+        if let Some(address) = self.state.relations().byte.address {
+            wanted.cells |= bit_at(self.state.cells(), address);
+        }
+        for number in self.items_at_hand() {
+            wanted.want_item(number);
+        }
+        if let Some(address) = self.loaded_from() {
+            wanted.cells |= bit_at(self.state.cells(), echoed(address));
+        }
+        wanted
+    }
+
+    /// The one address that the instruction loads from.
+    fn loaded_from(&self) -> Option<u16> {
+        match &self.ways.taken {
+            Some(successor) => match successor.read {
+                AbsRead::Byte(span) if span.first == span.last => Some(span.first),
+                _ => None,
+            },
+            None => None,
+        }
+    }
+
+    /// The numbers of the newest two items, and of the one that is loaded: one that no state has where there is none.
+    fn items_at_hand(&self) -> [usize; 3] {
+        let count = self.state.items().len();
+        let loaded = match (self.loaded_from(), self.site.stack.setting.known_base()) {
+            (Some(address), Some(base)) if address < base => usize::from(base - address - 1),
+            _ => ITEMS,
+        };
+        [
+            count.checked_sub(1).unwrap_or(ITEMS),
+            count.checked_sub(2).unwrap_or(ITEMS),
+            loaded,
+        ]
+    }
+
+    /// The least that is enough with what is wanted already.
+    pub(crate) fn least(&self, start: Wanted) -> Wanted {
+        if self.is_enough(start) {
+            return start;
+        }
+        let candidates = Wanted::of_parts(told_in(self.state))
+            .with(self.at_hand())
+            .without(start);
+        let mut wanted = start.with(candidates);
+        for group in [TOGETHER, ORIGINS] {
+            self.drop_one(candidates.shared(Wanted::of_parts(group)), &mut wanted);
+        }
+        for part in EACH {
+            self.drop_one(candidates.shared(Wanted::of_parts(part)), &mut wanted);
+        }
+        for number in 0..self.state.cells().len() {
+            let cell = Wanted::of_cells(cell_bit(number));
+            self.drop_one(candidates.shared(cell), &mut wanted);
+        }
+        for number in self.items_at_hand() {
+            let item = Wanted::of_item(number);
+            self.drop_one(candidates.shared(item), &mut wanted);
+        }
+        wanted
+    }
+
+    /// Leaves this out if it is wanted and what is left is enough.
+    fn drop_one(&self, one: Wanted, wanted: &mut Wanted) {
+        let less = wanted.without(one);
+        if less != *wanted && self.is_enough(less) {
+            *wanted = less;
+        }
+    }
+}
+
+/// A caller's state after its call, and the exit that it goes on by.
+#[derive(Clone, Copy)]
+pub(crate) struct ReturnAsked<'s> {
+    pub(crate) site: &'s NodeSite<'s, 's>,
+    pub(crate) callee: u8,
+    pub(crate) after: &'s Abs,
+    pub(crate) exit: &'s Abs,
+    pub(crate) back: &'s Abs,
+}
+
+impl ReturnAsked<'_> {
+    fn is_enough(&self, wanted: Wanted) -> bool {
+        let weaker = weakened(self.exit, wanted);
+        is_resumed_in(self.site, self.callee, self.after, &weaker, self.back)
+    }
+
+    /// The least of the exit that is enough. Bounds are left out before what is as it was at entry: by that the caller
+    /// knows its own bounds.
+    pub(crate) fn least(&self, start: Wanted) -> Wanted {
+        if self.is_enough(start) {
+            return start;
+        }
+        let candidates = told_in(self.exit);
+        let mut wanted = start.with(Wanted::of_parts(candidates));
+        for group in [TOGETHER, BOUNDS, ORIGINS] {
+            self.drop_all(candidates & group & !start.parts, &mut wanted);
+        }
+        for group in [TOGETHER, BOUNDS, ORIGINS] {
+            for part in EACH {
+                self.drop_all(candidates & group & part & !start.parts, &mut wanted);
+            }
+        }
+        wanted
+    }
+
+    fn drop_all(&self, parts: u32, wanted: &mut Wanted) {
+        let less = wanted.without(Wanted::of_parts(parts));
+        if less != *wanted && self.is_enough(less) {
+            *wanted = less;
+        }
+    }
+}
+
+/// The address in work RAM that an address in its echo shows.
+fn echoed(address: u16) -> u16 {
+    if 0xE000 <= address && address < 0xFE00 {
+        address - 0x2000
+    } else {
+        address
+    }
+}
+
+/// The bit of the cell at an address, if there is one.
+fn bit_at(cells: &[Cell], address: u16) -> u64 {
+    match cell_number(cells, address) {
+        Some(number) => cell_bit(number),
+        None => 0,
+    }
+}
+
+/// Parts that are wanted of what comes out, and that the instruction left as they were.
+pub(crate) fn untouched(state: &Abs, after: &Abs, wanted: Wanted) -> u32 {
+    let (core, left) = (state.core(), after.core());
+    let mut parts = 0;
+    for register in &REGISTERS {
+        let (val, now) = (core.registers.get(*register), left.registers.get(*register));
+        if val.lo == now.lo && val.hi == now.hi {
+            parts |= bounds_of(*register);
+        }
+        if val.origin == now.origin {
+            parts |= origin_of(*register);
+        }
+    }
+    parts & wanted.parts
+}
+
+/// Whether an address is surely stored to.
+pub(crate) fn is_stored(write: AbsWrite, address: u16) -> bool {
+    match write {
+        AbsWrite::Byte(span, _) => span.first == address && span.last == address,
+        AbsWrite::Word(at, _, _) => at == address || at.wrapping_add(1) == address,
+        AbsWrite::Nothing | AbsWrite::Push { .. } => false,
+    }
+}

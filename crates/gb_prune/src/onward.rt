@@ -1,0 +1,280 @@
+//! Where a node of an accepted certificate leads to: the nodes, exits and procedures that stand for what it leaves.
+
+use crate::parts::{Wanted, weakened};
+use gb_draft::{
+    Abs, Cert, Resumed, Rom, Rules, Stack, Successor, Successors, Target, callee_at, covers,
+    covers_core, exit_of, handler, known_bytes, left_by_dispatch, may_come, ranges_of, resume,
+    stack_of, successors_of, taken_by,
+};
+use gb_ops::decode::decode;
+use gb_ops::op::Row;
+use std::alloc::{AllocError, Global};
+
+/// The address of the first interrupt's handler; those of the others follow, 8 bytes apart.
+const FIRST_VECTOR: u16 = 0x0040;
+
+/// The number of the first interrupt among the ways from a node: after an instruction's three.
+const FIRST_INTERRUPT: u8 = 3;
+
+/// Which nodes of an address stand for a state.
+#[derive(Clone, Copy, PartialEq, Eq)]
+pub(crate) enum Standby {
+    /// This one.
+    One(u32),
+    /// Those from a first one to before another one, each for some values of a register.
+    Several { first: u32, after: u32 },
+}
+
+impl Standby {
+    /// The number of the first node, and the one after the last.
+    pub(crate) fn numbers(self) -> (u32, u32) {
+        match self {
+            Standby::One(number) => (number, number.saturating_add(1)),
+            Standby::Several { first, after } => (first, after),
+        }
+    }
+}
+
+/// What a way from a node leads to.
+#[derive(Clone, Copy, PartialEq, Eq)]
+pub(crate) enum Onward {
+    Nodes(Standby),
+    /// The exit of the node's procedure.
+    Exit,
+    /// A procedure, and what stands for the state after it, where it returns.
+    Enters { callee: u8, back: Option<Standby> },
+}
+
+/// A way from a node, by its number: an instruction's three, then the interrupts that may come.
+#[derive(Clone, Copy, PartialEq, Eq)]
+pub(crate) struct LeadsTo {
+    pub(crate) way: u8,
+    pub(crate) onward: Onward,
+}
+
+/// A node of a certificate, and its instruction.
+#[derive(Clone, Copy)]
+pub(crate) struct NodeSite<'c, 'a> {
+    pub(crate) rom: &'c Rom<'c>,
+    pub(crate) cert: &'c Cert<'a>,
+    pub(crate) procedure: u8,
+    pub(crate) address: u16,
+    pub(crate) stack: Stack,
+    pub(crate) row: Row,
+}
+
+/// The state of the node with a number.
+pub(crate) fn state_of(cert: &Cert<'_>, number: u32) -> Option<Abs> {
+    if number < cert.nodes() {
+        Some(cert.node(number).state())
+    } else {
+        None
+    }
+}
+
+/// The number of the first node that stands for a state, among those from one number to before another one.
+fn first_standing(cert: &Cert<'_>, from: u32, after: u32, state: &Abs) -> Option<u32> {
+    for number in from..after {
+        if number < cert.nodes() {
+            let node = cert.node(number);
+            if covers_core(state.core(), &node.core()) && covers(state, &node.state()) {
+                return Some(number);
+            }
+        }
+    }
+    None
+}
+
+/// The nodes of a procedure at an address that stand for a state. The search begins after the one that was found there last:
+/// nodes lead to others in their order.
+fn standing_for(
+    cert: &Cert<'_>,
+    procedure: u8,
+    address: u16,
+    state: &Abs,
+    last: &mut [u32],
+) -> Option<Standby> {
+    let found = cert.find(procedure, address).found;
+    let near = match last.get(found.first as usize) {
+        Some(near) => (*near).max(found.first).min(found.after),
+        None => found.first,
+    };
+    let one = match first_standing(cert, near, found.after, state) {
+        Some(number) => Some(number),
+        None => first_standing(cert, found.first, near, state),
+    };
+    if let Some(number) = one {
+        if let Some(near) = last.get_mut(found.first as usize) {
+            *near = number;
+        }
+        return Some(Standby::One(number));
+    }
+    if found.first < found.after {
+        Some(Standby::Several {
+            first: found.first,
+            after: found.after,
+        })
+    } else {
+        None
+    }
+}
+
+impl<'c, 'a> NodeSite<'c, 'a> {
+    /// The node with a number, whose state is given. None where its instruction isn't known.
+    pub(crate) fn of(
+        rom: &'c Rom<'c>,
+        cert: &'c Cert<'a>,
+        number: u32,
+        state: &Abs,
+    ) -> Option<NodeSite<'c, 'a>> {
+        if number >= cert.nodes() {
+            return None;
+        }
+        let node = cert.node(number);
+        let bytes = known_bytes(rom, state, node.address())?;
+        let row = decode(&bytes)?;
+        Some(NodeSite {
+            rom,
+            cert,
+            procedure: node.procedure(),
+            address: node.address(),
+            stack: stack_of(cert, node.procedure()),
+            row,
+        })
+    }
+
+    /// Where the instruction leads from a state.
+    pub(crate) fn step<'s>(&self, state: &'s Abs) -> Successors<'s> {
+        successors_of(self.stack, self.rom, self.row, self.address, state)
+    }
+
+    /// What an interrupt's dispatch leaves.
+    pub(crate) fn dispatched(&self, state: &Abs) -> Abs {
+        left_by_dispatch(Rules::Extended, self.address, state)
+    }
+
+    /// The state after a way from a state, whose successors are given.
+    pub(crate) fn state_after(&self, ways: &Successors<'_>, way: u8, state: &Abs) -> Option<Abs> {
+        let successor = match way {
+            0 => &ways.taken,
+            1 => &ways.not_taken,
+            2 => &ways.stays,
+            _ => return Some(self.dispatched(state)),
+        };
+        match successor {
+            Some(successor) => Some(successor.state()),
+            None => None,
+        }
+    }
+
+    /// What a state goes on with after a procedure with an exit.
+    pub(crate) fn resumed(&self, callee: u8, state: &Abs, exit: &Abs) -> Resumed {
+        let ranges = ranges_of(self.cert, callee);
+        let taken = taken_by(self.cert, callee);
+        resume(Rules::Extended, taken, ranges.as_slice(), state, exit)
+    }
+
+    /// A procedure is entered in a state, and goes on at an address.
+    fn enters(&self, callee: u8, back: u16, state: &Abs, last: &mut [u32]) -> Onward {
+        let back = match exit_of(self.cert, callee) {
+            Some(exit) => match self.resumed(callee, state, &exit) {
+                Resumed::States(after) => standing_for(
+                    self.cert,
+                    self.procedure,
+                    back,
+                    &after,
+                    last,
+                ),
+                Resumed::Nothing | Resumed::TooDeep => None,
+            },
+            None => None,
+        };
+        Onward::Enters { callee, back }
+    }
+
+    /// What a successor leads to.
+    fn onward(&self, successor: &Successor<'_>, last: &mut [u32]) -> Option<Onward> {
+        let state = successor.state();
+        match successor.target {
+            Target::At(address) => {
+                let nodes = standing_for(self.cert, self.procedure, address, &state, last)?;
+                Some(Onward::Nodes(nodes))
+            }
+            Target::Main(address) => {
+                let nodes = standing_for(self.cert, 0, address, &state, last)?;
+                Some(Onward::Nodes(nodes))
+            }
+            Target::Call(address) => match callee_at(self.cert, self.stack.setting, successor) {
+                Some(callee) => Some(self.enters(callee, successor.next, &state, last)),
+                None => {
+                    let nodes = standing_for(self.cert, self.procedure, address, &state, last)?;
+                    Some(Onward::Nodes(nodes))
+                }
+            },
+            Target::Return => Some(Onward::Exit),
+            Target::Unknown | Target::Lost => None,
+        }
+    }
+
+    /// Adds what a successor leads to, if there is one.
+    fn add_way(
+        &self,
+        way: u8,
+        successor: &Option<Successor<'_>>,
+        last: &mut [u32],
+        all: &mut Vec<LeadsTo>,
+    ) -> Result<(), AllocError> {
+        if let Some(successor) = successor
+            && let Some(onward) = self.onward(successor, last)
+        {
+            all.push(LeadsTo { way, onward })?;
+        }
+        Ok(())
+    }
+
+    /// What an interrupt leads to, 0 to 4, where it may come.
+    fn interrupted(&self, interrupt: u8, state: &Abs, last: &mut [u32]) -> Option<Onward> {
+        if interrupt >= 5 || !may_come(interrupt, state.core()) {
+            return None;
+        }
+        let setting = self.stack.setting;
+        let left = self.dispatched(state);
+        match handler(self.cert, setting, interrupt, self.address, state) {
+            Some(callee) => Some(self.enters(callee, self.address, &left, last)),
+            None => {
+                let vector = FIRST_VECTOR + 8 * u16::from(interrupt);
+                let nodes = standing_for(self.cert, self.procedure, vector, &left, last)?;
+                Some(Onward::Nodes(nodes))
+            }
+        }
+    }
+
+    /// All that a state at the node leads to. For the first node of each address the one is kept that was found there last.
+    pub(crate) fn leads_to(
+        &self,
+        alloc: Global,
+        state: &Abs,
+        last: &mut [u32],
+    ) -> Result<Vec<LeadsTo>, AllocError> {
+        let mut all = Vec::new(alloc);
+        let ways = self.step(state);
+        self.add_way(0, &ways.taken, last, &mut all)?;
+        self.add_way(1, &ways.not_taken, last, &mut all)?;
+        self.add_way(2, &ways.stays, last, &mut all)?;
+        for interrupt in 0..5u8 {
+            if let Some(onward) = self.interrupted(interrupt, state, last) {
+                all.push(LeadsTo {
+                    way: FIRST_INTERRUPT + interrupt,
+                    onward,
+                })?;
+            }
+        }
+        Ok(all)
+    }
+}
+
+/// The state of a node, of which this is wanted alone.
+pub(crate) fn weakened_node(cert: &Cert<'_>, number: u32, wanted: Wanted) -> Option<Abs> {
+    let state = state_of(cert, number)?;
+    Some(weakened(&state, wanted))
+}
