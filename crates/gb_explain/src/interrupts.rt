@@ -4,7 +4,7 @@ use crate::calls::{entered_at, inlined_gaps, range_gaps};
 use crate::covering::back_gaps;
 use crate::depth::{called_too_deep, held_too_deep};
 use crate::gap::{After, GapKind, Gaps, GoesOn, TooDeep};
-use gb_spelling::{INTERRUPTS, vector_of};
+use gb_spelling::{INTERRUPT_COUNT, vector_of};
 use gb_verify::{
     Abs, Cert, NodeRef, Reason, Rules, Setting, left_by_dispatch, may_come, setting_of,
 };
@@ -116,7 +116,7 @@ pub(crate) fn interrupt_gaps(
     if setting.rules == Rules::Simple {
         return None;
     }
-    for interrupt in 0..INTERRUPTS {
+    for interrupt in 0..INTERRUPT_COUNT {
         let dispatch = Dispatch {
             setting,
             procedure,

@@ -36,8 +36,13 @@ pub use refusal::explain;
 
 // What lies below, for the crates above.
 pub use gb_spelling::{
-    AFTER_VECTORS, INTERRUPTS, PADDING, interrupt_at, interrupt_name, vector_of,
+    AFTER_VECTORS, INTERRUPT_COUNT, PADDING, interrupt_at, interrupt_name, vector_of,
 };
+pub use gb_verify::check::check;
 pub use gb_verify::upgrade::{UpgradeTo, Upgraded, upgrade_bytes};
+pub use gb_verify::verdict::Verdict;
 pub use gb_verify::verify::{Outcome, verify_bytes};
-pub use gb_verify::{HeaderFault, Plain, Rom};
+pub use gb_verify::{
+    Abs, Cert, HeaderFault, NodeRef, Origin, Plain, Range, Rom, Rules, Successor, Target, Val,
+    callee_at, handler, known_bytes, may_come, setting_of, stack_of, successors_of, taken_by,
+};

@@ -1,7 +1,7 @@
 //! Which bytes are code.
 
+use gb_explain::{Abs, NodeRef, Rom, known_bytes};
 use gb_ops::decode::decode;
-use gb_verify::{Abs, NodeRef, Rom, known_bytes};
 use std::alloc::{AllocError, Global};
 
 /// The bytes of a bank of ROM.

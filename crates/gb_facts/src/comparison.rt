@@ -2,8 +2,8 @@
 
 use crate::interrupt::{INTERRUPTS, Interrupt};
 use crate::outline::{Outline, Sketch};
+use gb_explain::Range;
 use gb_ops::machine::Region;
-use gb_verify::Range;
 use std::alloc::{AllocError, Global};
 
 /// By what a procedure of one certificate is found again in the other.

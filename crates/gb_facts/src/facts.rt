@@ -4,10 +4,8 @@ use crate::code::{CodeMap, CodeRun};
 use crate::depth::{Bound, StackStep, settle, steps_from};
 use crate::link::{CallLink, Links, add_links};
 use crate::procedure::{ProcedureFacts, all_declared, count_node};
+use gb_explain::{Cert, Rom, Verdict, check};
 use gb_ops::machine::Region;
-use gb_verify::check::check;
-use gb_verify::verdict::Verdict;
-use gb_verify::{Cert, Rom};
 use std::alloc::{AllocError, Global};
 
 /// What there is to say of a certificate for a cartridge.

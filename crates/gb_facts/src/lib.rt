@@ -28,5 +28,7 @@ pub use procedure::{Exit, Peak, ProcedureFacts};
 pub use target::target_of;
 
 // What lies below, for the crates above.
-pub use gb_verify::verdict::Verdict;
-pub use gb_verify::{Cert, Rom};
+pub use gb_explain::{
+    AFTER_VECTORS, Advice, Cert, Code, Explanation, INTERRUPT_COUNT, PADDING, Rom, Verdict, advice,
+    explain, interrupt_at, interrupt_name,
+};

@@ -1,11 +1,11 @@
 //! Calls and interrupts: from which procedure into which.
 
 use crate::interrupt::{INTERRUPTS, Interrupt};
-use gb_ops::decode::decode;
-use gb_verify::{
+use gb_explain::{
     Abs, Cert, NodeRef, Rom, Rules, Successor, Target, callee_at, handler, known_bytes, may_come,
     setting_of, stack_of, successors_of, taken_by,
 };
+use gb_ops::decode::decode;
 use std::alloc::{AllocError, Global};
 
 /// By what another procedure is entered.

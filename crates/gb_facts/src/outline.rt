@@ -5,8 +5,8 @@ use crate::depth::way_from;
 use crate::facts::Facts;
 use crate::interrupt::{INTERRUPTS, Interrupt};
 use crate::procedure::place_of;
+use gb_explain::{Abs, Cert, NodeRef, Range, Rules, may_come};
 use gb_ops::machine::Region;
-use gb_verify::{Abs, Cert, NodeRef, Range, Rules, may_come};
 use std::alloc::{AllocError, Global};
 
 /// The banks that a cartridge may have.

@@ -1,9 +1,9 @@
 //! What there is to say of each procedure by itself.
 
 use arrayvec::ArrayVec;
+use gb_explain::{Abs, Cert, NodeRef, Origin, Range, Val};
 use gb_ops::op::Register;
 use gb_ops::registers::Registers;
-use gb_verify::{Abs, Cert, NodeRef, Origin, Range, Val};
 use std::alloc::{AllocError, Global};
 
 /// What a procedure gives back as it found it.

@@ -1,10 +1,10 @@
 //! To which node an instruction leads.
 
-use gb_ops::decode::decode;
-use gb_verify::{
+use gb_explain::{
     Abs, Cert, NodeRef, Rom, Successor, Target, callee_at, known_bytes, setting_of, stack_of,
     successors_of,
 };
+use gb_ops::decode::decode;
 
 /// The first node of a procedure at an address.
 fn node_at(cert: &Cert<'_>, procedure: u8, address: u16) -> Option<u32> {

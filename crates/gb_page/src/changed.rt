@@ -3,9 +3,8 @@
 use crate::changes::{Build, Changes};
 use crate::escaped::Escaped;
 use crate::interrupts::interrupt_text;
-use gb_facts::{Difference, Interrupt, Side};
 use gb_ops::machine::Region;
-use gb_reports::Range;
+use gb_reports::{Difference, Interrupt, Range, Side};
 use std::fmt;
 
 /// A difference in a line, without its end.

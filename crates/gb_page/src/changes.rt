@@ -1,10 +1,10 @@
 //! What a new certificate changed since an older one, as plain data with names; `changed` has its words, `json` its object.
 
 use crate::names::{Address, usual_name};
-use gb_facts::{
-    Difference, Facts, Key, Keyed, Outline, Sketch, StackStep, differences, is_same_way, way_from,
+use gb_reports::{
+    AFTER_VECTORS, Cert, Difference, Facts, Key, Keyed, Outline, Rom, Sketch, StackStep, Symbols,
+    differences, is_same_way, way_from,
 };
-use gb_reports::{AFTER_VECTORS, Cert, Rom, Symbols};
 use std::alloc::{AllocError, Global};
 use std::fmt;
 

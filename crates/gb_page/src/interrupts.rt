@@ -2,7 +2,7 @@
 
 use crate::names::ProcedureLink;
 use crate::page::Page;
-use gb_facts::{CallLink, EnteredBy, Facts, INTERRUPTS, Interrupt};
+use gb_reports::{CallLink, EnteredBy, Facts, INTERRUPTS, Interrupt};
 use std::fmt;
 
 /// An interrupt's name.

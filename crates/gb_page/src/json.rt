@@ -3,8 +3,10 @@
 use crate::compared::changes_value;
 use crate::page::Extras;
 use crate::stack::by_text;
-use gb_facts::{Bound, CallLink, CodeRun, Exit, Facts, ProcedureFacts};
-use gb_reports::{Cert, JsonObject, Range, Rom, Symbols, Verdict};
+use gb_reports::{
+    Bound, CallLink, Cert, CodeRun, Exit, Facts, JsonObject, ProcedureFacts, Range, Rom, Symbols,
+    Verdict,
+};
 use serde_json::Value;
 use std::alloc::{AllocError, Global};
 

@@ -38,10 +38,8 @@ pub use page::{Extras, page_of};
 pub use screen::Screen;
 
 // What lies below, for the crates above.
-pub use gb_facts::{
-    Bound, CallLink, Cert, CodeRun, EnteredBy, Facts, Interrupt, Outline, Rom, Sketch, Verdict,
-};
 pub use gb_reports::{
-    Code, CodePoint, Count, Crowd, Explanation, Finding, Format, Multiplied, Multiplier,
-    ReachedLimit, SymbolFault, SymbolFaultKind, SymbolOffset, Symbols, color_note, explain,
+    Bound, CallLink, Cert, Code, CodePoint, CodeRun, Count, Crowd, EnteredBy, Explanation, Facts,
+    Finding, Format, Interrupt, Multiplied, Multiplier, Outline, ReachedLimit, Rom, Sketch,
+    SymbolFault, SymbolFaultKind, SymbolOffset, Symbols, Verdict, color_note, explain,
 };

@@ -2,7 +2,7 @@
 
 use crate::node::fmt_node;
 use crate::page::Page;
-use gb_facts::ProcedureFacts;
+use gb_reports::ProcedureFacts;
 use std::fmt;
 
 /// The first of a procedure's nodes, which follow one another: those before it are counted.

@@ -2,8 +2,7 @@
 
 use crate::escaped::Escaped;
 use crate::page::Page;
-use gb_facts::{INTERRUPTS, Interrupt, ProcedureFacts};
-use gb_reports::{SymbolOffset, Symbols};
+use gb_reports::{INTERRUPTS, Interrupt, ProcedureFacts, SymbolOffset, Symbols};
 use std::fmt;
 
 /// An address with its bank, where one is shown there.

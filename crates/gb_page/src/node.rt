@@ -2,8 +2,9 @@
 
 use crate::names::{Address, SymbolAt};
 use crate::page::Page;
-use gb_facts::target_of;
-use gb_reports::{Abs, Cell, Code, NodeRef, ShownCell, ShownFlags, ShownRegisters, fmt_core};
+use gb_reports::{
+    Abs, Cell, Code, NodeRef, ShownCell, ShownFlags, ShownRegisters, fmt_core, target_of,
+};
 use std::fmt;
 
 /// The instruction, which leads to where it jumps or calls, if that is listed.

@@ -10,8 +10,7 @@ use crate::screen::{Screen, fmt_screen};
 use crate::stack::fmt_stack;
 use crate::style::STYLE;
 use crate::verdict::{fmt_verdict, refusal_of};
-use gb_facts::Facts;
-use gb_reports::{Cert, Rom, Symbols, Verdict};
+use gb_reports::{Cert, Facts, Rom, Symbols, Verdict};
 use std::alloc::{AllocError, Global};
 use std::{fmt, str};
 

@@ -1,8 +1,9 @@
 //! The path to a finding: where it begins, and the instructions on it.
 
 use crate::names::{Address, SymbolAt};
-use gb_facts::length_at;
-use gb_reports::{Code, CodePoint, InstructionFinding, Rom, Segment, Start, Symbols, interrupt_at};
+use gb_reports::{
+    Code, CodePoint, InstructionFinding, Rom, Segment, Start, Symbols, interrupt_at, length_at,
+};
 use std::fmt;
 
 /// The most instructions that are shown of addresses one after another.

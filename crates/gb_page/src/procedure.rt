@@ -5,7 +5,7 @@ use crate::names::{Address, ProcedureLink, ProcedureName};
 use crate::page::Page;
 use crate::ram::fmt_ranges;
 use crate::stack::{by_text, fmt_way};
-use gb_facts::{Bound, CallLink, Exit, Facts, ProcedureFacts};
+use gb_reports::{Bound, CallLink, Exit, Facts, ProcedureFacts};
 use std::fmt;
 
 /// The other end of a link: which procedure, by what, and from how many nodes.

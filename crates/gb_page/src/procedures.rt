@@ -3,7 +3,7 @@
 use crate::names::{Address, ProcedureLink};
 use crate::page::Page;
 use crate::procedure::fmt_procedure;
-use gb_facts::{Bound, ProcedureFacts};
+use gb_reports::{Bound, ProcedureFacts};
 use std::fmt;
 
 /// How deep a procedure gets, where that is known.

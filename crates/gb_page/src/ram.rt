@@ -3,8 +3,7 @@
 use crate::names::ProcedureLink;
 use crate::page::Page;
 use crate::strip::{HIGH_RAM, Shade, Strip, WORK_RAM, fmt_begin, fmt_end, fmt_key, fmt_mark};
-use gb_facts::{Facts, ProcedureFacts};
-use gb_reports::Range;
+use gb_reports::{Facts, ProcedureFacts, Range};
 use std::fmt;
 
 /// The code that runs in RAM.

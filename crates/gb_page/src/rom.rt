@@ -2,7 +2,7 @@
 
 use crate::page::Page;
 use crate::strip::{Shade, Strip, fmt_begin, fmt_end, fmt_key, fmt_mark, length_of};
-use gb_facts::{CodeRun, Facts};
+use gb_reports::{CodeRun, Facts};
 use std::fmt;
 
 /// A bank, by places in it.

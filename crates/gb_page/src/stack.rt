@@ -5,7 +5,7 @@ use crate::interrupts::interrupt_text;
 use crate::names::{NodeLink, ProcedureLink};
 use crate::page::Page;
 use crate::strip::{Shade, Strip, fmt_begin, fmt_end, fmt_mark};
-use gb_facts::{Bound, CallLink, EnteredBy, Facts, StackStep};
+use gb_reports::{Bound, CallLink, EnteredBy, Facts, StackStep};
 use std::fmt;
 
 /// The depth of the first procedure, with all that it calls.

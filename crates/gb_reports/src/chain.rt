@@ -1,7 +1,7 @@
 //! The calls on the way to a node: from power-up, or from the interrupt that leads there.
 
 use crate::path::{bank_of, is_handler, node_at};
-use gb_explain::interrupt_at;
+use gb_facts::interrupt_at;
 use gb_fixpoint::known_bytes;
 use gb_fixpoint::types::{Run, RunNode};
 use gb_ops::decode::decode;

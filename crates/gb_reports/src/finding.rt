@@ -4,7 +4,7 @@ use crate::chain::{CallChain, op_of};
 use crate::crowd::Crowd;
 use crate::handlers::switching_handlers;
 use crate::path::{Path, Start, bank_of};
-use gb_explain::Code;
+use gb_facts::Code;
 use gb_fixpoint::Abs;
 use gb_fixpoint::cause::{Cause, Failure};
 use gb_fixpoint::code_point::CodePoint;

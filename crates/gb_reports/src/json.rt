@@ -9,7 +9,7 @@ use crate::problem::Problem;
 use crate::shown::ShownOther;
 use crate::state::ime_text;
 use crate::topic::{advice_on, instruction_advice, remedy_of};
-use gb_explain::{Advice, interrupt_at};
+use gb_facts::{Advice, interrupt_at};
 use gb_fixpoint::{Abs, Cell, May, Val};
 use gb_ops::registers::Registers;
 use gb_symbols::SourceLine;

@@ -2,7 +2,7 @@
 
 use crate::finding::InstructionFinding;
 use crate::state::{gate_text, ime_text};
-use gb_explain::{INTERRUPTS, interrupt_name};
+use gb_facts::{INTERRUPT_COUNT, interrupt_name};
 use gb_fixpoint::cause::{Cause, TransferMisuse};
 use gb_fixpoint::{Abs, Cell, Val, cell_at};
 use gb_ops::op::Register;
@@ -135,7 +135,7 @@ fn fmt_enabled<W: fmt::Write>(ie: Val, f: &mut fmt::Formatter<W>) -> fmt::Result
         return write!(f, " (IE: none)");
     }
     let mut before = " (IE: ";
-    for bit in 0..INTERRUPTS {
+    for bit in 0..INTERRUPT_COUNT {
         if ie.lo >> bit & 1 == 1 {
             let name = interrupt_name(bit);
             write!(f, "{before}{name}")?;

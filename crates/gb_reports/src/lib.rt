@@ -34,7 +34,11 @@ pub use shown::{FindingPart, ShownFinding, ShownPart};
 pub use state::{ShownCell, ShownFlags, ShownRegisters, fmt_core};
 
 // What lies below, for the crates above.
-pub use gb_explain::{AFTER_VECTORS, Code, Explanation, explain, interrupt_at};
+pub use gb_facts::{
+    AFTER_VECTORS, Bound, CallLink, Code, CodeRun, Difference, EnteredBy, Exit, Explanation, Facts,
+    INTERRUPTS, Interrupt, Key, Keyed, Outline, Peak, ProcedureFacts, Side, Sketch, StackStep,
+    differences, explain, interrupt_at, is_same_way, length_at, steps_from, target_of, way_from,
+};
 pub use gb_fixpoint::code_point::CodePoint;
 pub use gb_fixpoint::{Abs, Cell, Cert, NodeRef, Range, Rom, Verdict, known_bank};
 pub use gb_symbols::{

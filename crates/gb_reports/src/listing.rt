@@ -3,7 +3,7 @@
 
 use crate::Symbols;
 use crate::state::{ShownCell, ShownFlags, ShownRegisters, fmt_core};
-use gb_explain::Code;
+use gb_facts::Code;
 use gb_fixpoint::{Abs, Cell, Cert, NodeRef, Range, Rom};
 use gb_symbols::ListedAddress;
 use std::fmt;

@@ -1,7 +1,7 @@
 //! What can go wrong at an instruction, in a sentence.
 
 use crate::finding::InstructionFinding;
-use gb_explain::{PADDING, interrupt_at, interrupt_name};
+use gb_facts::{PADDING, interrupt_at, interrupt_name};
 use gb_fixpoint::Span;
 use gb_fixpoint::cause::{Cause, StackMisuse, TransferMisuse};
 use gb_fixpoint::code_point::CodePoint;

@@ -3,7 +3,7 @@
 use crate::chain::{CallChain, EnteredRoutine, Root};
 use crate::finding::InstructionFinding;
 use crate::path::Segment;
-use gb_explain::interrupt_at;
+use gb_facts::interrupt_at;
 use gb_symbols::{ShownLabel, SourceLine, Symbols};
 use std::fmt;
 

@@ -8,7 +8,7 @@ use crate::problem::{Problem, fmt_recursion};
 use crate::reached::{ShownPassed, ShownReached};
 use crate::state::ShownState;
 use crate::topic::{advice_on, instruction_advice, remedy_of};
-use gb_explain::interrupt_at;
+use gb_facts::interrupt_at;
 use gb_ops::machine::Region;
 use gb_symbols::ShownAddress;
 use std::fmt;

@@ -9,4 +9,6 @@ mod spelling;
 mod vectors;
 
 pub use spelling::Spelling;
-pub use vectors::{AFTER_VECTORS, INTERRUPTS, PADDING, interrupt_at, interrupt_name, vector_of};
+pub use vectors::{
+    AFTER_VECTORS, INTERRUPT_COUNT, PADDING, interrupt_at, interrupt_name, vector_of,
+};

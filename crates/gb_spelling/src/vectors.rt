@@ -7,7 +7,7 @@ pub const PADDING: u16 = 0x0038;
 const FIRST_VECTOR: u16 = 0x0040;
 
 /// How many interrupts there are.
-pub const INTERRUPTS: u8 = 5;
+pub const INTERRUPT_COUNT: u8 = 5;
 
 /// The address after all vectors.
 pub const AFTER_VECTORS: u16 = 0x0068;
@@ -30,7 +30,7 @@ pub fn interrupt_name(bit: u8) -> &'static str {
 
 /// The interrupt whose handler begins at an address, with that address.
 pub fn interrupt_at(address: u16) -> Option<&'static str> {
-    for bit in 0..INTERRUPTS {
+    for bit in 0..INTERRUPT_COUNT {
         if vector_of(bit) == address {
             return Some(interrupt_name(bit));
         }
