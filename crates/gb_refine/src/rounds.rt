@@ -8,7 +8,7 @@ use gb_draft::limits::{
 };
 use gb_draft::{Cause, CodePoint, Configuration, Rom, Rules, Run, RunEnd, TargetPlace, Wish};
 use gb_ops::machine::Region;
-use gb_plans::Plan;
+use gb_plans::{Plan, learn_touched};
 use gb_reports::{Crowd, Finding, InstructionFinding, Spent};
 use std::alloc::{AllocError, Global};
 use std::collections::{BTreeMap, BTreeSet};
@@ -280,6 +280,9 @@ impl<'a> Refinement<'a> {
         self.pairs = pairs_of(run);
         self.spent = self.spent.saturating_add(run.steps);
         self.targets = targets_of(self.alloc, run)?;
+        if run.rules() == Rules::Extended {
+            learn_touched(self.alloc, run, &mut self.configuration)?;
+        }
         self.learn(run, outcome)
     }
 
@@ -473,6 +476,8 @@ impl<'a> Refinement<'a> {
         older.is_stack_given = self.configuration.is_stack_given;
         older.is_stack_seen = self.configuration.is_stack_seen;
         older.tracked = self.configuration.tracked.clone()?;
+        older.known_targets = self.configuration.known_targets.clone()?;
+        older.touched = self.configuration.touched.clone()?;
         add_points(&self.configuration.points, &mut older.points)?;
         for place in &self.given_up {
             older.given_up.insert(*place)?;
