@@ -185,7 +185,12 @@ fn tell_way<W: Write>(
     for (place, segment) in finding.path.segments.iter().enumerate() {
         let (first, last) = (segment.first, segment.last);
         write!(out, " {first:04X}-{last:04X}")?;
-        let link = format!(in alloc; "<a href=\"#o1s{place}\"><code>${first:04X}")?;
+        let link = match segment.bank {
+            Some(bank) => {
+                format!(in alloc; "<a href=\"#o1s{place}\"><code>{bank:02X}:{first:04X}")?
+            }
+            None => format!(in alloc; "<a href=\"#o1s{place}\"><code>${first:04X}")?,
+        };
         is_told = is_told && page.contains(link.as_str());
     }
     writeln!(out)?;
