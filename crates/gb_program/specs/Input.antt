@@ -2,6 +2,7 @@
 use Rattle.std.specs.Prelude.{Bool, false, ◌&&◌, ◌||◌, Option, Some, None, Bor}
 use Rattle.gb_command_line.specs.Below.gb_files.Input.{is_input}
 use Rattle.clap.specs.Words.{Text}
+use Rattle.gb_words.specs.declared.hunting.HuntOptions.{HuntOptions}
 use Rattle.gb_words.specs.declared.watching.WatchOptions.{WatchOptions}
 use Rattle.gb_words.specs.declared.words.Task.{Task}
 use Rattle.gb_words.specs.declared.words.Task.TheVariants as task
@@ -22,4 +23,5 @@ abbrev pub has_input_twice : Task → Bool
 has_input_twice (task.Verify rom cert) = is_input rom.now && is_input cert.now
 has_input_twice (task.Run rom script frames) = is_input rom.now && is_input script.now
 has_input_twice (task.Watch rom script frames options) = has_watched_twice rom.now script.now options
+has_input_twice (task.Hunt rom options) = is_input rom.now && is_given_input options.symbols
 has_input_twice _ = false
