@@ -170,6 +170,7 @@ fn tell_replay<R: Eprint>(rt: &R, played: &PlayedScript<'_>, keys: Option<&str>)
 }
 
 /// A search of a cartridge, with the names of its files and its symbols.
+#[derive(Clone, Copy)]
 struct Hunted<'a> {
     name: &'a str,
     bytes: &'a [u8],
