@@ -16,6 +16,13 @@ pub struct TargetPlace {
     pub point: CodePoint,
 }
 
+/// A cell that the procedures of a target, or what they call, may read or write.
+#[derive(Clone, Copy, PartialEq, Eq, PartialOrd, Ord, Hash)]
+pub struct TouchedCell {
+    pub target: CodePoint,
+    pub cell: u16,
+}
+
 /// How many cells the procedures of a target are parted by at most.
 const ENTRY_CELLS: usize = 4;
 
@@ -88,6 +95,10 @@ pub struct Configuration {
     pub by_controller: HashSet<CodePoint>,
     /// By where procedures begin, the cells by whose known values they are parted.
     pub by_cells: HashMap<CodePoint, EntryCells>,
+    /// Where procedures begin of which it is known which key cells they or what they call may read or write.
+    pub known_targets: HashSet<CodePoint>,
+    /// The cells that these may.
+    pub touched: BTreeSet<TouchedCell>,
     /// Where procedures begin that are not parted by the controller and the key cells.
     pub flat: HashSet<CodePoint>,
     /// The cells whose known values are part of every key: shadows of the bank, states.
@@ -136,6 +147,8 @@ impl Configuration {
             parted: HashMap::new(alloc),
             by_controller: HashSet::new(alloc),
             by_cells: HashMap::new(alloc),
+            known_targets: HashSet::new(alloc),
+            touched: BTreeSet::new(alloc),
             flat: HashSet::new(alloc),
             key_cells: BTreeSet::new(alloc),
             inlined: HashSet::new(alloc),
@@ -169,6 +182,13 @@ impl Configuration {
     pub fn is_by_controller(&self, target: CodePoint) -> bool {
         let is_asked = self.rules == Rules::Simple || self.by_controller.contains(&target);
         is_asked && !self.flat.contains(&target)
+    }
+
+    /// Whether a key cell is part of the keys of the procedures that begin at a target: unless it is known that they don't touch it.
+    pub fn is_key_at(&self, target: CodePoint, cell: u16) -> bool {
+        self.key_cells.contains(&cell)
+            && (!self.known_targets.contains(&target)
+                || self.touched.contains(&TouchedCell { target, cell }))
     }
 
     /// The cells by which the procedures that begin at a target are parted, besides the key cells.

@@ -183,7 +183,7 @@ impl<'a> Run<'a> {
         place: TargetPlace,
         state: &Abs,
     ) -> Result<(), RunStop> {
-        let cells = self.number_values(EntryCells::default(), state.cells())?;
+        let cells = self.number_values(None, state.cells())?;
         let is_keyed = self.is_keyed(place, state.core());
         let counted = self.configuration.items_at(place);
         let words = self.number_words(state, is_keyed, counted)?;
@@ -202,11 +202,11 @@ impl<'a> Run<'a> {
     }
 
     /// The key cells that have one value alone, and those of a procedure's own that have.
-    fn cell_values(&self, own: EntryCells, cells: &[Cell]) -> ArrayVec<CellValue, 64> {
+    fn cell_values(&self, target: Option<CodePoint>, cells: &[Cell]) -> ArrayVec<CellValue, 64> {
         let mut values = ArrayVec::new();
         for cell in cells {
             let address = cell.address;
-            let is_part = own.contains(address) || self.configuration.key_cells.contains(&address);
+            let is_part = self.is_in_key(target, address);
             if is_part && cell.val.lo == cell.val.hi {
                 let _ = values.try_push(CellValue {
                     address,
@@ -217,12 +217,31 @@ impl<'a> Run<'a> {
         values
     }
 
+    /// Whether a cell is part of the keys of nodes, or of those of the procedures that begin at a target.
+    fn is_in_key(&self, target: Option<CodePoint>, cell: u16) -> bool {
+        match target {
+            Some(target) => {
+                self.configuration.entry_cells(target).contains(cell)
+                    || self.configuration.is_key_at(target, cell)
+            }
+            None => self.configuration.key_cells.contains(&cell),
+        }
+    }
+
+    /// Whether the procedures that begin at a target are parted by cells of their own.
+    fn has_own(&self, target: Option<CodePoint>) -> bool {
+        match target {
+            Some(target) => self.configuration.entry_cells(target) != EntryCells::default(),
+            None => false,
+        }
+    }
+
     /// The number of the values of key cells and a procedure's own, if they had them before: 0 where none is known.
-    fn find_values(&self, own: EntryCells, cells: &[Cell]) -> Option<usize> {
-        if self.configuration.key_cells.is_empty() && own == EntryCells::default() {
+    fn find_values(&self, target: Option<CodePoint>, cells: &[Cell]) -> Option<usize> {
+        if self.configuration.key_cells.is_empty() && !self.has_own(target) {
             return Some(0);
         }
-        let values = self.cell_values(own, cells);
+        let values = self.cell_values(target, cells);
         if values.is_empty() {
             return Some(0);
         }
@@ -230,11 +249,15 @@ impl<'a> Run<'a> {
     }
 
     /// The number of the values of key cells and a procedure's own.
-    fn number_values(&mut self, own: EntryCells, cells: &[Cell]) -> Result<usize, RunStop> {
-        if let Some(number) = self.find_values(own, cells) {
+    fn number_values(
+        &mut self,
+        target: Option<CodePoint>,
+        cells: &[Cell],
+    ) -> Result<usize, RunStop> {
+        if let Some(number) = self.find_values(target, cells) {
             return Ok(number);
         }
-        let values = self.cell_values(own, cells);
+        let values = self.cell_values(target, cells);
         let number = self.cell_index.len().saturating_add(1);
         let key = Vec::from_slice(self.alloc, values.as_slice())?;
         self.cell_index.insert(key, number)?;
@@ -243,7 +266,7 @@ impl<'a> Run<'a> {
 
     /// The number of the values by which the procedures of a target are parted, if they had them before.
     pub(crate) fn find_entry_cells(&self, target: CodePoint, cells: &[Cell]) -> Option<usize> {
-        self.find_values(self.configuration.entry_cells(target), cells)
+        self.find_values(Some(target), cells)
     }
 
     /// The number of the values by which the procedures of a target are parted.
@@ -252,7 +275,7 @@ impl<'a> Run<'a> {
         target: CodePoint,
         cells: &[Cell],
     ) -> Result<usize, RunStop> {
-        self.number_values(self.configuration.entry_cells(target), cells)
+        self.number_values(Some(target), cells)
     }
 
     /// A state arrives at the node of a key.

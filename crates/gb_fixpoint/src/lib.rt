@@ -44,12 +44,12 @@ pub mod types;
 mod words;
 
 pub use cause::{Cause, Failure, RunEnd, StackMisuse, TransferMisuse, Wish};
-pub use configuration::{Configuration, EntryCells, TargetPlace};
+pub use configuration::{Configuration, EntryCells, TargetPlace, TouchedCell};
 pub use entries::Entered;
 pub use keys::{ControllerKey, KnownRegisters, NodeKey, ProcedureKey};
 pub use register_set::RegisterSet;
 pub use types::{
-    CallSite, CellStore, CellValue, Edge, PlacedWord, Run, RunNode, RunProcedure, Spot,
+    CallSite, CellRead, CellStore, CellValue, Edge, PlacedWord, Run, RunNode, RunProcedure, Spot,
 };
 
 // What lies below, for the crates above.

@@ -8,7 +8,7 @@ use crate::register_set::RegisterSet;
 use crate::stacks::is_settable;
 use crate::steps::Steps;
 use crate::stop::RunStop;
-use crate::types::Run;
+use crate::types::{CellRead, Run};
 use gb_ops::op::{AluOp, Op, Operand, Pair, Register, Row};
 use gb_verify::{Abs, Rules, Span, known_byte, length_of, reduced};
 
@@ -29,7 +29,7 @@ impl<'a> Run<'a> {
     pub(crate) fn instruction_at(&mut self, number: usize) -> Result<Row, RunStop> {
         let found = self.found_at(number)?;
         if found.address >= 0x8000 {
-            self.record_code(found.address, found.opcode)?;
+            self.record_code(found.procedure, found.address, found.opcode)?;
         }
         let row = match found.row {
             Ok(row) => row,
@@ -67,7 +67,12 @@ impl<'a> Run<'a> {
 
     /// The bytes of an instruction in RAM are wanted, as far as its length is known; else what was copied there with its first
     /// byte, since code is copied whole.
-    fn record_code(&mut self, address: u16, opcode: Option<u8>) -> Result<(), RunStop> {
+    fn record_code(
+        &mut self,
+        procedure: usize,
+        address: u16,
+        opcode: Option<u8>,
+    ) -> Result<(), RunStop> {
         let length = match opcode {
             Some(opcode) => length_of(opcode),
             None => self.copied_from(address),
@@ -76,6 +81,10 @@ impl<'a> Run<'a> {
             let byte = address.saturating_add(u16::from(offset));
             self.wanted.insert(byte)?;
             self.fetched.insert(byte)?;
+            self.reads.insert(CellRead {
+                procedure,
+                cell: byte,
+            })?;
         }
         Ok(())
     }

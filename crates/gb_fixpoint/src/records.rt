@@ -1,7 +1,7 @@
 //! What refinement wants to know of a step's accesses.
 
 use crate::stop::RunStop;
-use crate::types::{CellStore, Run, Spot};
+use crate::types::{CellRead, CellStore, Run, Spot};
 use gb_ops::op::{Op, Operand, Register};
 use gb_verify::{AbsRead, AbsWrite, Range, Rules, Span, Successors, Val, is_ram};
 
@@ -51,7 +51,7 @@ impl<'a> Run<'a> {
             return Ok(());
         };
         if let AbsRead::Byte(span) = taken.read {
-            self.record_read(op, span)?;
+            self.record_read(spot.procedure, op, span)?;
         }
         match taken.write {
             AbsWrite::Byte(span, val) => self.record_store(number, spot, op, span, val),
@@ -65,12 +65,34 @@ impl<'a> Run<'a> {
     }
 
     /// A byte of RAM that is read at one address is wanted.
-    fn record_read(&mut self, op: Op, span: Span) -> Result<(), RunStop> {
+    fn record_read(&mut self, procedure: usize, op: Op, span: Span) -> Result<(), RunStop> {
         let home = home_of(span.first);
+        if span.is_one() {
+            self.reads.insert(CellRead {
+                procedure,
+                cell: home,
+            })?;
+        } else if span.last >= 0xC000 {
+            self.record_reads(procedure, span)?;
+        }
         if span.is_one() && is_ram(home) {
             self.wanted.insert(home)?;
             if names_cell(op) {
                 self.named.insert(home)?;
+            }
+        }
+        Ok(())
+    }
+
+    /// All tracked cells among several addresses may be read, and all of work RAM by its echo.
+    fn record_reads(&mut self, procedure: usize, span: Span) -> Result<(), RunStop> {
+        let is_echo = span.may_meet(0xE000, 0xFDFF);
+        for cell in &self.tracked {
+            if is_echo || (span.first <= *cell && *cell <= span.last) {
+                self.reads.insert(CellRead {
+                    procedure,
+                    cell: *cell,
+                })?;
             }
         }
         Ok(())

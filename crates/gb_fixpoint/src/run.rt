@@ -58,6 +58,7 @@ impl<'a> Run<'a> {
             heads: HashSet::new(alloc),
             wanted: BTreeSet::new(alloc),
             fetched: BTreeSet::new(alloc),
+            reads: BTreeSet::new(alloc),
             copied: BTreeSet::new(alloc),
             named: BTreeSet::new(alloc),
             killers: BTreeSet::new(alloc),

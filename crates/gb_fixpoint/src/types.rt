@@ -44,6 +44,14 @@ pub struct CellStore {
     pub spot: Spot,
 }
 
+/// A tracked cell that a procedure may read.
+#[derive(Clone, Copy, PartialEq, Eq, PartialOrd, Ord)]
+pub struct CellRead {
+    /// The number of the procedure.
+    pub procedure: usize,
+    pub cell: u16,
+}
+
 /// A value that a cell's byte is compared with, or masked by.
 #[derive(Clone, Copy, PartialEq, Eq, PartialOrd, Ord)]
 pub(crate) struct CellPoint {
@@ -147,6 +155,8 @@ pub struct Run<'a> {
     pub wanted: BTreeSet<u16>,
     /// Cells that hold code.
     pub fetched: BTreeSet<u16>,
+    /// The tracked cells that procedures may read.
+    pub reads: BTreeSet<CellRead>,
     /// Cells that were stored to each by itself, as a loop does whose rounds are told apart.
     pub(crate) copied: BTreeSet<u16>,
     /// Cells that an instruction names: LD A,(n16) and LDH A,(n8).

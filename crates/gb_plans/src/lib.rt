@@ -6,6 +6,7 @@
 //! trusted: a plan that doesn't help costs time alone.
 #![tactic(auto)]
 
+mod below;
 mod carries;
 mod cells;
 mod kept;
@@ -20,6 +21,7 @@ mod spots;
 mod waiting;
 mod ways;
 
+pub use below::learn_touched;
 pub use cells::pointer_cells;
 pub use plan::{Edit, Plan, parted_by};
 pub use plans::{inline_plan, last_plan, plan_for};

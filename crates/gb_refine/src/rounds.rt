@@ -3,7 +3,7 @@
 use crate::failures::tell;
 use crate::tracking::Cells;
 use gb_ops::machine::Region;
-use gb_plans::Plan;
+use gb_plans::{Plan, learn_touched};
 use gb_prune::limits::{
     ALL_STEPS, FEW_NODES, OBSTACLES, RUN_STEPS, STEPS_A_NODE, STEPS_ASKED, TAKEN_BACK,
     TAKEN_BACK_OF_MANY,
@@ -280,6 +280,9 @@ impl<'a> Refinement<'a> {
         self.pairs = pairs_of(run);
         self.spent = self.spent.saturating_add(run.steps);
         self.targets = targets_of(self.alloc, run)?;
+        if run.rules() == Rules::Extended {
+            learn_touched(self.alloc, run, &mut self.configuration)?;
+        }
         self.learn(run, outcome)
     }
 
@@ -473,6 +476,8 @@ impl<'a> Refinement<'a> {
         older.is_stack_given = self.configuration.is_stack_given;
         older.is_stack_seen = self.configuration.is_stack_seen;
         older.tracked = self.configuration.tracked.clone()?;
+        older.known_targets = self.configuration.known_targets.clone()?;
+        older.touched = self.configuration.touched.clone()?;
         add_points(&self.configuration.points, &mut older.points)?;
         for place in &self.given_up {
             older.given_up.insert(*place)?;

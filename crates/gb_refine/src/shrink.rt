@@ -71,70 +71,101 @@ fn without_some(
 
 /// A certificate that gets smaller.
 #[derive(Drop)]
-struct Shrinking<'a, 'p, P> {
+struct Shrinking<'a> {
     alloc: Global,
     rom: &'a Rom<'a>,
     configuration: Configuration,
     best: Vec<u8>,
     attempts: u64,
-    progress: &'p mut P,
 }
 
-impl<P: SearchProgress> Shrinking<'_, '_, P> {
+impl Shrinking<'_> {
     /// Takes back all that can be, one kind after another.
-    fn shrink(&mut self, refinement: &Refinement<'_>) -> Result<(), AllocError> {
-        self.flatten(refinement)?;
-        self.untrack(refinement)?;
-        self.loops(&refinement.keyed_loops)?;
-        self.registers()
+    fn shrink<P: SearchProgress>(
+        &mut self,
+        refinement: &Refinement<'_>,
+        progress: &mut P,
+    ) -> Result<(), AllocError> {
+        self.flatten(refinement, progress)?;
+        self.untrack(refinement, progress)?;
+        self.loops(&refinement.keyed_loops, progress)?;
+        self.registers(progress)
     }
 
     /// Procedures needn't be parted by the bank.
-    fn flatten(&mut self, refinement: &Refinement<'_>) -> Result<(), AllocError> {
+    fn flatten<P: SearchProgress>(
+        &mut self,
+        refinement: &Refinement<'_>,
+        progress: &mut P,
+    ) -> Result<(), AllocError> {
         let targets = crowded(refinement)?;
-        self.by_halves(&targets)
+        self.by_halves(&targets, progress)
     }
 
     /// Cells needn't be tracked.
-    fn untrack(&mut self, refinement: &Refinement<'_>) -> Result<(), AllocError> {
+    fn untrack<P: SearchProgress>(
+        &mut self,
+        refinement: &Refinement<'_>,
+        progress: &mut P,
+    ) -> Result<(), AllocError> {
         let cells = loose_cells(refinement)?;
-        self.by_halves(&cells)
+        self.by_halves(&cells, progress)
     }
 
     /// Takes all of these back, else each half of them, and so on.
-    fn by_halves(&mut self, spare: &[Spare]) -> Result<(), AllocError> {
+    fn by_halves<P: SearchProgress>(
+        &mut self,
+        spare: &[Spare],
+        progress: &mut P,
+    ) -> Result<(), AllocError> {
         let mut left = Vec::new(self.alloc);
         left.push(spare)?;
-        self.by_parts(&mut left)
+        self.by_parts(&mut left, progress)
     }
 
-    fn by_parts(&mut self, left: &mut Vec<&[Spare]>) -> Result<(), AllocError> {
+    fn by_parts<P: SearchProgress>(
+        &mut self,
+        left: &mut Vec<&[Spare]>,
+        progress: &mut P,
+    ) -> Result<(), AllocError> {
         for _ in 0..2 * SHRINK_ATTEMPTS {
             let Some(part) = left.pop() else { break };
             if part.is_empty() || self.attempts == 0 {
                 continue;
             }
-            if !self.try_without(part)? && part.len() > 1 {
+            if !self.try_without(part, progress)? && part.len() > 1 {
                 push_halves(part, left)?;
             }
         }
         Ok(())
     }
 
-    fn try_without(&mut self, spare: &[Spare]) -> Result<bool, AllocError> {
+    fn try_without<P: SearchProgress>(
+        &mut self,
+        spare: &[Spare],
+        progress: &mut P,
+    ) -> Result<bool, AllocError> {
         let coarser = without_some(&self.configuration, spare)?;
-        self.try_coarser(coarser)
+        self.try_coarser(coarser, progress)
     }
 
     /// Loops that were keyed needn't be.
-    fn loops(&mut self, loops: &[Vec<TargetPlace>]) -> Result<(), AllocError> {
+    fn loops<P: SearchProgress>(
+        &mut self,
+        loops: &[Vec<TargetPlace>],
+        progress: &mut P,
+    ) -> Result<(), AllocError> {
         for places in loops {
-            self.try_unkeyed(places)?;
+            self.try_unkeyed(places, progress)?;
         }
         Ok(())
     }
 
-    fn try_unkeyed(&mut self, places: &[TargetPlace]) -> Result<bool, AllocError> {
+    fn try_unkeyed<P: SearchProgress>(
+        &mut self,
+        places: &[TargetPlace],
+        progress: &mut P,
+    ) -> Result<bool, AllocError> {
         if self.attempts == 0 {
             return Ok(false);
         }
@@ -142,25 +173,34 @@ impl<P: SearchProgress> Shrinking<'_, '_, P> {
         for place in places {
             coarser.keyed.remove(place);
         }
-        self.try_coarser(coarser)
+        self.try_coarser(coarser, progress)
     }
 
     /// Procedures needn't be parted by a register.
-    fn registers(&mut self) -> Result<(), AllocError> {
+    fn registers<P: SearchProgress>(&mut self, progress: &mut P) -> Result<(), AllocError> {
         let targets = parted_targets(self.alloc, &self.configuration)?;
-        self.registers_at(&targets)
+        self.registers_at(&targets, progress)
     }
 
-    fn registers_at(&mut self, targets: &[CodePoint]) -> Result<(), AllocError> {
+    fn registers_at<P: SearchProgress>(
+        &mut self,
+        targets: &[CodePoint],
+        progress: &mut P,
+    ) -> Result<(), AllocError> {
         for target in targets {
             for register in REGISTERS {
-                self.try_unparted(*target, register)?;
+                self.try_unparted(*target, register, progress)?;
             }
         }
         Ok(())
     }
 
-    fn try_unparted(&mut self, target: CodePoint, register: Register) -> Result<bool, AllocError> {
+    fn try_unparted<P: SearchProgress>(
+        &mut self,
+        target: CodePoint,
+        register: Register,
+        progress: &mut P,
+    ) -> Result<bool, AllocError> {
         let registers = parted_by(&self.configuration, target);
         if self.attempts == 0 || !registers.contains(register) {
             return Ok(false);
@@ -169,12 +209,16 @@ impl<P: SearchProgress> Shrinking<'_, '_, P> {
         coarser
             .parted
             .insert(target, without(&registers, register))?;
-        self.try_coarser(coarser)
+        self.try_coarser(coarser, progress)
     }
 
     /// Takes a coarser configuration, if its certificate is smaller.
-    fn try_coarser(&mut self, coarser: Configuration) -> Result<bool, AllocError> {
-        match self.smaller(&coarser)? {
+    fn try_coarser<P: SearchProgress>(
+        &mut self,
+        coarser: Configuration,
+        progress: &mut P,
+    ) -> Result<bool, AllocError> {
+        match self.smaller(&coarser, progress)? {
             Some(bytes) => {
                 self.best = bytes;
                 self.configuration = coarser;
@@ -185,8 +229,12 @@ impl<P: SearchProgress> Shrinking<'_, '_, P> {
     }
 
     /// The certificate under a configuration, if it is smaller. One attempt fewer is left.
-    fn smaller(&mut self, coarser: &Configuration) -> Result<Option<Vec<u8>>, AllocError> {
-        if self.attempts == 0 || !self.progress.goes_on() {
+    fn smaller<P: SearchProgress>(
+        &mut self,
+        coarser: &Configuration,
+        progress: &mut P,
+    ) -> Result<Option<Vec<u8>>, AllocError> {
+        if self.attempts == 0 || !progress.goes_on() {
             self.attempts = 0;
             return Ok(None);
         }
@@ -254,9 +302,8 @@ pub(crate) fn shrink<P: SearchProgress>(
         configuration,
         best,
         attempts: attempts_of(refinement.steps, refinement.pairs),
-        progress,
     };
-    shrinking.shrink(refinement)?;
+    shrinking.shrink(refinement, progress)?;
     let Shrinking { best, .. } = shrinking;
     let less = made_smaller(refinement.alloc(), refinement.rom(), &best)?;
     Ok(less.unwrap_or(best))

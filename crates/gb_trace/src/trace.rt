@@ -55,7 +55,11 @@ pub fn trace_fault<'a>(
     let touch = match touch_at_fault(&run.sighting, run.region) {
         Some(touch) => {
             let address = touch.address;
-            let bank = console.memory().shown_bank(address);
+            let bank = if address < 0x8000 {
+                console.memory().shown_bank(address)
+            } else {
+                0
+            };
             Some((touch, CodePlace { address, bank }))
         }
         None => None,
@@ -72,17 +76,19 @@ pub fn trace_fault<'a>(
     })
 }
 
-/// The names of the keys, in the order of their bits.
-const KEYS: [(Keys, &str); 8] = [
-    (Keys::A, "A"),
-    (Keys::B, "B"),
-    (Keys::SELECT, "Select"),
-    (Keys::START, "Start"),
-    (Keys::RIGHT, "Right"),
-    (Keys::LEFT, "Left"),
-    (Keys::UP, "Up"),
-    (Keys::DOWN, "Down"),
-];
+/// The name of a key, by its bit.
+fn key_name(bit: u8) -> &'static str {
+    match bit {
+        0 => "A",
+        1 => "B",
+        2 => "Select",
+        3 => "Start",
+        4 => "Right",
+        5 => "Left",
+        6 => "Up",
+        _ => "Down",
+    }
+}
 
 impl Trace<'_> {
     /// What the processor was about to do.
@@ -123,11 +129,13 @@ impl Trace<'_> {
         if self.keys.bits() == 0 {
             return write!(f, " none");
         }
-        let mut between = " ";
-        for (key, name) in KEYS {
-            if self.keys.bits() & key.bits() != 0 {
+        let mut is_first = true;
+        for bit in 0..8 {
+            if self.keys.bits() >> bit & 1 == 1 {
+                let between = if is_first { " " } else { ", " };
+                let name = key_name(bit);
                 write!(f, "{between}{name}")?;
-                between = ", ";
+                is_first = false;
             }
         }
         Ok(())
