@@ -199,11 +199,12 @@ fn hunt_region<R: Print + Eprint + Files + Clock + AllocGlobal>(
     if let Some(keys) = hunted.keys {
         write_keys(rt, keys, &script)?;
     }
+    let frames = u32::try_from(script.len()).unwrap_or(u32::MAX);
     let played = PlayedScript {
         name: hunted.name,
         rom: hunted.bytes,
         script: &script,
-        frames: script.len() as u32,
+        frames,
         region,
     };
     let status = watch_played(rt, &played, hunted.symbols, is_shown)?;
