@@ -1,19 +1,18 @@
 -- Which commands have standard input twice (own).
-use Rattle.std.specs.Prelude.{Bool, false, ◌&&◌, ◌||◌, Option, Some, None, Bor}
+use Rattle.std.specs.Prelude.{Bool, false, ◌&&◌, ◌||◌, ℕ, List, Option, Some, None}
+use Rattle.std.specs.Borrow.{Bor}
 use Rattle.gb_command_line.specs.Below.gb_files.Input.{is_input}
-use Rattle.clap.specs.Words.{Text}
-use Rattle.gb_words.specs.declared.hunting.HuntOptions.{HuntOptions}
 use Rattle.gb_words.specs.declared.watching.WatchOptions.{WatchOptions}
 use Rattle.gb_words.specs.declared.words.Task.{Task}
 use Rattle.gb_words.specs.declared.words.Task.TheVariants as task
 
 -- a file that is named, and is standard input
-abbrev pub is_given_input : Option (Bor Text) → Bool
+abbrev pub is_given_input : Option (Bor (List ℕ)) → Bool
 is_given_input None = false
 is_given_input (Some name) = is_input name.now
 
 -- two of the files of `watch` are
-abbrev pub has_watched_twice : Text → Text → WatchOptions → Bool
+abbrev pub has_watched_twice : List ℕ → List ℕ → WatchOptions → Bool
 has_watched_twice rom script options =
     is_input rom && is_input script || (is_input rom || is_input script) && is_given_input options.cert
     || (is_input rom || is_input script || is_given_input options.cert) && is_given_input options.symbols

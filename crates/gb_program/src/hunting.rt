@@ -169,13 +169,14 @@ fn tell_replay<R: Eprint>(rt: &R, played: &PlayedScript<'_>, keys: Option<&str>)
     );
 }
 
-/// A search of a cartridge, with the names of its files and its symbols.
+/// A cartridge that is searched, with the names of its files.
 #[derive(Clone, Copy)]
 struct Hunted<'a> {
     name: &'a str,
     bytes: &'a [u8],
     keys: Option<&'a str>,
-    symbols: &'a Symbols<'a>,
+    /// Whether a person sees standard error as it comes.
+    is_shown: bool,
 }
 
 /// Says how a search of this region went.
@@ -185,9 +186,9 @@ fn hunt_region<R: Print + Eprint + Files + Clock + AllocGlobal>(
     rom: &Rom<'_>,
     search: &Search,
     region: Region,
-    is_shown: bool,
+    symbols: &Symbols<'_>,
 ) -> Result<Status, Trouble> {
-    let mut progress = HuntShown::new(rt, is_shown, search.seconds);
+    let mut progress = HuntShown::new(rt, hunted.is_shown, search.seconds);
     let mut hunt = Hunt::new(rt.alloc(), rom, region, search.seed)?;
     let found = hunt.search(search.frames, &mut progress)?;
     progress.done();
@@ -207,7 +208,7 @@ fn hunt_region<R: Print + Eprint + Files + Clock + AllocGlobal>(
         frames,
         region,
     };
-    let status = watch_played(rt, &played, hunted.symbols, is_shown)?;
+    let status = watch_played(rt, &played, symbols, hunted.is_shown)?;
     if status == Status::Refused {
         tell_replay(rt, &played, hunted.keys);
     }
@@ -219,7 +220,7 @@ fn hunt_file<R: Print + Eprint + Files + Clock + AllocGlobal>(
     rt: &R,
     hunted: &Hunted<'_>,
     search: &Search,
-    is_shown: bool,
+    symbols: &Symbols<'_>,
 ) -> Result<Status, Trouble> {
     let Ok(rom) = Rom::parse(hunted.bytes) else {
         // Its fault is told where it is to be played.
@@ -233,14 +234,14 @@ fn hunt_file<R: Print + Eprint + Files + Clock + AllocGlobal>(
                 last: 0xDFFF,
             },
         };
-        return watch_played(rt, &played, hunted.symbols, is_shown);
+        return watch_played(rt, &played, symbols, hunted.is_shown);
     };
     let stack = match search.region {
         Some(region) => StackChoice::Region(region),
         None => played_stack(rt, hunted.name, &rom, &[], STACK_FRAMES)?,
     };
     match stack {
-        StackChoice::Region(region) => hunt_region(rt, hunted, &rom, search, region, is_shown),
+        StackChoice::Region(region) => hunt_region(rt, hunted, &rom, search, region, symbols),
         StackChoice::Ended(status) => Ok(status),
     }
 }
@@ -266,7 +267,7 @@ pub fn hunt<R: Print + Eprint + Input + Files + Clock + AllocGlobal>(
         name: rom,
         bytes: &bytes,
         keys: options.keys,
-        symbols: &symbols,
+        is_shown,
     };
-    hunt_file(rt, &hunted, &search, is_shown)
+    hunt_file(rt, &hunted, &search, &symbols)
 }

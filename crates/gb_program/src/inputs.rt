@@ -8,7 +8,7 @@ use gb_words::{Task, WatchOptions};
 
 /// Whether a file is named, and is standard input.
 fn is_given_input(name: Option<&str>) -> bool
-    ensures { result ≡ is_given_input name }
+    ensures { result ≡ is_given_input name.entry }
 {
     match name {
         Some(name) => is_input(name),
