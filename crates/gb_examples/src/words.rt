@@ -1,7 +1,7 @@
 //! The program's words.
 
 use clap::error::ErrorKind;
-use gb_words::{TargetVersion, Task, WatchOptions, read_words};
+use gb_words::{HuntOptions, TargetVersion, Task, WatchOptions, read_words};
 use std::alloc::Global;
 
 const VERIFY: Task<'static> = Task::Verify {
@@ -35,8 +35,23 @@ const fn watched(
     }
 }
 
+/// No option of a search.
+const NO_OPTIONS: HuntOptions<'static> = HuntOptions {
+    frames: None,
+    seconds: None,
+    seed: None,
+    stack: None,
+    keys: None,
+    symbols: None,
+};
+
+/// The task of searching the cartridge A.
+const fn hunted(options: HuntOptions<'static>) -> Task<'static> {
+    Task::Hunt { rom: "A", options }
+}
+
 /// Words, and the task that they stand for.
-const TASKS: [(&[&str], Task<'static>); 18] = [
+const TASKS: [(&[&str], Task<'static>); 22] = [
     (&[], Task::Stored),
     (&["verify", "A", "B"], VERIFY),
     (&["verify", "--", "-a", "--"], DASHES),
@@ -138,6 +153,37 @@ const TASKS: [(&[&str], Task<'static>); 18] = [
         ],
         watched("B", 1, Some("D000..DFFF"), Some("-"), Some("--cert")),
     ),
+    (&["hunt", "A"], hunted(NO_OPTIONS)),
+    (&["hunt", "--", "A"], hunted(NO_OPTIONS)),
+    (
+        &["hunt", "A", "--keys", "K", "--frames", "9"],
+        hunted(HuntOptions {
+            frames: Some("9"),
+            keys: Some("K"),
+            ..NO_OPTIONS
+        }),
+    ),
+    (
+        &[
+            "hunt",
+            "A",
+            "--sym",
+            "--seed",
+            "--stack",
+            "D000..DFFF",
+            "--seed",
+            "-",
+            "--seconds",
+            "",
+        ],
+        hunted(HuntOptions {
+            seconds: Some(""),
+            seed: Some("-"),
+            stack: Some("D000..DFFF"),
+            symbols: Some("--seed"),
+            ..NO_OPTIONS
+        }),
+    ),
 ];
 
 /// Whether words stand for this task.
@@ -156,7 +202,7 @@ fn reads_each_task(rt: HostRuntime) {
 }
 
 /// Words that stand for no task, and the kind of the error.
-const OTHERS: [(&[&str], ErrorKind); 30] = [
+const OTHERS: [(&[&str], ErrorKind); 34] = [
     (&["verify", "A"], ErrorKind::MissingRequiredArgument),
     (&["turn"], ErrorKind::InvalidSubcommand),
     (&["verify", "A", "B", "C"], ErrorKind::UnknownArgument),
@@ -196,6 +242,13 @@ const OTHERS: [(&[&str], ErrorKind); 30] = [
         ErrorKind::UnknownArgument,
     ),
     (&["watch", "--help"], ErrorKind::DisplayHelp),
+    (&["hunt"], ErrorKind::MissingRequiredArgument),
+    (&["hunt", "A", "--keys"], ErrorKind::UnknownArgument),
+    (
+        &["hunt", "A", "--seed", "1", "--seed", "1"],
+        ErrorKind::UnknownArgument,
+    ),
+    (&["hunt", "--help"], ErrorKind::DisplayHelp),
 ];
 
 /// Whether words are refused with an error of this kind.

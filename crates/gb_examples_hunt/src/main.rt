@@ -7,7 +7,8 @@
 //! be done: `watch` plays the script on the console, `play` the list on the plain machine, `hunt` searches so many frames with a seed.
 //! Numbers are hexadecimal, but for those of events, and other lines mean nothing.
 //!
-//! The place of each fault comes from the assembler's listing and from the bug by hand, and its kind from the rules.
+//! The place of each fault comes from the assembler's listing and from the bug by hand, and its kind from the rules. Only the place of
+//! catch/handler_not_critical is this program's own answer: its list of events runs thousands of instructions first.
 #![tactic(auto)]
 
 use gb_events::{EventList, Fates, machine_of, play_events, read_events};

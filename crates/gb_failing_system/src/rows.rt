@@ -220,6 +220,16 @@ const WATCH_CERTIFIED: Scenario = Scenario {
     ..WATCH
 };
 
+/// Two frames in which no keys lead to a fault.
+const HUNT: Scenario = Scenario {
+    about: "hunt without a fault",
+    words: &[b"gulmyrek", b"hunt", b"game.gb", b"--frames", b"2"],
+    cert: MISSING,
+    written: ExpectedOutput::Text("NO FAULT frames 2\n"),
+    told: "proves nothing",
+    ..VERIFY
+};
+
 pub(crate) const VERIFY_INPUT: Scenario = Scenario {
     about: "a cartridge on standard input, a byte with each read",
     words: &[b"gulmyrek", b"verify", b"-", b"game.cert"],
@@ -380,6 +390,7 @@ pub const READ: &[Scenario] = &[
     RUN,
     WATCH,
     WATCH_CERTIFIED,
+    HUNT,
     Scenario {
         about: "a byte with each read",
         game: Given::Read(Content::Cartridge, ALL, Pace::Slow, StreamEnding::End),
@@ -509,6 +520,63 @@ pub const FAULTY: &[Scenario] = &[
         status: 2,
         told: "standard input",
         ..WATCH
+    },
+    Scenario {
+        about: "hunt with a fault",
+        game: UNDEFINED,
+        written: ExpectedOutput::Text("FAULT F1 frame 0 pc 0150 bank 000\n"),
+        status: 1,
+        told: "opcode $D3 doesn't exist",
+        ..HUNT
+    },
+    Scenario {
+        about: "hunt: keys that can't be written",
+        words: &[b"gulmyrek", b"hunt", b"game.gb", b"--keys", b"other.keys"],
+        game: UNDEFINED,
+        written: DEVICE,
+        status: 3,
+        told: "other.keys",
+        ..HUNT
+    },
+    Scenario {
+        about: "hunt: keys in the cartridge's place; no file is opened",
+        words: &[b"gulmyrek", b"hunt", b"game.gb", b"--keys", b"game.gb"],
+        game: MISSING,
+        written: NOTHING,
+        status: 2,
+        told: "refuses to overwrite",
+        ..HUNT
+    },
+    Scenario {
+        about: "hunt: frames that are no number; no file is opened",
+        words: &[b"gulmyrek", b"hunt", b"game.gb", b"--frames", b"many"],
+        game: MISSING,
+        written: NOTHING,
+        status: 2,
+        told: "--frames needs",
+        ..HUNT
+    },
+    Scenario {
+        about: "hunt: no clock, so no time is left",
+        words: &[b"gulmyrek", b"hunt", b"game.gb", b"--seconds", b"1"],
+        written: ExpectedOutput::Text("NO FAULT frames 0\n"),
+        ..HUNT
+    },
+    Scenario {
+        about: "hunt: an empty cartridge",
+        game: EMPTY,
+        written: ExpectedOutput::Text("CARTRIDGE H1\n"),
+        status: 2,
+        told: "gulmyrek: game.gb: not a valid ROM: the file is too short",
+        ..HUNT
+    },
+    Scenario {
+        about: "hunt: a cartridge and symbols on standard input",
+        words: &[b"gulmyrek", b"hunt", b"-", b"--sym", b"-"],
+        written: NOTHING,
+        status: 2,
+        told: "standard input",
+        ..HUNT
     },
     Scenario {
         about: "no cartridge",

@@ -1,8 +1,8 @@
 -- A guard of a cartridge stays one while the console goes on, since the cartridge stays.
 use Rattle.std.proofs.Common.{◌≡◌, ℕ, zero, suc, refl, sym, subst, ◌∙◌, Bool, List}
-use Rattle.gb_console.specs.Below.gb_timer.declared.irqs.Keys.{Keys}
-use Rattle.gb_console.specs.Console.{ConsoleState, rom_of}
-use Rattle.gb_console.specs.Frame.{Rests, IsPassing}
+use Rattle.gb_trace.specs.Below.gb_console.Below.gb_timer.declared.irqs.Keys.{Keys}
+use Rattle.gb_trace.specs.Below.gb_console.Console.{ConsoleState, rom_of}
+use Rattle.gb_trace.specs.Below.gb_console.Frame.{Rests, IsPassing}
 use Rattle.gb_faults.specs.declared.guard.Guard.{Guard}
 use Rattle.gb_faults.specs.Quiet.{IsGuard}
 

@@ -1,16 +1,15 @@
 //! Frames that are watched, and whose code is noted.
 
 ghost use Rattle.std.specs.Prelude.{◌≡◌, true, false, IfSome};
-ghost use Rattle.gb_console.specs.Console.{rom_of};
-ghost use Rattle.gb_console.specs.Frame.{IsReady};
 ghost use Rattle.gb_faults.specs.Quiet.{IsGuard};
-ghost use Rattle.gb_faults.specs.Below.gb_cpu.Choice.{is_idle};
+ghost use Rattle.gb_trace.specs.Below.gb_console.Console.{rom_of};
+ghost use Rattle.gb_trace.specs.Below.gb_console.Frame.{IsReady};
 
 use crate::seen::Seen;
-use gb_console::{Console, Ending, FRAME_CYCLES, Keys};
 use gb_faults::{Guard, event_faults, no_faults};
-use gb_header::Rom;
 use gb_ops::machine::Region;
+use gb_ppu::picture::FRAME_CYCLES;
+use gb_trace::{Console, Ending, Keys, Rom};
 
 /// How a frame ended.
 #[derive(Clone, Copy, PartialEq, Eq)]

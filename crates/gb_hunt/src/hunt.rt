@@ -6,9 +6,8 @@ use crate::play::{keys_of, seconds_of};
 use crate::presses::Presses;
 use crate::seen::Seen;
 use bitflags::Flags;
-use gb_console::{Console, Keys};
-use gb_header::Rom;
 use gb_ops::machine::Region;
+use gb_trace::{Console, Keys, Rom};
 use std::alloc::{AllocError, Global};
 
 /// The frames of a short burst.

@@ -1,6 +1,6 @@
 //! Consoles that were kept, to go on from.
 
-use gb_console::Console;
+use gb_trace::Console;
 use std::alloc::{AllocError, Global};
 
 /// The most that are kept.

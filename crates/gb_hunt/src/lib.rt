@@ -13,12 +13,14 @@ pub mod play;
 mod presses;
 mod seen;
 pub mod shortening;
-pub mod stack;
 
 pub use hunt::{Hunt, HuntProgress};
 pub use play::{Find, play_again};
 pub use shortening::shorten;
-pub use stack::stack_region;
 
 // What lies below, for the crates above.
-pub use gb_console::{Console, Keys, Verdict, check};
+pub use gb_trace::{
+    Console, Ending, FaultyRun, FoundStack, Keys, Progress, RunOutcome, Verdict, WatchOutcome,
+    Watched, certificate_line, check, find_stack, header_bytes, put_all, run_bytes, show_bytes,
+    trace_fault, watch_bytes,
+};

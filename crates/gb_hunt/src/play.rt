@@ -1,10 +1,8 @@
 //! Scripts that are played.
 
 use bitflags::Flags;
-use gb_console::{Console, Ending, Keys};
-use gb_header::Rom;
 use gb_ops::machine::Region;
-use gb_watch::{Sighting, Watched, watch_frame};
+use gb_trace::{Console, Ending, Keys, Rom, Sighting, Watched, watch_frame};
 use std::alloc::{AllocError, Global};
 
 /// A fault that a script leads to.

@@ -1,6 +1,6 @@
 //! What was seen: code that ran, and parts of the picture.
 
-use gb_console::{HEIGHT, WIDTH};
+use gb_ppu::line::{HEIGHT, WIDTH};
 use std::alloc::{AllocError, Global};
 
 /// The addresses 8000 to FFFF, whose flags come before those of ROM.

@@ -2,8 +2,8 @@
 
 use crate::hunt::HuntProgress;
 use crate::play::{Find, play_again};
-use gb_header::Rom;
 use gb_ops::machine::Region;
+use gb_trace::Rom;
 use std::alloc::{AllocError, Global};
 
 /// The fewest frames that are cut at once.

@@ -88,4 +88,6 @@ pub use gb_trace::{
     header_bytes, header_line, run_bytes, run_script, run_script_shown, show_bytes, show_cert,
     upgrade_bytes, verdict_ignores_version, verify_bytes,
 };
-pub use gb_words::{TargetVersion, Task, WatchOption, WatchOptions, read_words};
+pub use gb_words::{
+    HuntOption, HuntOptions, TargetVersion, Task, WatchOption, WatchOptions, read_words,
+};

@@ -1,18 +1,18 @@
 -- Which commands have standard input twice (own).
-use Rattle.std.specs.Prelude.{Bool, false, ◌&&◌, ◌||◌, Option, Some, None, Bor}
+use Rattle.std.specs.Prelude.{Bool, false, ◌&&◌, ◌||◌, ℕ, List, Option, Some, None}
+use Rattle.std.specs.Borrow.{Bor}
 use Rattle.gb_command_line.specs.Below.gb_files.Input.{is_input}
-use Rattle.clap.specs.Words.{Text}
 use Rattle.gb_words.specs.declared.watching.WatchOptions.{WatchOptions}
 use Rattle.gb_words.specs.declared.words.Task.{Task}
 use Rattle.gb_words.specs.declared.words.Task.TheVariants as task
 
 -- a file that is named, and is standard input
-abbrev pub is_given_input : Option (Bor Text) → Bool
+abbrev pub is_given_input : Option (Bor (List ℕ)) → Bool
 is_given_input None = false
 is_given_input (Some name) = is_input name.now
 
 -- two of the files of `watch` are
-abbrev pub has_watched_twice : Text → Text → WatchOptions → Bool
+abbrev pub has_watched_twice : List ℕ → List ℕ → WatchOptions → Bool
 has_watched_twice rom script options =
     is_input rom && is_input script || (is_input rom || is_input script) && is_given_input options.cert
     || (is_input rom || is_input script || is_given_input options.cert) && is_given_input options.symbols
@@ -22,4 +22,5 @@ abbrev pub has_input_twice : Task → Bool
 has_input_twice (task.Verify rom cert) = is_input rom.now && is_input cert.now
 has_input_twice (task.Run rom script frames) = is_input rom.now && is_input script.now
 has_input_twice (task.Watch rom script frames options) = has_watched_twice rom.now script.now options
+has_input_twice (task.Hunt rom options) = is_input rom.now && is_given_input options.symbols
 has_input_twice _ = false

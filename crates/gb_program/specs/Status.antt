@@ -1,18 +1,18 @@
 -- What the program ends with, by what became of a command.
 use Rattle.std.specs.Prelude.{Option, Some, None, Result, Ok, Err}
 use Rattle.gb_command_line.specs.Below.gb_header.declared.fault.HeaderFault.{HeaderFault}
-use Rattle.gb_trace.specs.Below.gb_console.declared.frame.Ending.{Ending}
-use Rattle.gb_trace.specs.Below.gb_console.declared.frame.Ending.TheVariants as ending
+use Rattle.gb_hunt.specs.Below.gb_console.declared.frame.Ending.{Ending}
+use Rattle.gb_hunt.specs.Below.gb_console.declared.frame.Ending.TheVariants as ending
 use Rattle.gb_command_line.specs.Below.gb_fields.declared.fault.CertFault.{CertFault}
 use Rattle.gb_command_line.specs.Below.gb_fields.declared.fault.CertFault.TheVariants.{Memory}
 use Rattle.gb_command_line.specs.Below.gb_verify.declared.upgrade.Upgraded.{Upgraded}
 use Rattle.gb_command_line.specs.Below.gb_verify.declared.upgrade.Upgraded.TheVariants as upgrade
-use Rattle.gb_trace.specs.Below.gb_printed.declared.commands.RunOutcome.{RunOutcome}
-use Rattle.gb_trace.specs.Below.gb_printed.declared.commands.RunOutcome.TheVariants as played
-use Rattle.gb_trace.specs.Below.gb_watch.declared.sighting.Watched.{Watched}
-use Rattle.gb_trace.specs.Below.gb_watch.declared.sighting.Watched.TheVariants as watched
-use Rattle.gb_trace.specs.Below.gb_witness.declared.files.WatchOutcome.{WatchOutcome}
-use Rattle.gb_trace.specs.Below.gb_witness.declared.files.WatchOutcome.TheVariants as watch
+use Rattle.gb_hunt.specs.Below.gb_printed.declared.commands.RunOutcome.{RunOutcome}
+use Rattle.gb_hunt.specs.Below.gb_printed.declared.commands.RunOutcome.TheVariants as played
+use Rattle.gb_hunt.specs.Below.gb_watch.declared.sighting.Watched.{Watched}
+use Rattle.gb_hunt.specs.Below.gb_watch.declared.sighting.Watched.TheVariants as watched
+use Rattle.gb_hunt.specs.Below.gb_witness.declared.files.WatchOutcome.{WatchOutcome}
+use Rattle.gb_hunt.specs.Below.gb_witness.declared.files.WatchOutcome.TheVariants as watch
 use Rattle.gb_command_line.specs.declared.status.Status.{Status}
 use Rattle.gb_command_line.specs.declared.status.Status.TheVariants as status
 use Rattle.gb_command_line.specs.Below.gb_files.declared.trouble.Trouble.{Trouble}

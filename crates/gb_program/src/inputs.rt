@@ -8,7 +8,7 @@ use gb_words::{Task, WatchOptions};
 
 /// Whether a file is named, and is standard input.
 fn is_given_input(name: Option<&str>) -> bool
-    ensures { result ≡ is_given_input name }
+    ensures { result ≡ is_given_input name.entry }
 {
     match name {
         Some(name) => is_input(name),
@@ -40,6 +40,7 @@ pub fn has_input_twice(task: &Task<'_>) -> bool
             options,
             ..
         } => has_watched_twice(rom, script, &options),
+        Task::Hunt { rom, options } => is_input(rom) && is_given_input(options.symbols),
         Task::Stored | Task::Header { .. } | Task::Show { .. } | Task::Upgrade { .. } => false,
     }
 }

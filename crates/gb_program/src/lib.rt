@@ -5,6 +5,7 @@
 //! `certify` does alike is gb_command_line's.
 #![tactic(auto)]
 
+mod hunting;
 mod inputs;
 mod messages;
 mod perform;
@@ -18,11 +19,11 @@ use gb_command_line::status::exit_code;
 use perform::start;
 use std::io::Input;
 use std::process::ExitCode;
-use std::rt::{Env, Files};
+use std::rt::{Clock, Env, Files};
 
 /// Runs the program on the words after its name, and answers its status. `is_shown` says whether a person sees standard
 /// error as it comes.
-pub fn run<R: Print + Eprint + Input + Files + Env + AllocGlobal>(
+pub fn run<R: Print + Eprint + Input + Files + Env + Clock + AllocGlobal>(
     rt: &R,
     is_shown: bool,
 ) -> ExitCode {

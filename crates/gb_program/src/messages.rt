@@ -1,6 +1,7 @@
 //! What the program alone says on standard error.
 
 use gb_command_line::{explain, shown_name};
+use std::io;
 
 /// The program's name, in its messages.
 pub const PROGRAM: &str = "gulmyrek";
@@ -15,4 +16,19 @@ pub fn tell_refusal<R: Eprint + AllocGlobal>(rt: &R, name: &str, rom: &[u8], cer
             "{PROGRAM}: {name}: a certificate fits one build only: after a change, make a new one with certify"
         );
     }
+}
+
+/// Says why a file can't be written.
+pub fn tell_written<R: Eprint>(rt: &R, name: &str, error: &io::Error) {
+    let _ = match error.kind() {
+        io::ErrorKind::NotFound => eprintln!(rt; "{PROGRAM}: {name}: no such folder"),
+        io::ErrorKind::PermissionDenied => eprintln!(rt;
+            "{PROGRAM}: {name}: no permission to write it"
+        ),
+        io::ErrorKind::IsADirectory => eprintln!(rt; "{PROGRAM}: {name}: is a folder"),
+        io::ErrorKind::OutOfMemory => eprintln!(rt;
+            "{PROGRAM}: {name}: not enough memory to write it"
+        ),
+        _ => eprintln!(rt; "{PROGRAM}: {name}: {error}"),
+    };
 }

@@ -1,5 +1,6 @@
 //! The commands, and what becomes of the words.
 
+use crate::hunting::hunt;
 use crate::inputs::has_input_twice;
 use crate::messages::{PROGRAM, tell_refusal};
 use crate::progress::FramesShown;
@@ -15,10 +16,10 @@ use gb_command_line::words::{explain, tell_words, words_of};
 use gb_command_line::{
     Plain, Trouble, UpgradeTo, read_cartridge, read_certificate, read_file, upgrade_bytes,
 };
-use gb_trace::{RunOutcome, header_bytes, run_bytes, show_bytes};
+use gb_hunt::{RunOutcome, header_bytes, run_bytes, show_bytes};
 use gb_words::{Task, read_words};
 use std::io::{self, Input};
-use std::rt::{Env, Files};
+use std::rt::{Clock, Env, Files};
 
 /// The command `verify`. Where the cartridge can't be read, the line says nothing of the certificate.
 fn verify_files<R: Print + Eprint + Input + Files + AllocGlobal>(
@@ -133,7 +134,7 @@ fn verify_stored<R: Print + Eprint + AllocGlobal>(rt: &R) -> Status {
 }
 
 /// Does what the words ask for; `is_shown` says whether a person sees standard error.
-fn perform<R: Print + Eprint + Input + Files + AllocGlobal>(
+fn perform<R: Print + Eprint + Input + Files + Clock + AllocGlobal>(
     rt: &R,
     words: &[&str],
     is_shown: bool,
@@ -170,11 +171,12 @@ fn perform<R: Print + Eprint + Input + Files + AllocGlobal>(
             };
             watch(rt, &files, is_shown)
         }
+        Task::Hunt { rom, options } => hunt(rt, rom, &options, is_shown),
     }
 }
 
 /// Runs the program on the words after its name.
-pub fn start<R: Print + Eprint + Input + Files + Env + AllocGlobal>(
+pub fn start<R: Print + Eprint + Input + Files + Env + Clock + AllocGlobal>(
     rt: &R,
     is_shown: bool,
 ) -> Result<Status, Trouble> {

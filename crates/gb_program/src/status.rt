@@ -5,7 +5,7 @@ ghost use Rattle.gb_program.specs.Status.{header_status, show_status, upgrade_st
 
 use gb_command_line::status::Status;
 use gb_command_line::{CertFault, HeaderFault, Trouble, Upgraded};
-use gb_trace::{Ending, RunOutcome, WatchOutcome, Watched};
+use gb_hunt::{Ending, RunOutcome, WatchOutcome, Watched};
 
 /// The status of a header's line, or of the fault in its place.
 pub fn header_status(fault: Option<HeaderFault>) -> Status

@@ -13,11 +13,11 @@ use gb_command_line::{
     Cert, Plain, Rom, SymbolFault, Symbols, Trouble, read_cartridge, read_certificate, read_file,
     shown_name,
 };
-use gb_ops::machine::Region;
-use gb_trace::{
+use gb_hunt::{
     Console, FaultyRun, FoundStack, WatchOutcome, Watched, certificate_line, find_stack, put_all,
     trace_fault, watch_bytes,
 };
+use gb_ops::machine::Region;
 use gb_words::WatchOptions;
 use std::io::{self, Input};
 use std::rt::Files;
@@ -39,8 +39,19 @@ struct WatchedBytes {
     cert: Vec<u8>,
 }
 
+/// A script with the cartridge that it plays.
+#[derive(Clone, Copy)]
+pub struct PlayedScript<'a> {
+    /// The cartridge's name.
+    pub name: &'a str,
+    pub rom: &'a [u8],
+    pub script: &'a [u8],
+    pub frames: u32,
+    pub region: Region,
+}
+
 /// A stack region, or the status where there is none.
-enum StackChoice {
+pub enum StackChoice {
     Region(Region),
     Ended(Status),
 }
@@ -79,17 +90,18 @@ fn certified_stack<R: Print + Eprint + AllocGlobal>(
 }
 
 /// The RAM below the first address that the run sets SP to.
-fn played_stack<R: Eprint + AllocGlobal>(
+pub fn played_stack<R: Eprint + AllocGlobal>(
     rt: &R,
-    files: &WatchedFiles<'_>,
+    name: &str,
     rom: &Rom<'_>,
     script: &[u8],
+    frames: u32,
 ) -> Result<StackChoice, Trouble> {
     let mut console = Console::new(rt.alloc(), rom)?;
-    match find_stack(&mut console, script, files.frames) {
+    match find_stack(&mut console, script, frames) {
         FoundStack::Below(region) => Ok(StackChoice::Region(region)),
         FoundStack::NotRam(sp) => {
-            let name = shown_name(files.rom);
+            let name = shown_name(name);
             let _ = eprintln!(rt;
                 "{PROGRAM}: {name}: `ld sp, ${sp:04X}` leaves no WRAM or HRAM below SP: name the stack with --stack"
             );
@@ -113,7 +125,7 @@ fn stack_for<R: Print + Eprint + AllocGlobal>(
     match (named, files.options.cert) {
         (Some(region), _) => Ok(StackChoice::Region(region)),
         (None, Some(name)) => Ok(certified_stack(rt, name, &bytes.cert)),
-        (None, None) => played_stack(rt, files, &rom, &bytes.script),
+        (None, None) => played_stack(rt, files.rom, &rom, &bytes.script, files.frames),
     }
 }
 
@@ -134,22 +146,26 @@ fn tell_fault<R: Eprint + AllocGlobal>(
 }
 
 /// Plays the script and says how that went.
-fn watch_region<R: Print + Eprint + AllocGlobal>(
+pub fn watch_played<R: Print + Eprint + AllocGlobal>(
     rt: &R,
-    files: &WatchedFiles<'_>,
-    bytes: &WatchedBytes,
-    region: Region,
+    played: &PlayedScript<'_>,
     symbols: &Symbols<'_>,
     is_shown: bool,
 ) -> Result<Status, Trouble> {
     let mut out = Plain::new(io::writer(rt));
     let mut progress = FramesShown::new(rt, is_shown);
-    let (rom, script) = (&bytes.rom, &bytes.script);
+    let PlayedScript {
+        name,
+        rom,
+        script,
+        frames,
+        region,
+    } = *played;
     let watched = watch_bytes(
         rt.alloc(),
         rom,
         script,
-        files.frames,
+        frames,
         region,
         &mut out,
         &mut progress,
@@ -158,8 +174,8 @@ fn watch_region<R: Print + Eprint + AllocGlobal>(
         return Ok(tell_output(rt, PROGRAM));
     };
     match outcome {
-        WatchOutcome::NoMemory => tell_memory(rt, PROGRAM, files.rom),
-        WatchOutcome::NoCartridge(fault) => tell_cartridge(rt, PROGRAM, files.rom, fault),
+        WatchOutcome::NoMemory => tell_memory(rt, PROGRAM, name),
+        WatchOutcome::NoCartridge(fault) => tell_cartridge(rt, PROGRAM, name, fault),
         WatchOutcome::Told(run) => {
             if let Watched::Faulted(sighting) = run.watched {
                 let run = FaultyRun {
@@ -168,7 +184,7 @@ fn watch_region<R: Print + Eprint + AllocGlobal>(
                     sighting,
                     region,
                 };
-                tell_fault(rt, files.rom, rom, &run, symbols);
+                tell_fault(rt, name, rom, &run, symbols);
             }
         }
     }
@@ -176,7 +192,7 @@ fn watch_region<R: Print + Eprint + AllocGlobal>(
 }
 
 /// Says what is wrong with a file of symbols; where none is named, memory ran out.
-fn tell_wrong_symbols<R: Eprint>(
+pub fn tell_wrong_symbols<R: Eprint>(
     rt: &R,
     name: Option<&str>,
     fault: SymbolFault,
@@ -207,7 +223,16 @@ pub fn watch<R: Print + Eprint + Input + Files + AllocGlobal>(
         Err(fault) => return tell_wrong_symbols(rt, files.options.symbols, fault),
     };
     match stack_for(rt, files, &bytes, named)? {
-        StackChoice::Region(region) => watch_region(rt, files, &bytes, region, &symbols, is_shown),
+        StackChoice::Region(region) => {
+            let played = PlayedScript {
+                name: files.rom,
+                rom: &bytes.rom,
+                script: &bytes.script,
+                frames: files.frames,
+                region,
+            };
+            watch_played(rt, &played, &symbols, is_shown)
+        }
         StackChoice::Ended(status) => Ok(status),
     }
 }

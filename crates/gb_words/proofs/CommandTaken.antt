@@ -18,7 +18,7 @@ use Rattle.gb_words.specs.CommandLine.{program_app}
 use Rattle.gb_words.specs.Words.{begins_with_hyphen}
 use Rattle.gb_words.proofs.PlainWords.{word_is_value}
 use Rattle.gb_words.proofs.LeafWalk.{HasAll, HasNoDefaults, HasRoom, Takes, TakesOne, at, below, exactly, held_at, last_value, position_at, rows_before}
-use Rattle.gb_words.proofs.Leaves.{Command, header, leaf_of, name_of, rules_for, run, show, takes, upgrade, verify, watch, whole}
+use Rattle.gb_words.proofs.Leaves.{Command, header, hunt, leaf_of, name_of, rules_for, run, show, takes, upgrade, verify, watch, whole}
 use Rattle.gb_words.proofs.CommandWalk.{command_fault, names, settling, start, stopped_at, stopped_walk, top}
 
 -- ---- a word that begins with no hyphen
@@ -117,6 +117,7 @@ line_walk show values = stopped_walk (name_of show) [] values
 line_walk upgrade values = stopped_walk (name_of upgrade) [] values
 line_walk run values = stopped_walk (name_of run) [] values
 line_walk watch values = stopped_walk (name_of watch) [] values
+line_walk hunt values = stopped_walk (name_of hunt) [] values
 
 top_taken : (c : Command) (values : List Text) → level_fault top names nothing_held (line c values) true [] ≡ []
 unfolding defaults_fault
@@ -138,6 +139,7 @@ is_entered show values = refl
 is_entered upgrade values = refl
 is_entered run values = refl
 is_entered watch values = refl
+is_entered hunt values = refl
 
 command_taken : (c : Command) (values : List Text) → ArePlain values → length values ≡ length (rules_for c) → settling c values ≡ [] → fault_of program_app (line c values) ≡ []
 command_taken c values plain count settles =

@@ -14,7 +14,7 @@ use Rattle.gb_words.specs.CommandLine.{program_app}
 use Rattle.gb_words.specs.Words.{IsCommand}
 use Rattle.gb_words.proofs.PlainWords.{HasNoFlags, both_clear, no_long, no_short, word_is_value}
 use Rattle.gb_words.proofs.LeafWalk.{gives_values, held_at, level_clear, value_rows}
-use Rattle.gb_words.proofs.Leaves.{Command, header, leaf_of, name_of, rules_for, run, show, takes, upgrade, verify, watch, whole}
+use Rattle.gb_words.proofs.Leaves.{Command, header, hunt, leaf_of, name_of, rules_for, run, show, takes, upgrade, verify, watch, whole}
 
 abbrev pub top : Shape
 top = whole.top
@@ -63,30 +63,32 @@ no_command word clear =
     ap (λ m. after_step top.rules word start m.0 m.1) is ∙ step
 
 -- the subcommand that is met, by the tests of the names; the last is `help`
-abbrev named : Bool → Bool → Bool → Bool → Bool → Bool → Bool → Option Text
-named is_verify is_header is_show is_upgrade is_run is_watch is_help = option_map (λ (s : Text × List Text). s.0) (if is_verify then Some (codes "verify", [])
+abbrev named : Bool → Bool → Bool → Bool → Bool → Bool → Bool → Bool → Option Text
+named is_verify is_header is_show is_upgrade is_run is_watch is_hunt is_help = option_map (λ (s : Text × List Text). s.0) (if is_verify then Some (codes "verify", [])
     else (if is_header then Some (codes "header", []) else (if is_show then Some (codes "show", []) else (if is_upgrade then Some (codes "upgrade", [])
-    else (if is_run then Some (codes "run", []) else (if is_watch then Some (codes "watch", []) else (if is_help then Some (codes "help", []) else None)))))))
+    else (if is_run then Some (codes "run", []) else (if is_watch then Some (codes "watch", []) else (if is_hunt then Some (codes "hunt", []) else (if is_help then Some (codes "help", []) else None))))))))
 
-abbrev tested : Bool → Bool → Bool → Bool → Bool → Bool → Command → Bool
-tested is_verify is_header is_show is_upgrade is_run is_watch verify = is_verify
-tested is_verify is_header is_show is_upgrade is_run is_watch header = is_header
-tested is_verify is_header is_show is_upgrade is_run is_watch show = is_show
-tested is_verify is_header is_show is_upgrade is_run is_watch upgrade = is_upgrade
-tested is_verify is_header is_show is_upgrade is_run is_watch run = is_run
-tested is_verify is_header is_show is_upgrade is_run is_watch watch = is_watch
+abbrev tested : Bool → Bool → Bool → Bool → Bool → Bool → Bool → Command → Bool
+tested is_verify is_header is_show is_upgrade is_run is_watch is_hunt verify = is_verify
+tested is_verify is_header is_show is_upgrade is_run is_watch is_hunt header = is_header
+tested is_verify is_header is_show is_upgrade is_run is_watch is_hunt show = is_show
+tested is_verify is_header is_show is_upgrade is_run is_watch is_hunt upgrade = is_upgrade
+tested is_verify is_header is_show is_upgrade is_run is_watch is_hunt run = is_run
+tested is_verify is_header is_show is_upgrade is_run is_watch is_hunt watch = is_watch
+tested is_verify is_header is_show is_upgrade is_run is_watch is_hunt hunt = is_hunt
 
-first_word : (is_verify is_header is_show is_upgrade is_run is_watch is_help : Bool) (word : Text) → first_fault (named is_verify is_header is_show is_upgrade is_run is_watch is_help) word ≡ []
-    → ((c : Command) × (tested is_verify is_header is_show is_upgrade is_run is_watch c ≡ true) × (started (named is_verify is_header is_show is_upgrade is_run is_watch is_help) word ≡ stopped_at (name_of c) []))
-    ⊎ (started (named is_verify is_header is_show is_upgrade is_run is_watch is_help) word ≡ after_dashes)
-first_word true is_header is_show is_upgrade is_run is_watch is_help word clear = inl (verify, refl, refl)
-first_word false true is_show is_upgrade is_run is_watch is_help word clear = inl (header, refl, refl)
-first_word false false true is_upgrade is_run is_watch is_help word clear = inl (show, refl, refl)
-first_word false false false true is_run is_watch is_help word clear = inl (upgrade, refl, refl)
-first_word false false false false true is_watch is_help word clear = inl (run, refl, refl)
-first_word false false false false false true is_help word clear = inl (watch, refl, refl)
-first_word false false false false false false true word clear = absurd cc
-first_word false false false false false false false word clear = inr (no_command word clear)
+first_word : (is_verify is_header is_show is_upgrade is_run is_watch is_hunt is_help : Bool) (word : Text) → first_fault (named is_verify is_header is_show is_upgrade is_run is_watch is_hunt is_help) word ≡ []
+    → ((c : Command) × (tested is_verify is_header is_show is_upgrade is_run is_watch is_hunt c ≡ true) × (started (named is_verify is_header is_show is_upgrade is_run is_watch is_hunt is_help) word ≡ stopped_at (name_of c) []))
+    ⊎ (started (named is_verify is_header is_show is_upgrade is_run is_watch is_hunt is_help) word ≡ after_dashes)
+first_word true is_header is_show is_upgrade is_run is_watch is_hunt is_help word clear = inl (verify, refl, refl)
+first_word false true is_show is_upgrade is_run is_watch is_hunt is_help word clear = inl (header, refl, refl)
+first_word false false true is_upgrade is_run is_watch is_hunt is_help word clear = inl (show, refl, refl)
+first_word false false false true is_run is_watch is_hunt is_help word clear = inl (upgrade, refl, refl)
+first_word false false false false true is_watch is_hunt is_help word clear = inl (run, refl, refl)
+first_word false false false false false true is_hunt is_help word clear = inl (watch, refl, refl)
+first_word false false false false false false true is_help word clear = inl (hunt, refl, refl)
+first_word false false false false false false false true word clear = absurd cc
+first_word false false false false false false false false word clear = inr (no_command word clear)
 
 -- ---- the words behind it
 
@@ -122,7 +124,7 @@ is_text a b e = sym ((bytes_eq-Decides a b).0 (or_false (bytes_eq a b) e))
 
 abbrev tests : Text → Command → Bool
 tests word = tested (bytes_eq (codes "verify") word || false) (bytes_eq (codes "header") word || false) (bytes_eq (codes "show") word || false) (bytes_eq (codes "upgrade") word || false)
-    (bytes_eq (codes "run") word || false) (bytes_eq (codes "watch") word || false)
+    (bytes_eq (codes "run") word || false) (bytes_eq (codes "watch") word || false) (bytes_eq (codes "hunt") word || false)
 
 is_name : (c : Command) (word : Text) → tests word c ≡ true → word ≡ name_of c
 is_name verify word e = is_text (codes "verify") word e
@@ -131,13 +133,14 @@ is_name show word e = is_text (codes "show") word e
 is_name upgrade word e = is_text (codes "upgrade") word e
 is_name run word e = is_text (codes "run") word e
 is_name watch word e = is_text (codes "watch") word e
+is_name hunt word e = is_text (codes "hunt") word e
 
 stop_of : (words : List Text) → walk_fault top names start words ≡ [] → Stop words
 unfolding walk_fault walked
 stop_of [] clear = inr refl
 stop_of (word ∷ rest) clear =
     let parts = both_clear (turn_fault top names start word) _ clear in
-    let first = first_word (bytes_eq (codes "verify") word || false) (bytes_eq (codes "header") word || false) (bytes_eq (codes "show") word || false) (bytes_eq (codes "upgrade") word || false) (bytes_eq (codes "run") word || false) (bytes_eq (codes "watch") word || false) (bytes_eq (codes "help") word || false) word parts.0 in
+    let first = first_word (bytes_eq (codes "verify") word || false) (bytes_eq (codes "header") word || false) (bytes_eq (codes "show") word || false) (bytes_eq (codes "upgrade") word || false) (bytes_eq (codes "run") word || false) (bytes_eq (codes "watch") word || false) (bytes_eq (codes "hunt") word || false) (bytes_eq (codes "help") word || false) word parts.0 in
     elim first [
       | inl here ↦
           let walk_is = ap (λ w. fold (walked top.rules names) w rest) here.2 ∙ (stopped_walk (name_of here.0) [] rest).1 in
@@ -166,6 +169,7 @@ entered_is show rest = refl
 entered_is upgrade rest = refl
 entered_is run rest = refl
 entered_is watch rest = refl
+entered_is hunt rest = refl
 
 pub command_fault : (c : Command) (rest : List Text) → entered_fault whole (Some (name_of c, rest)) ≡ level_fault (leaf_of c) [] nothing_held rest false []
 command_fault verify rest = refl
@@ -174,6 +178,7 @@ command_fault show rest = refl
 command_fault upgrade rest = refl
 command_fault run rest = refl
 command_fault watch rest = refl
+command_fault hunt rest = refl
 
 -- without a subcommand the last checks are at fault
 no_subcommand : (rows : List Row) (stop : Option (Text × List Text)) → stop ≡ None → check_fault top rows (is_some (entered whole stop)) ≡ [] → ⊥

@@ -16,6 +16,7 @@ pub data Command : Type 0 where
   upgrade : Command
   run : Command
   watch : Command
+  hunt : Command
 
 abbrev pub name_of : Command → Text
 name_of verify = codes "verify"
@@ -24,10 +25,12 @@ name_of show = codes "show"
 name_of upgrade = codes "upgrade"
 name_of run = codes "run"
 name_of watch = codes "watch"
+name_of hunt = codes "hunt"
 
 by_name : Text → Command
 by_name name = if bytes_eq (codes "verify") name then verify else (if bytes_eq (codes "header") name then header
-    else (if bytes_eq (codes "show") name then show else (if bytes_eq (codes "upgrade") name then upgrade else (if bytes_eq (codes "run") name then run else watch))))
+    else (if bytes_eq (codes "show") name then show else (if bytes_eq (codes "upgrade") name then upgrade else (if bytes_eq (codes "run") name then run
+    else (if bytes_eq (codes "watch") name then watch else hunt)))))
 
 by_name_is : (c : Command) → by_name (name_of c) ≡ c
 unfolding by_name
@@ -37,6 +40,7 @@ by_name_is show = refl
 by_name_is upgrade = refl
 by_name_is run = refl
 by_name_is watch = refl
+by_name_is hunt = refl
 
 pub same_command : (c d : Command) → name_of c ≡ name_of d → c ≡ d
 same_command c d e = sym (by_name_is c) ∙ ap by_name e ∙ by_name_is d
@@ -48,6 +52,7 @@ rules_for show = certificate_rules
 rules_for upgrade = certificate_rules
 rules_for run = run_rules
 rules_for watch = run_rules
+rules_for hunt = header_rules
 
 -- the program's command, as it is built
 abbrev pub whole : App
@@ -141,6 +146,19 @@ watch_takes = record {
   no_defaults = λ a b c. refl;
 }
 
+hunt_takes : Takes (leaf_of hunt) header_rules
+unfolding defaults_fault
+hunt_takes = record {
+  no_flags = flags_are_two (leaf_of hunt) (λ name. refl) (λ x. refl);
+  has_room = (refl, λ a. tt);
+  takes_one = λ t word. (refl, λ a. tt);
+  is_full = λ a clear. cc;
+  misses = (λ clear. cc, λ a. tt);
+  has_all = λ a. refl;
+  keeps_all = λ a. refl;
+  no_defaults = λ a. refl;
+}
+
 pub takes : (c : Command) → Takes (leaf_of c) (rules_for c)
 takes verify = verify_takes
 takes header = header_takes
@@ -148,3 +166,4 @@ takes show = show_takes
 takes upgrade = upgrade_takes
 takes run = run_takes
 takes watch = watch_takes
+takes hunt = hunt_takes

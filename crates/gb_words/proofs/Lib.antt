@@ -4,6 +4,7 @@ pub mod Leaves
 pub mod CommandWalk
 pub mod CommandTaken
 pub mod Frames
+pub mod HuntWords
 pub mod MetCommand
 pub mod UpgradeWords
 pub mod WatchWords

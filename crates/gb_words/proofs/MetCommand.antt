@@ -11,9 +11,10 @@ use Rattle.clap.specs.declared.parser.matches.ArgMatches.TheViews.{out-ArgMatche
 use Rattle.clap.specs.declared.parser.matches.SubCommand.{SubCommand}
 use Rattle.clap.proofs.WalkLemmas.{first_value-rows, one_text-rows}
 use Rattle.gb_words.specs.CommandLine.{file_rule, program_app, run_rules, verify_rules}
-use Rattle.gb_words.specs.Words.{IsCommand, IsRun, IsWatch, WatchTexts, no_texts}
+use Rattle.gb_words.specs.HuntWords.{HuntTexts, no_hunt_texts}
+use Rattle.gb_words.specs.Words.{IsCommand, IsHunt, IsRun, IsWatch, WatchTexts, no_texts}
 use Rattle.gb_words.proofs.LeafWalk.{exactly, value_rows}
-use Rattle.gb_words.proofs.Leaves.{Command, header, name_of, rules_for, run, same_command, show, upgrade, verify, watch}
+use Rattle.gb_words.proofs.Leaves.{Command, header, hunt, name_of, rules_for, run, same_command, show, upgrade, verify, watch}
 use Rattle.gb_words.proofs.CommandWalk.{parsed, settling}
 use Rattle.gb_words.proofs.Frames.{is_taken, watch_is_taken}
 
@@ -52,8 +53,8 @@ met words app m name rows is has clear name_is rows_are =
 
 -- it is one of the program's commands
 pub is_known : (words : List Text) (name : Text) (rows : List Row) → IsMet words name rows → (name ≡ codes "verify" → ⊥) → (name ≡ codes "header" → ⊥)
-    → (name ≡ codes "show" → ⊥) → (name ≡ codes "upgrade" → ⊥) → (name ≡ codes "run" → ⊥) → (name ≡ codes "watch" → ⊥) → ⊥
-is_known words name rows g not_verify not_header not_show not_upgrade not_run not_watch = go g.command g.name_is
+    → (name ≡ codes "show" → ⊥) → (name ≡ codes "upgrade" → ⊥) → (name ≡ codes "run" → ⊥) → (name ≡ codes "watch" → ⊥) → (name ≡ codes "hunt" → ⊥) → ⊥
+is_known words name rows g not_verify not_header not_show not_upgrade not_run not_watch not_hunt = go g.command g.name_is
   where
     go : (c : Command) → name ≡ name_of c → ⊥
     go verify e = not_verify e
@@ -62,6 +63,7 @@ is_known words name rows g not_verify not_header not_show not_upgrade not_run no
     go upgrade e = not_upgrade e
     go run e = not_run e
     go watch e = not_watch e
+    go hunt e = not_hunt e
 
 -- ---- each command
 
@@ -107,6 +109,9 @@ gives_file c id rules words name rows g e = named (GivesFile words rows (name_of
 
 pub gives_header : (words : List Text) (name : Text) (rows : List Row) → IsMet words name rows → name ≡ codes "header" → GivesFile words rows (codes "header") (codes "rom")
 gives_header = gives_file header (codes "rom") refl
+
+pub gives_hunt : (words : List Text) (name : Text) (rows : List Row) → IsMet words name rows → name ≡ codes "hunt" → GivesFile words rows (codes "hunt") (codes "rom")
+gives_hunt = gives_file hunt (codes "rom") refl
 
 pub gives_show : (words : List Text) (name : Text) (rows : List Row) → IsMet words name rows → name ≡ codes "show" → GivesFile words rows (codes "show") (codes "cert")
 gives_show = gives_file show (codes "cert") refl
@@ -163,6 +168,13 @@ as_run words a b n rows g e f number = record {
   command = subst (λ x. IsCommand words (codes "run") (x ∷ b ∷ g.frames ∷ [])) e (subst (λ y. IsCommand words (codes "run") (g.rom ∷ y ∷ g.frames ∷ [])) f g.is);
   frames_are = record { is_taken = g.taken; number = number };
 }
+
+pub as_hunt : (words : List Text) (a : Text) (rows : List Row) (g : GivesFile words rows (codes "hunt") (codes "rom")) (texts : HuntTexts) → g.file ≡ a
+    → texts ≡ no_hunt_texts → IsHunt words a texts
+as_hunt words a rows g texts e none = inl (record {
+  command = as_file words (codes "hunt") a g.file e g.is;
+  no_options = none;
+})
 
 pub as_watch : (words : List Text) (a b : Text) (n : ℕ) (rows : List Row) (g : GivesRun words rows (codes "watch")) (texts : WatchTexts) → g.rom ≡ a → g.script ≡ b
     → signed_digits_value 10 g.frames ≡ pos n → texts ≡ no_texts → IsWatch words a b n texts

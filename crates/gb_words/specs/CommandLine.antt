@@ -49,6 +49,9 @@ run_app = command_app (codes "run") run_rules
 abbrev pub watch_app : App
 watch_app = command_app (codes "watch") run_rules
 
+abbrev pub hunt_app : App
+hunt_app = command_app (codes "hunt") header_rules
+
 -- the program itself takes no more than its subcommands
 abbrev pub plain_app : App
 plain_app = let a = new_app (codes "gulmyrek") in record a {
@@ -60,7 +63,7 @@ plain_app = let a = new_app (codes "gulmyrek") in record a {
 }
 
 abbrev pub program_app : App
-program_app = with_subcommand (with_subcommand (with_subcommand (with_subcommand (with_subcommand (with_subcommand plain_app verify_app.top) header_app.top) show_app.top) upgrade_app.top) run_app.top) watch_app.top
+program_app = with_subcommand (with_subcommand (with_subcommand (with_subcommand (with_subcommand (with_subcommand (with_subcommand plain_app verify_app.top) header_app.top) show_app.top) upgrade_app.top) run_app.top) watch_app.top) hunt_app.top
 
 -- where the command could be built it is this one, and none of its arguments is its subcommands' too
 abbrev pub Makes : {E : Type 0} → Result Command E → App → Type 0

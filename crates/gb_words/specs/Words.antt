@@ -8,6 +8,7 @@ use Rattle.gb_words.specs.declared.words.TargetVersion.TheVariants as version
 use Rattle.gb_words.specs.declared.watching.WatchOption.{WatchOption}
 use Rattle.gb_words.specs.declared.watching.WatchOption.TheVariants as option
 use Rattle.gb_words.specs.declared.watching.WatchOptions.{WatchOptions}
+use Rattle.gb_words.specs.HuntWords.{HuntTexts, hunt_options_in, hunt_texts_of, no_hunt_texts}
 use Rattle.gb_words.specs.declared.words.Task.{Task}
 use Rattle.gb_words.specs.declared.words.Task.TheVariants as task
 
@@ -124,6 +125,21 @@ pub record IsPlainWatch (words : List Text) (rom script : Text) (frames : ℕ) (
 abbrev pub IsWatch : List Text → Text → Text → ℕ → WatchTexts → Type 0
 IsWatch words rom script frames texts = IsPlainWatch words rom script frames texts ⊎ IsWatchWith words rom script frames texts
 
+-- `hunt`, the name of a file, and options
+pub record IsHuntWith (words : List Text) (rom : Text) (texts : HuntTexts) : Type 0 where
+  pub options : List Text
+  pub are : words ≡ codes "hunt" ∷ rom ∷ options
+  pub rom_is : is_file rom ≡ true
+  pub options_are : hunt_options_in options ≡ Some texts
+
+-- the same without options
+pub record IsPlainHunt (words : List Text) (rom : Text) (texts : HuntTexts) : Type 0 where
+  pub command : IsCommand words (codes "hunt") (rom ∷ [])
+  pub no_options : texts ≡ no_hunt_texts
+
+abbrev pub IsHunt : List Text → Text → HuntTexts → Type 0
+IsHunt words rom texts = IsPlainHunt words rom texts ⊎ IsHuntWith words rom texts
+
 -- the words are those of the task
 abbrev pub StandFor : List Text → Task → Type 0
 StandFor words task.Stored = words ≡ []
@@ -133,3 +149,4 @@ StandFor words (task.Show cert) = IsCommand words (codes "show") (cert.now ∷ [
 StandFor words (task.Upgrade cert to) = IsUpgrade words to cert.now
 StandFor words (task.Run rom script frames) = IsRun words rom.now script.now frames
 StandFor words (task.Watch rom script frames options) = IsWatch words rom.now script.now frames (texts_of options)
+StandFor words (task.Hunt rom options) = IsHunt words rom.now (hunt_texts_of options)

@@ -7,7 +7,7 @@ Without a command, gulmyrek checks its built-in cartridge and certificate.
 One file of a command can be - for standard input. For a file named -, write ./-
 
 Status:
-  0  accepted; all frames ran; the header, the certificate's lines or its bytes were written
+  0  accepted; all frames ran; no fault was found; the header, the certificate's lines or its bytes were written
   1  refused; a run locked up, stopped or had a fault
   2  wrong arguments, not a valid ROM, or not a valid certificate
   3  not enough memory (FAULT memory, CERTIFICATE C9), or a file can't be read or written (FAULT device)
@@ -75,6 +75,27 @@ It prints the last screen as 144 lines of 80 hexadecimal digits. Each byte is fo
 If ROM isn't a valid ROM, it prints CARTRIDGE Hn only (status 2).
 
 ROM or SCRIPT can be - for standard input.";
+
+/// Below the help of `hunt`.
+pub(crate) const HUNT: &str = "\
+It plays the cartridge with keys of its own and looks for a fault, as watch names them. It prints one line:
+  FAULT Fn frame I pc AAAA bank BBB  the fault that the keys lead to, as watch prints it (status 1)
+  NO FAULT frames N                  it played N frames and found none (status 0)
+  CARTRIDGE Hn                       ROM isn't a valid ROM (status 2)
+NO FAULT proves nothing: other keys may lead to one. `certify` can prove that a game has none.
+For a fault, stderr shows the place, the instruction, the open calls, the last instructions, and how to play it again.
+
+Write the options after ROM, in any order:
+  --frames N           play at most N frames; without --frames and --seconds, 60000
+  --seconds N          stop the search after N seconds
+  --seed N             try other keys; the same seed and frames always give the same result (without it, 0)
+  --stack FIRST..LAST  the stack's addresses, as in DF00..DFFF
+  --keys OUT           write the keys to OUT, a byte for each frame, as run and watch read them
+  --sym FILE           show your labels: RGBDS .sym, SDCC .noi or .map
+Without --stack, the first `ld sp, n16` that runs gives the stack.
+It is the RAM from C000 or FF80 up to the byte below that address.
+
+ROM can be - for standard input.";
 
 /// Below the help of `watch`.
 pub(crate) const WATCH: &str = "\

@@ -3,9 +3,11 @@
 ghost use Rattle.std.specs.Prelude.{◌≡◌, ◌∷◌, ◌≤◌, [], IfErr, IfOk, IfSome, IsOk, List, Some, codes, decimal, false, is_some, map, true, ℕ};
 ghost use Rattle.clap.specs.Words.{App, FailsBy, HasMatchesOf, fault_of, first_value, found_of, has_subcommand, is_simple_and_free, kind_of, rule_of, with_rule, with_subcommand};
 ghost use Rattle.gb_words.specs.CommandLine;
+ghost use Rattle.gb_words.specs.HuntWords;
 ghost use Rattle.gb_words.specs.Words;
 
 use crate::help;
+use crate::hunting::{HuntOptions, hunt_asked};
 use crate::watching::{WatchOptions, watch_asked};
 use clap::error::ErrorKind;
 use clap::{Arg, ArgMatches, Command, Error};
@@ -56,6 +58,11 @@ pub enum Task<'a> {
         script: &'a str,
         frames: u32,
         options: WatchOptions<'a>,
+    },
+    /// A search of this cartridge for keys that lead to a fault.
+    Hunt {
+        rom: &'a str,
+        options: HuntOptions<'a>,
     },
 }
 
@@ -237,6 +244,23 @@ fn watch_command<'a>(alloc: Global) -> Result<Command<'a>, AllocError>
     )
 }
 
+/// The command `hunt`.
+fn hunt_command<'a>(alloc: Global) -> Result<Command<'a>, AllocError>
+    ensures { CommandLine.Makes result CommandLine.hunt_app }
+{
+    let command = file_command(
+        alloc,
+        "hunt",
+        "Looks for keys that lead a cartridge to a fault",
+        help::HUNT,
+        rom_arg(alloc),
+    );
+    with_usage(
+        command,
+        "gulmyrek hunt <ROM> [--frames N] [--seconds N] [--seed N] [--stack FIRST..LAST] [--keys OUT] [--sym FILE]",
+    )
+}
+
 /// The program's own words, with no command yet.
 fn plain_command<'a>(alloc: Global) -> Result<Command<'a>, AllocError>
     ensures { CommandLine.Makes result CommandLine.plain_app }
@@ -271,7 +295,8 @@ fn program_command<'a>(alloc: Global) -> Result<Command<'a>, AllocError>
     let program = with_command(program, show_command(alloc));
     let program = with_command(program, upgrade_command(alloc));
     let program = with_command(program, run_command(alloc));
-    with_command(program, watch_command(alloc))
+    let program = with_command(program, watch_command(alloc));
+    with_command(program, hunt_command(alloc))
 }
 
 /// What the program's command line makes of the words.
@@ -351,6 +376,8 @@ pub fn read_words<'a>(alloc: Global, words: &'a [&'a str]) -> Result<Task<'a>, E
         → IfErr result (λ e. kind_of e ≡ ErrorKind.OutOfMemory) }
     ensures watch { (rom script : List ℕ) (n : ℕ) (options : List (List ℕ)) → map (λ word. word.now) words.now ≡ codes "watch" ∷ rom ∷ script ∷ decimal n ∷ options
         → Words.is_file rom ≡ true → Words.is_file script ≡ true → n ≤ 36000 → is_some (Words.options_in options) ≡ true → IsOk result }
+    ensures hunt { (rom : List ℕ) (options : List (List ℕ)) → map (λ word. word.now) words.now ≡ codes "hunt" ∷ rom ∷ options
+        → Words.is_file rom ≡ true → is_some (HuntWords.hunt_options_in options) ≡ true → IsOk result }
 {
     if words.is_empty() {
         return Ok(Task::Stored);
@@ -359,6 +386,9 @@ pub fn read_words<'a>(alloc: Global, words: &'a [&'a str]) -> Result<Task<'a>, E
         return Ok(task);
     }
     if let Some(task) = watch_asked(words) {
+        return Ok(task);
+    }
+    if let Some(task) = hunt_asked(words) {
         return Ok(task);
     }
     let matches = matches_of(alloc, words)?;
@@ -409,6 +439,13 @@ pub fn read_words<'a>(alloc: Global, words: &'a [&'a str]) -> Result<Task<'a>, E
                 script,
                 frames,
                 options: WatchOptions::none(),
+            })
+        }
+        "hunt" => {
+            let rom = value(arguments, "rom");
+            Ok(Task::Hunt {
+                rom,
+                options: HuntOptions::none(),
             })
         }
         _ => unreachable!(),

@@ -1,7 +1,7 @@
 use Rattle.std.proofs.Common.{ℕ, List, ap, subst, ◌∙◌}
 use Rattle.gb_faults.specs.Below.gb_cpu.Below.gb_bus.Contents.{Contents}
 use Rattle.gb_faults.specs.Quiet.{IsGuard}
-use Rattle.gb_watch.proofs.Parsing.{parsed_is}
+use Rattle.gb_hunt.proofs.Parsing.{parsed_is}
 use Rattle.gb_hunt.proofs.explore.guard_of.Goals as goal
 
 pub returns-in-Ok : goal.returns-in-Ok

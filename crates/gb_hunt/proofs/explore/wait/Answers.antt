@@ -1,4 +1,4 @@
-use Rattle.gb_console.specs.Console.{rom_of}
+use Rattle.gb_trace.specs.Below.gb_console.Console.{rom_of}
 use Rattle.gb_hunt.proofs.Guarding.{same_guard, rests_rom}
 use Rattle.gb_hunt.proofs.explore.wait.Goals as goal
 

@@ -6,7 +6,7 @@ use Rattle.gb_words.specs.CommandLine.{program_app}
 use Rattle.gb_words.proofs.Leaves.{header, run, show, upgrade, verify}
 use Rattle.gb_words.proofs.CommandTaken.{wants_memory}
 use Rattle.gb_words.proofs.Frames.{decimal_is_frames, reads, settles}
-use Rattle.gb_words.proofs.MetCommand.{as_file, as_run, as_verify, met, gives_header, gives_run, gives_show, gives_upgrade, gives_verify, gives_watch, as_watch, has_value, is_known, one_is, some_same, value_is}
+use Rattle.gb_words.proofs.MetCommand.{as_file, as_hunt, as_run, as_verify, met, gives_header, gives_hunt, gives_run, gives_show, gives_upgrade, gives_verify, gives_watch, as_watch, has_value, is_known, one_is, some_same, value_is}
 use Rattle.gb_words.proofs.words.read_words.Goals as goal
 
 -- ---- `verify`
@@ -139,12 +139,27 @@ returns-in-watch-clause-stands c =
     let n_is : frames_are.0 ≡ c.in-Some-get_one-2.frames = some_same (sym frames_are.1 ∙ c.in-Some-get_one-2.is) in
     as_watch (map (λ s. s.now) c.args.words.now) _ _ _ _ r _ rom_is script_is (frames_are.2 ∙ ap pos n_is) c.none.ensures
 
+-- ---- `hunt`
+
+pub value-rom-requires-in-hunt : goal.value-rom-requires-in-hunt
+value-rom-requires-in-hunt c =
+    let g = met (map (λ s. s.now) c.args.words.now) program_app c.in_ok-matches.matches c.in-Some-subcommand.name.now (rows_of (found_of c.in-Some-subcommand.arguments.now)) refl c.in_ok-matches.ensures.matches c.in_ok-matches.ensures.kinds c.in-Some-subcommand.ensures.name c.in-Some-subcommand.ensures.rows in
+    let h = gives_hunt _ _ _ g c.in-hunt.is in
+    record { present = has_value c.in-Some-subcommand.arguments.now (codes "rom") h.file _ h.rows_are refl }
+
+pub returns-in-hunt-clause-stands : goal.returns-in-hunt-clause-stands
+returns-in-hunt-clause-stands c =
+    let g = met (map (λ s. s.now) c.args.words.now) program_app c.in_ok-matches.matches c.in-Some-subcommand.name.now (rows_of (found_of c.in-Some-subcommand.arguments.now)) refl c.in_ok-matches.ensures.matches c.in_ok-matches.ensures.kinds c.in-Some-subcommand.ensures.name c.in-Some-subcommand.ensures.rows in
+    let h = gives_hunt _ _ _ g c.in-hunt.is in
+    let rom_is = value_is c.in-Some-subcommand.arguments.now (codes "rom") h.file c.value-rom-in-hunt.result.now _ h.rows_are refl c.value-rom-in-hunt.ensures in
+    as_hunt (map (λ s. s.now) c.args.words.now) _ _ h _ rom_is c.none-in-hunt.ensures
+
 -- ---- other words
 
 pub unreachable-requires-in_default-name : goal.unreachable-requires-in_default-name
 unreachable-requires-in_default-name c =
     let g = met (map (λ s. s.now) c.args.words.now) program_app c.in_ok-matches.matches c.in-Some-subcommand.name.now (rows_of (found_of c.in-Some-subcommand.arguments.now)) refl c.in_ok-matches.ensures.matches c.in_ok-matches.ensures.kinds c.in-Some-subcommand.ensures.name c.in-Some-subcommand.ensures.rows in
-    is_known _ _ _ g c.in_default-name.not-verify c.in_default-name.not-header c.in_default-name.not-show c.in_default-name.not-upgrade c.in_default-name.not-run c.in_default-name.not-watch
+    is_known _ _ _ g c.in_default-name.not-verify c.in_default-name.not-header c.in_default-name.not-show c.in_default-name.not-upgrade c.in_default-name.not-run c.in_default-name.not-watch c.in_default-name.not-hunt
 
 -- ---- an error of words that are taken
 
