@@ -228,6 +228,23 @@ fn nodes_holding(held: &'static [u8]) -> [SpelledNode; 9] {
     nodes
 }
 
+/// What is printed of a cartridge with another certificate.
+fn told_between(
+    alloc: Global,
+    rom: &Rom<'_>,
+    old: &Cert<'_>,
+    new: &Cert<'_>,
+    symbols: &Symbols<'_>,
+) -> Option<String> {
+    let older = Older {
+        cert: old,
+        rom: Some(rom),
+        symbols: Some(symbols),
+    };
+    let changes = Changes::of(alloc, rom, new, symbols, &older).ok()?;
+    format!(in alloc; "{changes}").ok()
+}
+
 /// What is printed of the game with another certificate.
 fn told_of(alloc: Global, held: &'static [u8]) -> Option<String> {
     let rom = game();
@@ -239,13 +256,7 @@ fn told_of(alloc: Global, held: &'static [u8]) -> Option<String> {
     let old = Cert::parse(alloc, old.as_slice()).ok()?;
     let new = Cert::parse(alloc, new.as_slice()).ok()?;
     let symbols = Symbols::parse(alloc, b"00:0158 draw\n").ok()?;
-    let older = Older {
-        cert: &old,
-        rom: Some(&rom),
-        symbols: Some(&symbols),
-    };
-    let changes = Changes::of(alloc, &rom, &new, &symbols, &older).ok()?;
-    format!(in alloc; "{changes}").ok()
+    told_between(alloc, &rom, &old, &new, &symbols)
 }
 
 /// The deepest chain has the same names: they are printed once, with the bytes of what holds more.
