@@ -14,26 +14,12 @@ const DASHES: Task<'static> = Task::Verify {
     cert: "--",
 };
 
-/// The task of watching the cartridge A.
-const fn watched(
-    script: &'static str,
-    frames: u32,
-    stack: Option<&'static str>,
-    cert: Option<&'static str>,
-    symbols: Option<&'static str>,
-) -> Task<'static> {
-    let options = WatchOptions {
-        stack,
-        cert,
-        symbols,
-    };
-    Task::Watch {
-        rom: "A",
-        script,
-        frames,
-        options,
-    }
-}
+/// No option of a watched run.
+const UNSET: WatchOptions<'static> = WatchOptions {
+    stack: None,
+    cert: None,
+    symbols: None,
+};
 
 /// No option of a search.
 const NO_OPTIONS: HuntOptions<'static> = HuntOptions {
@@ -44,11 +30,6 @@ const NO_OPTIONS: HuntOptions<'static> = HuntOptions {
     keys: None,
     symbols: None,
 };
-
-/// The task of searching the cartridge A.
-const fn hunted(options: HuntOptions<'static>) -> Task<'static> {
-    Task::Hunt { rom: "A", options }
-}
 
 /// Words, and the task that they stand for.
 const TASKS: [(&[&str], Task<'static>); 22] = [
@@ -128,15 +109,33 @@ const TASKS: [(&[&str], Task<'static>); 22] = [
     ),
     (
         &["watch", "A", "-", "60"],
-        watched("-", 60, None, None, None),
+        Task::Watch {
+            rom: "A",
+            script: "-",
+            frames: 60,
+            options: UNSET,
+        },
     ),
     (
         &["watch", "--", "A", "B", "+7"],
-        watched("B", 7, None, None, None),
+        Task::Watch {
+            rom: "A",
+            script: "B",
+            frames: 7,
+            options: UNSET,
+        },
     ),
     (
         &["watch", "A", "B", "36000", "--sym", "S"],
-        watched("B", 36_000, None, None, Some("S")),
+        Task::Watch {
+            rom: "A",
+            script: "B",
+            frames: 36_000,
+            options: WatchOptions {
+                symbols: Some("S"),
+                ..UNSET
+            },
+        },
     ),
     (
         &[
@@ -151,17 +150,41 @@ const TASKS: [(&[&str], Task<'static>); 22] = [
             "--cert",
             "-",
         ],
-        watched("B", 1, Some("D000..DFFF"), Some("-"), Some("--cert")),
+        Task::Watch {
+            rom: "A",
+            script: "B",
+            frames: 1,
+            options: WatchOptions {
+                stack: Some("D000..DFFF"),
+                cert: Some("-"),
+                symbols: Some("--cert"),
+            },
+        },
     ),
-    (&["hunt", "A"], hunted(NO_OPTIONS)),
-    (&["hunt", "--", "A"], hunted(NO_OPTIONS)),
+    (
+        &["hunt", "A"],
+        Task::Hunt {
+            rom: "A",
+            options: NO_OPTIONS,
+        },
+    ),
+    (
+        &["hunt", "--", "A"],
+        Task::Hunt {
+            rom: "A",
+            options: NO_OPTIONS,
+        },
+    ),
     (
         &["hunt", "A", "--keys", "K", "--frames", "9"],
-        hunted(HuntOptions {
-            frames: Some("9"),
-            keys: Some("K"),
-            ..NO_OPTIONS
-        }),
+        Task::Hunt {
+            rom: "A",
+            options: HuntOptions {
+                frames: Some("9"),
+                keys: Some("K"),
+                ..NO_OPTIONS
+            },
+        },
     ),
     (
         &[
@@ -176,13 +199,16 @@ const TASKS: [(&[&str], Task<'static>); 22] = [
             "--seconds",
             "",
         ],
-        hunted(HuntOptions {
-            seconds: Some(""),
-            seed: Some("-"),
-            stack: Some("D000..DFFF"),
-            symbols: Some("--seed"),
-            ..NO_OPTIONS
-        }),
+        Task::Hunt {
+            rom: "A",
+            options: HuntOptions {
+                seconds: Some(""),
+                seed: Some("-"),
+                stack: Some("D000..DFFF"),
+                symbols: Some("--seed"),
+                ..NO_OPTIONS
+            },
+        },
     ),
 ];
 
