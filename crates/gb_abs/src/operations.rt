@@ -68,7 +68,7 @@ pub fn settle(core: &Core) -> Core
     Core { ime, ..*core }
 }
 
-/// The same core, an instruction having ended: its M-cycles pass.
+/// Lets an instruction's M-cycles pass at its end: OAM DMA has so many fewer left, or all of them if it starts.
 #[tactic(auto, unfolding(crate::specs::Operations::core_end))]
 pub fn pass(starts: bool, cycles: u8, core: &mut Core)
     ensures exact { core.new ≡ core_end starts cycles core.old }

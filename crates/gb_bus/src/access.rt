@@ -124,7 +124,7 @@ impl Memory<'_> {
         }
     }
 
-    /// The same; ROM, from where most instructions come, and work RAM are read in place.
+    /// What a read takes, for fetches: ROM, from where most instructions come, and work RAM are read without a call.
     #[inline(always)]
     #[tactic(auto, using(crate::proofs::Reading::rom_reads, crate::proofs::Reading::work_reads))]
     fn taken(&mut self, address: u16) -> Taken
@@ -264,7 +264,7 @@ impl Memory<'_> {
         }
     }
 
-    /// The same, where mostly there is none.
+    /// A transfer as M-cycles pass, tested inline: mostly there is none, and no call is made.
     #[inline(always)]
     #[tactic(auto, using(crate::proofs::Reading::none_passes))]
     fn pass_transfer(&mut self, cycles: u8)

@@ -68,7 +68,7 @@ pub trait Bus {
         ensures place { result ≡ place_of (shows self.now) address }
         ensures sized { IsSized (shows self.now) };
 
-    /// The same as `read`, and whether the byte is free: `place` and `read` in one.
+    /// Reads a byte and says whether it is free, in one call where `read` and `place` would decode the address twice.
     #[tactic(auto, unfolding(gb_ops::specs::Memory::is_free))]
     fn take(&mut self, address: u16) -> Taken
         ensures joined { does self.old (access.Reads address result.byte) self.new }

@@ -112,7 +112,7 @@ fn zero_bytes(alloc: Global, size: usize) -> Result<Vec<u8>, AllocError>
     Ok(vec![in alloc; 0; size]?)
 }
 
-/// The same bytes, in room of their own.
+/// A copy of bytes.
 fn same_bytes(alloc: Global, bytes: &[u8]) -> Result<Vec<u8>, AllocError>
     ensures items { IfOk result (λ copy. copy.items ≡ bytes.now) }
     ensures size { IfOk result (λ copy. vec_len copy ≡ length bytes.now) }

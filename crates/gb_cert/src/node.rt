@@ -124,7 +124,7 @@ impl<'a> NodeRef<'a> {
         }
     }
 
-    /// The same where it holds none.
+    /// Reads the state of a node without items and cells, as most nodes of straight code are: its core alone is put.
     #[inline(always)]
     fn read_plain(&self, state: &mut Abs)
         ensures { state.new ≡ record (state_of self.now.state.core) { relations = test_alone (compared self.now.state.relations.byte.test) } }
@@ -133,7 +133,7 @@ impl<'a> NodeRef<'a> {
         state.clear_lists(test_alone(self.test()));
     }
 
-    /// The same where it holds some: kept out of line, so that a state is cleared and copied only then.
+    /// Reads the state of a node with items or cells: out of line, so that a state is cleared and copied only then.
     #[inline(never)]
     fn read_lists(&self, state: &mut Abs)
         ensures { state.new ≡ self.now.state }

@@ -162,7 +162,7 @@ fn check_state(rules: Rules, state: &Abs) -> Result<(), WriteFault>
     Ok(())
 }
 
-/// The same of all nodes' states.
+/// Nothing, where these rules' versions can say all nodes' states, or else why they can't.
 fn check_nodes(rules: Rules, nodes: &[NodePlan<'_>]) -> Result<(), WriteFault>
     ensures spelled { OnOk result (list_any (stands_with (is_unspellable rules)) nodes.now ≡ false) }
     ensures fault { IfErr result (λ fault. list_any (stands_with (state_has rules fault)) nodes.now ≡ true) }
@@ -173,7 +173,7 @@ fn check_nodes(rules: Rules, nodes: &[NodePlan<'_>]) -> Result<(), WriteFault>
     Ok(())
 }
 
-/// The same of an exit's state.
+/// Nothing, where these rules' versions can say an exit's state, if there is one, or else why they can't.
 fn check_exit(rules: Rules, exit: Option<&Abs>) -> Result<(), WriteFault>
     ensures spelled { OnOk result (exit_has (is_unspellable rules) (exit_of exit.entry) ≡ false) }
     ensures fault { IfErr result (λ fault. exit_has (state_has rules fault) (exit_of exit.entry) ≡ true) }
@@ -184,7 +184,7 @@ fn check_exit(rules: Rules, exit: Option<&Abs>) -> Result<(), WriteFault>
     }
 }
 
-/// The same of all exits' states.
+/// Nothing, where these rules' versions can say all exits' states, or else why they can't.
 fn check_exits(rules: Rules, procedures: &[ProcedurePlan<'_>]) -> Result<(), WriteFault>
     ensures spelled { OnOk result (list_any (returns_with (is_unspellable rules)) procedures.now ≡ false) }
     ensures fault { IfErr result (λ fault. list_any (returns_with (state_has rules fault)) procedures.now ≡ true) }

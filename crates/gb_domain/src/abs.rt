@@ -88,7 +88,7 @@ impl Abs {
         &self.relations
     }
 
-    /// The same state, once more.
+    /// A copy: states own lists, and no state is copied unseen.
     pub fn copied(&self) -> Abs
         ensures { result ≡ self.now }
     {
@@ -174,7 +174,7 @@ impl Abs {
         self.relations = relations;
     }
 
-    /// The same state with another core.
+    /// A copy with another core.
     pub fn with_core(&self, core: Core) -> Abs
         ensures { result ≡ record self.now { core = core } }
     {

@@ -88,7 +88,7 @@ fn multiple_at(link: Link, word: u16) -> u16
     }
 }
 
-/// The same from one end of the pair to the other end.
+/// What a link reads, times the size of its factor, for all words of the pair between two ends.
 fn multiples_at(link: Link, bounds: Bounds) -> Bounds
     ensures { result ≡ multiples_at link bounds }
 {
@@ -288,7 +288,8 @@ fn reduced_twice(values: &Values) -> Option<Values>
     reduced_once(&reduced_once(values)?)
 }
 
-/// The same in place. Kept out of line, so that no values are copied where no pair says more than its bytes.
+/// Cuts values in place by each pair, twice; whether they then mean something. It is out of line, so that no values are copied
+/// where no pair says more than its bytes.
 #[inline(never)]
 fn reduce_twice(registers: &mut Registers<Val>, pairs: &mut Pairs) -> bool
     ensures exact { reduced (values_of registers.old pairs.old) ≡ values_if result (values_of registers.new pairs.new) }
@@ -308,7 +309,7 @@ fn reduce_twice(registers: &mut Registers<Val>, pairs: &mut Pairs) -> bool
     }
 }
 
-/// The same. Where no pair says more than its bytes, that is known at once.
+/// Cuts values in place by each pair, where some pair says more than its bytes: that test is cheap and mostly fails.
 #[inline(always)]
 fn reduce_by_need(registers: &mut Registers<Val>, pairs: &mut Pairs) -> bool
     ensures exact { reduced (values_of registers.old pairs.old) ≡ values_if result (values_of registers.new pairs.new) }
@@ -346,7 +347,7 @@ fn within_bounds(pair: WordPair, within: Bounds, values: &Values) -> Option<Valu
     Some(restricted)
 }
 
-/// The same values, where a pair lies within bounds too: what is left of its bounds becomes its own. None where nothing is.
+/// Values whose pair lies within bounds too: what is left of its bounds becomes its own. None where nothing is.
 #[tactic(auto, using(crate::proofs::ReducedLaws::restricted_sound, crate::proofs::CutLaws::restricted_cuts, crate::proofs::KeptLaws::restricted_kept))]
 pub fn restricted(pair: WordPair, within: Bounds, values: &Values) -> Option<Values>
     ensures exact { result ≡ restricted pair within values.now }

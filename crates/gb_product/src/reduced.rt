@@ -32,8 +32,8 @@ pub fn reduce(rules: Rules, core: &mut Core, relations: &mut Relations) -> bool
     }
 }
 
-/// The same core and relations, cut to what registers, pairs and links leave of each other: none where they mean nothing. By the
-/// rules of versions 1 and 2 they stay as they stand.
+/// A core and relations, cut to what registers, pairs and links leave of each other: none where they mean nothing. By the rules of
+/// versions 1 and 2 they stay as they are.
 pub fn reduced(rules: Rules, core: &Core, relations: &Relations) -> Option<Product>
     ensures exact { result ≡ Reducing.reduced rules core.now relations.now }
     ensures sound { IsSoundReducing core.now relations.now result }
@@ -69,7 +69,7 @@ fn branch_by(rules: Rules, branch: Branch) -> Option<Branch>
     with_cell(branch.cell, reduced(rules, &branch.core, &branch.relations))
 }
 
-/// The same side, cut; what is known of memory stays.
+/// A side of a test, cut to what registers, pairs and links leave of each other; what is known of memory stays.
 #[tactic(auto, using(crate::proofs::ReducedLaws::reduced_branch_cuts))]
 pub fn reduced_branch(rules: Rules, branch: Branch) -> Option<Branch>
     ensures exact { result ≡ Reducing.reduced_branch rules branch }

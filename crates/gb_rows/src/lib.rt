@@ -81,7 +81,7 @@ fn count_between<R: Rows>(
     low
 }
 
-/// The same number, among all rows.
+/// How many of all rows come before a target, as `count_between` counts them.
 fn count_before<R: Rows>(rows: &mut R, with_targets: bool, target: (u8, u16)) -> u32
     requires { AreInOrder (R.keys rows.old) }
     ensures count { IsBetween (R.keys rows.old) with_targets target result result }
@@ -117,7 +117,7 @@ fn bracket<R: Rows>(rows: &mut R, with_targets: bool, target: (u8, u16), near: u
     (low, high)
 }
 
-/// The same number, looked for from a row on.
+/// How many of all rows come before a target, looked for from a row on: mostly the next key is near the last one.
 fn count_near<R: Rows>(rows: &mut R, with_targets: bool, target: (u8, u16), near: u32) -> u32
     requires { AreInOrder (R.keys rows.old) }
     ensures count { IsBetween (R.keys rows.old) with_targets target result result }

@@ -10,12 +10,12 @@ use gb_ops::op::{self, Op, Row};
 use std::fmt;
 
 /// An instruction at its address. It prints as assemblers spell it (RGBDS; Pan Docs: CPU Instruction Set): upper case,
-/// numbers in hexadecimal behind `$`, displacements from SP in decimal, and a relative jump with the address that it
+/// numbers in hexadecimal after `$`, displacements from SP in decimal, and a relative jump with the address that it
 /// leads to.
 #[derive(Clone, Copy)]
 pub struct Spelling {
     op: Op,
-    /// The address behind the instruction.
+    /// The address of the next instruction.
     behind: u16,
 }
 
@@ -49,7 +49,7 @@ enum SpelledPart {
     Condition(op::Condition),
     Operation(op::AluOp),
     Shift(op::Shift),
-    /// A byte or an address behind `$`.
+    /// A byte or an address after `$`.
     Byte(u8),
     Word(u16),
     /// The number of a bit.
@@ -89,7 +89,7 @@ impl fmt::Display for SpelledPart {
     }
 }
 
-/// The parts of a spelling; behind the last they are empty.
+/// The parts of a spelling; after the last they are empty.
 type Parts = [SpelledPart; 4];
 
 fn one(part: SpelledPart) -> Parts {
