@@ -41,12 +41,18 @@ fn is_read(alloc: Global, words: &[&str], tally: &mut Tally) -> bool {
             match task {
                 Task::Stored => words.is_empty(),
                 Task::Verify { rom, cert } => words.contains(&rom) && words.contains(&cert),
-                Task::Header { rom } => words.contains(&rom),
+                Task::Header { rom } | Task::Hunt { rom, .. } => words.contains(&rom),
                 Task::Show { cert } | Task::Upgrade { cert, .. } => words.contains(&cert),
                 Task::Run {
                     rom,
                     script,
                     frames,
+                }
+                | Task::Watch {
+                    rom,
+                    script,
+                    frames,
+                    ..
                 } => words.contains(&rom) && words.contains(&script) && frames <= 36_000,
             }
         }
