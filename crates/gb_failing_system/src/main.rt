@@ -23,7 +23,8 @@ use gb_samples::cartridges::{PLAIN, put, small};
 use gb_samples::certificates::{least, least_in_version_2};
 use gb_samples::programs::{LOOP, UNDEFINED};
 use play::{Contents, Plays, play, play_cuts, play_page};
-use rows::{FAULTY, PAGES, READ};
+use rows::{FAULTY, PAGES, PLAYED, READ, Scenario};
+use std::alloc::Global;
 use std::io::{self, Write};
 
 /// Says how an example went.
@@ -36,6 +37,56 @@ fn write_plays<W: Write>(out: &mut W, about: &str, plays: Plays) -> io::Result<(
 const MARKUP: &[u8] =
     b"00:0100 <script>alert(0x0100)\n00:0150 <script/src=//a.b>\"'&<b>\n01:4000 </section><script>\n";
 
+// Each table has a function of its own: all of them are too much for one proof.
+
+/// Plays examples, and says how each went.
+fn write_rows<W: Write>(
+    alloc: Global,
+    contents: &Contents<'_>,
+    rows: &[Scenario],
+    out: &mut W,
+) -> io::Result<()> {
+    for row in rows {
+        let plays = play(alloc, contents, row);
+        write_plays(out, row.about, plays)?;
+    }
+    Ok(())
+}
+
+/// The examples that are read.
+fn write_read<W: Write>(alloc: Global, contents: &Contents<'_>, out: &mut W) -> io::Result<()> {
+    write_rows(alloc, contents, READ, out)
+}
+
+/// The examples that are played.
+fn write_played<W: Write>(alloc: Global, contents: &Contents<'_>, out: &mut W) -> io::Result<()> {
+    write_rows(alloc, contents, PLAYED, out)
+}
+
+/// The examples with something wrong.
+fn write_faulty<W: Write>(alloc: Global, contents: &Contents<'_>, out: &mut W) -> io::Result<()> {
+    write_rows(alloc, contents, FAULTY, out)
+}
+
+/// The examples of pages.
+fn write_pages<W: Write>(alloc: Global, contents: &Contents<'_>, out: &mut W) -> io::Result<()> {
+    for page in PAGES {
+        let plays = play_page(alloc, contents, page);
+        write_plays(out, page.whole.about, plays)?;
+    }
+    Ok(())
+}
+
+/// The examples that are cut off.
+fn write_cuts<W: Write>(alloc: Global, contents: &Contents<'_>, out: &mut W) -> io::Result<()> {
+    for cuts in CUTS {
+        let lengths = (cuts.most, cuts.step);
+        let plays = play_cuts(alloc, contents, &cuts.row, cuts.place, lengths);
+        write_plays(out, cuts.row.about, plays)?;
+    }
+    Ok(())
+}
+
 fn main(rt: HostRuntime) -> io::Result<()> {
     let mut longer = [0; 160];
     put(&mut longer, 0, &least());
@@ -47,18 +98,9 @@ fn main(rt: HostRuntime) -> io::Result<()> {
         markup: MARKUP,
     };
     let mut out = io::writer(&rt);
-    for row in READ.iter().chain(FAULTY) {
-        let plays = play(rt.alloc(), &contents, row);
-        write_plays(&mut out, row.about, plays)?;
-    }
-    for page in PAGES {
-        let plays = play_page(rt.alloc(), &contents, page);
-        write_plays(&mut out, page.whole.about, plays)?;
-    }
-    for cuts in CUTS {
-        let lengths = (cuts.most, cuts.step);
-        let plays = play_cuts(rt.alloc(), &contents, &cuts.row, cuts.place, lengths);
-        write_plays(&mut out, cuts.row.about, plays)?;
-    }
-    Ok(())
+    write_read(rt.alloc(), &contents, &mut out)?;
+    write_played(rt.alloc(), &contents, &mut out)?;
+    write_faulty(rt.alloc(), &contents, &mut out)?;
+    write_pages(rt.alloc(), &contents, &mut out)?;
+    write_cuts(rt.alloc(), &contents, &mut out)
 }

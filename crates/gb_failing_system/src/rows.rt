@@ -437,7 +437,8 @@ pub const READ: &[Scenario] = &[
     LIST,
 ];
 
-pub const FAULTY: &[Scenario] = &[
+/// Refused certificates, runs that lock, and what `watch` and `hunt` say.
+pub const PLAYED: &[Scenario] = &[
     Scenario {
         about: "a certificate that is refused",
         game: UNDEFINED,
@@ -578,6 +579,9 @@ pub const FAULTY: &[Scenario] = &[
         told: "standard input",
         ..HUNT
     },
+];
+
+pub const FAULTY: &[Scenario] = &[
     Scenario {
         about: "no cartridge",
         game: MISSING,
