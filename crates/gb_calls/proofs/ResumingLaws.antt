@@ -48,7 +48,7 @@ use Rattle.gb_product.specs.Below.gb_relations.Returned.{is_pair_kept, is_other_
 use Rattle.gb_product.specs.Below.gb_relations.Sound.{IsByteFree}
 use Rattle.gb_product.specs.Below.gb_relations.Transfer.{values_of}
 use Rattle.gb_product.proofs.Below.gb_relations_laws.ReturnLaws.{returned_sound}
-use Rattle.gb_product.specs.Below.gb_places.Meaning.{HoldOneByte}
+use Rattle.gb_product.specs.Below.gb_copies.Meaning.{HoldOneByte}
 use Rattle.gb_product.specs.Below.gb_relations.Compared.{only_of_a}
 use Rattle.gb_product.proofs.Below.gb_relations_laws.ComparedLaws.{HoldOneByte-nothing, HoldOneByte-only_of_a}
 use Rattle.gb_product.proofs.Below.gb_relations_laws.TransferLaws.{HoldPairs-nothing}

@@ -7,10 +7,10 @@ ghost use Rattle.gb_states.specs.Below.gb_fields.Rules.{usual_base, is_whole};
 ghost use Rattle.gb_states.specs.Rules.{is_traced, are_traced, is_core_traced, is_cell_traced, is_state_traced, may_be_known};
 ghost use Rattle.gb_cert.specs.Written.{exit_of, is_odd, is_half, has_many_items, has_many_cells, is_related, has_return, is_unspellable, state_has, exit_has, returns_with, stands_with, has_half_need, says_base, say_base, rules_in, AreSpellable, IsWriteFault};
 
-use crate::told::{has_place, is_known};
+use crate::told::is_known;
 use crate::writer::{NodePlan, ProcedurePlan, Version, WriteFault};
 use gb_domain::pairs::Pairs;
-use gb_domain::places::{OneByte, Test};
+use gb_domain::places::{OneByte, Test, has_place};
 use gb_domain::relations::Relations;
 use gb_domain::types::{Abs, Cell, Core, Origin, Rules, Val};
 use gb_ops::machine::Region;

@@ -1,13 +1,13 @@
 //! The bytes of what a state says of several of its parts together, added to what is there.
 
 ghost use Rattle.std.specs.Prelude.{◌≡◌, ◌≤◌, ◌<◌, ◌++◌, List, ℕ, OnOk};
-ghost use Rattle.gb_domain.specs.RelationRules.{is_some_register, has_place, compared, bits_of, is_known};
+ghost use Rattle.gb_domain.specs.RelationRules.{has_place, compared, bits_of, is_known};
 ghost use Rattle.gb_states.specs.Spelling as spelled;
 ghost use Rattle.gb_states.specs.RelationSpelling as told;
 
 use crate::spelled::{flag, put, word};
 use gb_domain::pairs::{Link, Other, PairFacts, Pairs, WordPair};
-use gb_domain::places::{OneByte, Test};
+use gb_domain::places::{OneByte, Test, has_place};
 use gb_domain::relations::Relations;
 use gb_domain::types::Rules;
 use gb_ops::op::Register;
@@ -16,24 +16,6 @@ use gb_states::relations::Present;
 use std::alloc::AllocError;
 
 // ---- what there is
-
-fn is_some_register(registers: &Registers<bool>) -> bool
-    ensures { result ≡ is_some_register registers.now }
-{
-    registers.a
-        || registers.b
-        || registers.c
-        || registers.d
-        || registers.e
-        || registers.h
-        || registers.l
-}
-
-pub(crate) fn has_place(byte: &OneByte) -> bool
-    ensures { result ≡ has_place byte.now }
-{
-    byte.address.is_some() || is_some_register(&byte.registers)
-}
 
 /// What a test compares with, where it compares.
 pub(crate) fn compared(test: Option<Test>) -> Option<u8>

@@ -18,7 +18,7 @@ pub fn write_file<R: Eprint + Files>(rt: &R, name: &str, bytes: &[u8]) -> Result
 }
 
 /// Whether there is something by a name that is no plain file, as a device.
-fn is_special<R: Files>(rt: &R, name: &str) -> bool {
+pub fn is_special<R: Files>(rt: &R, name: &str) -> bool {
     match fs::metadata(rt, name) {
         Ok(metadata) => !metadata.is_file(),
         Err(_) => false,

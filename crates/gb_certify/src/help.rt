@@ -3,8 +3,9 @@
 /// Below the help.
 pub(crate) const BELOW: &str = "\
 certify analyses every path through the game, makes a certificate, has the proved checker of gulmyrek check it, and
-writes it to CERT. If the game doesn't pass, it writes no file. Then stderr shows each finding: where it is, what can go
-wrong, how the code gets there, and the fix. docs/FINDINGS.md explains each kind of finding.
+writes it to CERT. If the game doesn't pass, it doesn't write CERT. Then stderr shows each finding: where it is, what can go
+wrong, how the code gets there, and the fix. docs/FINDINGS.md explains each kind of finding. On a terminal, certify also hunts
+for keys that crash the game, for 10 seconds. If it finds some, it shows the crash first, and writes the keys next to CERT.
 
   certify game.gb game.cert --sym game.sym       check a game, with your labels in the findings
   certify game.gb game.cert --lines game.cdb     with your source lines too, as in game.c:120
@@ -12,6 +13,7 @@ wrong, how the code gets there, and the fix. docs/FINDINGS.md explains each kind
   certify --explain game.gb game.cert            explain why an existing certificate is refused
   certify --list game.gb game.cert               list its nodes with instructions, registers and RAM
   certify --compare old.cert game.gb game.cert   show what changed since an older build
+  certify --hunt 60 game.gb game.cert            if it doesn't pass, hunt for a crash for 60 seconds: game.crash.keys
 
 It prints one line on standard output:
   ACCEPTED nodes N procedures P  the game passes, and CERT is written (status 0)

@@ -1,12 +1,14 @@
 //! The program `certify`: its words, files and statuses, and what it says to a person.
 //!
-//! Read `perform` first, then `making` and `reading`. What it makes is trusted no more than any other certificate: the verdict
+//! Read `perform` first, then `making` and `reading`; `hunting` looks for a `crash` where no certificate is made. What it makes is trusted no more than any other certificate: the verdict
 //! that it prints is gb_verify's. Of the texts nothing is promised.
 #![tactic(auto)]
 
 mod compare;
+mod crash;
 mod files;
 mod help;
+mod hunting;
 mod making;
 mod messages;
 mod perform;

@@ -2,16 +2,19 @@
 
 use crate::compare::tell_made;
 use crate::files::write_file;
+use crate::hunting::NoCertificate;
 use crate::messages::PROGRAM;
 use crate::progress::RoundsShown;
-use crate::words::CertifyTask;
+use crate::words::{CertifyTask, Work};
 use gb_command_line::messages::{tell_output, verify};
 use gb_command_line::status::Status;
 use gb_command_line::{
     Outcome, Plain, Rom, Trouble, UpgradeTo, Upgraded, upgrade_bytes, verify_bytes,
 };
-use gb_page::Older;
-use gb_refine::{Finding, Made, SearchLimits, ShownFinding, Symbols, finding_json, make};
+use gb_refine::{
+    CrashFinding, Finding, Made, Older, SearchLimits, ShownFinding, Symbols, crash_json,
+    finding_json, make,
+};
 use std::io;
 use std::rt::{Clock, Files};
 
@@ -70,15 +73,28 @@ pub fn made<R: Eprint + Clock + AllocGlobal>(
     Ok(make(rt.alloc(), rom, limits, &mut progress)?)
 }
 
-/// Prints findings as JSON, an object a line, on standard output.
+/// Prints a line of JSON; whether it could be.
+fn print_line<R: Print>(rt: &R, text: &String) -> bool {
+    rt.println(text.as_str()).is_ok()
+}
+
+/// Prints a crash and the findings as JSON, an object a line, on standard output.
 fn print_json<R: Print + Eprint + AllocGlobal>(
     rt: &R,
-    findings: &[Finding],
+    task: &CertifyTask<'_>,
+    ended: &NoCertificate<'_>,
     symbols: &Symbols<'_>,
 ) -> Result<Status, Trouble> {
-    for finding in findings {
+    if let Some(crash) = ended.crash() {
+        let replay = crash.replay(rt.alloc(), task)?;
+        let text = crash_json(rt.alloc(), &crash.facts(replay.as_str()), symbols)?;
+        if !print_line(rt, &text) {
+            return Ok(tell_output(rt, PROGRAM));
+        }
+    }
+    for finding in &ended.findings {
         let text = finding_json(rt.alloc(), finding, symbols)?;
-        if rt.println(text.as_str()).is_err() {
+        if !print_line(rt, &text) {
             return Ok(tell_output(rt, PROGRAM));
         }
     }
@@ -100,22 +116,88 @@ pub fn tell_findings<R: Eprint>(rt: &R, findings: &[Finding], symbols: &Symbols<
     }
 }
 
+/// With what to begin, and where to see more.
+fn tell_next<R: Eprint>(rt: &R, task: &CertifyTask<'_>, ended: &NoCertificate<'_>) {
+    let first = match ended.crash() {
+        Some(crash) if crash.finding != CrashFinding::First => "the crash",
+        _ => "finding 1",
+    };
+    let _ = match task.work {
+        Work::Report(name) => eprintln!(rt;
+            "{PROGRAM}: begin with {first}, then run certify again; {name} shows how the game gets there"
+        ),
+        _ => eprintln!(rt;
+            "{PROGRAM}: begin with {first}, then run certify again; --report page.html shows how the game gets there"
+        ),
+    };
+}
+
+/// Prints the verdict that there is no certificate. Whoever sees standard error reads last what to do next.
+fn print_verdict<R: Print + Eprint>(
+    rt: &R,
+    task: &CertifyTask<'_>,
+    ended: &NoCertificate<'_>,
+    is_shown: bool,
+) -> Status {
+    let count = ended.findings.len();
+    if println!(rt; "NO CERTIFICATE obstacles {count}").is_err() {
+        return tell_output(rt, PROGRAM);
+    }
+    if is_shown {
+        tell_next(rt, task, ended);
+    }
+    Status::Refused
+}
+
 /// Says that there is no certificate, and why.
+///
+/// # Errors
+///
+/// Where the hunt failed: that is told after all else.
 pub fn report<R: Print + Eprint + AllocGlobal>(
     rt: &R,
     task: &CertifyTask<'_>,
-    findings: &[Finding],
+    ended: &NoCertificate<'_>,
     symbols: &Symbols<'_>,
+    is_shown: bool,
 ) -> Result<Status, Trouble> {
     if task.is_json {
-        return print_json(rt, findings, symbols);
+        let status = print_json(rt, task, ended, symbols)?;
+        ended.tell_nothing(rt, task);
+        return match ended.trouble {
+            Some(trouble) if status == Status::Refused => Err(trouble),
+            _ => Ok(status),
+        };
     }
-    tell_findings(rt, findings, symbols);
-    let count = findings.len();
-    match println!(rt; "NO CERTIFICATE obstacles {count}") {
-        Ok(()) => Ok(Status::Refused),
-        Err(_) => Ok(tell_output(rt, PROGRAM)),
+    if let Some(crash) = ended.crash() {
+        crash.tell(rt, task, symbols);
     }
+    tell_findings(rt, &ended.findings, symbols);
+    ended.tell_nothing(rt, task);
+    match ended.trouble {
+        Some(trouble) => Err(trouble),
+        None => Ok(print_verdict(rt, task, ended, is_shown)),
+    }
+}
+
+/// A certificate that the checker refuses is no one's fault but the maker's.
+pub fn refused_findings<R: AllocGlobal>(rt: &R) -> Result<Vec<Finding>, Trouble> {
+    let mut findings = Vec::new(rt.alloc());
+    findings.push(Finding::Internal)?;
+    Ok(findings)
+}
+
+/// Hunts for a crash, and says that there is no certificate.
+fn hunt_and_report<R: Print + Eprint + Files + Clock + AllocGlobal>(
+    rt: &R,
+    task: &CertifyTask<'_>,
+    rom: &Rom<'_>,
+    findings: Vec<Finding>,
+    symbols: &Symbols<'_>,
+    is_shown: bool,
+) -> Result<Status, Trouble> {
+    let ended = NoCertificate::of(rt, task, rom, findings, symbols, is_shown);
+    report(rt, task, &ended, symbols, is_shown)
 }
 
 /// Makes a certificate, writes it where the checker accepts it, and prints the verdict's line, and what changed since an older
@@ -133,12 +215,15 @@ pub fn make_file<R: Print + Eprint + Files + Clock + AllocGlobal>(
         return Ok(verify(rt, PROGRAM, task.names(), bytes, b""));
     };
     match made(rt, task, &rom, is_shown)? {
-        Made::Findings(findings) => report(rt, task, &findings, symbols),
+        Made::Findings(findings) => hunt_and_report(rt, task, &rom, findings, symbols, is_shown),
         Made::Certificate(cert) if is_accepted(rt, bytes, &cert) => {
             let cert = in_newest_version(rt, task, bytes, cert);
             write_file(rt, task.cert, &cert)?;
             tell_made(rt, task, bytes, &cert, symbols, older)
         }
-        Made::Certificate(_) => report(rt, task, &[Finding::Internal], symbols),
+        Made::Certificate(_) => {
+            let findings = refused_findings(rt)?;
+            hunt_and_report(rt, task, &rom, findings, symbols, is_shown)
+        }
     }
 }

@@ -1,8 +1,7 @@
 //! What the program alone says on standard error.
 
-use gb_command_line::status::Status;
-use gb_command_line::{Trouble, shown_name};
-use gb_refine::{SymbolFault, SymbolFaultKind};
+use gb_command_line::{Rom, shown_name};
+use gb_refine::color_note;
 use std::io;
 
 /// The program's name, in its messages.
@@ -21,4 +20,14 @@ pub fn tell_written<R: Eprint>(rt: &R, name: &str, error: &io::Error) {
         ),
         _ => eprintln!(rt; "certify: {name}: {error}"),
     };
+}
+
+/// Says that a cartridge for the Color is analysed as on a DMG.
+pub fn tell_color<R: Eprint>(rt: &R, name: &str, bytes: &[u8]) {
+    if let Ok(rom) = Rom::parse(bytes)
+        && let Some(note) = color_note(&rom)
+    {
+        let name = shown_name(name);
+        let _ = eprintln!(rt; "{PROGRAM}: {name}: {note}");
+    }
 }

@@ -1,8 +1,10 @@
 //! What becomes of the words.
 
 use crate::compare::{read_before, work_with_older};
+use crate::crash::is_keys_file;
+use crate::hunting::hunt_seconds;
 use crate::making::make_file;
-use crate::messages::PROGRAM;
+use crate::messages::{PROGRAM, tell_color};
 use crate::reading::{explain_file, list_file};
 use crate::report::report_file;
 use crate::words::{CertifyTask, Work, read_words};
@@ -11,8 +13,7 @@ use gb_command_line::status::Status;
 use gb_command_line::symbols::{read_symbols, tell_symbols};
 use gb_command_line::words::{explain, tell_words, words_of};
 use gb_command_line::{Trouble, is_input, read_cartridge};
-use gb_page::Older;
-use gb_refine::{SymbolFault, Symbols};
+use gb_refine::{Older, SymbolFault, Symbols};
 use std::io::Input;
 use std::rt::{Clock, Env, Files};
 
@@ -41,6 +42,39 @@ fn is_old_cartridge(task: &CertifyTask<'_>, name: &str) -> bool {
         Some(before) => before.rom == Some(name),
         None => false,
     }
+}
+
+/// What is wrong with the name that the file of a crash's keys gets, if something is.
+fn wrong_keys(task: &CertifyTask<'_>, is_shown: bool) -> Option<&'static str> {
+    if hunt_seconds(task, is_shown) == 0 {
+        return None;
+    }
+    match task.work {
+        Work::Report(name) if is_keys_file(task.cert, name) => {
+            Some("--report and --hunt can't write the same file")
+        }
+        Work::Make | Work::Report(_) if reads_keys_file(task) => {
+            Some("--hunt writes a crash's keys, and refuses to overwrite a file that certify reads")
+        }
+        Work::Make | Work::Report(_) | Work::Explain | Work::List => None,
+    }
+}
+
+/// Whether a file is read that has the name of the file of a crash's keys.
+fn reads_keys_file(task: &CertifyTask<'_>) -> bool {
+    let [older, older_rom, older_symbols] = names_before(task);
+    let names = [
+        Some(task.rom),
+        task.symbols,
+        task.lines,
+        older,
+        older_rom,
+        older_symbols,
+    ];
+    names
+        .iter()
+        .flatten()
+        .any(|name| is_keys_file(task.cert, name))
 }
 
 /// What is wrong with the name of the file that is to be written, if something is.
@@ -117,7 +151,7 @@ fn perform<R: Print + Eprint + Input + Files + Clock + AllocGlobal>(
     if inputs(task) > 1 {
         return Ok(tell_words(rt, "only one file can be - (standard input)"));
     }
-    if let Some(text) = wrong_output(task) {
+    if let Some(text) = wrong_output(task).or(wrong_keys(task, is_shown)) {
         return Ok(tell_words(rt, text));
     }
     let bytes = read_cartridge(rt, PROGRAM, task.rom)?;
@@ -132,6 +166,7 @@ fn perform<R: Print + Eprint + Input + Files + Clock + AllocGlobal>(
     {
         return tell_fault(rt, task.lines, fault);
     }
+    tell_color(rt, task.rom, &bytes);
     let done = work_on(rt, task, &bytes, &symbols, is_shown);
     if let Err(Trouble::Memory) = done {
         tell_memory(rt, PROGRAM, task.rom);

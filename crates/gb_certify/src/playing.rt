@@ -2,7 +2,7 @@
 
 use bitflags::Flags;
 use gb_command_line::{Cert, Rom};
-use gb_console::{Console, Keys, Verdict, check};
+use gb_hunt::{Console, Keys, Verdict, check};
 use std::alloc::{AllocError, Global};
 
 /// The frames that are played.

@@ -1,5 +1,6 @@
-//! How far the making of a certificate has come, for whoever waits for it, and how long it may take.
+//! How far the making of a certificate and a hunt have come, for whoever waits for them, and how long each may take.
 
+use gb_hunt::HuntProgress;
 use gb_refine::SearchProgress;
 use std::rt::Clock;
 use std::time::{Duration, Instant};
@@ -76,5 +77,85 @@ impl<R: Eprint + Clock> SearchProgress for RoundsShown<'_, R> {
             // The longest of the lines above.
             let _ = eprint!(self.rt; "\r{:70}\r", "");
         }
+    }
+}
+
+/// The questions of a hunt from one look at the clock to the next.
+const LOOK: u32 = 64;
+
+/// A hunt's line on standard error, and its time.
+#[derive(Drop)]
+pub struct HuntClock<'a, R> {
+    rt: &'a R,
+    is_shown: bool,
+    /// When it began, where there is a clock.
+    began: Option<Instant>,
+    /// How many seconds it may take.
+    seconds: u32,
+    asked: u32,
+    /// Whether a crash was found, whose keys are made fewer.
+    is_found: bool,
+}
+
+impl<'a, R: Clock> HuntClock<'a, R> {
+    /// A hunt of so many seconds, which begins now. Without a clock it has no time.
+    pub fn new(rt: &'a R, is_shown: bool, seconds: u32) -> HuntClock<'a, R> {
+        HuntClock {
+            rt,
+            is_shown,
+            began: Instant::now(rt).ok(),
+            seconds,
+            asked: 0,
+            is_found: false,
+        }
+    }
+
+    /// A crash was found, and its keys are made fewer.
+    pub fn found(&mut self) {
+        self.is_found = true;
+    }
+
+    /// The seconds that passed, where there is a clock.
+    fn passed(&self) -> Option<u64> {
+        Some(self.began?.elapsed(self.rt).ok()?.as_secs())
+    }
+}
+
+impl<R: Eprint + Clock> HuntClock<'_, R> {
+    /// Says how far it is.
+    fn tell(&self, frames: u64, passed: u64) {
+        if !self.is_shown {
+            return;
+        }
+        let seconds = self.seconds;
+        let _ = if self.is_found {
+            eprint!(self.rt; "\r{:70}", "crash found; making its keys fewer")
+        } else {
+            eprint!(self.rt;
+                "\rhunting for a crash: {frames:8} frames, {passed} of {seconds} seconds"
+            )
+        };
+    }
+
+    /// Wipes the line.
+    pub fn done(&self) {
+        if self.is_shown {
+            let _ = eprint!(self.rt; "\r{:70}\r", "");
+        }
+    }
+}
+
+impl<R: Eprint + Clock> HuntProgress for HuntClock<'_, R> {
+    fn goes_on(&mut self, frames: u64) -> bool {
+        self.asked = self.asked.wrapping_add(1);
+        // While keys are made fewer, whole scripts are played from one question to the next.
+        if !self.is_found && self.asked % LOOK != 1 {
+            return true;
+        }
+        let Some(passed) = self.passed() else {
+            return false;
+        };
+        self.tell(frames, passed);
+        passed < u64::from(self.seconds)
     }
 }

@@ -2,15 +2,18 @@
 
 use crate::compare::{changes_of, tell_verdict};
 use crate::files::{is_missing, write_file, write_whole};
-use crate::making::{in_newest_version, is_accepted, made, report};
+use crate::hunting::NoCertificate;
+use crate::making::{in_newest_version, is_accepted, made, refused_findings, report};
 use crate::messages::PROGRAM;
 use crate::playing::{is_right, played};
 use crate::words::CertifyTask;
 use gb_command_line::messages::verify;
 use gb_command_line::status::Status;
 use gb_command_line::{Cert, Rom, Trouble, read_certificate};
-use gb_page::{Changes, Extras, Older, facts_json, findings_page, page_of};
-use gb_refine::{Finding, Made, Symbols, finding_json};
+use gb_refine::{
+    Changes, Extras, Finding, FindingsExtras, Made, Older, Symbols, crash_json, facts_json,
+    finding_json, findings_page, page_of,
+};
 use std::alloc::{AllocError, Global};
 use std::fmt;
 use std::io::Input;
@@ -73,18 +76,59 @@ impl fmt::Display for JsonLines<'_> {
     }
 }
 
-/// Obstacles as JSON, an object a line.
+/// A crash and the findings as JSON, an object a line.
 fn obstacle_lines(
     alloc: Global,
-    findings: &[Finding],
+    task: &CertifyTask<'_>,
+    ended: &NoCertificate<'_>,
     symbols: &Symbols<'_>,
 ) -> Result<String, AllocError> {
     let mut lines = Vec::new(alloc);
-    for finding in findings {
+    if let Some(crash) = ended.crash() {
+        let replay = crash.replay(alloc, task)?;
+        lines.push(crash_json(alloc, &crash.facts(replay.as_str()), symbols)?)?;
+    }
+    for finding in &ended.findings {
         lines.push(finding_json(alloc, finding, symbols)?)?;
     }
     let lines = JsonLines(lines.as_slice());
     format!(in alloc; "{lines}")
+}
+
+/// A page of findings that begins with a crash.
+fn page_of_a_crash(
+    alloc: Global,
+    task: &CertifyTask<'_>,
+    rom: &Rom<'_>,
+    findings: &[Finding],
+    crash: &FoundCrash<'_>,
+    symbols: &Symbols<'_>,
+) -> Result<String, AllocError> {
+    let replay = crash.replay(alloc, task)?;
+    let facts = crash.facts(replay.as_str());
+    let extras = FindingsExtras {
+        are_new: task.before.is_some(),
+        crash: Some(&facts),
+    };
+    findings_page(alloc, rom, findings, symbols, extras)
+}
+
+/// A page of findings, with the crash, if one was found.
+fn page_of_findings(
+    alloc: Global,
+    task: &CertifyTask<'_>,
+    rom: &Rom<'_>,
+    ended: &NoCertificate<'_>,
+    symbols: &Symbols<'_>,
+) -> Result<String, AllocError> {
+    if let Some(crash) = ended.crash() {
+        return page_of_a_crash(alloc, task, rom, &ended.findings, crash, symbols);
+    }
+    let extras = FindingsExtras {
+        are_new: task.before.is_some(),
+        crash: None,
+    };
+    findings_page(alloc, rom, &ended.findings, symbols, extras)
 }
 
 /// What is written where there is no certificate: a page, or the findings as JSON.
@@ -92,13 +136,13 @@ fn text_on_obstacles(
     alloc: Global,
     task: &CertifyTask<'_>,
     rom: &Rom<'_>,
-    findings: &[Finding],
+    ended: &NoCertificate<'_>,
     symbols: &Symbols<'_>,
 ) -> Result<String, AllocError> {
     if task.is_json {
-        obstacle_lines(alloc, findings, symbols)
+        obstacle_lines(alloc, task, ended, symbols)
     } else {
-        findings_page(alloc, rom, findings, symbols, task.before.is_some())
+        page_of_findings(alloc, task, rom, ended, symbols)
     }
 }
 
@@ -122,18 +166,20 @@ fn write_page<R: Print + Eprint + Files + AllocGlobal>(
     tell_verdict(rt, task, bytes, cert_bytes, changes.as_ref())
 }
 
-/// Writes a page on why there is no certificate, and says that there is none.
-fn write_obstacles<R: Print + Eprint + Files + AllocGlobal>(
+/// Hunts for a crash, writes a page on why there is no certificate, and says that there is none.
+fn write_obstacles<R: Print + Eprint + Files + Clock + AllocGlobal>(
     rt: &R,
     task: &CertifyTask<'_>,
     name: &str,
     rom: &Rom<'_>,
-    findings: &[Finding],
+    findings: Vec<Finding>,
     symbols: &Symbols<'_>,
+    is_shown: bool,
 ) -> Result<Status, Trouble> {
-    let page = text_on_obstacles(rt.alloc(), task, rom, findings, symbols)?;
+    let ended = NoCertificate::of(rt, task, rom, findings, symbols, is_shown);
+    let page = text_on_obstacles(rt.alloc(), task, rom, &ended, symbols)?;
     write_whole(rt, name, page.as_bytes())?;
-    report(rt, task, findings, symbols)
+    report(rt, task, &ended, symbols, is_shown)
 }
 
 /// Makes the certificate first, and writes it where the checker accepts it.
@@ -151,14 +197,17 @@ fn report_made<R: Print + Eprint + Files + Clock + AllocGlobal>(
         return Ok(verify(rt, PROGRAM, task.names(), bytes, b""));
     };
     match made(rt, task, &rom, is_shown)? {
-        Made::Findings(findings) => write_obstacles(rt, task, name, &rom, &findings, symbols),
+        Made::Findings(findings) => {
+            write_obstacles(rt, task, name, &rom, findings, symbols, is_shown)
+        }
         Made::Certificate(cert) if is_accepted(rt, bytes, &cert) => {
             let cert = in_newest_version(rt, task, bytes, cert);
             write_file(rt, task.cert, &cert)?;
             write_page(rt, task, name, bytes, &cert, symbols, older)
         }
         Made::Certificate(_) => {
-            write_obstacles(rt, task, name, &rom, &[Finding::Internal], symbols)
+            let findings = refused_findings(rt)?;
+            write_obstacles(rt, task, name, &rom, findings, symbols, is_shown)
         }
     }
 }

@@ -53,6 +53,8 @@ pub struct CertifyTask<'a> {
     pub nodes: u32,
     /// How many seconds the search may take, where the user has said.
     pub seconds: Option<u32>,
+    /// How many seconds a hunt for a crash may take, where the user has said.
+    pub hunt: Option<u32>,
     pub region: Option<Region>,
     /// The rules by which alone a certificate is sought.
     pub rules: Option<Rules>,
@@ -184,9 +186,22 @@ fn with_options<'a>(alloc: Global) -> Result<Command<'a>, AllocError> {
     with_arg(with_arg(with_arg(command, stack), rules), report)
 }
 
+/// The program with the option for a hunt.
+fn with_hunt<'a>(alloc: Global) -> Result<Command<'a>, AllocError> {
+    let command = with_options(alloc);
+    let hunt = option_arg(
+        alloc,
+        "hunt",
+        "SECONDS",
+        "Without a certificate, hunt so long for keys that crash the game; default: 10 on a terminal, else 0",
+    )
+    .value_parser(clap::value_parser!(u32).range(0..=MOST_SECONDS));
+    with_arg(command, hunt)
+}
+
 /// The program with the options for an older certificate.
 fn with_before<'a>(alloc: Global) -> Result<Command<'a>, AllocError> {
-    let command = with_options(alloc);
+    let command = with_hunt(alloc);
     let compare = option_arg(
         alloc,
         "compare",
@@ -290,6 +305,17 @@ fn before_of<'a>(
     }
 }
 
+/// The seconds of a hunt, where a certificate is made or else there is none.
+fn hunt_of(alloc: Global, matches: &ArgMatches<'_>, work: Work<'_>) -> Result<Option<u32>, Error> {
+    match (matches.get_one::<u32>("hunt"), work) {
+        (Some(_), Work::Explain | Work::List) => Err(wrong(
+            alloc,
+            "--hunt can't be used with --explain or --list",
+        )),
+        (hunt, _) => Ok(hunt),
+    }
+}
+
 /// What the words after the program's name ask for.
 pub fn read_words<'a>(alloc: Global, words: &'a [&'a str]) -> Result<CertifyTask<'a>, Error> {
     let matches = program_command(alloc)?.try_get_matches_from(words)?;
@@ -310,6 +336,7 @@ pub fn read_words<'a>(alloc: Global, words: &'a [&'a str]) -> Result<CertifyTask
         before: before_of(alloc, &matches, work)?,
         nodes,
         seconds: matches.get_one::<u32>("seconds"),
+        hunt: hunt_of(alloc, &matches, work)?,
         region: stack_of(alloc, &matches)?,
         rules: rules_of(&matches),
         is_json: matches.get_flag("json"),

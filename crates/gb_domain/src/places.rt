@@ -1,7 +1,8 @@
 //! Places that hold one and the same byte, and what the flags say of it (own format).
 
 ghost use Rattle.std.specs.Prelude.{◌≡◌};
-ghost use Rattle.gb_domain.specs.Places.{no_byte};
+ghost use Rattle.gb_domain.specs.Places.{is_same_register, no_byte};
+ghost use Rattle.gb_domain.specs.RelationRules.{is_some_register, has_place};
 
 use gb_ops::op::Register;
 use gb_ops::registers::Registers;
@@ -42,6 +43,33 @@ pub const NO_REGISTER: Registers<bool> = Registers {
     h: false,
     l: false,
 };
+
+/// Whether two registers are one.
+pub fn is_same_register(x: Register, y: Register) -> bool
+    ensures { result ≡ is_same_register x y }
+{
+    x == y
+}
+
+/// Whether there is a register among them.
+pub fn is_some_register(registers: &Registers<bool>) -> bool
+    ensures { result ≡ is_some_register registers.now }
+{
+    registers.a
+        || registers.b
+        || registers.c
+        || registers.d
+        || registers.e
+        || registers.h
+        || registers.l
+}
+
+/// Whether there is a place.
+pub fn has_place(byte: &OneByte) -> bool
+    ensures { result ≡ has_place byte.now }
+{
+    byte.address.is_some() || is_some_register(&byte.registers)
+}
 
 impl Default for OneByte {
     ghost is_default = { λ byte. byte ≡ no_byte };

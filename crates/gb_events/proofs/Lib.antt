@@ -1,0 +1,5 @@
+pub mod Runs
+pub mod Listing
+pub mod Replaying
+pub mod Judging
+pub mod FileLaws

@@ -1,0 +1,5 @@
+pub mod Replay
+pub mod Verified
+pub mod Line
+pub mod Files
+pub mod Below

@@ -8,7 +8,7 @@ use gb_ops::map::mapped_at;
 use gb_plain::MachineState;
 
 /// Whether a read at an address may give any byte.
-fn is_free(state: &MachineState, address: u16) -> bool {
+pub(crate) fn is_free(state: &MachineState, address: u16) -> bool {
     match mapped_at(address) {
         Mapped::CartridgeRam | Mapped::Transfer | Mapped::Hardware => true,
         Mapped::HighRam(_) => false,

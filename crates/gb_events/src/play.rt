@@ -1,85 +1,105 @@
 //! Lists of events that are played.
 
-use crate::list::Repeated;
-use gb_cpu::step::Cpu;
+ghost use Rattle.std.specs.Prelude.{◌≡◌, ◌≢◌, true, false, replicate, IfOk};
+ghost use Rattle.gb_ops.specs.Faults as Spec;
+ghost use Rattle.gb_events.specs.Verified.{VerifiedReplaysAreWhole};
+ghost use Rattle.gb_events.specs.Replay.{events_of, IsCleared, IsReplay, WholeReplaysAreFaultless};
+
+use crate::list::{EventList, Repeated};
 use gb_ops::machine::{CodePlace, Event, Faults, Region};
 use gb_plain::faults::faults;
-use gb_plain::{Cartridge, MachineState, PlainMachine};
+use gb_plain::{MachineState, PlainMachine, Rom, no_faults};
 use std::alloc::{AllocError, Global};
 
 /// An event with a fault.
 #[derive(Clone, Copy)]
-pub struct Faulty {
+pub struct FaultyEvent {
     /// How many events came before it.
     pub number: u64,
     pub faults: Faults,
+    /// Where the processor was: PC before the event, and the ROM bank shown there.
     pub place: CodePlace,
     pub event: Event,
 }
 
 /// How a list's run ended.
 #[derive(Clone, Copy)]
-pub enum Fates {
+pub enum Replayed {
     /// At an event with a fault.
-    Faulty(Faulty),
+    Faulty(FaultyEvent),
     /// So many events, none of which had one.
     Whole(u64),
 }
 
-/// The plain machine at power-up with a cartridge, and zeros in RAM; None where the bytes aren't a cartridge.
+/// The plain machine at power-up with a cartridge, and zeros in RAM.
 ///
 /// # Errors
 ///
 /// AllocError where there is no room.
-pub fn machine_of(alloc: Global, rom: &[u8]) -> Result<Option<PlainMachine>, AllocError> {
-    let bytes = Vec::from_slice(alloc, rom)?;
-    let Some(cartridge) = Cartridge::new(alloc, bytes)? else {
-        return Ok(None);
-    };
-    let mut state = MachineState::at_power_up(alloc)?;
-    let processor = Cpu::at_power_up(cartridge.bytes()).processor;
-    state.set_cartridge(cartridge);
-    state.set_processor(processor);
-    Ok(Some(PlainMachine::new(state)))
+pub fn machine_of(alloc: Global, rom: &Rom<'_>) -> Result<PlainMachine, AllocError>
+    ensures cleared { IfOk result (λ machine. IsCleared rom.now machine.state.machine) }
+    ensures rom { IfOk result (λ machine. machine.state.rom ≡ rom.now) }
+{
+    let state = MachineState::of(alloc, rom)?;
+    Ok(PlainMachine::new(state))
 }
 
-/// Where the processor is: PC, and the ROM bank shown there.
-pub(crate) fn place_now(state: &MachineState) -> CodePlace {
-    let address = state.processor().pc;
-    let bank = if address < 0x8000 {
-        state.cartridge().shown_bank(address)
-    } else {
-        0
-    };
-    CodePlace { address, bank }
+/// Whether there is one of the faults.
+pub(crate) fn has_fault(faults: Faults) -> bool
+    ensures some { result ≡ true → faults ≢ Spec.no_faults }
+    ensures none { result ≡ false → faults ≡ Spec.no_faults }
+{
+    faults != no_faults()
 }
 
-/// Whether there is a fault among these.
-pub(crate) fn has_fault(faults: Faults) -> bool {
-    faults.undefined_opcode
-        || faults.fetched_outside
-        || faults.stack_outside
-        || faults.ram_closed
-        || faults.transfer_met
+/// Plays an event so many times, up to the first with a fault of a stack region, which isn't applied.
+#[tactic(auto, using(crate::proofs::Replaying::none_played, crate::proofs::Replaying::repeated_more, crate::proofs::Replaying::repeated_faulty))]
+fn play_repeated(machine: &mut PlainMachine, item: Repeated, region: Region) -> Replayed
+    ensures rom { machine.new.state.rom ≡ machine.old.state.rom }
+    ensures replay { IsReplay machine.old.state.rom region machine.old.state.machine (replicate item.count item.event) result machine.new.state.machine }
+{
+    for number in 0..item.count {
+        let faults = faults(region, &machine.state, item.event);
+        if has_fault(faults) {
+            return Replayed::Faulty(FaultyEvent {
+                number: u64::from(number),
+                faults,
+                place: machine.state.place(),
+                event: item.event,
+            });
+        }
+        machine.apply(item.event);
+    }
+    Replayed::Whole(u64::from(item.count))
 }
 
 /// Plays events, up to the first with a fault of a stack region, which isn't applied.
-pub fn play_events(machine: &mut PlainMachine, list: &[Repeated], region: Region) -> Fates {
+pub fn play_events(machine: &mut PlainMachine, list: &EventList, region: Region) -> Replayed
+    ensures rom { machine.new.state.rom ≡ machine.old.state.rom }
+    ensures replay { IsReplay machine.old.state.rom region machine.old.state.machine (events_of list.now) result machine.new.state.machine }
+{
+    let total = list.total();
     let mut number = 0u64;
-    for item in list {
-        for _ in 0..item.count {
-            let faults = faults(region, &machine.state, item.event);
-            if has_fault(faults) {
-                return Fates::Faulty(Faulty {
-                    number,
-                    faults,
-                    place: place_now(&machine.state),
-                    event: item.event,
+    for item in list.as_slice() {
+        match play_repeated(machine, *item, region) {
+            Replayed::Whole(more) => number += more,
+            Replayed::Faulty(faulty) => {
+                return Replayed::Faulty(FaultyEvent {
+                    number: number + faulty.number,
+                    ..faulty
                 });
             }
-            machine.apply(item.event);
-            number = number.wrapping_add(1);
         }
     }
-    Fates::Whole(number)
+    Replayed::Whole(total)
 }
+
+/// The law of what is told: a replay is whole exactly where the machine's run over all events has no fault.
+pub fn whole_replays_are_faultless()
+    ensures { WholeReplaysAreFaultless }
+{}
+
+/// The law of what is told of a cartridge for which some certificate with the region is right: all its replays are whole.
+pub fn verified_replays_are_whole()
+    ensures { VerifiedReplaysAreWhole }
+{}

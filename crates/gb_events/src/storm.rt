@@ -2,13 +2,13 @@
 
 use crate::free::reads_hardware;
 use crate::list::EventList;
-use crate::play::{has_fault, machine_of, place_now};
+use crate::play::{has_fault, machine_of};
 use crate::snapshot::Snapshot;
 use gb_ops::machine::{Event, Region};
 use gb_ops::registers::Ime;
 use gb_plain::faults::faults;
 use gb_plain::possible::is_possible;
-use gb_plain::{MachineState, PlainMachine};
+use gb_plain::{PlainMachine, Rom};
 use rand_core::{Rng, SeedableRng};
 use rand_xoshiro::Xoshiro256PlusPlus;
 use std::alloc::{AllocError, Global};
@@ -93,20 +93,18 @@ fn enabled_from(ie: u8, first: u8) -> Option<u8> {
 }
 
 impl Storm {
-    /// A search from power-up, whose events the seed determines; None where the bytes aren't a cartridge.
+    /// A search from power-up, whose events the seed determines.
     ///
     /// # Errors
     ///
     /// AllocError where there is no room.
     pub fn new(
         alloc: Global,
-        rom: &[u8],
+        rom: &Rom<'_>,
         region: Region,
         seed: u64,
-    ) -> Result<Option<Storm>, AllocError> {
-        let Some(machine) = machine_of(alloc, rom)? else {
-            return Ok(None);
-        };
+    ) -> Result<Storm, AllocError> {
+        let machine = machine_of(alloc, rom)?;
         let first = StormLead {
             snapshot: Snapshot::of(alloc, &machine.state)?,
             before: 0,
@@ -114,12 +112,12 @@ impl Storm {
         };
         let mut leads = Vec::new(alloc);
         leads.push(first)?;
-        Ok(Some(Storm {
+        Ok(Storm {
             alloc,
             machine,
             region,
             random: Xoshiro256PlusPlus::seed_from_u64(seed),
-            seen: vec![in alloc; 0; rom.len().saturating_add(RAM)]?,
+            seen: vec![in alloc; 0; rom.bytes().len().saturating_add(RAM)]?,
             leads,
             before: 0,
             since: EventList::new(alloc),
@@ -131,7 +129,7 @@ impl Storm {
             bursts: 0,
             least_sp: region.last,
             is_growing: false,
-        }))
+        })
     }
 
     /// The events that were tried.
@@ -165,7 +163,7 @@ impl Storm {
 
     /// Whether code runs now that hadn't run before.
     fn is_new(&mut self) -> bool {
-        let place = place_now(&self.machine.state);
+        let place = self.machine.state.place();
         let index = if place.address < 0x8000 {
             RAM + 0x4000 * usize::from(place.bank) + usize::from(place.address % 0x4000)
         } else {
@@ -227,7 +225,7 @@ impl Storm {
         }
         let snapshot = Snapshot::of(self.alloc, &self.machine.state)?;
         let mut events = EventList::new(self.alloc);
-        events.append(self.since.as_slice())?;
+        events.append(&self.since)?;
         self.leads.push(StormLead {
             snapshot,
             before: self.before,
@@ -314,10 +312,10 @@ impl Storm {
         let mut all = EventList::new(self.alloc);
         for number in numbers.iter().rev() {
             if let Some(lead) = self.leads.get(*number) {
-                all.append(lead.events.as_slice())?;
+                all.append(&lead.events)?;
             }
         }
-        all.append(self.since.as_slice())?;
+        all.append(&self.since)?;
         Ok(all)
     }
 

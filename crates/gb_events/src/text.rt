@@ -6,10 +6,20 @@ use std::alloc::{AllocError, Global};
 use std::io::{self, Write};
 use std::str::SplitWhitespace;
 
-/// A line that is no event, counted from 1.
+/// What is wrong with a line.
+#[derive(Clone, Copy, Debug, PartialEq, Eq)]
+pub enum LineFault {
+    /// It is no event.
+    NoEvent,
+    /// With it the events are more than 2^64 - 1.
+    TooMany,
+}
+
+/// A line that can't be taken, counted from 1.
 #[derive(Clone, Copy, Debug, PartialEq, Eq)]
 pub struct BadLine {
     pub number: u64,
+    pub fault: LineFault,
 }
 
 /// The value of a hexadecimal digit.
@@ -87,25 +97,28 @@ fn event_of(kind: &str, words: &mut SplitWhitespace<'_>) -> Option<(Event, u32)>
     Some((event, count_of(words.next())?))
 }
 
-/// Reads a line, and adds its events. Answers whether it is one.
-fn read_line(line: &str, list: &mut EventList) -> Result<bool, AllocError> {
+/// Reads a line, and adds its events. Answers what is wrong with it, if something is.
+fn read_line(line: &str, list: &mut EventList) -> Result<Option<LineFault>, AllocError> {
     let mut words = line.split_whitespace();
     let Some(kind) = words.next() else {
-        return Ok(true);
+        return Ok(None);
     };
     if kind.starts_with("#") {
-        return Ok(true);
+        return Ok(None);
     }
     match event_of(kind, &mut words) {
         Some((event, count)) if words.next().is_none() => {
+            if u64::from(count) > u64::MAX - list.total() {
+                return Ok(Some(LineFault::TooMany));
+            }
             list.push(event, count)?;
-            Ok(true)
+            Ok(None)
         }
-        _ => Ok(false),
+        _ => Ok(Some(LineFault::NoEvent)),
     }
 }
 
-/// The list of a file's text, or the first line that is no event.
+/// The list of a file's text, or the first line that can't be taken.
 ///
 /// # Errors
 ///
@@ -115,8 +128,8 @@ pub fn read_events(alloc: Global, text: &str) -> Result<Result<EventList, BadLin
     let mut number = 0u64;
     for line in text.lines() {
         number = number.saturating_add(1);
-        if !read_line(line, &mut list)? {
-            return Ok(Err(BadLine { number }));
+        if let Some(fault) = read_line(line, &mut list)? {
+            return Ok(Err(BadLine { number, fault }));
         }
     }
     Ok(Ok(list))

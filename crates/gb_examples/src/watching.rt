@@ -3,13 +3,15 @@
 
 ghost use Rattle.std.specs.Prelude.{◌≡◌, false};
 
-use gb_ops::machine::Region;
+use gb_ops::machine::{CodePlace, Faults, Region};
 use gb_samples::cartridges::{PLAIN, small};
 use gb_samples::programs::{LOCKS_AT_A, LOOP};
 use gb_text::Rom;
 use gb_text::kept_bytes::KeptBytes;
 use gb_text::sink::OutFault;
-use gb_witness::{Console, FoundStack, WatchedRun, find_stack, watch_script};
+use gb_witness::{
+    Console, CountedIn, FoundStack, WatchedRun, fault_line, find_stack, no_fault_line, watch_script,
+};
 use std::alloc::Global;
 use std::test::Fail;
 
@@ -212,4 +214,28 @@ fn the_first_stack_is_found(rt: HostRuntime) -> Result<(), Fail> {
         assert!(rt; found(rt.alloc(), program)? == *stack);
     }
     Ok(())
+}
+
+/// The lines of a list of events, and of searches, by docs/REFERENCE.md.
+#[test]
+fn lines_of_events_and_searches(rt: HostRuntime) {
+    let faults = Faults {
+        undefined_opcode: false,
+        fetched_outside: false,
+        stack_outside: true,
+        ram_closed: true,
+        transfer_met: false,
+    };
+    let place = CodePlace {
+        address: 0x4106,
+        bank: 3,
+    };
+    let line = fault_line(faults, CountedIn::Event, 5882, place);
+    assert!(rt; line.as_slice() == b"FAULT F3 event 5882 pc 4106 bank 003\n".as_slice());
+    let line = fault_line(faults, CountedIn::Frame, 6, place);
+    assert!(rt; line.as_slice() == b"FAULT F3 frame 6 pc 4106 bank 003\n".as_slice());
+    let line = no_fault_line(CountedIn::Event, 20_004_864);
+    assert!(rt; line.as_slice() == b"NO FAULT events 20004864\n".as_slice());
+    let line = no_fault_line(CountedIn::Frame, 600);
+    assert!(rt; line.as_slice() == b"NO FAULT frames 600\n".as_slice());
 }

@@ -19,6 +19,7 @@ const UNSET: WatchOptions<'static> = WatchOptions {
     stack: None,
     cert: None,
     symbols: None,
+    events: None,
 };
 
 /// No option of a search.
@@ -28,11 +29,13 @@ const NO_OPTIONS: HuntOptions<'static> = HuntOptions {
     seed: None,
     stack: None,
     keys: None,
+    events: None,
     symbols: None,
+    any_timing: false,
 };
 
 /// Words, and the task that they stand for.
-const TASKS: [(&[&str], Task<'static>); 22] = [
+const TASKS: [(&[&str], Task<'static>); 26] = [
     (&[], Task::Stored),
     (&["verify", "A", "B"], VERIFY),
     (&["verify", "--", "-a", "--"], DASHES),
@@ -158,6 +161,60 @@ const TASKS: [(&[&str], Task<'static>); 22] = [
                 stack: Some("D000..DFFF"),
                 cert: Some("-"),
                 symbols: Some("--cert"),
+                ..UNSET
+            },
+        },
+    ),
+    (
+        &["watch", "A", "--events", "E"],
+        Task::Replay {
+            rom: "A",
+            events: "E",
+            options: WatchOptions {
+                events: Some("E"),
+                ..UNSET
+            },
+        },
+    ),
+    (
+        &["watch", "-", "--sym", "S", "--events", "--events"],
+        Task::Replay {
+            rom: "-",
+            events: "--events",
+            options: WatchOptions {
+                symbols: Some("S"),
+                events: Some("--events"),
+                ..UNSET
+            },
+        },
+    ),
+    (
+        &["hunt", "A", "--any-timing"],
+        Task::Hunt {
+            rom: "A",
+            options: HuntOptions {
+                any_timing: true,
+                ..NO_OPTIONS
+            },
+        },
+    ),
+    (
+        &[
+            "hunt",
+            "A",
+            "--seed",
+            "--any-timing",
+            "--any-timing",
+            "--events",
+            "E",
+        ],
+        Task::Hunt {
+            rom: "A",
+            options: HuntOptions {
+                seed: Some("--any-timing"),
+                events: Some("E"),
+                any_timing: true,
+                ..NO_OPTIONS
             },
         },
     ),
@@ -228,7 +285,7 @@ fn reads_each_task(rt: HostRuntime) {
 }
 
 /// Words that stand for no task, and the kind of the error.
-const OTHERS: [(&[&str], ErrorKind); 34] = [
+const OTHERS: [(&[&str], ErrorKind); 38] = [
     (&["verify", "A"], ErrorKind::MissingRequiredArgument),
     (&["turn"], ErrorKind::InvalidSubcommand),
     (&["verify", "A", "B", "C"], ErrorKind::UnknownArgument),
@@ -267,11 +324,24 @@ const OTHERS: [(&[&str], ErrorKind); 34] = [
         &["watch", "A", "B", "1", "--sym", "S", "--sym", "S"],
         ErrorKind::UnknownArgument,
     ),
+    (&["watch", "A", "--events"], ErrorKind::UnknownArgument),
+    (
+        &["watch", "A", "B", "1", "--events", "E"],
+        ErrorKind::UnknownArgument,
+    ),
+    (
+        &["watch", "A", "--events", "E", "--events", "E"],
+        ErrorKind::UnknownArgument,
+    ),
     (&["watch", "--help"], ErrorKind::DisplayHelp),
     (&["hunt"], ErrorKind::MissingRequiredArgument),
     (&["hunt", "A", "--keys"], ErrorKind::UnknownArgument),
     (
         &["hunt", "A", "--seed", "1", "--seed", "1"],
+        ErrorKind::UnknownArgument,
+    ),
+    (
+        &["hunt", "A", "--any-timing", "--any-timing"],
         ErrorKind::UnknownArgument,
     ),
     (&["hunt", "--help"], ErrorKind::DisplayHelp),

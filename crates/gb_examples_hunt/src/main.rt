@@ -4,16 +4,17 @@
 //! An example is some lines: `about` with a sentence; `length`, `fill` and `rom` with the cartridge's bytes, as in
 //! gb_worked_examples; `stack` with the first and the last address of the stack region; `keys` with bytes of the script that follow
 //! one another, `rounds` with a number and bytes that come so often; `event` with a line of a list of events; and what is to
-//! be done: `watch` plays the script on the console, `play` the list on the plain machine, `hunt` searches so many frames with a seed.
+//! be done: `watch` plays the script on the console, `play` the list on the plain machine, `hunt` searches so many frames with a seed,
+//! after `want` towards a bank's address, and `words` puts so many changes of the script's keys into words.
 //! Numbers are hexadecimal, but for those of events, and other lines mean nothing.
 //!
 //! The place of each fault comes from the assembler's listing and from the bug by hand, and its kind from the rules. Only the place of
 //! catch/handler_not_critical is this program's own answer: its list of events runs thousands of instructions first.
 #![tactic(auto)]
 
-use gb_events::{EventList, Fates, machine_of, play_events, read_events};
+use gb_events::{EventList, Replayed, machine_of, play_events, read_events};
 use gb_header::Rom;
-use gb_hunt::{Hunt, HuntProgress, play_again};
+use gb_hunt::{Hunt, HuntProgress, KeyWords, PressedKeys, play_again};
 use gb_ops::machine::{CodePlace, Faults, Region};
 use gb_samples::cartridges::put;
 use gb_samples::spelled::{bytes_of, number_of, place, word_of};
@@ -27,6 +28,8 @@ struct Witness {
     region: Region,
     script: Vec<u8>,
     events: String,
+    /// A place that searches go towards.
+    wanted: Option<CodePlace>,
 }
 
 /// Nobody waits.
@@ -50,6 +53,7 @@ impl Witness {
             },
             script: Vec::new(alloc),
             events: String::new(alloc),
+            wanted: None,
         }
     }
 
@@ -64,6 +68,7 @@ impl Witness {
                 .script
                 .extend_from_slice(bytes_of(alloc, rest).as_slice())?,
             "rounds" => self.repeat(alloc, rest)?,
+            "want" => self.wanted = Some(place_of(rest)),
             "event" => {
                 self.events.push_str(rest)?;
                 self.events.push('\n')?;
@@ -113,15 +118,26 @@ impl Witness {
     }
 
     fn play_list<W: Write>(&self, alloc: Global, out: &mut W, list: &EventList) -> io::Result<()> {
-        let Some(mut machine) = machine_of(alloc, &self.rom)? else {
+        let Ok(rom) = Rom::parse(&self.rom) else {
             return writeln!(out, "not a cartridge");
         };
-        match play_events(&mut machine, list.as_slice(), self.region) {
-            Fates::Faulty(faulty) => {
+        let mut machine = machine_of(alloc, &rom)?;
+        match play_events(&mut machine, list, self.region) {
+            Replayed::Faulty(faulty) => {
                 write_fault(out, faulty.faults, "event", faulty.number, faulty.place)
             }
-            Fates::Whole(number) => writeln!(out, "WHOLE events {number}"),
+            Replayed::Whole(number) => writeln!(out, "WHOLE events {number}"),
         }
+    }
+
+    /// Writes the script in words, and as `tools/keys` reads it.
+    fn words<W: Write>(&self, out: &mut W, rest: &str) -> io::Result<()> {
+        let script = self.script.as_slice();
+        let most = number_of(rest);
+        let pressed = PressedKeys { script, most };
+        let words = KeyWords(script);
+        writeln!(out, "{pressed}")?;
+        writeln!(out, "{words}")
     }
 
     /// Searches.
@@ -132,6 +148,9 @@ impl Witness {
         let (frames, seed) = word_of(rest);
         let frames = number_of(frames) as u64;
         let mut hunt = Hunt::new(alloc, &rom, self.region, number_of(seed) as u64)?;
+        if let Some(place) = self.wanted {
+            hunt.want(place);
+        }
         match hunt.search(frames, &mut Unhurried)? {
             Some(script) => {
                 let is_found = play_again(alloc, &rom, &script, self.region)?.is_some();
@@ -149,6 +168,15 @@ fn region_of(rest: &str) -> Region {
     Region {
         first: (number_of(first) % 0x1_0000) as u16,
         last: (number_of(last) % 0x1_0000) as u16,
+    }
+}
+
+/// An address after its bank.
+fn place_of(rest: &str) -> CodePlace {
+    let (bank, address) = word_of(rest);
+    CodePlace {
+        address: (number_of(address) % 0x1_0000) as u16,
+        bank: (number_of(bank) % 0x1_0000) as u16,
     }
 }
 
@@ -194,6 +222,7 @@ fn play<W: Write>(alloc: Global, out: &mut W, witness: &mut Witness, line: &str)
         "watch" => witness.watch(alloc, out),
         "play" => witness.play(alloc, out),
         "hunt" => witness.hunt(alloc, out, rest),
+        "words" => witness.words(out, rest),
         _ => witness.take(alloc, word, rest),
     }
 }

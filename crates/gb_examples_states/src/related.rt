@@ -3,6 +3,7 @@
 
 use crate::facts::Fact::{self, At, Bits, Byte, Compared, Link, Memory, Same, Word, Zero};
 use crate::facts::KnownFact;
+use gb_copies::sides::{PlaceContents, narrowed};
 use gb_domain::pairs::WordPair::{Bc, De, Hl};
 use gb_domain::pairs::{ANY_BOUNDS, Bounds, Other};
 use gb_domain::types::{Cell, Rules};
@@ -10,7 +11,6 @@ use gb_ops::op::Register::{A, B, C, D, E, H};
 use gb_ops::op::{Condition, Indirect, Op, Operand, Pair, Register};
 use gb_pairs::moved::added;
 use gb_pairs::reduced::reduce;
-use gb_places::sides::{PlaceContents, narrowed};
 use gb_product::covering::covers;
 use gb_product::parts::Branch;
 use gb_product::reduced::reduced_branch;

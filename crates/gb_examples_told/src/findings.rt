@@ -4,8 +4,8 @@ use crate::pages::game;
 use gb_ops::machine::Region;
 use gb_ops::op::Register;
 use gb_page::{
-    CodePoint, Count, Crowd, Finding, Multiplied, Multiplier, ReachedLimit, Rom, Symbols,
-    color_note, findings_page,
+    CodePoint, Count, Crowd, Finding, FindingsExtras, Multiplied, Multiplier, ReachedLimit, Rom,
+    Symbols, color_note, findings_page,
 };
 use gb_samples::cartridges::put;
 use std::alloc::{AllocError, Global};
@@ -22,7 +22,7 @@ fn says(alloc: Global, finding: Finding, symbols: &[u8], text: &str) -> Option<b
     let rom = game();
     let rom = Rom::parse(&rom).ok()?;
     let symbols = Symbols::parse(alloc, symbols).ok()?;
-    let page = findings_page(alloc, &rom, &[finding], &symbols, false).ok()?;
+    let page = findings_page(alloc, &rom, &[finding], &symbols, FindingsExtras::none()).ok()?;
     Some(page.as_str().contains(text))
 }
 

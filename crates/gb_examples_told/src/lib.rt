@@ -3,12 +3,14 @@
 //! certificate that can't be read, where in the file its fault is. The facts and the page of a small game are here too, and what
 //! a new build of it changed.
 //!
-//! Read refusals.rt first, then extended.rt, which has the same for version 3, then pages.rt, compared.rt and findings.rt;
+//! Read refusals.rt first, then extended.rt, which has the same for version 3, then pages.rt, compared.rt, findings.rt and crashes.rt;
 //! spelled.rt spells certificates.
 #![tactic(auto)]
 
 #[cfg(test)]
 mod compared;
+#[cfg(test)]
+mod crashes;
 #[cfg(test)]
 mod extended;
 #[cfg(test)]

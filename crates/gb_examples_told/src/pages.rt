@@ -2,8 +2,8 @@
 
 use crate::spelled::{EMPTY, Spelled, SpelledNode, SpelledProcedure, certificate};
 use gb_page::{
-    Bound, CallLink, Cert, CodePoint, CodeRun, EnteredBy, Extras, Facts, Finding, Interrupt, Rom,
-    Screen, Symbols, Verdict, facts_json, findings_page, page_of,
+    Bound, CallLink, Cert, CodePoint, CodeRun, EnteredBy, Extras, Facts, Finding, FindingsExtras,
+    Interrupt, Rom, Screen, Symbols, Verdict, facts_json, findings_page, page_of,
 };
 use gb_samples::cartridges::{PLAIN, SMALLEST, put, small};
 use std::alloc::Global;
@@ -327,7 +327,11 @@ fn findings(alloc: Global) -> Option<String> {
             },
         },
     ];
-    findings_page(alloc, &rom, &findings, &symbols, true).ok()
+    let extras = FindingsExtras {
+        are_new: true,
+        ..FindingsExtras::none()
+    };
+    findings_page(alloc, &rom, &findings, &symbols, extras).ok()
 }
 
 #[test]

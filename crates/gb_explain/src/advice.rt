@@ -164,7 +164,16 @@ pub const CLEARS_STACK: Advice = Advice {
 
 pub const KEPT_POINTER: Advice = Advice {
     problem: "A pointer that comes from RAM can hold any address, so the store can hit the stack, code or registers.",
-    remedy: "Keep an index in RAM, not the pointer: `ld a, [index]` / `and 31` / `ld l, a` / `ld h, HIGH(buffer)`.",
+    remedy: "Keep an index in RAM, not the pointer: `ld a, [index]` / `ld l, a` / `ld h, HIGH(page)`. Or mask its high byte: `and $0F` / `add $C0` for $C000-$CFFF, `and $1F` / `add $80` for VRAM.",
+    remedy_in_c: Some(
+        "Keep a `uint8_t` index in RAM, not the pointer, and bound it: `if (i < 32) buffer[i] = x;`.",
+    ),
+    anchor: "pointer-from-ram",
+};
+
+pub const LOADED_POINTER: Advice = Advice {
+    problem: "A pointer that comes from RAM can hold any address, so the access can hit the stack, code or registers.",
+    remedy: "Mask the high byte after it is loaded: `and $1F` / `add $80` for VRAM, `and $0F` / `add $C0` for $C000-$CFFF.",
     remedy_in_c: Some(
         "Keep a `uint8_t` index in RAM, not the pointer, and bound it: `if (i < 32) buffer[i] = x;`.",
     ),
@@ -389,22 +398,22 @@ pub const STACK_TOO_DEEP: Advice = Advice {
 };
 
 pub const OUT_OF_ROUNDS: Advice = Advice {
-    problem: "The analysis refines its states round by round, and stopped before it was sure.",
-    remedy: "Fix the finding above first. If this is the only one, please report the ROM.",
+    problem: "The analysis isn't finished. A finding above may only be where it stood, and go away if it can go on.",
+    remedy: "Check the finding above. If there is no mistake, please report the ROM.",
     remedy_in_c: None,
     anchor: "out-of-rounds",
 };
 
 /// Too many steps in all rounds together.
 pub const OUT_OF_STEPS: Advice = Advice {
-    remedy: "Fix the finding above first. Then allow more work with a larger --nodes.",
+    remedy: "Allow more work with a larger --nodes before you change code for the finding above.",
     remedy_in_c: None,
     ..OUT_OF_ROUNDS
 };
 
 /// The time that was allowed for the search ended.
 pub const OUT_OF_TIME: Advice = Advice {
-    remedy: "Fix the finding above first. Then allow more time with a larger --seconds.",
+    remedy: "Allow more time with a larger --seconds before you change code for the finding above.",
     remedy_in_c: None,
     ..OUT_OF_ROUNDS
 };

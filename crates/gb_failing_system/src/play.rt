@@ -2,7 +2,9 @@
 
 use crate::device::{Device, Pace, StreamEnding};
 use crate::disk::Disk;
-use crate::rows::{Content, ExpectedOutput, ExpectedPage, FilePlace, Given, Program, Scenario};
+use crate::rows::{
+    Content, ExpectedOutput, ExpectedPage, FilePlace, Given, Program, Scenario, WrittenFiles,
+};
 use crate::said::Said;
 use crate::stage::{Entry, Names, Stage};
 use std::alloc::Global;
@@ -15,6 +17,12 @@ pub struct Contents<'a> {
     pub cartridge: &'a [u8],
     /// The cartridge with an undefined opcode.
     pub undefined: &'a [u8],
+    /// The cartridge with a STOP.
+    pub stopping: &'a [u8],
+    /// The cartridge with a stack below 8000.
+    pub rom_stack: &'a [u8],
+    /// The cartridge with an undefined opcode and the Color flag.
+    pub colored: &'a [u8],
     /// The certificate, with a byte left over.
     pub longer: &'a [u8],
     /// The certificate in version 2.
@@ -53,10 +61,15 @@ impl<'a> Contents<'a> {
             Content::Empty => &[],
             Content::Cartridge => self.cartridge,
             Content::Undefined => self.undefined,
+            Content::Stopping => self.stopping,
+            Content::RomStack => self.rom_stack,
+            Content::Colored => self.colored,
             Content::Certificate => &self.longer[..self.longer.len().saturating_sub(1)],
             Content::Longer => self.longer,
             Content::Markup => self.markup,
             Content::Garbage => &[0xFF, 0xFE, 0x00, 0x80],
+            Content::Events => b"# four instructions\nrun x4\n",
+            Content::WrongEvents => b"run x2\nirq 9\n",
         }
     }
 
@@ -104,15 +117,20 @@ impl<'a> Contents<'a> {
             }),
             disk: None,
         };
-        Stage::new(alloc, row.words, names, self.said(row.written), told)
+        let stage = Stage::new(alloc, row.words, names, self.said(row.written), told);
+        if row.has_clock {
+            stage.with_clock()
+        } else {
+            stage
+        }
     }
 }
 
 /// Whether a program ends with this status on a stage, and does there what it has to.
-fn is_right(program: Program, stage: &Stage<'_>, status: u8) -> bool {
-    let ended = match program {
-        Program::Gulmyrek => gb_program::run(stage, false),
-        Program::Certify => gb_certify::run(stage, false),
+fn is_right(row: &Scenario, stage: &Stage<'_>, status: u8) -> bool {
+    let ended = match row.program {
+        Program::Gulmyrek => gb_program::run(stage, row.is_shown),
+        Program::Certify => gb_certify::run(stage, row.is_shown),
     };
     ended == ExitCode::from(status) && stage.is_as_wanted()
 }
@@ -120,9 +138,9 @@ fn is_right(program: Program, stage: &Stage<'_>, status: u8) -> bool {
 /// Plays an example as it is, and with a standard error that takes nothing.
 fn play_whole(alloc: Global, contents: &Contents<'_>, row: &Scenario, plays: &mut Plays) {
     let stage = contents.stage(alloc, row, row.told);
-    plays.count(is_right(row.program, &stage, row.status));
+    plays.count(is_right(row, &stage, row.status));
     let silent = contents.stage(alloc, row, row.told).in_silence();
-    plays.count(is_right(row.program, &silent, row.status));
+    plays.count(is_right(row, &silent, row.status));
 }
 
 /// Plays an example with an output that takes fewer bytes than there are: each number of them, or of a screen a few.
@@ -136,7 +154,7 @@ fn play_short(alloc: Global, contents: &Contents<'_>, row: &Scenario, plays: &mu
     };
     for room in (0..length).step_by(step) {
         let stage = contents.stage(alloc, row, told).with_room(room);
-        plays.count(is_right(row.program, &stage, 3));
+        plays.count(is_right(row, &stage, 3));
     }
 }
 
@@ -184,16 +202,17 @@ pub fn play_cuts(
     plays
 }
 
-/// How a page is written, and whether it has to be there afterwards.
+/// How files are written, and whether they have to be there afterwards.
 #[derive(Clone, Copy)]
 struct Writing {
+    files: WrittenFiles,
     room: usize,
     can_rename: bool,
     is_whole: bool,
 }
 
-/// Plays an example that writes a page, and counts whether it is there whole, or nothing of it is. The answer is how many bytes
-/// were written.
+/// Plays an example that writes files, and counts whether they are there whole, or nothing of one is. The answer is how many
+/// bytes were written.
 fn play_writing(
     alloc: Global,
     contents: &Contents<'_>,
@@ -203,24 +222,25 @@ fn play_writing(
 ) -> usize {
     let disk = Disk::new(writing.room, writing.can_rename);
     let stage = contents.stage(alloc, row, row.told).with_disk(&disk);
-    let is_as_told = is_right(row.program, &stage, row.status);
+    let is_as_told = is_right(row, &stage, row.status);
     let is_as_wanted = if writing.is_whole {
-        disk.has_page()
+        disk.has_whole(writing.files)
     } else {
-        disk.is_empty()
+        disk.lacks_one(writing.files)
     };
     plays.count(is_as_told && is_as_wanted);
     disk.taken()
 }
 
-/// How many parts a page has that end before a place at which it breaks off.
+/// How many parts the bytes have that end before a place at which they break off.
 const PARTS: usize = 16;
 
-/// Plays an example that writes a page: as it is; where the page can't get its name; and where it breaks off behind each
-/// sixteenth of its bytes, and before its last.
+/// Plays an example that writes files: as it is; where none can get its name; and where they break off behind each sixteenth of
+/// their bytes, and before the last.
 pub fn play_page(alloc: Global, contents: &Contents<'_>, page: &ExpectedPage) -> Plays {
     let mut plays = Plays::new();
     let whole = Writing {
+        files: page.files,
         room: usize::MAX,
         can_rename: true,
         is_whole: true,

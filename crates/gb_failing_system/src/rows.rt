@@ -18,6 +18,12 @@ pub enum Content {
     Cartridge,
     /// The least cartridge with an undefined opcode at 0150.
     Undefined,
+    /// The least cartridge with a STOP at 0150.
+    Stopping,
+    /// The least cartridge with LD SP,8000 at 0150.
+    RomStack,
+    /// The least cartridge with an undefined opcode and the Color flag.
+    Colored,
     /// The least cartridge's certificate.
     Certificate,
     /// The certificate with a byte left over.
@@ -26,6 +32,10 @@ pub enum Content {
     Markup,
     /// Bytes that are no text.
     Garbage,
+    /// Four instructions, as a list of events.
+    Events,
+    /// A list of events with a line that is none.
+    WrongEvents,
 }
 
 /// What stands behind a name.
@@ -60,6 +70,10 @@ pub struct Scenario {
     pub written: ExpectedOutput,
     pub status: u8,
     pub told: &'static str,
+    /// Whether a person sees standard error as it comes.
+    pub is_shown: bool,
+    /// Whether there is a clock.
+    pub has_clock: bool,
 }
 
 /// Which of the four is cut off.
@@ -71,10 +85,20 @@ pub enum FilePlace {
     Input,
 }
 
-/// An example that writes a page, and the same where it can't.
+/// The files that an example writes whole or not at all.
+#[derive(Clone, Copy, PartialEq, Eq)]
+pub enum WrittenFiles {
+    Page,
+    /// The keys of a crash.
+    CrashKeys,
+    PageAndCrashKeys,
+}
+
+/// An example that writes files, and the same where it can't.
 pub struct ExpectedPage {
     pub whole: Scenario,
     pub broken: Scenario,
+    pub files: WrittenFiles,
 }
 
 /// An example that is played with a place cut off behind each of some numbers of bytes: 0, `step` and so on up to `most`.
@@ -88,18 +112,33 @@ pub struct Cuts {
 /// More bytes than any of the files has.
 pub(crate) const ALL: usize = usize::MAX;
 
-const CARTRIDGE: Given = Given::Read(Content::Cartridge, ALL, Pace::Whole, StreamEnding::End);
+pub(crate) const CARTRIDGE: Given = Given::Read(
+    Content::Cartridge,
+    ALL,
+    Pace::Whole,
+    StreamEnding::End,
+);
 
-const UNDEFINED: Given = Given::Read(Content::Undefined, ALL, Pace::Whole, StreamEnding::End);
+pub(crate) const UNDEFINED: Given = Given::Read(
+    Content::Undefined,
+    ALL,
+    Pace::Whole,
+    StreamEnding::End,
+);
 
-const CERTIFICATE: Given = Given::Read(Content::Certificate, ALL, Pace::Whole, StreamEnding::End);
+pub(crate) const CERTIFICATE: Given = Given::Read(
+    Content::Certificate,
+    ALL,
+    Pace::Whole,
+    StreamEnding::End,
+);
 
-const MISSING: Given = Given::Refused(ErrorKind::NotFound);
+pub(crate) const MISSING: Given = Given::Refused(ErrorKind::NotFound);
 
-const EMPTY: Given = Given::Read(Content::Empty, 0, Pace::Whole, StreamEnding::End);
+pub(crate) const EMPTY: Given = Given::Read(Content::Empty, 0, Pace::Whole, StreamEnding::End);
 
 /// Zeros without an end.
-const ZEROS: Given = Given::Read(Content::Empty, 0, Pace::Whole, StreamEnding::Zeros);
+pub(crate) const ZEROS: Given = Given::Read(Content::Empty, 0, Pace::Whole, StreamEnding::Zeros);
 
 pub(crate) const FAILING: StreamEnding = StreamEnding::Failing(ErrorKind::Other);
 
@@ -107,7 +146,7 @@ pub(crate) const NO_ROOM: StreamEnding = StreamEnding::Failing(ErrorKind::OutOfM
 
 const ACCEPTED: ExpectedOutput = ExpectedOutput::Text("ACCEPTED nodes 3 procedures 1\n");
 
-const REFUSED: ExpectedOutput = ExpectedOutput::Text("REFUSED node 2 reason 5\n");
+pub(crate) const REFUSED: ExpectedOutput = ExpectedOutput::Text("REFUSED node 2 reason 5\n");
 
 /// What a certificate changed beside itself: its main needs no stack and calls nothing.
 const UNCHANGED: &str = "\
@@ -118,7 +157,7 @@ pub(crate) const DEVICE: ExpectedOutput = ExpectedOutput::Text("FAULT device\n")
 
 pub(crate) const MEMORY: ExpectedOutput = ExpectedOutput::Text("FAULT memory\n");
 
-const NOTHING: ExpectedOutput = ExpectedOutput::Text("");
+pub(crate) const NOTHING: ExpectedOutput = ExpectedOutput::Text("");
 
 const VERSION: ExpectedOutput = ExpectedOutput::Text("gulmyrek 0.5.0\n");
 
@@ -160,9 +199,11 @@ pub(crate) const VERIFY: Scenario = Scenario {
     written: ACCEPTED,
     status: 0,
     told: "",
+    is_shown: false,
+    has_clock: false,
 };
 
-const HEADER: Scenario = Scenario {
+pub(crate) const HEADER: Scenario = Scenario {
     about: "header",
     words: &[b"gulmyrek", b"header", b"game.gb"],
     cert: MISSING,
@@ -178,7 +219,7 @@ pub(crate) const SHOW: Scenario = Scenario {
     ..VERIFY
 };
 
-const UPGRADE: Scenario = Scenario {
+pub(crate) const UPGRADE: Scenario = Scenario {
     about: "upgrade",
     words: &[b"gulmyrek", b"upgrade", b"game.cert"],
     game: MISSING,
@@ -221,7 +262,7 @@ const WATCH_CERTIFIED: Scenario = Scenario {
 };
 
 /// Two frames in which no keys lead to a fault.
-const HUNT: Scenario = Scenario {
+pub(crate) const HUNT: Scenario = Scenario {
     about: "hunt without a fault",
     words: &[b"gulmyrek", b"hunt", b"game.gb", b"--frames", b"2"],
     cert: MISSING,
@@ -239,7 +280,7 @@ pub(crate) const VERIFY_INPUT: Scenario = Scenario {
 };
 
 /// No certificate can be made of the cartridge, and none is written.
-const CERTIFY: Scenario = Scenario {
+pub(crate) const CERTIFY: Scenario = Scenario {
     about: "certify: an undefined opcode",
     program: Program::Certify,
     words: &[b"certify", b"game.gb", b"game.cert"],
@@ -251,7 +292,7 @@ const CERTIFY: Scenario = Scenario {
     ..VERIFY
 };
 
-const LINES: Scenario = Scenario {
+pub(crate) const LINES: Scenario = Scenario {
     about: "certify --lines: no file",
     words: &[
         b"certify",
@@ -267,14 +308,14 @@ const LINES: Scenario = Scenario {
 };
 
 /// A file that tells of no line.
-const NO_LINES: Scenario = Scenario {
+pub(crate) const NO_LINES: Scenario = Scenario {
     written: NOTHING,
     status: 2,
     told: "game.keys: no source lines: use an SDCC .cdb",
     ..LINES
 };
 
-const LIST: Scenario = Scenario {
+pub(crate) const LIST: Scenario = Scenario {
     about: "certify --list",
     program: Program::Certify,
     words: &[b"certify", b"--list", b"game.gb", b"game.cert"],
@@ -283,7 +324,7 @@ const LIST: Scenario = Scenario {
 };
 
 /// A page can't be written.
-const REPORT: Scenario = Scenario {
+pub(crate) const REPORT: Scenario = Scenario {
     about: "certify --report: a page that may not be written",
     program: Program::Certify,
     words: &[
@@ -300,7 +341,7 @@ const REPORT: Scenario = Scenario {
 };
 
 /// A page is written, with symbols that have markup in their names.
-const PAGE: Scenario = Scenario {
+pub(crate) const PAGE: Scenario = Scenario {
     about: "certify --report: a page with markup in the names of symbols",
     words: &[
         b"certify",
@@ -354,6 +395,7 @@ pub const PAGES: &[ExpectedPage] = &[
             told: "page.html",
             ..PAGE
         },
+        files: WrittenFiles::Page,
     },
     ExpectedPage {
         whole: FACTS,
@@ -363,6 +405,7 @@ pub const PAGES: &[ExpectedPage] = &[
             told: "page.html",
             ..FACTS
         },
+        files: WrittenFiles::Page,
     },
     ExpectedPage {
         whole: FINDINGS,
@@ -372,6 +415,7 @@ pub const PAGES: &[ExpectedPage] = &[
             told: "page.html",
             ..FINDINGS
         },
+        files: WrittenFiles::Page,
     },
 ];
 
@@ -578,350 +622,5 @@ pub const PLAYED: &[Scenario] = &[
         status: 2,
         told: "standard input",
         ..HUNT
-    },
-];
-
-pub const FAULTY: &[Scenario] = &[
-    Scenario {
-        about: "no cartridge",
-        game: MISSING,
-        written: DEVICE,
-        status: 3,
-        told: "game.gb",
-        ..VERIFY
-    },
-    Scenario {
-        about: "no certificate",
-        cert: MISSING,
-        written: DEVICE,
-        status: 3,
-        told: "game.cert",
-        ..VERIFY
-    },
-    Scenario {
-        about: "no script",
-        keys: MISSING,
-        written: DEVICE,
-        status: 3,
-        told: "game.keys",
-        ..RUN
-    },
-    Scenario {
-        about: "a cartridge that may not be read",
-        game: Given::Refused(ErrorKind::PermissionDenied),
-        written: DEVICE,
-        status: 3,
-        told: "game.gb",
-        ..HEADER
-    },
-    Scenario {
-        about: "a folder in a certificate's place",
-        cert: Given::Read(
-            Content::Empty,
-            ALL,
-            Pace::Whole,
-            StreamEnding::Failing(ErrorKind::IsADirectory),
-        ),
-        written: DEVICE,
-        status: 3,
-        told: "game.cert",
-        ..SHOW
-    },
-    Scenario {
-        about: "no memory to open a certificate",
-        cert: Given::Refused(ErrorKind::OutOfMemory),
-        written: MEMORY,
-        status: 3,
-        told: "game.cert",
-        ..UPGRADE
-    },
-    Scenario {
-        about: "standard input fails",
-        input: Given::Read(Content::Empty, ALL, Pace::Whole, FAILING),
-        written: DEVICE,
-        status: 3,
-        told: "standard input",
-        ..VERIFY_INPUT
-    },
-    Scenario {
-        about: "an empty cartridge",
-        game: EMPTY,
-        cert: EMPTY,
-        written: ExpectedOutput::Text("CARTRIDGE H1\n"),
-        status: 2,
-        told: "gulmyrek: game.gb: not a valid ROM: the file is too short",
-        ..VERIFY
-    },
-    Scenario {
-        about: "a cartridge cut off before its header's end",
-        game: Given::Read(Content::Cartridge, 335, Pace::Whole, StreamEnding::End),
-        written: ExpectedOutput::Text("CARTRIDGE H1\n"),
-        status: 2,
-        ..RUN
-    },
-    Scenario {
-        about: "a cartridge without its last byte",
-        game: Given::Read(Content::Cartridge, 32_767, Pace::Whole, StreamEnding::End),
-        written: ExpectedOutput::Text("CARTRIDGE H1\n"),
-        status: 2,
-        told: "gulmyrek: game.gb: not a valid ROM: the file is too short",
-        ..RUN
-    },
-    Scenario {
-        about: "an empty certificate",
-        cert: EMPTY,
-        written: ExpectedOutput::Text("CERTIFICATE C1\n"),
-        status: 2,
-        told: "game.cert",
-        ..VERIFY
-    },
-    Scenario {
-        about: "a certificate without its last byte",
-        cert: Given::Read(Content::Certificate, 158, Pace::Whole, StreamEnding::End),
-        written: ExpectedOutput::Text("CERTIFICATE C1\n"),
-        status: 2,
-        told: "game.cert",
-        ..UPGRADE
-    },
-    Scenario {
-        about: "a certificate with a byte left over",
-        cert: Given::Read(Content::Longer, ALL, Pace::Slow, StreamEnding::End),
-        written: ExpectedOutput::Text("CERTIFICATE C8\n"),
-        status: 2,
-        told: "game.cert",
-        ..SHOW
-    },
-    Scenario {
-        about: "two files on standard input",
-        words: &[b"gulmyrek", b"verify", b"-", b"-"],
-        written: NOTHING,
-        status: 2,
-        told: "standard input",
-        ..VERIFY
-    },
-    Scenario {
-        about: "a cartridge and a script on standard input",
-        words: &[b"gulmyrek", b"run", b"-", b"-", b"2"],
-        written: NOTHING,
-        status: 2,
-        told: "standard input",
-        ..VERIFY
-    },
-    Scenario {
-        about: "a word that isn't UTF-8",
-        words: &[b"gulmyrek", b"header", b"\xFF.gb"],
-        written: NOTHING,
-        status: 2,
-        told: "UTF-8",
-        ..VERIFY
-    },
-    Scenario {
-        about: "more frames than 36,000, and no file is opened",
-        words: &[b"gulmyrek", b"run", b"game.gb", b"game.keys", b"36001"],
-        game: MISSING,
-        keys: MISSING,
-        written: NOTHING,
-        status: 2,
-        told: "36001",
-        ..VERIFY
-    },
-    CERTIFY,
-    Scenario {
-        about: "certify --explain: a certificate that is refused",
-        words: &[b"certify", b"--explain", b"game.gb", b"game.cert"],
-        cert: CERTIFICATE,
-        written: REFUSED,
-        told: "a new certificate can't be made either",
-        ..CERTIFY
-    },
-    Scenario {
-        about: "certify: a certificate that may not be written",
-        game: CARTRIDGE,
-        cert: Given::Refused(ErrorKind::PermissionDenied),
-        written: DEVICE,
-        status: 3,
-        told: "game.cert",
-        ..CERTIFY
-    },
-    Scenario {
-        about: "certify: no cartridge",
-        game: MISSING,
-        written: DEVICE,
-        status: 3,
-        told: "game.gb",
-        ..CERTIFY
-    },
-    Scenario {
-        about: "certify: an empty cartridge",
-        game: EMPTY,
-        written: ExpectedOutput::Text("CARTRIDGE H1\n"),
-        status: 2,
-        told: "certify: game.gb: not a valid ROM: the file is too short",
-        ..CERTIFY
-    },
-    Scenario {
-        about: "certify: no symbols",
-        words: &[b"certify", b"game.gb", b"game.cert", b"--sym", b"game.keys"],
-        written: DEVICE,
-        status: 3,
-        told: "game.keys",
-        ..CERTIFY
-    },
-    LINES,
-    Scenario {
-        about: "certify --lines: a file that is no text",
-        keys: Given::Read(Content::Garbage, ALL, Pace::Whole, StreamEnding::End),
-        written: NOTHING,
-        status: 2,
-        told: "it isn't text",
-        ..LINES
-    },
-    Scenario {
-        about: "certify --lines: an empty file",
-        keys: EMPTY,
-        ..NO_LINES
-    },
-    Scenario {
-        about: "certify --lines: symbols",
-        keys: Given::Read(Content::Markup, ALL, Pace::Whole, StreamEnding::End),
-        ..NO_LINES
-    },
-    Scenario {
-        about: "certify --lines: a file without an end",
-        keys: ZEROS,
-        ..NO_LINES
-    },
-    Scenario {
-        about: "certify --list: a certificate with a byte left over",
-        cert: Given::Read(Content::Longer, ALL, Pace::Whole, StreamEnding::End),
-        written: ExpectedOutput::Text("CERTIFICATE C8\n"),
-        status: 2,
-        told: "game.cert",
-        ..LIST
-    },
-    REPORT,
-    Scenario {
-        about: "certify --compare: no older certificate",
-        words: &[
-            b"certify",
-            b"--compare",
-            b"game.keys",
-            b"game.gb",
-            b"game.cert",
-        ],
-        told: "game.keys",
-        ..REPORT
-    },
-    Scenario {
-        about: "certify --compare: an older certificate with a byte left over",
-        words: &[
-            b"certify",
-            b"--compare",
-            b"game.keys",
-            b"game.gb",
-            b"game.cert",
-        ],
-        keys: Given::Read(Content::Longer, ALL, Pace::Whole, StreamEnding::End),
-        written: ExpectedOutput::Text("CERTIFICATE C8\n"),
-        status: 2,
-        told: "game.keys",
-        ..REPORT
-    },
-    Scenario {
-        about: "certify --compare: an older cartridge that isn't valid",
-        words: &[
-            b"certify",
-            b"--compare",
-            b"game.cert",
-            b"--old-rom",
-            b"game.keys",
-            b"game.gb",
-            b"game.cert",
-        ],
-        keys: EMPTY,
-        written: ExpectedOutput::Text("CARTRIDGE H1\n"),
-        status: 2,
-        told: "game.keys",
-        ..REPORT
-    },
-    Scenario {
-        about: "certify --old-sym without --compare",
-        words: &[
-            b"certify",
-            b"--old-sym",
-            b"game.keys",
-            b"game.gb",
-            b"game.cert",
-        ],
-        written: NOTHING,
-        status: 2,
-        told: "need --compare",
-        ..REPORT
-    },
-    Scenario {
-        about: "certify --report: a page in the certificate's own file",
-        words: &[
-            b"certify",
-            b"--report",
-            b"game.cert",
-            b"game.gb",
-            b"game.cert",
-        ],
-        written: NOTHING,
-        status: 2,
-        told: "refuses to overwrite a file that it reads",
-        ..REPORT
-    },
-    Scenario {
-        about: "certify: a certificate written to standard input",
-        words: &[b"certify", b"game.gb", b"-"],
-        written: NOTHING,
-        status: 2,
-        told: "certify writes CERT, so it can't be -",
-        ..CERTIFY
-    },
-    Scenario {
-        about: "certify: a certificate in the cartridge's own file",
-        words: &[b"certify", b"game.gb", b"game.gb"],
-        game: CARTRIDGE,
-        written: NOTHING,
-        status: 2,
-        told: "refuses to overwrite the ROM",
-        ..CERTIFY
-    },
-    Scenario {
-        about: "certify: more nodes than a certificate may have",
-        words: &[b"certify", b"game.gb", b"game.cert", b"--nodes", b"1048577"],
-        written: NOTHING,
-        status: 2,
-        told: "1048576",
-        ..CERTIFY
-    },
-    Scenario {
-        about: "certify: no second to search",
-        words: &[b"certify", b"game.gb", b"game.cert", b"--seconds", b"0"],
-        written: NOTHING,
-        status: 2,
-        told: "86400",
-        ..CERTIFY
-    },
-    Scenario {
-        about: "certify: a limit of time, but no clock",
-        words: &[b"certify", b"game.gb", b"game.cert", b"--seconds", b"1"],
-        ..CERTIFY
-    },
-    Scenario {
-        about: "certify: a stack outside of RAM",
-        words: &[
-            b"certify",
-            b"game.gb",
-            b"game.cert",
-            b"--stack",
-            b"8000..80FF",
-        ],
-        written: NOTHING,
-        status: 2,
-        told: "--stack needs",
-        ..CERTIFY
     },
 ];

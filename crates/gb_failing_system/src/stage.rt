@@ -29,6 +29,9 @@ pub const GAME: &str = "game.gb";
 /// The certificate's name.
 pub const CERT: &str = "game.cert";
 
+/// The milliseconds from one question for the time to the next.
+const TICK: u64 = 250;
+
 /// The script's name.
 pub const KEYS: &str = "game.keys";
 
@@ -57,6 +60,8 @@ pub struct Stage<'a> {
     taken: Cell<usize>,
     /// Whether each of them was as it is to be.
     is_as_said: Cell<bool>,
+    /// The times that the clock was asked, where there is one.
+    ticks: Option<Cell<u32>>,
     /// Whether standard error can be written to.
     can_tell: bool,
     /// What standard error is to tell.
@@ -82,6 +87,7 @@ impl<'a> Stage<'a> {
             room: usize::MAX,
             taken: Cell::new(0),
             is_as_said: Cell::new(true),
+            ticks: None,
             can_tell: true,
             told,
             is_told: Cell::new(false),
@@ -94,12 +100,18 @@ impl<'a> Stage<'a> {
         self
     }
 
-    /// This stage, with a disk on which a page can be written.
+    /// This stage, with a disk on which files can be written.
     pub fn with_disk(mut self, disk: &'a Disk) -> Stage<'a> {
         self.names = Names {
             disk: Some(disk),
             ..self.names
         };
+        self
+    }
+
+    /// This stage, with a clock.
+    pub fn with_clock(mut self) -> Stage<'a> {
+        self.ticks = Some(Cell::new(0));
         self
     }
 
@@ -239,10 +251,15 @@ impl Alloc for Stage<'_> {
     }
 }
 
-/// There is no clock: what asks for one goes on without.
+/// Where there is a clock, a quarter of a second passes from one question to the next; else what asks goes on without.
 impl Clock for Stage<'_> {
     fn monotonic(&self) -> io::Result<Duration> {
-        unsupported()
+        let Some(ticks) = &self.ticks else {
+            return unsupported();
+        };
+        let passed = ticks.get();
+        ticks.set(passed.saturating_add(1));
+        Ok(Duration::from_millis(u64::from(passed).saturating_mul(TICK)))
     }
 
     fn since_1970(&self) -> io::Result<Duration> {
@@ -250,7 +267,7 @@ impl Clock for Stage<'_> {
     }
 }
 
-/// That the program asks for nothing but files to read, and a page to write.
+/// That the program asks for nothing but files to read, and what the disk takes.
 fn unsupported<T>() -> io::Result<T> {
     Err(io::Error::from(ErrorKind::Unsupported))
 }

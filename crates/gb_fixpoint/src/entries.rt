@@ -5,6 +5,7 @@ use crate::contexts::Context;
 use crate::instruction::decoded;
 use crate::tracking::keep_tracked;
 use crate::types::Run;
+use gb_spelling::INTERRUPT_COUNT;
 use gb_verify::{Abs, Successor, Target, enter, left_by_dispatch, may_come, successors_of};
 use std::alloc::AllocError;
 
@@ -41,7 +42,7 @@ impl<'a> Run<'a> {
             }
         }
         let after = left_by_dispatch(self.rules(), node.key.address, &node.state);
-        for interrupt in 0..5u8 {
+        for interrupt in 0..INTERRUPT_COUNT {
             let vector = self.vector_of(interrupt, node);
             if may_come(interrupt, node.state.core()) && !self.is_inlined(vector) {
                 all.push(self.entered_in(node.key.procedure, vector, true, &after))?;

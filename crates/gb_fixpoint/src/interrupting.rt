@@ -9,14 +9,12 @@ use crate::register_set::{REGISTERS, RegisterSet};
 use crate::stop::RunStop;
 use crate::types::{Run, RunNode, RunProcedure};
 use gb_ops::registers::Registers;
+use gb_spelling::{INTERRUPT_COUNT, vector_of};
 use gb_verify::{
     Abs, Cell, Core, Ctl, Flg, ImeSet, Origin, Pairs, Range, Rules, Val, cell_at,
     covers_controller, covers_core, covers_ime, covers_relations, covers_val, left_by_dispatch,
     may_come,
 };
-
-/// The address that interrupt 0 calls; those of the others follow it, 8 bytes apart.
-const FIRST_VECTOR: u16 = 0x40;
 
 /// The bytes of a return word.
 const RETURN_WORD: u8 = 2;
@@ -139,7 +137,7 @@ impl<'a> Run<'a> {
         if !core.ime.on {
             return Ok(());
         }
-        for interrupt in 0..5u8 {
+        for interrupt in 0..INTERRUPT_COUNT {
             if may_come(interrupt, &core) {
                 if !core.stack_set {
                     let cause = Cause::InterruptWithoutStack { interrupt };
@@ -154,8 +152,7 @@ impl<'a> Run<'a> {
 
     /// Where the handler of an interrupt begins that comes at a node.
     pub(crate) fn vector_of(&self, interrupt: u8, node: &RunNode) -> CodePoint {
-        let vector = FIRST_VECTOR.saturating_add(u16::from(interrupt).saturating_mul(8));
-        CodePoint::of(self.rom, &node.state.core().ctl, vector)
+        CodePoint::of(self.rom, &node.state.core().ctl, vector_of(interrupt))
     }
 
     /// A handler comes at a node. Where nothing is new in that, nothing is done.

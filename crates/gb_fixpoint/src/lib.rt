@@ -54,6 +54,7 @@ pub use types::{
 
 // What lies below, for the crates above.
 pub use gb_ops::machine::Region;
+pub use gb_spelling::{INTERRUPT_COUNT, PADDING, vector_of};
 pub use gb_verify::check::check;
 pub use gb_verify::verdict::Verdict;
 pub use gb_verify::{

@@ -20,11 +20,14 @@ pub const NODES_A_PROCEDURE: usize = 64;
 /// The most steps of a run.
 pub const RUN_STEPS: u64 = 60_000_000;
 
-/// How many steps of nodes all rounds together may take: no more is begun behind them.
+/// How many steps of nodes all rounds of an attempt together may take, where few nodes are allowed: no more is begun behind them.
 pub const ALL_STEPS: u64 = 4_000_000;
 
-/// The steps of all rounds together, for each node that is allowed.
+/// The most steps of all rounds together, for each node that is allowed.
 pub const STEPS_A_NODE: u64 = 200;
+
+/// The same where so many nodes are allowed that these are more steps than `ALL_STEPS`.
+pub const STEPS_A_NODE_OF_MANY: u64 = 10;
 
 /// From how many steps of a run on a round is dear.
 pub const DEAR_STEPS: u64 = 10_000;

@@ -2,7 +2,7 @@
 
 use crate::stop::RunStop;
 use crate::types::{CellRead, CellStore, Run, Spot};
-use gb_ops::op::{Op, Operand, Register};
+use gb_ops::op::{Op, Register};
 use gb_verify::{AbsRead, AbsWrite, Range, Rules, Span, Successors, Val, is_ram};
 
 /// Where the byte at an address is kept: the echo of work RAM is the same byte.
@@ -15,14 +15,7 @@ fn home_of(address: u16) -> u16 {
 
 /// Whether an instruction stores A.
 fn stores_a(op: Op) -> bool {
-    matches!(
-        op,
-        Op::StoreA(_)
-            | Op::StoreHigh(_)
-            | Op::StoreHighC
-            | Op::StoreAbsolute(_)
-            | Op::Load(Operand::AtHl, Operand::Register(Register::A))
-    )
+    op.stored() == Some(Register::A)
 }
 
 /// Whether an instruction names the byte that it loads.

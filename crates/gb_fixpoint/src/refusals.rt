@@ -5,7 +5,8 @@ use crate::cause::{Cause, TransferMisuse};
 use crate::register_set::RegisterSet;
 use arrayvec::ArrayVec;
 use gb_ops::machine::Region;
-use gb_ops::op::{Indirect, Op, Operand, Pair, Register, Row};
+use gb_ops::op::{Op, Pair, Pointer, Row};
+use gb_spelling::INTERRUPT_COUNT;
 use gb_verify::{
     Abs, AbsRead, AbsWrite, Core, Range, Rom, Rules, Span, Stack, Successors, is_limited,
     is_stack_limited, lies_in_high_ram, may_come, meets_closed_ram,
@@ -62,33 +63,19 @@ fn bytes_added(rules: Rules, op: Op) -> usize {
 /// A refusal: its cause, and the registers that the access or the jump went by.
 pub type Refusal = (Cause, RegisterSet);
 
-/// The registers by which an instruction's access or jump goes.
-fn pointer(op: Op) -> RegisterSet {
-    match op {
-        Op::StoreA(Indirect::Bc) | Op::LoadA(Indirect::Bc) => {
-            RegisterSet::of(&[Register::B, Register::C])
-        }
-        Op::StoreA(Indirect::De) | Op::LoadA(Indirect::De) => {
-            RegisterSet::of(&[Register::D, Register::E])
-        }
-        Op::StoreHighC | Op::LoadHighC => RegisterSet::of(&[Register::C]),
-        Op::StoreHigh(_)
-        | Op::LoadHigh(_)
-        | Op::StoreAbsolute(_)
-        | Op::LoadAbsolute(_)
-        | Op::StoreSp(_) => RegisterSet::empty(),
-        _ => RegisterSet::of(&[Register::H, Register::L]),
+/// The registers by which an instruction's access goes.
+fn pointing(op: Op) -> RegisterSet {
+    match op.pointer() {
+        Some(pointer) => RegisterSet::of_pointer(pointer),
+        None => RegisterSet::empty(),
     }
 }
 
 /// The register that an instruction stores.
 fn stored(op: Op) -> RegisterSet {
-    match op {
-        Op::Load(Operand::AtHl, Operand::Register(register)) => RegisterSet::of(&[register]),
-        Op::StoreA(_) | Op::StoreHigh(_) | Op::StoreHighC | Op::StoreAbsolute(_) => {
-            RegisterSet::of(&[Register::A])
-        }
-        _ => RegisterSet::empty(),
+    match op.stored() {
+        Some(register) => RegisterSet::of(&[register]),
+        None => RegisterSet::empty(),
     }
 }
 
@@ -124,7 +111,7 @@ fn accesses(ways: &Successors<'_>) -> (AbsRead, AbsWrite) {
 fn store_refusal(op: Op, ways: &Successors<'_>) -> Refusal {
     let (_, write) = accesses(ways);
     let span = write_span(write).unwrap_or(Span::one(0));
-    (Cause::Store { span }, pointer(op))
+    (Cause::Store { span }, pointing(op))
 }
 
 /// Why closed cartridge RAM may be met: by an access, or by the OAM transfer that it starts.
@@ -134,7 +121,7 @@ fn closed_refusal(rom: &Rom<'_>, core: &Core, op: Op, ways: &Successors<'_>) -> 
         if let Some(span) = span
             && meets_closed_ram(rom, core, span)
         {
-            return (Cause::CartridgeRam { span }, pointer(op));
+            return (Cause::CartridgeRam { span }, pointing(op));
         }
     }
     match write {
@@ -173,7 +160,7 @@ fn transfer_misuse(core: &Core, ways: &Successors<'_>) -> TransferMisuse {
 
 /// The first interrupt that may come.
 fn first_interrupt(core: &Core) -> Option<u8> {
-    for interrupt in 0..5u8 {
+    for interrupt in 0..INTERRUPT_COUNT {
         if may_come(interrupt, core) {
             return Some(interrupt);
         }
@@ -205,7 +192,7 @@ fn transfer_refusal(standing: AtInstruction<'_>, ways: &Successors<'_>) -> Optio
     }
     if ways.meet_oam_transfer(region, core) {
         let misuse = transfer_misuse(core, ways);
-        return Some((Cause::OamTransfer(misuse), pointer(row.op)));
+        return Some((Cause::OamTransfer(misuse), pointing(row.op)));
     }
     if is_stack_limited(region, core) && first_interrupt(core).is_some() {
         return Some((Cause::OamTransfer(TransferMisuse::Interrupt), none));
@@ -242,7 +229,7 @@ pub fn refusal(
         return Some(refusal);
     }
     if ways.lead_anywhere() {
-        return Some((Cause::JumpHl, pointer(row.op)));
+        return Some((Cause::JumpHl, RegisterSet::of_pointer(Pointer::Hl)));
     }
     None
 }

@@ -1,6 +1,6 @@
 //! Sets of registers.
 
-use gb_ops::op::Register;
+use gb_ops::op::{Pointer, Register};
 use gb_ops::registers::Registers;
 
 /// All registers, in the order of their letters.
@@ -39,6 +39,15 @@ impl RegisterSet {
                 l: is_among(Register::L, registers),
             },
         }
+    }
+
+    /// The registers that hold a pointer's address.
+    pub fn of_pointer(pointer: Pointer) -> RegisterSet {
+        let mut registers = RegisterSet::of(&[pointer.low()]);
+        if let Some(high) = pointer.high() {
+            registers.insert(high);
+        }
+        registers
     }
 
     /// No register.

@@ -42,6 +42,7 @@ fn is_read(alloc: Global, words: &[&str], tally: &mut Tally) -> bool {
                 Task::Stored => words.is_empty(),
                 Task::Verify { rom, cert } => words.contains(&rom) && words.contains(&cert),
                 Task::Header { rom } | Task::Hunt { rom, .. } => words.contains(&rom),
+                Task::Replay { rom, events, .. } => words.contains(&rom) && words.contains(&events),
                 Task::Show { cert } | Task::Upgrade { cert, .. } => words.contains(&cert),
                 Task::Run {
                     rom,

@@ -6,7 +6,7 @@ use crate::play::{keys_of, seconds_of};
 use crate::presses::Presses;
 use crate::seen::Seen;
 use bitflags::Flags;
-use gb_ops::machine::Region;
+use gb_ops::machine::{CodePlace, Region};
 use gb_trace::{Console, Keys, Rom};
 use std::alloc::{AllocError, Global};
 
@@ -113,6 +113,11 @@ impl<'a> Hunt<'a> {
             longest: None,
             rounds: ROUNDS,
         })
+    }
+
+    /// The search goes towards this place: where code runs there, it goes on from there, as from code that hasn't run before.
+    pub fn want(&mut self, place: CodePlace) {
+        self.seen.want(place.bank, place.address);
     }
 
     /// The frames that were played.

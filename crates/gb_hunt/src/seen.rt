@@ -12,13 +12,35 @@ const PARTS: usize = 0x10000;
 /// The tiles in a row of the screen.
 const COLUMNS: usize = WIDTH / 8;
 
-/// A flag for each byte of ROM and each address above it at which an instruction began, and flags of parts of the picture.
+/// A place that hasn't run.
+const NEVER: u8 = 0;
+
+/// A place that is nothing new any more. A greater number is a wanted place that counts as new in one frame fewer.
+const RAN: u8 = 1;
+
+/// A wanted place that hasn't run: it counts as new in 32 frames. With more, the leads would all be at places that run in
+/// every frame.
+const WANTED: u8 = RAN + 32;
+
+/// A number for each byte of ROM and each address above it at which an instruction may begin, and flags of parts of the picture.
 #[derive(Drop)]
 pub(crate) struct Seen {
     places: Vec<u8>,
     parts: Vec<u8>,
     /// Whether there was something new since it was asked last.
     is_fresh: bool,
+    /// Whether a wanted place ran since then.
+    is_wanted_met: bool,
+}
+
+/// Where a place's number is; below 8000 with the ROM bank that is shown there.
+#[inline(always)]
+fn index_of(bank: u16, address: u16) -> usize {
+    if address < 0x8000 {
+        RAM + 0x4000 * usize::from(bank) + usize::from(address % 0x4000)
+    } else {
+        usize::from(address - 0x8000)
+    }
 }
 
 impl Seen {
@@ -28,21 +50,32 @@ impl Seen {
             places: vec![in alloc; 0; rom_size.saturating_add(RAM)]?,
             parts: vec![in alloc; 0; PARTS]?,
             is_fresh: false,
+            is_wanted_met: false,
         })
+    }
+
+    /// Code at a place is worth more than other code.
+    pub(crate) fn want(&mut self, bank: u16, address: u16) {
+        if let Some(number) = self.places.get_mut(index_of(bank, address))
+            && *number == NEVER
+        {
+            *number = WANTED;
+        }
     }
 
     /// An instruction at an address, with this ROM bank shown there.
     #[inline(always)]
     pub(crate) fn visit(&mut self, bank: u16, address: u16) {
-        let index = if address < 0x8000 {
-            RAM + 0x4000 * usize::from(bank) + usize::from(address % 0x4000)
-        } else {
-            usize::from(address - 0x8000)
-        };
-        if let Some(flag) = self.places.get_mut(index)
-            && *flag == 0
+        let index = index_of(bank, address);
+        if let Some(number) = self.places.get_mut(index)
+            && *number != RAN
         {
-            *flag = 1;
+            let is_wanted = *number != NEVER;
+            if is_wanted && self.is_wanted_met {
+                return;
+            }
+            *number = if is_wanted { *number - 1 } else { RAN };
+            self.is_wanted_met |= is_wanted;
             self.is_fresh = true;
         }
     }
@@ -92,13 +125,15 @@ impl Seen {
 
     /// How many places were seen.
     pub(crate) fn places(&self) -> usize {
-        self.places.iter().filter(|flag| **flag != 0).count()
+        let ran = |number: &&u8| **number != NEVER && **number != WANTED;
+        self.places.iter().filter(ran).count()
     }
 
-    /// Whether code ran that hadn't run before, since this was asked last.
+    /// Whether code ran that hadn't run before, or that is wanted, since this was asked last.
     pub(crate) fn take_fresh(&mut self) -> bool {
         let is_fresh = self.is_fresh;
         self.is_fresh = false;
+        self.is_wanted_met = false;
         is_fresh
     }
 }

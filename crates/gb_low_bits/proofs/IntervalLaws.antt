@@ -45,11 +45,11 @@ greatest-of =
     (λ hi b x l e. (omega arith, omega arith)) (λ hi b x l e. (omega arith, omega arith))
     (λ hi b x l e. (omega arith, omega arith))
 
-least-has : (lo : ℕ) (k : LowBits) → Has k (least lo k)
+pub least-has : (lo : ℕ) (k : LowBits) → Has k (least lo k)
 unfolding least
 least-has lo k = record { same = (least-of k.count lo k.bits).0 }
 
-least-above : (lo : ℕ) (k : LowBits) → lo ≤ least lo k
+pub least-above : (lo : ℕ) (k : LowBits) → lo ≤ least lo k
 unfolding least
 least-above lo k = (least-of k.count lo k.bits).1
 

@@ -9,10 +9,12 @@ use gb_cert::{
 use gb_console::{
     Console, Ending, Keys, Outcome, UpgradeTo, Upgraded, upgrade_bytes, verify_bytes,
 };
+use gb_events::{Progress, ReplayOutcome, WatchOutcome, read_events, replay_bytes, watch_bytes};
 use gb_header::Rom;
+use gb_ops::machine::{CodePlace, Region};
 use gb_page::{
-    Changes, Extras, Facts, Finding, Older, Symbols, changes_json, facts_json, findings_page,
-    page_of,
+    Changes, Crash, CrashFinding, Extras, Facts, Finding, FindingsExtras, Older, Screen, Symbols,
+    changes_json, crash_json, facts_json, findings_page, page_of,
 };
 use gb_text::kept_bytes::KeptBytes;
 use gb_words::{Task, read_words};
@@ -26,6 +28,17 @@ const NO_MEMORY: &[u8] = b"CERTIFICATE C9\n";
 
 /// The line of the certificate, which is right.
 const ACCEPTED: &[u8] = b"ACCEPTED nodes 100 procedures 1\n";
+
+/// The lines of two frames without a fault, and of four events.
+const WHOLE_FRAMES: &[u8] = b"WHOLE frames 2\n";
+
+const WHOLE_EVENTS: &[u8] = b"WHOLE events 4\n";
+
+/// Work RAM.
+const STACK: Region = Region {
+    first: 0xC000,
+    last: 0xDFFF,
+};
 
 /// The line of a cartridge without a byte.
 const TOO_SHORT: &[u8] = b"CARTRIDGE H1\n";
@@ -72,10 +85,13 @@ pub enum Request {
     Memory,
     Console,
     CloneConsole,
+    Watch,
+    Replay,
     Facts,
     FactsJson,
     Page,
     ObstaclesPage,
+    CrashPage,
     Changes,
     Words(&'static [&'static str], Option<Task<'static>>),
 }
@@ -179,6 +195,42 @@ fn clone_console(alloc: Global, files: &GivenFiles<'_>) -> CallAnswer {
     }
 }
 
+/// Who waits for frames, and says nothing.
+#[derive(Drop)]
+struct Quiet;
+
+impl Progress for Quiet {
+    fn frame(&mut self, _number: u32, _frames: u32) {}
+
+    fn done(&mut self) {}
+}
+
+/// Whether the line of a watched script was written.
+fn watch(alloc: Global, files: &GivenFiles<'_>) -> CallAnswer {
+    let mut out = KeptBytes::new(96, 96);
+    let rom = files.rom.bytes();
+    match watch_bytes(alloc, rom, &[], 2, STACK, &mut out, &mut Quiet) {
+        Ok(WatchOutcome::Told(_)) if out.kept() == WHOLE_FRAMES => CallAnswer::Right,
+        Ok(WatchOutcome::NoMemory) if out.kept().is_empty() => CallAnswer::Refused,
+        _ => CallAnswer::Other,
+    }
+}
+
+/// Whether a list of events was read, and then its line written.
+fn replay(alloc: Global, files: &GivenFiles<'_>) -> CallAnswer {
+    let list = match read_events(alloc, "run x4\n") {
+        Ok(Ok(list)) => list,
+        Ok(Err(_)) => return CallAnswer::Other,
+        Err(_) => return CallAnswer::Refused,
+    };
+    let mut out = KeptBytes::new(96, 96);
+    match replay_bytes(alloc, files.rom.bytes(), &list, STACK, &mut out) {
+        Ok(ReplayOutcome::Told(_)) if out.kept() == WHOLE_EVENTS => CallAnswer::Right,
+        Ok(ReplayOutcome::NoMemory) if out.kept().is_empty() => CallAnswer::Refused,
+        _ => CallAnswer::Other,
+    }
+}
+
 /// Whether the facts are those of the certificate: its jump, and behind it the program to its loop.
 fn facts(alloc: Global, files: &GivenFiles<'_>) -> CallAnswer {
     match Facts::of(alloc, files.rom, files.cert) {
@@ -216,8 +268,54 @@ fn page(alloc: Global, files: &GivenFiles<'_>) -> CallAnswer {
 fn page_of_obstacles(alloc: Global, files: &GivenFiles<'_>) -> CallAnswer {
     let symbols = Symbols::none(alloc);
     let findings = [Finding::NoStack { sp: 0x8000 }];
-    let made = findings_page(alloc, files.rom, &findings, &symbols, false);
+    let made = findings_page(
+        alloc,
+        files.rom,
+        &findings,
+        &symbols,
+        FindingsExtras::none(),
+    );
     text_with(made, "ld sp, $8000` leaves no room", "</html>\n")
+}
+
+/// A screen of the lightest shade.
+const SCREEN: &Screen = &[[0; 160]; 144];
+
+/// A crash at power-up.
+const CRASH: Crash<'static> = Crash {
+    line: "FAULT F1 frame 0 pc 0150 bank 000",
+    fault: 1,
+    frame: 0,
+    place: CodePlace {
+        address: 0x0150,
+        bank: 0,
+    },
+    story: "frame 0",
+    keys: "none for 1 frame",
+    key_words: "1",
+    keys_file: None,
+    replay: "gulmyrek watch",
+    region: Region {
+        first: 0xFF80,
+        last: 0xFFFD,
+    },
+    finding: CrashFinding::Unknown,
+    screen: SCREEN,
+};
+
+/// Whether the page of a crash was made, and then its JSON.
+fn page_of_crash(alloc: Global, files: &GivenFiles<'_>) -> CallAnswer {
+    let symbols = Symbols::none(alloc);
+    let extras = FindingsExtras {
+        are_new: false,
+        crash: Some(&CRASH),
+    };
+    let findings = [Finding::Internal];
+    let made = findings_page(alloc, files.rom, &findings, &symbols, extras);
+    match text_with(made, "FAULT F1 frame 0 pc 0150 bank 000", "</html>\n") {
+        CallAnswer::Right => { text_with(crash_json(alloc, &CRASH, &symbols), "\"fault\":1", "}}") }
+        answer => answer,
+    }
 }
 
 /// Whether the certificate changed nothing beside itself, and that was told.
@@ -261,10 +359,13 @@ impl Request {
             Request::Memory => memory(alloc, files),
             Request::Console => console(alloc, files),
             Request::CloneConsole => clone_console(alloc, files),
+            Request::Watch => watch(alloc, files),
+            Request::Replay => replay(alloc, files),
             Request::Facts => facts(alloc, files),
             Request::FactsJson => json(alloc, files),
             Request::Page => page(alloc, files),
             Request::ObstaclesPage => page_of_obstacles(alloc, files),
+            Request::CrashPage => page_of_crash(alloc, files),
             Request::Changes => changes(alloc, files),
             Request::Words(list, expected) => words(alloc, list, expected),
         }

@@ -117,6 +117,18 @@ const ROWS: &[CallRow] = &[
         step: 64,
     },
     CallRow {
+        name: "watch_bytes",
+        call: Request::Watch,
+        holes: 704,
+        step: 64,
+    },
+    CallRow {
+        name: "read_events and replay_bytes",
+        call: Request::Replay,
+        holes: 704,
+        step: 64,
+    },
+    CallRow {
         name: "Facts::of",
         call: Request::Facts,
         holes: 112,
@@ -137,6 +149,12 @@ const ROWS: &[CallRow] = &[
     CallRow {
         name: "findings_page",
         call: Request::ObstaclesPage,
+        holes: 256,
+        step: 128,
+    },
+    CallRow {
+        name: "findings_page with a crash, and crash_json",
+        call: Request::CrashPage,
         holes: 256,
         step: 128,
     },

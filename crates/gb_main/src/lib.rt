@@ -48,10 +48,18 @@ pub use gb_ppu::line::render_line;
 pub use gb_ppu::{LcdRegister, Mode, Ppu, Scene};
 pub use gb_timer::{Joypad, Timer};
 pub use gb_trace::{
-    Console, Ending, FaultKind, FaultyRun, FoundStack, Input, Keys, Sighting, SymbolFault, Symbols,
-    Trace, WatchOutcome, Watched, WatchedRun, find_stack, keys_at, lowest_fault, seconds_of,
-    steps_are_played, trace_fault, watch_bytes, watch_frame, watch_line, watch_script,
-    watch_script_shown, watched_runs_are_played,
+    Console, Ending, FaultKind, FaultyRun, FoundStack, Input, KeyWords, Keys, PressedKeys,
+    Sighting, SymbolFault, Symbols, Trace, TraceHead, WatchOutcome, Watched, WatchedRun,
+    find_stack, keys_at, lowest_fault, seconds_of, steps_are_played, trace_fault, watch_bytes,
+    watch_frame, watch_line, watch_script, watch_script_shown, watched_runs_are_played,
+};
+
+// Lists of events, and searches for a crash.
+pub use gb_events::{
+    BadLine, CountedIn, EventList, FaultyEvent, FaultyReplay, Hunt, HuntProgress, LineFault,
+    Patience, Progress, Repeated, ReplayOutcome, Replayed, Storm, machine_of, no_fault_line,
+    play_again, play_events, read_events, replay_bytes, replay_line, shorten, shorten_events,
+    trace_replay, verified_replays_are_whole, whole_replays_are_faultless, write_events,
 };
 
 // Certificates.

@@ -9,6 +9,7 @@ pub mod Machine
 pub mod Memory
 pub mod Pairs
 pub mod Play
+pub mod Pointers
 pub mod ReadsBack
 pub mod Registers
 pub mod Table

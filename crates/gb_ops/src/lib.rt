@@ -9,11 +9,14 @@ pub mod decode;
 pub mod machine;
 pub mod map;
 pub mod op;
+mod pointers;
 pub mod registers;
 
 pub use machine::{
     Banks, CodePlace, Computed, Effect, Event, Faults, Kind, Loaded, Mapped, Read, ReadSource,
     Region, Write,
 };
-pub use op::{AluOp, Condition, Indirect, Op, Operand, Pair, Register, Row, Shift, StackPair};
+pub use op::{
+    AluOp, Condition, Indirect, Op, Operand, Pair, Pointer, Register, Row, Shift, StackPair,
+};
 pub use registers::{Flags, Ime, Processor, Registers};

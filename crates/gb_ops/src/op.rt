@@ -64,6 +64,16 @@ pub enum Indirect {
     HlDecrement,
 }
 
+/// What holds the address of a byte in memory.
+#[derive(Clone, Copy, PartialEq, Eq)]
+pub enum Pointer {
+    Bc,
+    De,
+    Hl,
+    /// `FF00+C`.
+    HighC,
+}
+
 /// The condition of a jump, a call or a return.
 #[derive(Clone, Copy, PartialEq, Eq)]
 pub enum Condition {

@@ -1,5 +1,6 @@
 //! The page on a cartridge for which no certificate could be made: its findings.
 
+use crate::crash::{Crash, fmt_crash};
 use crate::escaped::Escaped;
 use crate::page::{fmt_end, fmt_head};
 use crate::path::PathToFinding;
@@ -23,6 +24,25 @@ struct FindingTexts {
     more: String,
 }
 
+/// What is shown besides the findings, where it is so or is at hand.
+#[derive(Clone, Copy)]
+pub struct FindingsExtras<'a> {
+    /// The older build has a certificate, so that the findings are new.
+    pub are_new: bool,
+    /// A crash; where a finding is at its place, that is the first one.
+    pub crash: Option<&'a Crash<'a>>,
+}
+
+impl FindingsExtras<'_> {
+    /// None of them.
+    pub fn none() -> FindingsExtras<'static> {
+        FindingsExtras {
+            are_new: false,
+            crash: None,
+        }
+    }
+}
+
 /// The findings, with what is said of each.
 #[derive(Clone, Copy)]
 struct FindingsPage<'a, 'r, 's> {
@@ -30,13 +50,19 @@ struct FindingsPage<'a, 'r, 's> {
     symbols: &'a Symbols<'s>,
     findings: &'a [Finding],
     texts: &'a [FindingTexts],
-    /// The older build has a certificate.
-    are_new: bool,
+    extras: FindingsExtras<'a>,
 }
 
-/// Where each finding is on the page.
-fn fmt_contents<W: fmt::Write>(count: usize, f: &mut fmt::Formatter<W>) -> fmt::Result {
+/// Where the crash and each finding are on the page.
+fn fmt_contents<W: fmt::Write>(
+    has_crash: bool,
+    count: usize,
+    f: &mut fmt::Formatter<W>,
+) -> fmt::Result {
     write!(f, "<nav>")?;
+    if has_crash {
+        write!(f, "<a href=\"#crash\">Crash</a> ")?;
+    }
     for place in 0..count {
         let number = place.saturating_add(1);
         write!(f, "<a href=\"#o{number}\">Finding {number}</a> ")?;
@@ -154,9 +180,12 @@ impl fmt::Display for FindingsPage<'_, '_, '_> {
             f,
             "<p class=\"verdict refused\">NO CERTIFICATE obstacles {count}</p>\n"
         )?;
-        fmt_meaning(self.are_new, f)?;
+        fmt_meaning(self.extras.are_new, f)?;
         fmt_color(self.rom, f)?;
-        fmt_contents(count, f)?;
+        fmt_contents(self.extras.crash.is_some(), count, f)?;
+        if let Some(crash) = self.extras.crash {
+            fmt_crash(crash, f)?;
+        }
         for (place, texts) in self.texts.iter().enumerate() {
             fmt_finding(self, place, texts, f)?;
         }
@@ -171,14 +200,14 @@ fn shown<'x>(
     findings: &'x [Finding],
     symbols: &'x Symbols<'_>,
     texts: &'x [FindingTexts],
-    are_new: bool,
+    extras: FindingsExtras<'x>,
 ) -> Result<String, AllocError> {
     let page = FindingsPage {
         rom,
         symbols,
         findings,
         texts,
-        are_new,
+        extras,
     };
     format!(in alloc; "{page}")
 }
@@ -224,8 +253,7 @@ fn texts_of(
     })
 }
 
-/// The page on why there is no certificate, with labels from symbols. It says whether the findings are new, because the older build
-/// has a certificate.
+/// The page on why there is no certificate, with labels from symbols, and with what else is at hand.
 ///
 /// # Errors
 ///
@@ -235,11 +263,11 @@ pub fn findings_page(
     rom: &Rom<'_>,
     findings: &[Finding],
     symbols: &Symbols<'_>,
-    are_new: bool,
+    extras: FindingsExtras<'_>,
 ) -> Result<String, AllocError> {
     let mut texts = Vec::new(alloc);
     for finding in findings {
         texts.push(texts_of(alloc, finding, symbols)?)?;
     }
-    shown(alloc, rom, findings, symbols, texts.as_slice(), are_new)
+    shown(alloc, rom, findings, symbols, texts.as_slice(), extras)
 }

@@ -1,7 +1,7 @@
 //! A certificate as a page for authors: one HTML document that needs no network, no script and no other file.
 //!
 //! Read `page` first, which makes the text and has the order of its parts; the facts are `gb_facts`'. Each other module writes
-//! one part, but for `findings`, the page of a cartridge for which no certificate could be made, with the `path` to each, `json`,
+//! one part, but for `findings`, the page of a cartridge for which no certificate could be made, with the `path` to each and a `crash`, `json`,
 //! the facts for programs, and `changes`, what a new certificate changed since an older one, with its words in `changed` and its
 //! object in `compared`. Text that comes from a file of symbols or from the cartridge goes through `escaped`; all else is numbers and this crate's own words.
 //! Nothing is promised of the text but that it is written safely.
@@ -10,6 +10,7 @@
 mod changed;
 mod changes;
 mod compared;
+mod crash;
 mod escaped;
 mod findings;
 mod interrupts;
@@ -31,8 +32,9 @@ mod verdict;
 
 pub use changes::{Changes, Older};
 pub use compared::changes_json;
+pub use crash::{Crash, CrashFinding, crash_json};
 pub use escaped::Escaped;
-pub use findings::findings_page;
+pub use findings::{FindingsExtras, findings_page};
 pub use json::facts_json;
 pub use page::{Extras, page_of};
 pub use screen::Screen;
@@ -40,6 +42,7 @@ pub use screen::Screen;
 // What lies below, for the crates above.
 pub use gb_reports::{
     Bound, CallLink, Cert, Code, CodePoint, CodeRun, Count, Crowd, EnteredBy, Explanation, Facts,
-    Finding, Format, Interrupt, Multiplied, Multiplier, Outline, ReachedLimit, Rom, Sketch,
-    SymbolFault, SymbolFaultKind, SymbolOffset, Symbols, Verdict, color_note, explain,
+    Finding, FindingPart, Format, InstructionFinding, Interrupt, Listing, Multiplied, Multiplier,
+    Outline, PointerLoad, ReachedLimit, Rom, ShownFinding, ShownPart, Sketch, Spent, SymbolFault,
+    SymbolFaultKind, SymbolOffset, Symbols, Verdict, color_note, explain, finding_json,
 };

@@ -53,14 +53,28 @@ fn fmt_shade<W: fmt::Write>(screen: &Screen, shade: u8, f: &mut fmt::Formatter<W
     write!(f, "\"/>")
 }
 
-/// The screen's part.
-pub(crate) fn fmt_screen<W: fmt::Write>(screen: &Screen, f: &mut fmt::Formatter<W>) -> fmt::Result {
+/// A picture of a screen, with these words for who can't see it.
+pub(crate) fn fmt_picture<W: fmt::Write>(
+    screen: &Screen,
+    words: &str,
+    f: &mut fmt::Formatter<W>,
+) -> fmt::Result {
     write!(
         f,
-        "<section id=\"screen\"><h2>The screen</h2>\n<p>120 frames after power-up, with no key pressed.</p>\n<svg class=\"screen\" viewBox=\"0 0 160 144\" shape-rendering=\"crispEdges\" role=\"img\" aria-label=\"the screen after 120 frames\">"
+        "<svg class=\"screen\" viewBox=\"0 0 160 144\" shape-rendering=\"crispEdges\" role=\"img\" aria-label=\"{words}\">"
     )?;
     for shade in SHADES {
         fmt_shade(screen, *shade, f)?;
     }
-    write!(f, "</svg></section>\n")
+    write!(f, "</svg>")
+}
+
+/// The screen's part.
+pub(crate) fn fmt_screen<W: fmt::Write>(screen: &Screen, f: &mut fmt::Formatter<W>) -> fmt::Result {
+    write!(
+        f,
+        "<section id=\"screen\"><h2>The screen</h2>\n<p>120 frames after power-up, with no key pressed.</p>\n"
+    )?;
+    fmt_picture(screen, "the screen after 120 frames", f)?;
+    write!(f, "</section>\n")
 }

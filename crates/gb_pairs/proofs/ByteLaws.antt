@@ -12,13 +12,15 @@ use Rattle.gb_domain.specs.declared.pairs.Other.TheVariants as other
 use Rattle.gb_domain.specs.declared.pairs.Link.{Link}
 use Rattle.gb_domain.specs.declared.pairs.Pairs.{Pairs}
 use Rattle.gb_domain.specs.Pairs.{facts_of}
+use Rattle.gb_domain.specs.Places.{is_same_register}
 use Rattle.gb_pairs.specs.declared.values.Values.{Values}
 use Rattle.gb_pairs.specs.Bounds.{bounds_of}
 use Rattle.gb_pairs.specs.Meaning.{word_of, other_of, IsLinked, HoldsPair, HoldPairs, AreBytes, Holds}
-use Rattle.gb_pairs.specs.Written.{is_half, is_same, without_register}
+use Rattle.gb_pairs.specs.Written.{is_half, without_register}
 use Rattle.gb_pairs.specs.Moved.{by_if, bounds_up, bounds_down, by_byte, other_by_byte, link_of_byte, weight, facts_of_byte_up, facts_of_byte_down, byte_incremented, byte_decremented}
 use Rattle.gb_pairs.specs.Sound.{Within, IsSoundByteStep}
-use Rattle.gb_pairs.proofs.RegisterLaws.{same_register, get_same, get_other, word_other}
+use Rattle.gb_domain.proofs.RegisterLaws.{same_register}
+use Rattle.gb_pairs.proofs.RegisterLaws.{get_same, get_other, word_other}
 use Rattle.gb_pairs.proofs.BoundsLaws.{Within-bounds_of, word_below, other_below}
 use Rattle.gb_pairs.proofs.WrittenLaws.{HoldPairs-without}
 use Rattle.gb_pairs.proofs.StepLaws.{stays, IsLinked-moved, Within-up, Within-down}
@@ -64,10 +66,10 @@ byte_move m n low high k = let e : 256 * 0 + n ≡ (256 * 0 + m + low) % 65536 =
 
 register_move :
     (r s : Register) (n low high : ℕ) (x : Registers ℕ) → AreBytes x → IsByteMove (get r x) n low high
-    → get s (set r n x) ≡ (get s x + by_if (is_same r s) low) % 65536
-register_move r s n low high x h k = choose (is_same r s) refl
+    → get s (set r n x) ≡ (get s x + by_if (is_same_register r s) low) % 65536
+register_move r s n low high x h k = choose (is_same_register r s) refl
   where
-    choose : (b : Bool) → is_same r s ≡ b → get s (set r n x) ≡ (get s x + by_if b low) % 65536
+    choose : (b : Bool) → is_same_register r s ≡ b → get s (set r n x) ≡ (get s x + by_if b low) % 65536
     choose true e =
         subst (λ q. get q (set r n x) ≡ (get q x + low) % 65536) (same_register r s e) (get_same r n x ∙ byte_move _ n low high k)
     choose false e = get_other r s n x e ∙ stays _ (other_below (other.Register s) x h)

@@ -16,7 +16,8 @@ use Rattle.gb_pairs.specs.Bounds.{is_one, bounds_of, bounds_of_other}
 use Rattle.gb_pairs.specs.Meaning.{word_of, other_of, IsLinked, HoldsPair, HoldPairs, Holds}
 use Rattle.gb_pairs.specs.Covering.{is_same_other, is_same_link, meets_link, covers_link, covers_pair, covers_pairs}
 use Rattle.gb_pairs.specs.Sound.{Within, ArePartOf}
-use Rattle.gb_pairs.proofs.RegisterLaws.{same_register, same_pair}
+use Rattle.gb_domain.proofs.RegisterLaws.{same_register}
+use Rattle.gb_pairs.proofs.RegisterLaws.{same_pair}
 use Rattle.gb_pairs.proofs.BoundsLaws.{Within-bounds_of, Within-bounds_of_other}
 
 same_other : (o p : Other) → is_same_other o p ≡ true → o ≡ p

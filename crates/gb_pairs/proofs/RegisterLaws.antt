@@ -10,8 +10,9 @@ use Rattle.gb_domain.specs.declared.pairs.WordPair.TheVariants as pair
 use Rattle.gb_domain.specs.declared.pairs.PairFacts.{PairFacts}
 use Rattle.gb_domain.specs.declared.pairs.Pairs.{Pairs}
 use Rattle.gb_domain.specs.Pairs.{facts_of}
+use Rattle.gb_domain.specs.Places.{is_same_register}
 use Rattle.gb_pairs.specs.Meaning.{word_of, AreBytes}
-use Rattle.gb_pairs.specs.Written.{is_half, register_number, is_same, pair_number, is_same_pair}
+use Rattle.gb_pairs.specs.Written.{is_half, pair_number, is_same_pair}
 use Rattle.gb_pairs.specs.Reduced.{with_facts}
 
 -- what holds of a register's new value and of the other registers holds of each
@@ -56,7 +57,7 @@ get_same H n x = refl
 get_same L n x = refl
 
 -- another register stays
-pub get_other : (r s : Register) (n : ℕ) (x : Registers ℕ) → is_same r s ≡ false → get s (set r n x) ≡ get s x
+pub get_other : (r s : Register) (n : ℕ) (x : Registers ℕ) → is_same_register r s ≡ false → get s (set r n x) ≡ get s x
 get_other A A n x h = cc
 get_other B B n x h = cc
 get_other C C n x h = cc
@@ -97,29 +98,6 @@ word_other H pair.Hl n x h = cc
 word_other L pair.Hl n x h = cc
 
 -- ---- registers and pairs by their numbers
-
-register_at : ℕ → Register
-register_at n =
-    if n == 0 then A
-    else if n == 1 then B
-    else if n == 2 then C
-    else if n == 3 then D
-    else if n == 4 then E
-    else if n == 5 then H
-    else L
-
-register_at-number : (r : Register) → register_at (register_number r) ≡ r
-unfolding register_at
-register_at-number A = refl
-register_at-number B = refl
-register_at-number C = refl
-register_at-number D = refl
-register_at-number E = refl
-register_at-number H = refl
-register_at-number L = refl
-
-pub same_register : (r s : Register) → is_same r s ≡ true → r ≡ s
-same_register r s h = sym (register_at-number r) ∙ ap register_at (eqb-true _ _ h) ∙ register_at-number s
 
 pair_at_number : ℕ → WordPair
 pair_at_number n = if n == 0 then pair.Bc else if n == 1 then pair.De else pair.Hl

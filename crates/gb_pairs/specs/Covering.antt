@@ -9,12 +9,13 @@ use Rattle.gb_domain.specs.declared.pairs.Link.{Link}
 use Rattle.gb_domain.specs.declared.pairs.PairFacts.{PairFacts}
 use Rattle.gb_domain.specs.declared.pairs.Pairs.{Pairs}
 use Rattle.gb_domain.specs.Pairs.{facts_of}
+use Rattle.gb_domain.specs.Places.{is_same_register}
 use Rattle.gb_pairs.specs.declared.values.Values.{Values}
 use Rattle.gb_pairs.specs.Bounds.{is_one, bounds_of, bounds_of_other}
-use Rattle.gb_pairs.specs.Written.{is_same, is_same_pair}
+use Rattle.gb_pairs.specs.Written.{is_same_pair}
 
 abbrev pub is_same_other : Other → Other → Bool
-is_same_other (other.Register r) (other.Register s) = is_same r s
+is_same_other (other.Register r) (other.Register s) = is_same_register r s
 is_same_other (other.Pair p) (other.Pair q) = is_same_pair p q
 is_same_other _ _ = false
 

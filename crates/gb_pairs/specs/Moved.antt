@@ -13,11 +13,12 @@ use Rattle.gb_domain.specs.declared.pairs.Link.{Link}
 use Rattle.gb_domain.specs.declared.pairs.PairFacts.{PairFacts}
 use Rattle.gb_domain.specs.declared.pairs.Pairs.{Pairs}
 use Rattle.gb_domain.specs.Pairs.{any_bounds, facts_of}
+use Rattle.gb_domain.specs.Places.{is_same_register}
 use Rattle.gb_vals.specs.Logic.{smaller, larger}
 use Rattle.gb_pairs.specs.declared.values.Values.{Values}
 use Rattle.gb_pairs.specs.declared.moved.HlSum.{HlSum}
 use Rattle.gb_pairs.specs.Bounds.{bounds_of, is_one}
-use Rattle.gb_pairs.specs.Written.{is_half, is_same, is_same_pair, without_register}
+use Rattle.gb_pairs.specs.Written.{is_half, is_same_pair, without_register}
 
 -- ---- amounts, modulo 65536
 
@@ -96,7 +97,7 @@ by_byte L pair.Hl low high = low
 by_byte _ _ low high = 0
 
 abbrev pub other_by_byte : Register → Other → ℕ → ℕ → ℕ
-other_by_byte r (other.Register s) low high = by_if (is_same r s) low
+other_by_byte r (other.Register s) low high = by_if (is_same_register r s) low
 other_by_byte r (other.Pair p) low high = by_byte r p low high
 
 abbrev pub link_of_byte : Register → ℕ → ℕ → WordPair → Option Link → Option Link

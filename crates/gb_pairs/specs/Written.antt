@@ -1,7 +1,7 @@
 -- Forgetting: what is left of the pairs where a register was written (abstract interpretation: forget; own).
 use Rattle.std.specs.Prelude.{ℕ, Bool, true, false, ◌==◌, if◌then◌else◌, Option, Some, None}
 use Rattle.gb_ops.specs.declared.op.Register.{Register}
-use Rattle.gb_ops.specs.declared.op.Register.TheVariants.{A, B, C, D, E, H, L}
+use Rattle.gb_ops.specs.declared.op.Register.TheVariants.{B, C, D, E, H, L}
 use Rattle.gb_domain.specs.declared.pairs.WordPair.{WordPair}
 use Rattle.gb_domain.specs.declared.pairs.WordPair.TheVariants as pair
 use Rattle.gb_domain.specs.declared.pairs.Other.{Other}
@@ -10,6 +10,7 @@ use Rattle.gb_domain.specs.declared.pairs.Link.{Link}
 use Rattle.gb_domain.specs.declared.pairs.PairFacts.{PairFacts}
 use Rattle.gb_domain.specs.declared.pairs.Pairs.{Pairs}
 use Rattle.gb_domain.specs.Pairs.{nothing_known}
+use Rattle.gb_domain.specs.Places.{is_same_register}
 
 -- the register is one of the pair's two
 abbrev pub is_half : Register → WordPair → Bool
@@ -21,18 +22,6 @@ is_half H pair.Hl = true
 is_half L pair.Hl = true
 is_half _ _ = false
 
-abbrev pub register_number : Register → ℕ
-register_number A = 0
-register_number B = 1
-register_number C = 2
-register_number D = 3
-register_number E = 4
-register_number H = 5
-register_number L = 6
-
-abbrev pub is_same : Register → Register → Bool
-is_same r s = register_number r == register_number s
-
 abbrev pub pair_number : WordPair → ℕ
 pair_number pair.Bc = 0
 pair_number pair.De = 1
@@ -43,7 +32,7 @@ is_same_pair p q = pair_number p == pair_number q
 
 -- what a link reads is read from the register
 abbrev pub reads : Register → Other → Bool
-reads r (other.Register s) = is_same r s
+reads r (other.Register s) = is_same_register r s
 reads r (other.Pair p) = is_half r p
 
 abbrev pub link_without : Register → Option Link → Option Link

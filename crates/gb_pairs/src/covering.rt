@@ -6,14 +6,15 @@ ghost use Rattle.gb_pairs.specs.Sound.{ArePartOf};
 
 use crate::bounds::{bounds_of, bounds_of_other, facts_of, is_one};
 use crate::values::Values;
-use crate::written::{is_same, is_same_pair};
+use crate::written::is_same_pair;
 use gb_domain::pairs::{Bounds, Link, Other, PairFacts, Pairs, WordPair};
+use gb_domain::places::is_same_register;
 
 fn is_same_other(s: Other, t: Other) -> bool
     ensures { result ≡ is_same_other s t }
 {
     match (s, t) {
-        (Other::Register(s), Other::Register(t)) => is_same(s, t),
+        (Other::Register(s), Other::Register(t)) => is_same_register(s, t),
         (Other::Pair(s), Other::Pair(t)) => is_same_pair(s, t),
         _ => false,
     }

@@ -7,8 +7,9 @@ ghost use Rattle.gb_pairs.specs.Sound.{IsSoundStep, IsSoundByteStep, IsSoundSum}
 
 use crate::bounds::{bounds_of, facts_of, is_one};
 use crate::values::Values;
-use crate::written::{is_half, is_same, is_same_pair, without_register};
+use crate::written::{is_half, is_same_pair, without_register};
 use gb_domain::pairs::{ANY_BOUNDS, Bounds, Link, Other, PairFacts, Pairs, WordPair};
+use gb_domain::places::is_same_register;
 use gb_ops::op::Register;
 
 /// What a sum of HL leaves of the pairs, and its carry, where it is known.
@@ -174,7 +175,7 @@ fn other_by_byte(register: Register, other: Other, low: u16, high: u16) -> u16
     ensures { result ≡ other_by_byte register other low high }
 {
     match other {
-        Other::Register(read) => by_if(is_same(register, read), low),
+        Other::Register(read) => by_if(is_same_register(register, read), low),
         Other::Pair(pair) => by_byte(register, pair, low, high),
     }
 }

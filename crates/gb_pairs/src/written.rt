@@ -3,13 +3,14 @@
 ghost use Rattle.std.specs.Prelude.{◌≡◌};
 ghost use Rattle.gb_domain.specs.Pairs.{ArePairs};
 ghost use Rattle.gb_pairs.specs.Sound.{IsSoundForgetting};
-ghost use Rattle.gb_pairs.specs.Written.{is_half, register_number, is_same, pair_number, is_same_pair, reads, link_without, facts_without, without_register};
+ghost use Rattle.gb_pairs.specs.Written.{is_half, pair_number, is_same_pair, reads, link_without, facts_without, without_register};
 
 use gb_domain::pairs::{Link, NOTHING_KNOWN, Other, PairFacts, Pairs, WordPair};
+use gb_domain::places::is_same_register;
 use gb_ops::op::Register;
 
 /// Whether a register is one of a pair's two.
-pub(crate) fn is_half(register: Register, pair: WordPair) -> bool
+pub fn is_half(register: Register, pair: WordPair) -> bool
     ensures { result ≡ is_half register pair }
 {
     matches!(
@@ -18,27 +19,6 @@ pub(crate) fn is_half(register: Register, pair: WordPair) -> bool
             | (Register::D | Register::E, WordPair::De)
             | (Register::H | Register::L, WordPair::Hl)
     )
-}
-
-/// A register's number, by which two registers are compared.
-fn register_number(register: Register) -> u8
-    ensures { result ≡ register_number register }
-{
-    match register {
-        Register::A => 0,
-        Register::B => 1,
-        Register::C => 2,
-        Register::D => 3,
-        Register::E => 4,
-        Register::H => 5,
-        Register::L => 6,
-    }
-}
-
-pub(crate) fn is_same(x: Register, y: Register) -> bool
-    ensures { result ≡ is_same x y }
-{
-    register_number(x) == register_number(y)
 }
 
 /// A pair's number, by which two pairs are compared.
@@ -64,7 +44,7 @@ fn reads(register: Register, other: Other) -> bool
     ensures { result ≡ reads register other }
 {
     match other {
-        Other::Register(read) => is_same(register, read),
+        Other::Register(read) => is_same_register(register, read),
         Other::Pair(pair) => is_half(register, pair),
     }
 }

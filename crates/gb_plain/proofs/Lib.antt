@@ -1,6 +1,7 @@
 pub mod Bytes
 pub mod Dispatching
 pub mod Facts
+pub mod Leading
 pub mod Leaving
 pub mod Meeting
 pub mod Ordering

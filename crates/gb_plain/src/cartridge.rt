@@ -90,6 +90,22 @@ impl Cartridge {
         })
     }
 
+    /// A cartridge at power-up.
+    ///
+    /// # Errors
+    ///
+    /// AllocError where there is no room.
+    #[tactic(auto, using(crate::proofs::Facts::ram_or_clock_by_features))]
+    pub fn of(alloc: Global, rom: &Rom<'_>) -> Result<Cartridge, AllocError>
+        ensures { IfOk result (λ cartridge. cartridge ≡ record { rom = rom.now; banks = Spec.banks_at_power_up }) }
+    {
+        Ok(Cartridge {
+            rom: Vec::from_slice(alloc, rom.bytes())?,
+            controller: Controller::of(rom),
+            has_ram_or_clock: has_ram_or_clock(rom),
+        })
+    }
+
     /// The cartridge in these bytes at power-up, if the header's check accepts them with the right checksum.
     #[tactic(auto, using(crate::proofs::Facts::parsed_is, crate::proofs::Facts::ram_or_clock_by_features))]
     pub fn new(alloc: Global, rom: Vec<u8>) -> Result<Option<Cartridge>, AllocError>

@@ -45,7 +45,7 @@ fn run_met(state: &MachineState, fetch: &[u8], reads: &[u8]) -> Met
 }
 
 /// What an event meets.
-fn met(state: &MachineState, event: Event) -> Met
+pub fn met(state: &MachineState, event: Event) -> Met
     ensures { HasMet (bus state.now.rom state.now.machine) event result }
 {
     let processor = state.processor();

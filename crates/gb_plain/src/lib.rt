@@ -20,3 +20,7 @@ pub use cartridge::Cartridge;
 pub use machine::PlainMachine;
 pub use places::PlaceList;
 pub use state::MachineState;
+
+// What lies below, for the crates above.
+pub use gb_faults::no_faults;
+pub use gb_header::Rom;

@@ -8,6 +8,7 @@ ghost use Rattle.std.specs.Prelude.{◌≡◌, ◌%◌, ◌&&◌, drop, slice_in
 ghost use Rattle.gb_ops.specs.Machine as Machine;
 ghost use Rattle.gb_ops.specs.Machine.{is_possible, is_bytes};
 ghost use Rattle.gb_ops.specs.Memory as Memory;
+ghost use Rattle.gb_ops.specs.Play as Play;
 ghost use Rattle.gb_ops.specs.Accesses.{event_cycles};
 ghost use Rattle.gb_cpu.specs.Step.{state, IsDispatchable};
 ghost use Rattle.gb_plain.specs.Handed.{left, ordered, IsInOrder, IsStepWith, IsEvent};
@@ -202,9 +203,9 @@ impl PlainMachine {
         cycles
     }
 
-    /// Applies an event, and answers its M-cycles. One that isn't possible changes nothing, and has none.
+    /// `apply`, as the bus between events shows it.
     #[tactic(auto, using(crate::proofs::Running::impossible))]
-    pub fn apply(&mut self, event: Event) -> u64
+    fn happen(&mut self, event: Event) -> u64
         ensures next { bus self.new.state.rom self.new.state.machine ≡ Machine.next (bus self.old.state.rom self.old.state.machine) event }
         ensures cycles { is_possible (bus self.old.state.rom self.old.state.machine) event ≡ true → result ≡ event_cycles (bus self.old.state.rom self.old.state.machine) event }
         ensures unchanged { is_possible (bus self.old.state.rom self.old.state.machine) event ≡ false → self.new ≡ self.old }
@@ -219,6 +220,18 @@ impl PlainMachine {
             Event::Irq(i) => self.dispatch(i),
             Event::Wait(cycles) => self.wait(cycles),
         }
+    }
+
+    /// Applies an event, and answers its M-cycles. One that isn't possible changes nothing, and has none.
+    pub fn apply(&mut self, event: Event) -> u64
+        ensures rom { self.new.state.rom ≡ self.old.state.rom }
+        ensures machine { self.new.state.machine ≡ Play.next self.old.state.rom self.old.state.machine event }
+        ensures next { bus self.new.state.rom self.new.state.machine ≡ Machine.next (bus self.old.state.rom self.old.state.machine) event }
+        ensures cycles { is_possible (bus self.old.state.rom self.old.state.machine) event ≡ true → result ≡ event_cycles (bus self.old.state.rom self.old.state.machine) event }
+        ensures unchanged { is_possible (bus self.old.state.rom self.old.state.machine) event ≡ false → self.new ≡ self.old }
+        ensures none { is_possible (bus self.old.state.rom self.old.state.machine) event ≡ false → result ≡ 0 }
+    {
+        self.happen(event)
     }
 }
 

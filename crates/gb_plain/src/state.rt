@@ -2,6 +2,7 @@
 
 ghost use Rattle.std.specs.Prelude.{◌≡◌, ◌≢◌, ◌<◌, ◌≤◌, true, false, length, vec_len, replicate, slice_index, slice_set, IfOk, ◌-◌, if◌then◌else◌};
 ghost use Rattle.gb_ops.specs.Cartridge as Spec;
+ghost use Rattle.gb_ops.specs.Faults.{code_place};
 ghost use Rattle.gb_faults.specs.Limits.{limits_of};
 ghost use Rattle.gb_plain.specs.Shown.{resting, zeros as zero_bytes};
 ghost use Rattle.gb_dma.specs.Transfer.{started};
@@ -10,7 +11,8 @@ use crate::cartridge::Cartridge;
 use gb_cpu::step::Cpu;
 use gb_dma::Transfer;
 use gb_faults::Limits;
-use gb_ops::machine::Banks;
+use gb_header::Rom;
+use gb_ops::machine::{Banks, CodePlace};
 use gb_ops::registers::Processor;
 use std::alloc::{AllocError, Global};
 use std::marker::Model;
@@ -92,6 +94,27 @@ impl MachineState {
         })
     }
 
+    /// A cartridge at power-up, with zeros in work RAM and high RAM.
+    ///
+    /// # Errors
+    ///
+    /// AllocError where there is no room.
+    pub fn of(alloc: Global, rom: &Rom<'_>) -> Result<MachineState, AllocError>
+        ensures start { IfOk result (λ state. IsStart state.rom state.machine) }
+        ensures rom { IfOk result (λ state. state.rom ≡ rom.now) }
+        ensures work { IfOk result (λ state. state.machine.storage.work ≡ replicate 8192 0) }
+        ensures high { IfOk result (λ state. state.machine.storage.high ≡ replicate 127 0) }
+    {
+        Ok(MachineState {
+            processor: Cpu::at_power_up(rom.bytes()).processor,
+            cartridge: Cartridge::of(alloc, rom)?,
+            work: zeros(alloc, WORK_SIZE)?,
+            high: zeros(alloc, HIGH_SIZE)?,
+            ie: 0,
+            transfer: Transfer::new(),
+        })
+    }
+
     /// Work RAM and high RAM have their sizes.
     pub(crate) fn sizes(&self)
         ensures work { length self.now.machine.storage.work ≡ 8192 }
@@ -107,6 +130,20 @@ impl MachineState {
         ensures { result ≡ self.now.machine.processor }
     {
         self.processor
+    }
+
+    /// Where the processor is: PC, and the ROM bank shown there.
+    #[tactic(auto, unfolding(gb_ops::specs::Faults::code_place))]
+    pub fn place(&self) -> CodePlace
+        ensures { result ≡ code_place (resting self.now.rom self.now.machine) self.now.machine.processor.pc }
+    {
+        let address = self.processor.pc;
+        let bank = if address < 0x8000 {
+            self.cartridge.shown_bank(address)
+        } else {
+            0
+        };
+        CodePlace { address, bank }
     }
 
     /// The cartridge.

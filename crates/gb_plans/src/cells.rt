@@ -1,15 +1,17 @@
 //! Memory cells: which are tracked, and which registers were loaded from them.
 
 use crate::plan::{Edit, Plan, number_of, unless_empty};
-use crate::sources::{copied, high_registers, pointer_of, sources, stacked, without};
-use crate::spots::{has_entry, is_known, op_at, open_at, pointed_at, pointed_by, value_of};
+use crate::sources::{copied, high_registers, loaded, loaded_by, sources, stacked, without};
+use crate::spots::{
+    SWITCHED, has_entry, high_of, is_known, op_at, open_at, pointed_at, pointed_by, value_of,
+};
 use crate::ways::Ways;
 use gb_fixpoint::code_point::CodePoint;
-use gb_fixpoint::known_bank;
 use gb_fixpoint::limits::SPOTS;
 use gb_fixpoint::register_set::{REGISTERS, RegisterSet};
 use gb_fixpoint::types::{Run, RunNode, Spot};
-use gb_ops::op::{AluOp, Indirect, Op, Operand, Register, StackPair};
+use gb_fixpoint::{Span, known_bank};
+use gb_ops::op::{AluOp, Op, Operand, Pointer, Register, StackPair};
 use std::alloc::{AllocError, Global};
 use std::collections::{BTreeMap, BTreeSet};
 
@@ -71,6 +73,10 @@ struct CellSearch {
     entries: BTreeSet<Entering>,
     /// Where a byte is loaded from ROM of which the bank isn't known.
     banked: BTreeSet<Spot>,
+    /// Where a byte is loaded from several addresses in RAM.
+    ranged: BTreeSet<Spot>,
+    /// The bytes of RAM that were found and aren't tracked.
+    untracked: BTreeSet<u16>,
     seen: BTreeSet<(Spot, u64)>,
     left: Vec<Question>,
     ways: BTreeMap<usize, Ways>,
@@ -137,7 +143,7 @@ impl CellSearch {
         self.ask(spot, without(wanted, Register::A))
     }
 
-    /// A cell is found, if it is tracked.
+    /// A cell is found.
     fn find(&mut self, run: &Run<'_>, spot: Spot, cell: u16) -> Result<(), AllocError> {
         if run.configuration.tracked.contains(&cell) {
             self.cells.insert(cell)?;
@@ -145,6 +151,8 @@ impl CellSearch {
                 procedure: spot.procedure,
                 cell,
             })?;
+        } else {
+            self.untracked.insert(cell)?;
         }
         Ok(())
     }
@@ -159,9 +167,9 @@ impl CellSearch {
         wanted: &RegisterSet,
     ) -> Result<(), AllocError> {
         self.find(run, spot, cell)?;
-        match op {
-            Op::Load(Operand::Register(target), _) => self.ask(spot, without(wanted, target)),
-            _ => self.ask(spot, without(wanted, Register::A)),
+        match loaded(op) {
+            Some(target) => self.ask(spot, without(wanted, target)),
+            None => self.ask(spot, *wanted),
         }
     }
 
@@ -172,7 +180,7 @@ impl CellSearch {
         spot: Spot,
         wanted: &RegisterSet,
     ) -> Result<(), AllocError> {
-        match pointed_at(run, spot, (Register::H, Register::L)) {
+        match pointed_at(run, spot, Pointer::Hl) {
             Some(cell) => {
                 self.find(run, spot, cell)?;
                 self.ask(spot, *wanted)
@@ -240,13 +248,18 @@ impl CellSearch {
         let Some(op) = op_at(run, spot) else {
             return Ok(());
         };
-        if let Some(pair) = pointer_of(op, wanted)
-            && reads_unknown_bank(run, spot, pair)
+        if let Some(pointer) = loaded_by(op, wanted)
+            && reads_unknown_bank(run, spot, pointer)
         {
             self.banked.insert(spot)?;
         }
+        if let Some(pointer) = loaded_by(op, wanted)
+            && reads_several_bytes(run, spot, pointer)
+        {
+            self.ranged.insert(spot)?;
+        }
         // A byte of ROM at a known address is known itself, so that what is computed comes from elsewhere.
-        if let Some(cell) = pointer_of(op, wanted).and_then(|pair| pointed_at(run, spot, pair))
+        if let Some(cell) = loaded_by(op, wanted).and_then(|pointer| pointed_at(run, spot, pointer))
             && (self.by == Sources::Copies || ROM < cell)
         {
             return self.meet_pointed(run, spot, cell, op, wanted);
@@ -294,16 +307,55 @@ impl CellSearch {
     }
 }
 
-/// Whether a pair at a spot may point into the switched bank while that isn't known.
-fn reads_unknown_bank(run: &Run<'_>, spot: Spot, pair: (Register, Register)) -> bool {
+/// Whether a pointer at a spot may point into the switched bank while that isn't known.
+fn reads_unknown_bank(run: &Run<'_>, spot: Spot, pointer: Pointer) -> bool {
     run.nodes_at(spot).iter().any(|number| match run.nodes.get(*number) {
         Some(node) => {
-            let high = value_of(node, pair.0);
+            let high = high_of(node, pointer);
             let ctl = &node.state.core().ctl;
-            high.lo < 0x80 && high.hi >= 0x40 && known_bank(run.rom, ctl, 0x4000).is_none()
+            high.lo < 0x80 && high.hi >= 0x40 && known_bank(run.rom, ctl, SWITCHED).is_none()
         }
         None => false,
     })
+}
+
+/// Whether a pointer at a spot points to several addresses, all of them behind ROM.
+fn reads_several_bytes(run: &Run<'_>, spot: Spot, pointer: Pointer) -> bool {
+    let mut first = None;
+    let mut are_several = false;
+    for number in run.nodes_at(spot) {
+        let Some(node) = run.nodes.get(*number) else {
+            continue;
+        };
+        if high_of(node, pointer).lo < 0x80 {
+            return false;
+        }
+        let address = pointed_by(node, pointer);
+        are_several = are_several || address.is_none() || (first.is_some() && first != address);
+        first = address;
+    }
+    are_several
+}
+
+/// The addresses that the nodes at a spot load from through a pair.
+pub fn loaded_span(run: &Run<'_>, spot: Spot) -> Option<Span> {
+    let pointer = loaded_by(op_at(run, spot)?, &RegisterSet::all())?;
+    let mut all: Option<Span> = None;
+    for number in run.nodes_at(spot) {
+        if let Some(node) = run.nodes.get(*number) {
+            let (high, low) = (high_of(node, pointer), value_of(node, pointer.low()));
+            let first = u16::from_be_bytes([high.lo, low.lo]);
+            let last = u16::from_be_bytes([high.hi, low.hi]);
+            all = match all {
+                Some(span) => Some(Span {
+                    first: span.first.min(first),
+                    last: span.last.max(last),
+                }),
+                None => Some(Span { first, last }),
+            };
+        }
+    }
+    all
 }
 
 /// The tracked cells that registers at a spot were loaded from, or are copies of.
@@ -316,6 +368,17 @@ fn cells_behind(
 ) -> Result<BTreeSet<u16>, AllocError> {
     let CellSearch { cells, .. } = searched(alloc, run, spot, wanted, by)?;
     Ok(cells)
+}
+
+/// The bytes of RAM that aren't tracked, from which registers at a spot come that aren't known.
+pub fn untracked_behind(
+    alloc: Global,
+    run: &Run<'_>,
+    spot: Spot,
+    wanted: &RegisterSet,
+) -> Result<BTreeSet<u16>, AllocError> {
+    let CellSearch { untracked, .. } = searched(alloc, run, spot, wanted, Sources::Unknown)?;
+    Ok(untracked)
 }
 
 /// Where registers at a spot that aren't known come from.
@@ -352,6 +415,8 @@ fn searched(
         loads: BTreeSet::new(alloc),
         entries: BTreeSet::new(alloc),
         banked: BTreeSet::new(alloc),
+        ranged: BTreeSet::new(alloc),
+        untracked: BTreeSet::new(alloc),
         seen: BTreeSet::new(alloc),
         left: Vec::new(alloc),
         ways: BTreeMap::new(alloc),
@@ -368,20 +433,14 @@ fn searched(
 
 /// The register that a node's instruction stores, and the address where, if it is one.
 fn stored_by(run: &Run<'_>, node: &RunNode) -> Option<(Register, u16)> {
-    let hl = (Register::H, Register::L);
-    match op_at(run, node.spot())? {
-        Op::Load(Operand::AtHl, Operand::Register(from)) => Some((from, pointed_by(node, hl)?)),
-        Op::StoreA(Indirect::Bc) => {
-            Some((Register::A, pointed_by(node, (Register::B, Register::C))?))
-        }
-        Op::StoreA(Indirect::De) => {
-            Some((Register::A, pointed_by(node, (Register::D, Register::E))?))
-        }
-        Op::StoreA(_) => Some((Register::A, pointed_by(node, hl)?)),
-        Op::StoreHigh(low) => Some((Register::A, 0xFF00 | u16::from(low))),
-        Op::StoreAbsolute(cell) => Some((Register::A, cell)),
-        _ => None,
-    }
+    let op = op_at(run, node.spot())?;
+    let register = op.stored()?;
+    let cell = match op {
+        Op::StoreHigh(low) => 0xFF00 | u16::from(low),
+        Op::StoreAbsolute(cell) => cell,
+        _ => pointed_by(node, op.pointer()?)?,
+    };
+    Some((register, cell))
 }
 
 /// A register that isn't known where it is stored.
@@ -452,18 +511,47 @@ fn plan_of_cells(
     Ok(unless_empty(run, plan))
 }
 
-/// The tracked cells that the high byte of a pointer is a copy of: the pointer itself is kept in RAM.
-pub fn pointer_cells(
+/// Where the high byte of a pointer is a copy of a byte in RAM: the pointer itself is kept there.
+#[derive(Drop)]
+pub struct PointerSource {
+    /// The tracked cells.
+    pub cells: BTreeSet<u16>,
+    /// Where it is loaded from several addresses, as from a queue.
+    pub loads: BTreeSet<Spot>,
+}
+
+impl PointerSource {
+    /// It doesn't come from RAM.
+    pub fn none(alloc: Global) -> PointerSource {
+        PointerSource {
+            cells: BTreeSet::new(alloc),
+            loads: BTreeSet::new(alloc),
+        }
+    }
+}
+
+/// Where the high byte of a pointer comes from in RAM.
+pub fn pointer_source(
+    alloc: Global,
+    run: &Run<'_>,
+    spot: Spot,
+    registers: &RegisterSet,
+) -> Result<PointerSource, AllocError> {
+    let high = high_registers(registers);
+    let CellSearch { cells, ranged, .. } = searched(alloc, run, spot, &high, Sources::Copies)?;
+    Ok(PointerSource {
+        cells,
+        loads: ranged,
+    })
+}
+
+/// The tracked cells that the high byte of a pointer is a copy of.
+pub(crate) fn pointer_cells(
     alloc: Global,
     run: &Run<'_>,
     spot: Spot,
     registers: &RegisterSet,
 ) -> Result<BTreeSet<u16>, AllocError> {
-    cells_behind(
-        alloc,
-        run,
-        spot,
-        &high_registers(registers),
-        Sources::Copies,
-    )
+    let PointerSource { cells, .. } = pointer_source(alloc, run, spot, registers)?;
+    Ok(cells)
 }

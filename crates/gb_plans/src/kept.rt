@@ -71,6 +71,7 @@ pub(crate) fn plan_stored(
             wanted: RegisterSet::of(&[store.register]),
             is_jump: false,
             is_kept_in_ram: true,
+            is_bound_wanted: false,
         };
         if let Some(plan) = plan_near(alloc, run, store.spot, &trouble)? {
             return Ok(Some(plan));

@@ -22,7 +22,7 @@ mod waiting;
 mod ways;
 
 pub use below::learn_touched;
-pub use cells::pointer_cells;
+pub use cells::{PointerSource, loaded_span, pointer_source, untracked_behind};
 pub use plan::{Edit, Plan, parted_by};
 pub use plans::{inline_plan, last_plan, plan_for};
 pub use saving::targets_to_follow;

@@ -1,7 +1,7 @@
 //! Loops: paged, then keyed, and their counters split.
 
 use crate::plan::{Edit, Plan, registers_at, split_at, unless_taken_back};
-use crate::sources::{pointer_of, sources, without, written};
+use crate::sources::{loaded_by, sources, without, written};
 use crate::spots::{op_at, open_at, place_of, value_of};
 use crate::waiting::place_at_hl;
 use crate::ways::{Loop, Ways};
@@ -369,10 +369,9 @@ pub(crate) fn pointers_read(
             point: *point,
         };
         if let Some(op) = op_at(run, spot)
-            && let Some((high, low)) = pointer_of(op, &RegisterSet::all())
+            && let Some(pointer) = loaded_by(op, &RegisterSet::all())
         {
-            pointers.insert(high);
-            pointers.insert(low);
+            pointers = pointers.union(&RegisterSet::of_pointer(pointer));
         }
     }
     Ok(pointers)

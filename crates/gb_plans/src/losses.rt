@@ -3,7 +3,7 @@
 
 use crate::cells::{CellLoad, Entering, origins_of};
 use crate::plan::{Edit, Plan, parted_by, unless_empty};
-use crate::spots::is_known;
+use crate::spots::{SWITCHED, is_known, value_of};
 use gb_fixpoint::limits::VISITS;
 use gb_fixpoint::register_set::{REGISTERS, RegisterSet};
 use gb_fixpoint::types::{Run, RunNode, RunProcedure, Spot};
@@ -12,12 +12,9 @@ use gb_ops::op::Register;
 use std::alloc::{AllocError, Global};
 use std::collections::BTreeSet;
 
-/// The first address of the switched bank.
-const SWITCHED: u16 = 0x4000;
-
 /// What a call may know, and the procedure that it enters may not.
 #[derive(Clone, Copy, PartialEq, Eq)]
-enum KnownPart {
+enum LostPart {
     /// The bank that is shown, and whether cartridge RAM is enabled.
     Shown,
     Cell(u16),
@@ -31,54 +28,74 @@ fn is_shown_known(run: &Run<'_>, state: &Abs) -> bool {
 }
 
 /// Whether a node knows a part.
-fn knows(run: &Run<'_>, node: &RunNode, part: KnownPart) -> bool {
+fn knows(run: &Run<'_>, node: &RunNode, part: LostPart) -> bool {
     match part {
-        KnownPart::Shown => is_shown_known(run, &node.state),
-        KnownPart::Cell(cell) => {
+        LostPart::Shown => is_shown_known(run, &node.state),
+        LostPart::Cell(cell) => {
             let val = cell_at(cell, node.state.cells());
             val.lo == val.hi
         }
-        KnownPart::Register(register) => is_known(node, register),
+        LostPart::Register(register) => is_known(node, register),
     }
 }
 
+/// Whether a node knows a part, as another one does that knows it.
+fn knows_the_same(run: &Run<'_>, node: &RunNode, other: &RunNode, part: LostPart) -> bool {
+    if !knows(run, node, part) || !knows(run, other, part) {
+        return false;
+    }
+    match part {
+        LostPart::Shown => {
+            let (left, right) = (&node.state.core().ctl, &other.state.core().ctl);
+            let is_same_bank = known_bank(run.rom, left, SWITCHED)
+                == known_bank(run.rom, right, SWITCHED);
+            is_same_bank && left.gate == right.gate
+        }
+        LostPart::Cell(cell) => {
+            cell_at(cell, node.state.cells()).lo == cell_at(cell, other.state.cells()).lo
+        }
+        LostPart::Register(register) => {
+            value_of(node, register).lo == value_of(other, register).lo
+        }
+    }
+}
+
+/// The first node of a procedure.
+fn entry_of<'a>(run: &'a Run<'_>, procedure: &RunProcedure) -> Option<&'a RunNode> {
+    run.nodes.get(procedure.entry?)
+}
+
 /// Whether a procedure's first node doesn't know a part.
-fn is_open_at_entry(run: &Run<'_>, procedure: &RunProcedure, part: KnownPart) -> bool {
-    match procedure.entry {
-        Some(entry) => match run.nodes.get(entry) {
-            Some(node) => !knows(run, node, part),
-            None => false,
-        },
+fn is_open_at_entry(run: &Run<'_>, procedure: &RunProcedure, part: LostPart) -> bool {
+    match entry_of(run, procedure) {
+        Some(node) => !knows(run, node, part),
         None => false,
     }
 }
 
-/// Whether a call of a procedure knows a part, that is in one of these procedures if there are some.
-fn is_known_by_some(run: &Run<'_>, procedure: &RunProcedure, part: KnownPart) -> bool {
+/// Whether a call of a procedure knows a part, and the procedure's first node doesn't. A call that closes a circle isn't joined
+/// there, so that the first node may also know another value.
+fn is_lost_by_calls(run: &Run<'_>, number: usize, part: LostPart) -> bool {
+    let Some(procedure) = run.procedures.get(number) else {
+        return false;
+    };
+    let Some(entry) = entry_of(run, procedure) else {
+        return false;
+    };
     procedure.sites.iter().any(|site| match run.nodes.get(*site) {
-        Some(node) => knows(run, node, part),
+        Some(node) => knows(run, node, part) && !knows_the_same(run, node, entry, part),
         None => false,
     })
 }
 
-/// Whether a procedure joins calls of which some know a part.
-fn is_lost_by_calls(run: &Run<'_>, number: usize, part: KnownPart) -> bool {
-    match run.procedures.get(number) {
-        Some(procedure) => {
-            is_open_at_entry(run, procedure, part) && is_known_by_some(run, procedure, part)
-        }
-        None => false,
-    }
-}
-
 /// The change by which a procedure's calls are kept apart by a part, where that is new.
-fn parting(run: &Run<'_>, number: usize, part: KnownPart) -> Option<Edit> {
+fn parting(run: &Run<'_>, number: usize, part: LostPart) -> Option<Edit> {
     let target = run.target(number);
     match part {
-        KnownPart::Shown if !run.configuration.is_by_controller(target) => Some(Edit::PartBank(
+        LostPart::Shown if !run.configuration.is_by_controller(target) => Some(Edit::PartBank(
             target,
         )),
-        KnownPart::Cell(cell) => {
+        LostPart::Cell(cell) => {
             let cells = run.configuration.entry_cells(target);
             let is_new = !cells.contains(cell) && cells.has_room();
             if is_new {
@@ -87,7 +104,7 @@ fn parting(run: &Run<'_>, number: usize, part: KnownPart) -> Option<Edit> {
                 None
             }
         }
-        KnownPart::Register(register) => {
+        LostPart::Register(register) => {
             let registers = RegisterSet::of(&[register]);
             let is_new = !registers.is_inside(&parted_by(run.configuration, target));
             if is_new {
@@ -96,7 +113,7 @@ fn parting(run: &Run<'_>, number: usize, part: KnownPart) -> Option<Edit> {
                 None
             }
         }
-        KnownPart::Shown => None,
+        LostPart::Shown => None,
     }
 }
 
@@ -105,7 +122,7 @@ fn leading_to(
     alloc: Global,
     run: &Run<'_>,
     number: usize,
-    part: KnownPart,
+    part: LostPart,
 ) -> Result<BTreeSet<usize>, AllocError> {
     let mut seen = BTreeSet::new(alloc);
     let mut left = Vec::new(alloc);
@@ -134,7 +151,7 @@ fn add_partings(
     alloc: Global,
     run: &Run<'_>,
     number: usize,
-    part: KnownPart,
+    part: LostPart,
     within: Option<&BTreeSet<usize>>,
     plan: &mut Plan,
 ) -> Result<(), AllocError> {
@@ -202,8 +219,8 @@ fn add_stored(
             register,
         } = *entering;
         if let Some(register) = REGISTERS.get(register)
-            && is_lost_by_calls(run, procedure, KnownPart::Register(*register))
-            && let Some(edit) = parting(run, procedure, KnownPart::Register(*register))
+            && is_lost_by_calls(run, procedure, LostPart::Register(*register))
+            && let Some(edit) = parting(run, procedure, LostPart::Register(*register))
         {
             plan.add_new(edit)?;
         }
@@ -217,7 +234,7 @@ fn add_stored(
             alloc,
             run,
             procedure,
-            KnownPart::Cell(cell),
+            LostPart::Cell(cell),
             Some(within),
             plan,
         )?;
@@ -240,18 +257,55 @@ pub(crate) fn plan_shown(
     }
     let mut plan = Plan::new(alloc);
     let procedure = node.key.procedure;
-    if !node.state.core().ctl.is_kept {
-        let members = losers(alloc, run, procedure)?;
-        for spot in &run.switches {
-            if members.contains(&spot.procedure) {
-                add_stored(alloc, run, *spot, &members, &mut plan)?;
+    add_switched(alloc, run, node, &mut plan)?;
+    if plan.is_empty() {
+        add_partings(alloc, run, procedure, LostPart::Shown, None, &mut plan)?;
+    }
+    if plan.is_empty() {
+        add_switched_before(alloc, run, procedure, &mut plan)?;
+    }
+    Ok(unless_empty(run, plan))
+}
+
+/// The changes by which the bank is known at a node that its procedure, or what that calls, has switched.
+fn add_switched(
+    alloc: Global,
+    run: &Run<'_>,
+    node: &RunNode,
+    plan: &mut Plan,
+) -> Result<(), AllocError> {
+    if node.state.core().ctl.is_kept {
+        return Ok(());
+    }
+    let members = losers(alloc, run, node.key.procedure)?;
+    for spot in &run.switches {
+        if members.contains(&spot.procedure) {
+            add_stored(alloc, run, *spot, &members, plan)?;
+        }
+    }
+    Ok(())
+}
+
+/// The same at the calls that lead to a procedure and don't know the bank: it was switched before them.
+fn add_switched_before(
+    alloc: Global,
+    run: &Run<'_>,
+    number: usize,
+    plan: &mut Plan,
+) -> Result<(), AllocError> {
+    for member in &leading_to(alloc, run, number, LostPart::Shown)? {
+        let Some(procedure) = run.procedures.get(*member) else {
+            continue;
+        };
+        for site in &procedure.sites {
+            if let Some(node) = run.nodes.get(*site)
+                && !is_shown_known(run, &node.state)
+            {
+                add_switched(alloc, run, node, plan)?;
             }
         }
     }
-    if plan.is_empty() {
-        add_partings(alloc, run, procedure, KnownPart::Shown, None, &mut plan)?;
-    }
-    Ok(unless_empty(run, plan))
+    Ok(())
 }
 
 /// Registers come from a table in a bank that isn't known where it is read.
@@ -282,8 +336,8 @@ pub(crate) fn part_all(alloc: Global, run: &Run<'_>) -> Result<Option<Plan>, All
         return Ok(None);
     }
     for number in 1..run.procedures.len() {
-        if is_lost_by_calls(run, number, KnownPart::Shown)
-            && let Some(edit) = parting(run, number, KnownPart::Shown)
+        if is_lost_by_calls(run, number, LostPart::Shown)
+            && let Some(edit) = parting(run, number, LostPart::Shown)
         {
             plan.add_new(edit)?;
         }
@@ -304,8 +358,8 @@ pub(crate) fn part_circle(
     }
     for member in callers {
         if callees.contains(member)
-            && is_lost_by_calls(run, *member, KnownPart::Shown)
-            && let Some(edit) = parting(run, *member, KnownPart::Shown)
+            && is_lost_by_calls(run, *member, LostPart::Shown)
+            && let Some(edit) = parting(run, *member, LostPart::Shown)
         {
             plan.add_new(edit)?;
         }

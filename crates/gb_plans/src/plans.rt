@@ -9,7 +9,6 @@ use crate::slices::{SliceBy, SliceGoal, slice, slice_through_loop, slice_to_call
 use crate::sources::high_registers;
 use crate::spots::{is_known, place_of, value_of};
 use crate::ways::Ways;
-use gb_fixpoint::Rules;
 use gb_fixpoint::cause::{Cause, Failure, StackMisuse};
 use gb_fixpoint::code_point::CodePoint;
 use gb_fixpoint::limits::{
@@ -17,6 +16,7 @@ use gb_fixpoint::limits::{
 };
 use gb_fixpoint::register_set::{REGISTERS, RegisterSet};
 use gb_fixpoint::types::{Run, RunProcedure, Spot};
+use gb_fixpoint::{PADDING, Rules};
 use gb_ops::op::Register;
 use std::alloc::{AllocError, Global};
 use std::collections::BTreeSet;
@@ -29,6 +29,19 @@ pub(crate) struct FailurePoint {
     pub(crate) is_jump: bool,
     /// The pointer is kept in RAM: then it is followed through no loop without an end, since it would walk through all memory.
     pub(crate) is_kept_in_ram: bool,
+    /// The access has to be allowed at each address of the pointer: then it needn't be known, but bounded.
+    pub(crate) is_bound_wanted: bool,
+}
+
+impl FailurePoint {
+    /// Which values a slice tells apart there.
+    fn slice_by(&self) -> SliceBy {
+        if self.is_bound_wanted {
+            SliceBy::Bounds
+        } else {
+            SliceBy::Any
+        }
+    }
 }
 
 /// All registers but A: what is usually passed to a procedure in pairs.
@@ -228,7 +241,7 @@ fn slice_to_page(
         wanted: high_registers(&trouble.wanted),
         ..*trouble
     };
-    slice_to(alloc, run, ways, spot, &page, (FEW_VALUES, SliceBy::Any))
+    slice_to(alloc, run, ways, spot, &page, (FEW_VALUES, page.slice_by()))
 }
 
 /// What is tried nearest to a spot, in this order.
@@ -274,7 +287,7 @@ fn try_near(
     let by = if trouble.is_jump {
         SliceBy::Table
     } else {
-        SliceBy::Any
+        trouble.slice_by()
     };
     match near {
         Near::Calls => {
@@ -296,7 +309,7 @@ fn try_near(
             slice_to_call(alloc, run, ways, spot, &sought)
         }
         Near::Page => slice_to_page(alloc, run, ways, spot, trouble),
-        Near::WideSlice => slice_to(alloc, run, ways, spot, trouble, (ALL_VALUES, SliceBy::Any)),
+        Near::WideSlice => slice_to(alloc, run, ways, spot, trouble, (ALL_VALUES, by)),
     }
 }
 
@@ -395,7 +408,12 @@ fn plan_at(
         if !seen.insert(spot.procedure)? {
             continue;
         }
-        if let Some(plan) = plan_in(alloc, run, spot, trouble)? {
+        // What a caller has may still be compared where it is called.
+        let here = FailurePoint {
+            is_bound_wanted: trouble.is_bound_wanted && depth == 0,
+            ..*trouble
+        };
+        if let Some(plan) = plan_in(alloc, run, spot, &here)? {
             return Ok(Some(plan));
         }
         if depth < CALLERS {
@@ -479,6 +497,7 @@ fn plan_bank(alloc: Global, run: &Run<'_>, node: usize) -> Result<Option<Plan>, 
         wanted: a,
         is_jump: false,
         is_kept_in_ram: false,
+        is_bound_wanted: false,
     };
     for spot in run.switches.iter() {
         if let Some(plan) = plan_at(alloc, run, *spot, &trouble)? {
@@ -564,6 +583,10 @@ fn plan_pointer(
         wanted,
         is_jump: failure.cause == Cause::JumpHl,
         is_kept_in_ram,
+        is_bound_wanted: matches!(
+            failure.cause,
+            Cause::Store { .. } | Cause::CartridgeRam { .. }
+        ),
     };
     if let Some(plan) = plan_kept(alloc, run, spot, &wanted, is_kept_in_ram)? {
         return Ok(Some(plan));
@@ -644,9 +667,6 @@ fn may_be_inlined(cause: Cause) -> bool {
     )
 }
 
-/// Where RST 38 calls itself, in ROM that is filled with FF.
-pub(crate) const PADDING: u16 = 0x38;
-
 /// The procedure of a failure is followed in its callers, by the rules of version 3, where it isn't yet.
 pub fn inline_plan(
     alloc: Global,
@@ -711,6 +731,7 @@ pub fn plan_for(
                     wanted: RegisterSet::empty(),
                     is_jump: false,
                     is_kept_in_ram: false,
+                    is_bound_wanted: false,
                 };
                 plan_at(alloc, run, spot, &trouble)
             }

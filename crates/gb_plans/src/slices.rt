@@ -2,16 +2,16 @@
 //! taken value by value.
 
 use crate::plan::{Edit, Plan, split_at, unless_taken_back};
-use crate::sources::{count, first, meet, pointer_of, sources, written};
+use crate::sources::{count, first, loaded_by, meet, sources, written};
 use crate::spots::{has_entry, narrower, op_at, open_at, place_of, points_to_rom, width_at};
 use crate::waiting::{Waiting, may_change_stack};
 use crate::ways::{Loop, Ways};
-use gb_fixpoint::Rules;
 use gb_fixpoint::code_point::CodePoint;
 use gb_fixpoint::configuration::TargetPlace;
 use gb_fixpoint::limits::{ALL_VALUES, FEW_VALUES, LONG_SLICE, PAIRS, SLICE, SOURCES};
 use gb_fixpoint::register_set::{REGISTERS, RegisterSet};
 use gb_fixpoint::types::{Run, Spot};
+use gb_fixpoint::{PADDING, Rules};
 use gb_ops::op::{AluOp, Op, Operand, Register};
 use std::alloc::{AllocError, Global};
 
@@ -38,6 +38,9 @@ pub(crate) enum SliceBy {
     First,
     /// All, before a loop that loses what is known.
     Loop,
+    /// All that may help an access that has to be allowed at each address. Where its pointer is only copied from where it was loaded
+    /// from RAM, and nothing is compared, it would be refused for one of the values as for all.
+    Bounds,
 }
 
 /// A register that may be split at a point, and how many points from there on are to be keyed.
@@ -67,6 +70,8 @@ struct Walk {
     chain: Vec<CodePoint>,
     /// Whether it went through a loop by which wanted registers are lost.
     is_through: bool,
+    /// Whether what is wanted here is only copied from here on, and nothing is compared.
+    is_copied: bool,
     /// What is called right before, where the wanted registers come from there.
     callee: Option<CodePoint>,
     /// The best register to split alone, and the best of two.
@@ -150,7 +155,7 @@ impl Walk {
             return sought.by == SliceBy::First && !self.wanted.is_empty();
         }
         let is_wanted = match sought.by {
-            SliceBy::Any | SliceBy::First => true,
+            SliceBy::Any | SliceBy::First | SliceBy::Bounds => true,
             SliceBy::Loop => self.is_through,
             SliceBy::Table => self.is_behind_table,
             SliceBy::Index => self.is_behind_table || self.is_behind_sum,
@@ -239,6 +244,7 @@ impl Walk {
         };
         self.wanted = wanted;
         self.is_through = true;
+        self.is_copied = false;
         self.add_loop(&around)?;
         Ok(Some(before))
     }
@@ -269,6 +275,7 @@ impl Walk {
             }
         }
         self.add_loop(&around)?;
+        self.is_copied = false;
         Ok(Some(before))
     }
 
@@ -302,6 +309,7 @@ impl Walk {
         let wanted = if is_inlined_call(op, self.at.address) {
             open
         } else {
+            self.pass(run, spot, op, &open, by);
             match self.waiting.before(run, spot, &open)? {
                 Some(wanted) => wanted,
                 None => {
@@ -310,8 +318,8 @@ impl Walk {
                 }
             }
         };
-        if let Some((high, _)) = pointer_of(op, &open) {
-            self.is_behind_table = self.is_behind_table || points_to_rom(run, spot, high);
+        if let Some(pointer) = loaded_by(op, &open) {
+            self.is_behind_table = self.is_behind_table || points_to_rom(run, spot, pointer);
         }
         if matches!(op, Op::AddHl(_)) && open.contains(Register::L) {
             self.is_behind_sum = true;
@@ -321,6 +329,15 @@ impl Walk {
         self.at = before;
         self.chain.push(before)?;
         Ok(true)
+    }
+
+    /// Goes back past an instruction: what was found behind it is of no use where it loads from RAM what is only copied then.
+    fn pass(&mut self, run: &Run<'_>, spot: Spot, op: Op, open: &RegisterSet, by: SliceBy) {
+        if by == SliceBy::Bounds && self.is_copied && loads_from_ram(run, spot, op, open) {
+            self.one = None;
+            self.two = None;
+        }
+        self.is_copied = self.is_copied && is_passed(op, open);
     }
 
     /// Those of the wanted registers whose source is sought: what is known needs none, but where it may be known too late.
@@ -437,7 +454,7 @@ fn computed_from(
 fn called_by(op: Op) -> Option<u16> {
     match op {
         Op::Call(target) | Op::CallIf(_, target) => Some(target),
-        Op::Restart(target) if target != 0x38 => Some(u16::from(target)),
+        Op::Restart(target) if u16::from(target) != PADDING => Some(u16::from(target)),
         _ => None,
     }
 }
@@ -454,6 +471,32 @@ fn callee_at(run: &Run<'_>, spot: Spot, op: Op) -> Option<CodePoint> {
         callee = Some(point);
     }
     callee
+}
+
+/// Whether an instruction loads a wanted register from RAM or from a port.
+fn loads_from_ram(run: &Run<'_>, spot: Spot, op: Op, wanted: &RegisterSet) -> bool {
+    match op {
+        Op::LoadHigh(_) | Op::LoadAbsolute(_) | Op::LoadHighC => wanted.contains(Register::A),
+        _ => match loaded_by(op, wanted) {
+            Some(pointer) => !points_to_rom(run, spot, pointer),
+            None => false,
+        },
+    }
+}
+
+/// Whether wanted values pass an instruction as they are, or counted, and it chooses no way by them.
+fn is_passed(op: Op, wanted: &RegisterSet) -> bool {
+    match op {
+        Op::JumpIf(..) | Op::JumpRelativeIf(..) | Op::CallIf(..) | Op::ReturnIf(_) => false,
+        Op::Load(Operand::Register(_), Operand::Register(_))
+        | Op::IncrementPair(_)
+        | Op::DecrementPair(_)
+        | Op::StoreA(_)
+        | Op::Push(_)
+        | Op::Pop(_) => true,
+        Op::LoadA(_) => !wanted.contains(Register::A),
+        _ => !meet(&written(op), wanted),
+    }
 }
 
 /// Whether an instruction is a call that leads to an address itself: an inlined call changes no register on its way in.
@@ -484,6 +527,7 @@ fn walk_back(
         is_behind_sum: false,
         is_compared: false,
         is_through: false,
+        is_copied: true,
         chain,
         callee: None,
         one: None,

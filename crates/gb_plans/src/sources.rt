@@ -1,7 +1,7 @@
 //! Which registers a register's value comes from.
 
 use gb_fixpoint::register_set::{REGISTERS, RegisterSet};
-use gb_ops::op::{AluOp, Indirect, Op, Operand, Pair, Register, StackPair};
+use gb_ops::op::{AluOp, Indirect, Op, Operand, Pair, Pointer, Register, StackPair};
 
 /// A set of registers without one of them.
 pub fn without(set: &RegisterSet, register: Register) -> RegisterSet {
@@ -66,15 +66,6 @@ fn hl() -> RegisterSet {
     RegisterSet::of(&[Register::H, Register::L])
 }
 
-/// The registers that a load of A, or a store of it, by a pair goes by.
-fn indirect(at: Indirect) -> RegisterSet {
-    match at {
-        Indirect::Bc => halves(Pair::Bc),
-        Indirect::De => halves(Pair::De),
-        Indirect::HlIncrement | Indirect::HlDecrement => hl(),
-    }
-}
-
 /// Whether two sets have a register in common.
 pub(crate) fn meet(left: &RegisterSet, right: &RegisterSet) -> bool {
     REGISTERS.iter().any(|register| left.contains(*register) && right.contains(*register))
@@ -109,17 +100,21 @@ fn replaced(wanted: &RegisterSet, target: Register, sources: &RegisterSet) -> Re
     }
 }
 
-/// The pair through which an instruction loads a wanted register, if it does: the high register first.
-pub fn pointer_of(op: Op, wanted: &RegisterSet) -> Option<(Register, Register)> {
+/// The register that an instruction loads through a pair.
+pub fn loaded(op: Op) -> Option<Register> {
     match op {
-        Op::LoadA(Indirect::Bc) if wanted.contains(Register::A) => Some((Register::B, Register::C)),
-        Op::LoadA(Indirect::De) if wanted.contains(Register::A) => Some((Register::D, Register::E)),
-        Op::LoadA(Indirect::HlIncrement | Indirect::HlDecrement) if wanted.contains(Register::A) =>
-            { Some((Register::H, Register::L)) }
-        Op::Load(Operand::Register(target), Operand::AtHl) if wanted.contains(target) => {
-            Some((Register::H, Register::L))
-        }
+        Op::LoadA(_) => Some(Register::A),
+        Op::Load(Operand::Register(target), Operand::AtHl) => Some(target),
         _ => None,
+    }
+}
+
+/// The pair through which an instruction loads a wanted register, if it does.
+pub fn loaded_by(op: Op, wanted: &RegisterSet) -> Option<Pointer> {
+    if wanted.contains(loaded(op)?) {
+        op.pointer()
+    } else {
+        None
     }
 }
 
@@ -130,7 +125,7 @@ pub fn copied(op: Op, wanted: &RegisterSet) -> Option<RegisterSet> {
         Op::AddHl(_) => Some(less(wanted, &hl())),
         Op::IncrementPair(_) | Op::DecrementPair(_) | Op::StoreA(_) => Some(*wanted),
         Op::Alu(..) | Op::AluImmediate(..) | Op::RotateA(_) => Some(without(wanted, Register::A)),
-        Op::LoadA(_) | Op::Load(_, Operand::AtHl) if pointer_of(op, wanted).is_some() => None,
+        _ if loaded_by(op, wanted).is_some() => None,
         _ => sources(op, wanted),
     }
 }
@@ -153,14 +148,13 @@ fn alu_sources(op: AluOp, operand: Operand, wanted: &RegisterSet) -> Option<Regi
     }
 }
 
-/// Before a load of A through a pair.
-fn load_sources(at: Indirect, wanted: &RegisterSet) -> RegisterSet {
-    let pair = indirect(at);
-    let wanted = replaced(wanted, Register::A, &pair);
-    match at {
-        Indirect::Bc | Indirect::De => wanted,
-        Indirect::HlIncrement | Indirect::HlDecrement => together(&wanted, &hl()),
-    }
+/// Before a load of A through a pair, which may count that pair.
+fn load_sources(op: Op, at: Indirect, wanted: &RegisterSet) -> RegisterSet {
+    let wanted = match op.pointer() {
+        Some(pointer) => replaced(wanted, Register::A, &RegisterSet::of_pointer(pointer)),
+        None => *wanted,
+    };
+    together(&wanted, &counted_by(at))
 }
 
 /// The register of an operand.
@@ -260,7 +254,7 @@ pub fn sources(op: Op, wanted: &RegisterSet) -> Option<RegisterSet> {
             Some(replaced(wanted, target, &hl()))
         }
         Op::Alu(operation, operand) => alu_sources(operation, operand, wanted),
-        Op::LoadA(at) => Some(load_sources(at, wanted)),
+        Op::LoadA(at) => Some(load_sources(op, at, wanted)),
         Op::LoadHigh(_) | Op::LoadAbsolute(_) | Op::LoadHighC => {
             unless_wanted(Register::A, wanted)
         }

@@ -6,7 +6,10 @@ use gb_fixpoint::configuration::TargetPlace;
 use gb_fixpoint::register_set::{REGISTERS, RegisterSet};
 use gb_fixpoint::types::{Run, RunNode, Spot};
 use gb_ops::decode::decode;
-use gb_ops::op::{Op, Register};
+use gb_ops::op::{Op, Pointer, Register};
+
+/// The first address of the switched bank.
+pub const SWITCHED: u16 = 0x4000;
 
 /// The value of a register at a node.
 pub fn value_of(node: &RunNode, register: Register) -> Val {
@@ -39,11 +42,23 @@ pub fn op_at(run: &Run<'_>, spot: Spot) -> Option<Op> {
     Some(row.op)
 }
 
-/// Whether a pair's high register is below 80 in each node at a spot: the pair points into ROM.
-pub fn points_to_rom(run: &Run<'_>, spot: Spot, high: Register) -> bool {
+/// The high byte of the address that a pointer holds at a node.
+pub fn high_of(node: &RunNode, pointer: Pointer) -> Val {
+    match pointer.high() {
+        Some(high) => value_of(node, high),
+        None => Val {
+            lo: 0xFF,
+            hi: 0xFF,
+            origin: None,
+        },
+    }
+}
+
+/// Whether a pointer's high byte is below 80 in each node at a spot: it points into ROM.
+pub fn points_to_rom(run: &Run<'_>, spot: Spot, pointer: Pointer) -> bool {
     for number in run.nodes_at(spot) {
         if let Some(node) = run.nodes.get(*number) {
-            if value_of(node, high).hi >= 0x80 {
+            if high_of(node, pointer).hi >= 0x80 {
                 return false;
             }
         }
@@ -51,10 +66,10 @@ pub fn points_to_rom(run: &Run<'_>, spot: Spot, high: Register) -> bool {
     true
 }
 
-/// The address in a pair at a node, where it is known.
-pub fn pointed_by(node: &RunNode, pair: (Register, Register)) -> Option<u16> {
-    let high = value_of(node, pair.0);
-    let low = value_of(node, pair.1);
+/// The address that a pointer holds at a node, where it is known.
+pub fn pointed_by(node: &RunNode, pointer: Pointer) -> Option<u16> {
+    let high = high_of(node, pointer);
+    let low = value_of(node, pointer.low());
     if high.lo == high.hi && low.lo == low.hi {
         Some(u16::from_be_bytes([high.lo, low.lo]))
     } else {
@@ -62,10 +77,10 @@ pub fn pointed_by(node: &RunNode, pair: (Register, Register)) -> Option<u16> {
     }
 }
 
-/// The address in a pair at the first node of a spot, where it is known.
-pub fn pointed_at(run: &Run<'_>, spot: Spot, pair: (Register, Register)) -> Option<u16> {
+/// The address that a pointer holds at the first node of a spot, where it is known.
+pub fn pointed_at(run: &Run<'_>, spot: Spot, pointer: Pointer) -> Option<u16> {
     let number = run.nodes_at(spot).first()?;
-    pointed_by(run.nodes.get(*number)?, pair)
+    pointed_by(run.nodes.get(*number)?, pointer)
 }
 
 /// Whether a procedure begins at a spot.

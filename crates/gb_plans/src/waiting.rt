@@ -1,11 +1,11 @@
 //! Bytes of the stack whose source a slice seeks: back from where they were popped, or loaded by a known address, to where they
 //! were pushed or stored.
 
-use crate::sources::{sources, stacked, without};
+use crate::sources::{loaded, loaded_by, sources, stacked, without};
 use crate::spots::{op_at, pointed_at};
 use gb_fixpoint::register_set::RegisterSet;
 use gb_fixpoint::types::{Run, Spot};
-use gb_ops::op::{Indirect, Op, Operand, Pair, Register, StackPair};
+use gb_ops::op::{Op, Operand, Pair, Pointer, Register, StackPair};
 use std::alloc::{AllocError, Global};
 use std::collections::BTreeSet;
 
@@ -24,7 +24,7 @@ fn held_at(run: &Run<'_>, spot: Spot) -> Option<usize> {
 
 /// The place on the stack of the byte at HL, where both are known.
 pub(crate) fn place_at_hl(run: &Run<'_>, spot: Spot) -> Option<usize> {
-    let address = pointed_at(run, spot, (Register::H, Register::L))?;
+    let address = pointed_at(run, spot, Pointer::Hl)?;
     let base = usize::from(run.base_of(spot.procedure));
     let above = usize::from(address).saturating_add(1);
     if address < run.configuration.region.first || base < above {
@@ -45,21 +45,11 @@ fn is_known_at(run: &Run<'_>, spot: Spot, place: usize) -> bool {
     })
 }
 
-/// The register that an instruction loads by HL, and the register that it stores there; none where it is a number.
-fn loaded_at_hl(op: Op) -> Option<Register> {
-    match op {
-        Op::Load(Operand::Register(target), Operand::AtHl) => Some(target),
-        Op::LoadA(Indirect::HlIncrement | Indirect::HlDecrement) => Some(Register::A),
-        _ => None,
-    }
-}
-
 /// What an instruction stores at HL: a register, or none where that is a number.
 fn stored_at_hl(op: Op) -> Option<Option<Register>> {
     match op {
-        Op::Load(Operand::AtHl, Operand::Register(source)) => Some(Some(source)),
         Op::LoadImmediate(Operand::AtHl, _) => Some(None),
-        Op::StoreA(Indirect::HlIncrement | Indirect::HlDecrement) => Some(Some(Register::A)),
+        _ if op.pointer() == Some(Pointer::Hl) => Some(Some(op.stored()?)),
         _ => None,
     }
 }
@@ -187,8 +177,8 @@ impl Waiting {
         let Some(place) = place_at_hl(run, spot) else {
             return Ok(None);
         };
-        if let Some(target) = loaded_at_hl(op)
-            && wanted.contains(target)
+        if loaded_by(op, wanted) == Some(Pointer::Hl)
+            && let Some(target) = loaded(op)
         {
             self.places.insert(place)?;
             return Ok(Some(without(wanted, target)));

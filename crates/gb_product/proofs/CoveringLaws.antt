@@ -15,7 +15,7 @@ use Rattle.gb_abs_effects.proofs.Below.gb_abs_laws.CoveringLaws.{MeansParts-cove
 use Rattle.gb_abs_effects.proofs.CoreLaws.{In-from}
 use Rattle.gb_relations.proofs.Below.gb_pairs_laws.RegisterLaws.{same_pair}
 use Rattle.gb_relations.proofs.Below.gb_pairs_laws.CoveringLaws.{covers_pairs_sound}
-use Rattle.gb_relations.proofs.Below.gb_places_laws.CoveringLaws.{covers_byte_sound}
+use Rattle.gb_relations.proofs.Below.gb_copies_laws.CoveringLaws.{covers_byte_sound}
 use Rattle.gb_relations.specs.Meaning.{IsZero, HoldRelations}
 use Rattle.gb_relations.specs.Transfer.{values_of}
 use Rattle.gb_product.specs.Meaning.{Means}

@@ -17,7 +17,7 @@ use Rattle.gb_domain.specs.RelationRules.{is_some_register, has_address, has_pla
 use Rattle.gb_relations.specs.Below.gb_pairs.declared.values.Values.{Values}
 use Rattle.gb_relations.specs.Below.gb_pairs.Bounds.{bounds_of}
 use Rattle.gb_relations.specs.Below.gb_pairs.Covering.{covers_link, covers_bounds, covers_pair, covers_pairs}
-use Rattle.gb_relations.specs.Below.gb_places.Covering.{covers_registers, covers_address, covers_test, covers_byte}
+use Rattle.gb_relations.specs.Below.gb_copies.Covering.{covers_registers, covers_address, covers_test, covers_byte}
 use Rattle.gb_relations.proofs.Below.gb_pairs_laws.CutLaws.{IsPart-bounds_of}
 use Rattle.gb_relations.specs.Transfer.{values_of}
 use Rattle.gb_product.specs.Covering.{covers_zero, is_nothing, covers_relations}

@@ -44,9 +44,9 @@ use Rattle.gb_relations.specs.Below.gb_pairs.Sound as pair_sound
 use Rattle.gb_relations.proofs.Below.gb_pairs_laws.CutLaws.{restricted_cuts, IsCut-itself}
 use Rattle.gb_relations.proofs.Below.gb_pairs_laws.KeptLaws.{ArePairs-cut}
 use Rattle.gb_relations.proofs.Below.gb_pairs_laws.ReducedLaws.{restricted_sound}
-use Rattle.gb_relations.specs.Below.gb_places.declared.sides.PlaceContents.{PlaceContents}
-use Rattle.gb_relations.specs.Below.gb_places.Sound.{HoldContents, HoldContentsIn, IsCutVal, IsCut}
-use Rattle.gb_relations.proofs.Below.gb_places_laws.SideLaws.{narrowed_sound, narrowed_cuts}
+use Rattle.gb_relations.specs.Below.gb_copies.declared.sides.PlaceContents.{PlaceContents}
+use Rattle.gb_relations.specs.Below.gb_copies.Sound.{HoldContents, HoldContentsIn, IsCutVal, IsCut}
+use Rattle.gb_relations.proofs.Below.gb_copies_laws.SideLaws.{narrowed_sound, narrowed_cuts}
 use Rattle.gb_relations.specs.Meaning.{IsZero}
 use Rattle.gb_relations.specs.Places.{is_ram, is_free}
 use Rattle.gb_relations.specs.Sound.{IsByteFree}

@@ -1,7 +1,7 @@
 -- Definitions of the crates below, for those above.
 pub use Rattle.gb_relations.specs as gb_relations
 pub use Rattle.gb_relations.specs.Below.gb_pairs as gb_pairs
-pub use Rattle.gb_relations.specs.Below.gb_places as gb_places
+pub use Rattle.gb_relations.specs.Below.gb_copies as gb_copies
 pub use Rattle.gb_abs_effects.specs.Below.gb_abs as gb_abs
 pub use Rattle.gb_abs_effects.specs.Below.gb_vals as gb_vals
 pub use Rattle.gb_abs_effects.specs as gb_abs_effects

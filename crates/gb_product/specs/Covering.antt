@@ -9,7 +9,7 @@ use Rattle.gb_domain.specs.Types.{AbsState}
 use Rattle.gb_abs_effects.specs.Below.gb_abs.Covering.{covers_parts}
 use Rattle.gb_relations.specs.Below.gb_pairs.Covering.{covers_pairs}
 use Rattle.gb_relations.specs.Below.gb_pairs.Written.{is_same_pair}
-use Rattle.gb_relations.specs.Below.gb_places.Covering.{covers_byte}
+use Rattle.gb_relations.specs.Below.gb_copies.Covering.{covers_byte}
 use Rattle.gb_relations.specs.Transfer.{values_of}
 
 -- that Z says whether a pair is 0 is asked for only where t says it

@@ -11,7 +11,7 @@ abbrev pub is_given_input : Option (Bor (List ℕ)) → Bool
 is_given_input None = false
 is_given_input (Some name) = is_input name.now
 
--- two of the files of `watch` are
+-- two of the files of `watch` are: of the cartridge, of a script or a list of events, and of the options
 abbrev pub has_watched_twice : List ℕ → List ℕ → WatchOptions → Bool
 has_watched_twice rom script options =
     is_input rom && is_input script || (is_input rom || is_input script) && is_given_input options.cert
@@ -22,5 +22,6 @@ abbrev pub has_input_twice : Task → Bool
 has_input_twice (task.Verify rom cert) = is_input rom.now && is_input cert.now
 has_input_twice (task.Run rom script frames) = is_input rom.now && is_input script.now
 has_input_twice (task.Watch rom script frames options) = has_watched_twice rom.now script.now options
+has_input_twice (task.Replay rom events options) = has_watched_twice rom.now events.now options
 has_input_twice (task.Hunt rom options) = is_input rom.now && is_given_input options.symbols
 has_input_twice _ = false

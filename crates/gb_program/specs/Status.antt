@@ -1,18 +1,22 @@
 -- What the program ends with, by what became of a command.
 use Rattle.std.specs.Prelude.{Option, Some, None, Result, Ok, Err}
 use Rattle.gb_command_line.specs.Below.gb_header.declared.fault.HeaderFault.{HeaderFault}
-use Rattle.gb_hunt.specs.Below.gb_console.declared.frame.Ending.{Ending}
-use Rattle.gb_hunt.specs.Below.gb_console.declared.frame.Ending.TheVariants as ending
+use Rattle.gb_events.specs.Below.gb_console.declared.frame.Ending.{Ending}
+use Rattle.gb_events.specs.Below.gb_console.declared.frame.Ending.TheVariants as ending
 use Rattle.gb_command_line.specs.Below.gb_fields.declared.fault.CertFault.{CertFault}
 use Rattle.gb_command_line.specs.Below.gb_fields.declared.fault.CertFault.TheVariants.{Memory}
 use Rattle.gb_command_line.specs.Below.gb_verify.declared.upgrade.Upgraded.{Upgraded}
 use Rattle.gb_command_line.specs.Below.gb_verify.declared.upgrade.Upgraded.TheVariants as upgrade
-use Rattle.gb_hunt.specs.Below.gb_printed.declared.commands.RunOutcome.{RunOutcome}
-use Rattle.gb_hunt.specs.Below.gb_printed.declared.commands.RunOutcome.TheVariants as played
-use Rattle.gb_hunt.specs.Below.gb_watch.declared.sighting.Watched.{Watched}
-use Rattle.gb_hunt.specs.Below.gb_watch.declared.sighting.Watched.TheVariants as watched
-use Rattle.gb_hunt.specs.Below.gb_witness.declared.files.WatchOutcome.{WatchOutcome}
-use Rattle.gb_hunt.specs.Below.gb_witness.declared.files.WatchOutcome.TheVariants as watch
+use Rattle.gb_events.specs.Below.gb_printed.declared.commands.RunOutcome.{RunOutcome}
+use Rattle.gb_events.specs.Below.gb_printed.declared.commands.RunOutcome.TheVariants as played
+use Rattle.gb_events.specs.Below.gb_watch.declared.sighting.Watched.{Watched}
+use Rattle.gb_events.specs.Below.gb_watch.declared.sighting.Watched.TheVariants as watched
+use Rattle.gb_events.specs.Below.gb_witness.declared.files.WatchOutcome.{WatchOutcome}
+use Rattle.gb_events.specs.Below.gb_witness.declared.files.WatchOutcome.TheVariants as watch
+use Rattle.gb_events.specs.declared.files.ReplayOutcome.{ReplayOutcome}
+use Rattle.gb_events.specs.declared.files.ReplayOutcome.TheVariants as replay
+use Rattle.gb_events.specs.declared.play.Replayed.{Replayed}
+use Rattle.gb_events.specs.declared.play.Replayed.TheVariants as replayed
 use Rattle.gb_command_line.specs.declared.status.Status.{Status}
 use Rattle.gb_command_line.specs.declared.status.Status.TheVariants as status
 use Rattle.gb_command_line.specs.Below.gb_files.declared.trouble.Trouble.{Trouble}
@@ -54,3 +58,13 @@ abbrev pub watch_status : WatchOutcome → Result Status Trouble
 watch_status (watch.Told told) = Ok (watched_status told.watched)
 watch_status (watch.NoCartridge fault) = Ok status.Unreadable
 watch_status watch.NoMemory = Err trouble.Memory
+
+abbrev pub replayed_status : Replayed → Status
+replayed_status (replayed.Whole number) = status.Done
+replayed_status (replayed.Faulty told) = status.Refused
+
+-- where memory ran out, nothing was printed yet
+abbrev pub replay_status : ReplayOutcome → Result Status Trouble
+replay_status (replay.Told told) = Ok (replayed_status told)
+replay_status (replay.NoCartridge fault) = Ok status.Unreadable
+replay_status replay.NoMemory = Err trouble.Memory

@@ -2,18 +2,20 @@
 
 use crate::messages::{PROGRAM, tell_written};
 use crate::progress::HuntShown;
-use crate::watching::{PlayedScript, StackChoice, played_stack, tell_wrong_symbols, watch_played};
+use crate::storming::storm_region;
+use crate::watching::{
+    PlayedScript, StackChoice, played_stack, region_given, tell_wrong_symbols, watch_played,
+};
 use gb_command_line::messages::tell_output;
-use gb_command_line::stack::{WRONG_STACK, region_of};
 use gb_command_line::status::Status;
 use gb_command_line::symbols::read_symbols;
 use gb_command_line::words::tell_words;
-use gb_command_line::{Rom, Symbols, Trouble, is_input, read_cartridge, shown_name};
-use gb_hunt::{Hunt, shorten};
+use gb_command_line::{Plain, Rom, Symbols, Trouble, is_input, read_cartridge, shown_name};
+use gb_events::{CountedIn, Hunt, no_fault_line, put_all, shorten};
 use gb_ops::machine::Region;
 use gb_words::HuntOptions;
 use std::fs;
-use std::io::Input;
+use std::io::{self, Input};
 use std::rt::{Clock, Files};
 
 /// The frames of a search, where the words say neither frames nor seconds.
@@ -31,14 +33,16 @@ const SHORTENED: u64 = 30_000;
 /// The frames in which the first `ld sp, n16` is waited for.
 const STACK_FRAMES: u32 = 600;
 
-/// How long a search goes on, and what its keys come from.
+/// How long a search goes on, and what it comes from.
 #[derive(Clone, Copy)]
-struct Search {
-    frames: u64,
-    seconds: Option<u64>,
-    seed: u64,
+pub struct HuntTerms {
+    pub frames: u64,
+    pub seconds: Option<u64>,
+    pub seed: u64,
     /// The stack region that the words name.
-    region: Option<Region>,
+    pub region: Option<Region>,
+    /// Whether it is for events at any timing.
+    pub any_timing: bool,
 }
 
 /// The number that a word is, in decimal digits.
@@ -68,31 +72,42 @@ fn number_given(
     }
 }
 
-/// The stack region that the words name.
-fn region_given(given: Option<&str>) -> Result<Option<Region>, &'static str> {
-    match given {
-        None => Ok(None),
-        Some(given) => match region_of(given) {
-            Some(region) => Ok(Some(region)),
-            None => Err(WRONG_STACK),
-        },
+/// What is wrong with the name of the file that is written, if something is.
+fn output_trouble(rom: &str, options: &HuntOptions<'_>) -> Option<&'static str> {
+    let name = options.keys.or(options.events)?;
+    let is_read = name == rom || options.symbols == Some(name);
+    match (is_input(name), is_read, options.keys.is_some()) {
+        (true, _, true) => Some("--keys needs the name of a file; for one named -, write ./-"),
+        (true, _, false) => Some("--events needs the name of a file; for one named -, write ./-"),
+        (_, true, true) => {
+            Some("--keys writes OUT, and refuses to overwrite a file that it reads")
+        }
+        (_, true, false) => {
+            Some("--events writes OUT, and refuses to overwrite a file that it reads")
+        }
+        (false, false, _) => None,
     }
 }
 
-/// What is wrong with the name of the file of keys, if something is.
-fn keys_trouble(rom: &str, options: &HuntOptions<'_>) -> Option<&'static str> {
-    let keys = options.keys?;
-    if is_input(keys) {
-        Some("--keys needs the name of a file; for one named -, write ./-")
-    } else if keys == rom || options.symbols == Some(keys) {
-        Some("--keys writes OUT, and refuses to overwrite a file that it reads")
+/// Which options don't go together, if some don't.
+fn mixed_trouble(options: &HuntOptions<'_>) -> Option<&'static str> {
+    if !options.any_timing {
+        return match options.events {
+            Some(_) => Some("--events needs --any-timing; to keep the keys, use --keys"),
+            None => None,
+        };
+    }
+    if options.keys.is_some() {
+        Some("--keys can't be used with --any-timing: it finds events; to keep them, use --events")
+    } else if options.frames.is_some() {
+        Some("--frames can't be used with --any-timing: it plays events; use --seconds")
     } else {
         None
     }
 }
 
 /// The search that the options ask for, or what is wrong with them.
-fn search_of(rom: &str, options: &HuntOptions<'_>) -> Result<Search, &'static str> {
+fn search_of(rom: &str, options: &HuntOptions<'_>) -> Result<HuntTerms, &'static str> {
     let frames = number_given(
         options.frames,
         1,
@@ -112,7 +127,7 @@ fn search_of(rom: &str, options: &HuntOptions<'_>) -> Result<Search, &'static st
         "--seed needs a number from 0 to 18446744073709551615",
     )?;
     let region = region_given(options.stack)?;
-    if let Some(text) = keys_trouble(rom, options) {
+    if let Some(text) = output_trouble(rom, options).or(mixed_trouble(options)) {
         return Err(text);
     }
     let frames = match (frames, seconds) {
@@ -120,17 +135,18 @@ fn search_of(rom: &str, options: &HuntOptions<'_>) -> Result<Search, &'static st
         (None, Some(_)) => MOST_FRAMES,
         (None, None) => FRAMES,
     };
-    Ok(Search {
+    Ok(HuntTerms {
         frames,
         seconds,
         seed: seed.unwrap_or(0),
         region,
+        any_timing: options.any_timing,
     })
 }
 
-/// Writes the file of keys. Standard error says why it can't be written.
-fn write_keys<R: Eprint + Files>(rt: &R, name: &str, script: &[u8]) -> Result<(), Trouble> {
-    match fs::write(rt, name, script) {
+/// Writes a file of what was found. Standard error says why it can't be written.
+pub fn write_found<R: Eprint + Files>(rt: &R, name: &str, bytes: &[u8]) -> Result<(), Trouble> {
+    match fs::write(rt, name, bytes) {
         Ok(()) => Ok(()),
         Err(error) => {
             tell_written(rt, name, &error);
@@ -139,9 +155,10 @@ fn write_keys<R: Eprint + Files>(rt: &R, name: &str, script: &[u8]) -> Result<()
     }
 }
 
-/// Says that nothing was found.
-fn tell_none<R: Print + Eprint>(rt: &R, name: &str, frames: u64) -> Status {
-    if println!(rt; "NO FAULT frames {frames}").is_err() {
+/// Says that nothing was found in so many frames or events.
+pub fn tell_none<R: Print + Eprint>(rt: &R, name: &str, counted: CountedIn, number: u64) -> Status {
+    let mut out = Plain::new(io::writer(rt));
+    if put_all(&mut out, no_fault_line(counted, number).as_slice()).is_err() {
         return tell_output(rt, PROGRAM);
     }
     let name = shown_name(name);
@@ -171,12 +188,13 @@ fn tell_replay<R: Eprint>(rt: &R, played: &PlayedScript<'_>, keys: Option<&str>)
 
 /// A cartridge that is searched, with the names of its files.
 #[derive(Clone, Copy)]
-struct Hunted<'a> {
-    name: &'a str,
-    bytes: &'a [u8],
-    keys: Option<&'a str>,
+pub struct Hunted<'a> {
+    pub name: &'a str,
+    pub bytes: &'a [u8],
+    /// The file that the keys or the events are written to.
+    pub output: Option<&'a str>,
     /// Whether a person sees standard error as it comes.
-    is_shown: bool,
+    pub is_shown: bool,
 }
 
 /// Says how a search of this region went.
@@ -184,7 +202,7 @@ fn hunt_region<R: Print + Eprint + Files + Clock + AllocGlobal>(
     rt: &R,
     hunted: &Hunted<'_>,
     rom: &Rom<'_>,
-    search: &Search,
+    search: &HuntTerms,
     region: Region,
     symbols: &Symbols<'_>,
 ) -> Result<Status, Trouble> {
@@ -193,12 +211,12 @@ fn hunt_region<R: Print + Eprint + Files + Clock + AllocGlobal>(
     let found = hunt.search(search.frames, &mut progress)?;
     progress.done();
     let Some(script) = found else {
-        return Ok(tell_none(rt, hunted.name, hunt.frames()));
+        return Ok(tell_none(rt, hunted.name, CountedIn::Frame, hunt.frames()));
     };
     let mut unhurried = HuntShown::new(rt, false, None);
     let script = shorten(rt.alloc(), rom, region, script, SHORTENED, &mut unhurried)?;
-    if let Some(keys) = hunted.keys {
-        write_keys(rt, keys, &script)?;
+    if let Some(keys) = hunted.output {
+        write_found(rt, keys, &script)?;
     }
     let frames = u32::try_from(script.len()).unwrap_or(u32::MAX);
     let played = PlayedScript {
@@ -210,7 +228,7 @@ fn hunt_region<R: Print + Eprint + Files + Clock + AllocGlobal>(
     };
     let status = watch_played(rt, &played, symbols, hunted.is_shown)?;
     if status == Status::Refused {
-        tell_replay(rt, &played, hunted.keys);
+        tell_replay(rt, &played, hunted.output);
     }
     Ok(status)
 }
@@ -219,7 +237,7 @@ fn hunt_region<R: Print + Eprint + Files + Clock + AllocGlobal>(
 fn hunt_file<R: Print + Eprint + Files + Clock + AllocGlobal>(
     rt: &R,
     hunted: &Hunted<'_>,
-    search: &Search,
+    search: &HuntTerms,
     symbols: &Symbols<'_>,
 ) -> Result<Status, Trouble> {
     let Ok(rom) = Rom::parse(hunted.bytes) else {
@@ -241,6 +259,9 @@ fn hunt_file<R: Print + Eprint + Files + Clock + AllocGlobal>(
         None => played_stack(rt, hunted.name, &rom, &[], STACK_FRAMES)?,
     };
     match stack {
+        StackChoice::Region(region) if search.any_timing => {
+            storm_region(rt, hunted, &rom, search, region, symbols)
+        }
         StackChoice::Region(region) => hunt_region(rt, hunted, &rom, search, region, symbols),
         StackChoice::Ended(status) => Ok(status),
     }
@@ -266,7 +287,7 @@ pub fn hunt<R: Print + Eprint + Input + Files + Clock + AllocGlobal>(
     let hunted = Hunted {
         name: rom,
         bytes: &bytes,
-        keys: options.keys,
+        output: options.keys.or(options.events),
         is_shown,
     };
     hunt_file(rt, &hunted, &search, &symbols)

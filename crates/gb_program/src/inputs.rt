@@ -40,6 +40,11 @@ pub fn has_input_twice(task: &Task<'_>) -> bool
             options,
             ..
         } => has_watched_twice(rom, script, &options),
+        Task::Replay {
+            rom,
+            events,
+            options,
+        } => has_watched_twice(rom, events, &options),
         Task::Hunt { rom, options } => is_input(rom) && is_given_input(options.symbols),
         Task::Stored | Task::Header { .. } | Task::Show { .. } | Task::Upgrade { .. } => false,
     }

@@ -10,8 +10,10 @@ mod inputs;
 mod messages;
 mod perform;
 mod progress;
+mod replaying;
 mod status;
 mod stored;
+mod storming;
 mod versions;
 mod watching;
 

@@ -4,6 +4,7 @@ use crate::hunting::hunt;
 use crate::inputs::has_input_twice;
 use crate::messages::{PROGRAM, tell_refusal};
 use crate::progress::FramesShown;
+use crate::replaying::replay;
 use crate::status::{header_status, run_status, show_status, upgrade_status};
 use crate::stored;
 use crate::versions::upgrade_to;
@@ -16,7 +17,7 @@ use gb_command_line::words::{explain, tell_words, words_of};
 use gb_command_line::{
     Plain, Trouble, UpgradeTo, read_cartridge, read_certificate, read_file, upgrade_bytes,
 };
-use gb_hunt::{RunOutcome, header_bytes, run_bytes, show_bytes};
+use gb_events::{RunOutcome, header_bytes, run_bytes, show_bytes};
 use gb_words::{Task, read_words};
 use std::io::{self, Input};
 use std::rt::{Clock, Env, Files};
@@ -171,6 +172,11 @@ fn perform<R: Print + Eprint + Input + Files + Clock + AllocGlobal>(
             };
             watch(rt, &files, is_shown)
         }
+        Task::Replay {
+            rom,
+            events,
+            options,
+        } => replay(rt, rom, events, &options),
         Task::Hunt { rom, options } => hunt(rt, rom, &options, is_shown),
     }
 }

@@ -1,6 +1,6 @@
 //! How far a run or a search has come, for whoever waits for it, and how long a search may take.
 
-use gb_hunt::{HuntProgress, Progress};
+use gb_events::{HuntProgress, Patience, Progress};
 use std::rt::Clock;
 use std::time::{Duration, Instant};
 
@@ -77,10 +77,10 @@ impl<'a, R: Clock> HuntShown<'a, R> {
         }
     }
 
-    /// The frames a second so far, where a millisecond has passed.
-    fn rate(&self, frames: u64) -> Option<u64> {
+    /// How many it played a second so far, where a millisecond has passed.
+    fn rate(&self, played: u64) -> Option<u64> {
         let milliseconds = u64::try_from(self.elapsed()?.as_millis()).ok()?;
-        frames.saturating_mul(1000).checked_div(milliseconds)
+        played.saturating_mul(1000).checked_div(milliseconds)
     }
 }
 
@@ -94,16 +94,29 @@ impl<R: Eprint + Clock> HuntShown<'_, R> {
     }
 }
 
-impl<R: Eprint + Clock> HuntProgress for HuntShown<'_, R> {
-    fn goes_on(&mut self, frames: u64) -> bool {
+impl<R: Eprint + Clock> HuntShown<'_, R> {
+    /// Whether the search goes on; it has played so many of what is named.
+    fn look(&mut self, played: u64, named: &str) -> bool {
         self.asked = self.asked.wrapping_add(1);
         if self.asked % LOOK != 1 {
             return true;
         }
         if self.is_shown {
-            let rate = self.rate(frames).unwrap_or(0);
-            let _ = eprint!(self.rt; "\r{frames:10} frames, {rate:6} frames a second");
+            let rate = self.rate(played).unwrap_or(0);
+            let _ = eprint!(self.rt; "\r{played:10} {named}, {rate:6} {named} a second");
         }
         self.has_time()
+    }
+}
+
+impl<R: Eprint + Clock> HuntProgress for HuntShown<'_, R> {
+    fn goes_on(&mut self, frames: u64) -> bool {
+        self.look(frames, "frames")
+    }
+}
+
+impl<R: Eprint + Clock> Patience for HuntShown<'_, R> {
+    fn lasts(&mut self, events: u64) -> bool {
+        self.look(events, "events")
     }
 }

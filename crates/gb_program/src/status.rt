@@ -1,11 +1,11 @@
 //! What the program ends with, by command; after a verdict gb_command_line says it.
 
 ghost use Rattle.std.specs.Prelude.{◌≡◌};
-ghost use Rattle.gb_program.specs.Status.{header_status, show_status, upgrade_status, run_status, watch_status};
+ghost use Rattle.gb_program.specs.Status.{header_status, show_status, upgrade_status, run_status, watch_status, replay_status};
 
 use gb_command_line::status::Status;
 use gb_command_line::{CertFault, HeaderFault, Trouble, Upgraded};
-use gb_hunt::{Ending, RunOutcome, WatchOutcome, Watched};
+use gb_events::{Ending, ReplayOutcome, Replayed, RunOutcome, WatchOutcome, Watched};
 
 /// The status of a header's line, or of the fault in its place.
 pub fn header_status(fault: Option<HeaderFault>) -> Status
@@ -63,5 +63,17 @@ pub fn watch_status(outcome: WatchOutcome) -> Result<Status, Trouble>
         }),
         WatchOutcome::NoCartridge(_) => Ok(Status::Unreadable),
         WatchOutcome::NoMemory => Err(Trouble::Memory),
+    }
+}
+
+/// The status of a list of events that was played; where there was no room for it nothing was printed yet.
+pub fn replay_status(outcome: ReplayOutcome) -> Result<Status, Trouble>
+    ensures { result ≡ replay_status outcome }
+{
+    match outcome {
+        ReplayOutcome::Told(Replayed::Whole(_)) => Ok(Status::Done),
+        ReplayOutcome::Told(Replayed::Faulty(_)) => Ok(Status::Refused),
+        ReplayOutcome::NoCartridge(_) => Ok(Status::Unreadable),
+        ReplayOutcome::NoMemory => Err(Trouble::Memory),
     }
 }

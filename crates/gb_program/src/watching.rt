@@ -13,7 +13,7 @@ use gb_command_line::{
     Cert, Plain, Rom, SymbolFault, Symbols, Trouble, read_cartridge, read_certificate, read_file,
     shown_name,
 };
-use gb_hunt::{
+use gb_events::{
     Console, FaultyRun, FoundStack, WatchOutcome, Watched, certificate_line, find_stack, put_all,
     trace_fault, watch_bytes,
 };
@@ -50,10 +50,34 @@ pub struct PlayedScript<'a> {
     pub region: Region,
 }
 
+/// What a stack region is found by, where the words name none.
+#[derive(Clone, Copy)]
+pub struct StackSource<'a> {
+    /// The cartridge's name.
+    pub name: &'a str,
+    pub rom: &'a [u8],
+    /// The name of a certificate.
+    pub cert: Option<&'a str>,
+    pub cert_bytes: &'a [u8],
+    pub script: &'a [u8],
+    pub frames: u32,
+}
+
 /// A stack region, or the status where there is none.
 pub enum StackChoice {
     Region(Region),
     Ended(Status),
+}
+
+/// The stack region that the words name, or what is wrong with it.
+pub fn region_given(given: Option<&str>) -> Result<Option<Region>, &'static str> {
+    match given {
+        None => Ok(None),
+        Some(given) => match region_of(given) {
+            Some(region) => Ok(Some(region)),
+            None => Err(WRONG_STACK),
+        },
+    }
 }
 
 /// Reads the files. Of a script no more is read than there are frames.
@@ -63,10 +87,7 @@ fn read_files<R: Eprint + Input + Files + AllocGlobal>(
 ) -> Result<WatchedBytes, Trouble> {
     let rom = read_cartridge(rt, PROGRAM, files.rom)?;
     let script = read_file(rt, PROGRAM, files.script, u64::from(files.frames))?;
-    let cert = match files.options.cert {
-        Some(name) => read_certificate(rt, PROGRAM, name)?,
-        None => Vec::new(rt.alloc()),
-    };
+    let cert = read_named_certificate(rt, &files.options)?;
     Ok(WatchedBytes { rom, script, cert })
 }
 
@@ -111,21 +132,31 @@ pub fn played_stack<R: Eprint + AllocGlobal>(
 }
 
 /// The stack region: the one that the words name, or the certificate's, or the one that the run sets SP above.
-fn stack_for<R: Print + Eprint + AllocGlobal>(
+pub fn stack_for<R: Print + Eprint + AllocGlobal>(
     rt: &R,
-    files: &WatchedFiles<'_>,
-    bytes: &WatchedBytes,
     named: Option<Region>,
+    source: &StackSource<'_>,
 ) -> Result<StackChoice, Trouble> {
-    let Ok(rom) = Rom::parse(&bytes.rom) else {
+    let Ok(rom) = Rom::parse(source.rom) else {
         // Its fault is told where it is to be played.
         let (first, last) = (0xC000, 0xDFFF);
         return Ok(StackChoice::Region(Region { first, last }));
     };
-    match (named, files.options.cert) {
+    match (named, source.cert) {
         (Some(region), _) => Ok(StackChoice::Region(region)),
-        (None, Some(name)) => Ok(certified_stack(rt, name, &bytes.cert)),
-        (None, None) => played_stack(rt, files.rom, &rom, &bytes.script, files.frames),
+        (None, Some(name)) => Ok(certified_stack(rt, name, source.cert_bytes)),
+        (None, None) => played_stack(rt, source.name, &rom, source.script, source.frames),
+    }
+}
+
+/// The bytes of the certificate that the options name; none where they name none.
+pub fn read_named_certificate<R: Eprint + Input + Files + AllocGlobal>(
+    rt: &R,
+    options: &WatchOptions<'_>,
+) -> Result<Vec<u8>, Trouble> {
+    match options.cert {
+        Some(name) => read_certificate(rt, PROGRAM, name),
+        None => Ok(Vec::new(rt.alloc())),
     }
 }
 
@@ -209,12 +240,9 @@ pub fn watch<R: Print + Eprint + Input + Files + AllocGlobal>(
     files: &WatchedFiles<'_>,
     is_shown: bool,
 ) -> Result<Status, Trouble> {
-    let named = match files.options.stack {
-        None => None,
-        Some(text) => match region_of(text) {
-            Some(region) => Some(region),
-            None => return Ok(tell_words(rt, WRONG_STACK)),
-        },
+    let named = match region_given(files.options.stack) {
+        Ok(named) => named,
+        Err(text) => return Ok(tell_words(rt, text)),
     };
     let bytes = read_files(rt, files)?;
     let text = read_symbols(rt, PROGRAM, files.options.symbols)?;
@@ -222,7 +250,15 @@ pub fn watch<R: Print + Eprint + Input + Files + AllocGlobal>(
         Ok(symbols) => symbols,
         Err(fault) => return tell_wrong_symbols(rt, files.options.symbols, fault),
     };
-    match stack_for(rt, files, &bytes, named)? {
+    let source = StackSource {
+        name: files.rom,
+        rom: &bytes.rom,
+        cert: files.options.cert,
+        cert_bytes: &bytes.cert,
+        script: &bytes.script,
+        frames: files.frames,
+    };
+    match stack_for(rt, named, &source)? {
         StackChoice::Region(region) => {
             let played = PlayedScript {
                 name: files.rom,

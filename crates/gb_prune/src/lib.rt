@@ -17,7 +17,7 @@ pub use pruning::{pruned, reached};
 
 // What lies below, for the crates above.
 pub use gb_draft::{
-    Cause, Cert, CodePoint, Configuration, Failure, REGISTERS, Rom, Rules, Run, RunEnd, Spot,
-    StackMisuse, TargetPlace, Verdict, Wish, WriteFault, certificate_of, check, find_needs, is_ram,
-    limits,
+    Cause, Cert, CodePoint, Configuration, Failure, PADDING, REGISTERS, Rom, Rules, Run, RunEnd,
+    Spot, StackMisuse, TargetPlace, Verdict, Wish, WriteFault, certificate_of, check, find_needs,
+    is_ram, limits,
 };

@@ -2,16 +2,13 @@
 
 use crate::parts::{Wanted, weakened};
 use gb_draft::{
-    Abs, Cert, Resumed, Rom, Rules, Stack, Successor, Successors, Target, callee_at, covers,
-    covers_core, exit_of, handler, known_bytes, left_by_dispatch, may_come, ranges_of, resume,
-    stack_of, successors_of, taken_by,
+    Abs, Cert, INTERRUPT_COUNT, Resumed, Rom, Rules, Stack, Successor, Successors, Target,
+    callee_at, covers, covers_core, exit_of, handler, known_bytes, left_by_dispatch, may_come,
+    ranges_of, resume, stack_of, successors_of, taken_by, vector_of,
 };
 use gb_ops::decode::decode;
 use gb_ops::op::Row;
 use std::alloc::{AllocError, Global};
-
-/// The address of the first interrupt's handler; those of the others follow, 8 bytes apart.
-const FIRST_VECTOR: u16 = 0x0040;
 
 /// The number of the first interrupt among the ways from a node: after an instruction's three.
 const FIRST_INTERRUPT: u8 = 3;
@@ -234,7 +231,7 @@ impl<'c, 'a> NodeSite<'c, 'a> {
 
     /// What an interrupt leads to, 0 to 4, where it may come.
     fn interrupted(&self, interrupt: u8, state: &Abs, last: &mut [u32]) -> Option<Onward> {
-        if interrupt >= 5 || !may_come(interrupt, state.core()) {
+        if interrupt >= INTERRUPT_COUNT || !may_come(interrupt, state.core()) {
             return None;
         }
         let setting = self.stack.setting;
@@ -242,7 +239,7 @@ impl<'c, 'a> NodeSite<'c, 'a> {
         match handler(self.cert, setting, interrupt, self.address, state) {
             Some(callee) => Some(self.enters(callee, self.address, &left, last)),
             None => {
-                let vector = FIRST_VECTOR + 8 * u16::from(interrupt);
+                let vector = vector_of(interrupt);
                 let nodes = standing_for(self.cert, self.procedure, vector, &left, last)?;
                 Some(Onward::Nodes(nodes))
             }
@@ -261,7 +258,7 @@ impl<'c, 'a> NodeSite<'c, 'a> {
         self.add_way(0, &ways.taken, last, &mut all)?;
         self.add_way(1, &ways.not_taken, last, &mut all)?;
         self.add_way(2, &ways.stays, last, &mut all)?;
-        for interrupt in 0..5u8 {
+        for interrupt in 0..INTERRUPT_COUNT {
             if let Some(onward) = self.interrupted(interrupt, state, last) {
                 all.push(LeadsTo {
                     way: FIRST_INTERRUPT + interrupt,

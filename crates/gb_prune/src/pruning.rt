@@ -244,57 +244,96 @@ fn add_entered(
 ///
 /// Memory where memory ran out.
 pub fn reached(alloc: Global, rom: &Rom<'_>, cert: &Cert<'_>) -> Result<Vec<u8>, WriteFault> {
-    let mut changed = Changed::of(alloc, cert)?;
-    let mut is_reached = vec![in alloc; false; cert.nodes() as usize]?;
-    let mut is_entered = vec![in alloc; false; usize::from(cert.procedures())]?;
-    let mut last = vec![in alloc; 0u32; cert.nodes() as usize]?;
-    let mut queue = Vec::new(alloc);
-    enter_procedure(cert, 0, &mut is_entered, &mut is_reached, &mut queue)?;
-    for _ in 0..cert.nodes() {
-        let Some(number) = queue.pop() else { break };
-        let Some(state) = state_of(cert, number) else {
-            continue
+    let mut reached = Reachable::from_main(alloc, cert)?;
+    reached.go_on(rom)?;
+    reached.written()
+}
+
+/// What is reached from main's entry.
+#[derive(Drop)]
+struct Reachable<'a> {
+    alloc: Global,
+    cert: &'a Cert<'a>,
+    /// By node, whether it is reached.
+    nodes: Vec<bool>,
+    /// By procedure, whether it is entered.
+    procedures: Vec<bool>,
+    /// The nodes whose ways are still to be followed.
+    queue: Vec<u32>,
+}
+
+impl<'a> Reachable<'a> {
+    /// Main's entry, whose ways are to be followed.
+    fn from_main(alloc: Global, cert: &'a Cert<'a>) -> Result<Reachable<'a>, AllocError> {
+        let mut reached = Reachable {
+            alloc,
+            cert,
+            nodes: vec![in alloc; false; cert.nodes() as usize]?,
+            procedures: vec![in alloc; false; usize::from(cert.procedures())]?,
+            queue: Vec::new(alloc),
         };
-        let Some(site) = NodeSite::of(rom, cert, number, &state) else {
-            continue
-        };
-        for leads in &site.leads_to(alloc, &state, &mut last)? {
-            match leads.onward {
-                Onward::Nodes(nodes) => reach(nodes, &mut is_reached, &mut queue)?,
-                Onward::Exit => {}
-                Onward::Enters { callee, back } => {
-                    enter_procedure(cert, callee, &mut is_entered, &mut is_reached, &mut queue)?;
-                    if let Some(nodes) = back {
-                        reach(nodes, &mut is_reached, &mut queue)?;
-                    }
+        reached.enter(0)?;
+        Ok(reached)
+    }
+
+    /// A procedure is entered.
+    fn enter(&mut self, procedure: u8) -> Result<(), AllocError> {
+        if let Some(mark) = self.procedures.get_mut(usize::from(procedure)) {
+            *mark = true;
+        }
+        let entry = Standby::One(entry_of(self.cert, procedure));
+        reach(entry, self.nodes.as_mut_slice(), &mut self.queue)
+    }
+
+    /// A way is followed.
+    fn follow(&mut self, onward: Onward) -> Result<(), AllocError> {
+        match onward {
+            Onward::Nodes(nodes) => reach(nodes, self.nodes.as_mut_slice(), &mut self.queue),
+            Onward::Exit => Ok(()),
+            Onward::Enters { callee, back } => {
+                self.enter(callee)?;
+                match back {
+                    Some(nodes) => reach(nodes, self.nodes.as_mut_slice(), &mut self.queue),
+                    None => Ok(()),
                 }
             }
         }
     }
-    for (number, node) in changed.nodes.iter_mut().enumerate() {
-        node.is_spare = is_reached.get(number) != Some(&true);
-    }
-    let mut order = Vec::new(alloc);
-    for procedure in 0..cert.procedures() {
-        if is_entered.get(usize::from(procedure)) == Some(&true) {
-            order.push(procedure)?;
-        }
-    }
-    changed.written(order.as_slice())
-}
 
-/// A procedure is entered.
-fn enter_procedure(
-    cert: &Cert<'_>,
-    procedure: u8,
-    is_entered: &mut [bool],
-    is_reached: &mut [bool],
-    queue: &mut Vec<u32>,
-) -> Result<(), AllocError> {
-    if let Some(mark) = is_entered.get_mut(usize::from(procedure)) {
-        *mark = true;
+    /// All ways from what is reached are followed.
+    fn go_on(&mut self, rom: &Rom<'_>) -> Result<(), AllocError> {
+        let mut last = vec![in self.alloc; 0u32; self.cert.nodes() as usize]?;
+        for _ in 0..self.cert.nodes() {
+            let Some(number) = self.queue.pop() else {
+                break
+            };
+            let Some(state) = state_of(self.cert, number) else {
+                continue
+            };
+            let Some(site) = NodeSite::of(rom, self.cert, number, &state) else {
+                continue
+            };
+            for leads in &site.leads_to(self.alloc, &state, &mut last)? {
+                self.follow(leads.onward)?;
+            }
+        }
+        Ok(())
     }
-    reach(Standby::One(entry_of(cert, procedure)), is_reached, queue)
+
+    /// The certificate of what is reached.
+    fn written(&self) -> Result<Vec<u8>, WriteFault> {
+        let mut changed = Changed::of(self.alloc, self.cert)?;
+        for (number, node) in changed.nodes.iter_mut().enumerate() {
+            node.is_spare = self.nodes.get(number) != Some(&true);
+        }
+        let mut order = Vec::new(self.alloc);
+        for procedure in 0..self.cert.procedures() {
+            if self.procedures.get(usize::from(procedure)) == Some(&true) {
+                order.push(procedure)?;
+            }
+        }
+        changed.written(order.as_slice())
+    }
 }
 
 /// Nodes are reached; those that weren't yet are looked at.

@@ -11,8 +11,8 @@ use Rattle.gb_low_bits.specs.Meaning.{In}
 use Rattle.gb_low_bits.proofs.ModulusLaws.{Has-low_bits}
 use Rattle.gb_ram_bounds.specs.declared.cells.ByteCell.{ByteCell}
 use Rattle.gb_ram_bounds.specs.declared.addresses.AddressSet.{AddressSet}
-use Rattle.gb_ram_bounds.specs.declared.pointers.Pointer.{Pointer}
-use Rattle.gb_ram_bounds.specs.declared.pointers.Pointer.TheVariants.{Bc, De, Hl, HighC}
+use Rattle.gb_ops.specs.declared.op.Pointer.{Pointer}
+use Rattle.gb_ops.specs.declared.op.Pointer.TheVariants.{Bc, De, Hl, HighC}
 use Rattle.gb_ram_bounds.specs.declared.pointers.Pointers.{Pointers}
 use Rattle.gb_ram_bounds.specs.declared.fills.Reach.{Reach}
 use Rattle.gb_ram_bounds.specs.declared.fills.Reach.TheVariants.{Below, Above}
@@ -318,7 +318,7 @@ HoldsFill-extent e p f cells memory x y i ends h near =
         same_bytes e.reach (edge + e.offset) (memory a)
         (h.gives a both.0 (subst (λ o. reaches o x a ≡ true) (sym ends) now) free)
 
-HoldsSome-fixed :
+pub HoldsSome-fixed :
     (e : FillEnd) (p : Pointers Bounds) (f : Fill) (cells : List ByteCell) (memory : ℕ → ℕ) (x y : Pointers ℕ)
     → PointersIn p x → f.end ≡ Some e → HoldsFill cells memory x f → HoldsSome (fixed_at e p f) cells memory y
 unfolding fixed_at
@@ -332,7 +332,7 @@ HoldsSome-fixed e p f cells memory x y i ends h = choose (is_surely_reached e p 
     choose false near = tt
 
 -- with another pointer at its end, or none, the fill is about the same addresses
-HoldsFill-elsewhere :
+pub HoldsFill-elsewhere :
     (f : Fill) (cells : List ByteCell) (memory : ℕ → ℕ) (x y : Pointers ℕ)
     → ((a : ℕ) → reaches f.end y a ≡ true → reaches f.end x a ≡ true) → HoldsFill cells memory x f → HoldsFill cells memory y f
 HoldsFill-elsewhere f cells memory x y same h = record { gives = λ a between reached. h.gives a between (same a reached) }
@@ -351,7 +351,7 @@ HoldsFill-other e q f cells memory x y o other ends h =
     subst (λ r. reaches r x a ≡ true) (sym ends) (reaches-other e q x y a o other (subst (λ r. reaches r y a ≡ true) ends reached)))
     h
 
-HoldsFill-none :
+pub HoldsFill-none :
     (f : Fill) (cells : List ByteCell) (memory : ℕ → ℕ) (x y : Pointers ℕ)
     → f.end ≡ None → HoldsFill cells memory x f → HoldsFill cells memory y f
 HoldsFill-none f cells memory x y ends h =

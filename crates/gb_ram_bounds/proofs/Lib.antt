@@ -2,3 +2,4 @@ pub mod AddressLaws
 pub mod CoveringLaws
 pub mod FactLaws
 pub mod FillLaws
+pub mod ReturnedLaws

@@ -5,8 +5,8 @@ use Rattle.gb_low_bits.specs.declared.interval.StridedInterval.{StridedInterval}
 use Rattle.gb_low_bits.specs.Interval.{bounds}
 use Rattle.gb_ram_bounds.specs.declared.cells.ByteCell.{ByteCell}
 use Rattle.gb_ram_bounds.specs.declared.addresses.AddressSet.{AddressSet}
-use Rattle.gb_ram_bounds.specs.declared.pointers.Pointer.{Pointer}
-use Rattle.gb_ram_bounds.specs.declared.pointers.Pointer.TheVariants as pointer
+use Rattle.gb_ops.specs.declared.op.Pointer.{Pointer}
+use Rattle.gb_ops.specs.declared.op.Pointer.TheVariants as pointer
 use Rattle.gb_ram_bounds.specs.declared.pointers.Pointers.{Pointers}
 use Rattle.gb_ram_bounds.specs.declared.fills.Reach.{Reach}
 use Rattle.gb_ram_bounds.specs.declared.fills.Reach.TheVariants.{Below, Above}

@@ -4,3 +4,4 @@ pub mod Facts
 pub mod Fills
 pub mod Covering
 pub mod Meaning
+pub mod Returned

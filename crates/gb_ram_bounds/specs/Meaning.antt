@@ -7,7 +7,7 @@ use Rattle.gb_low_bits.specs.Meaning.{In}
 use Rattle.gb_ram_bounds.specs.declared.cells.ByteCell.{ByteCell}
 use Rattle.gb_ram_bounds.specs.declared.addresses.AddressSet.{AddressSet}
 use Rattle.gb_ram_bounds.specs.declared.facts.Fact.{Fact}
-use Rattle.gb_ram_bounds.specs.declared.pointers.Pointer.{Pointer}
+use Rattle.gb_ops.specs.declared.op.Pointer.{Pointer}
 use Rattle.gb_ram_bounds.specs.declared.pointers.Pointers.{Pointers}
 use Rattle.gb_ram_bounds.specs.declared.fills.Fill.{Fill}
 use Rattle.gb_ram_bounds.specs.Cells.{cell_at, has_cell}

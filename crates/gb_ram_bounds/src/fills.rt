@@ -7,10 +7,11 @@ ghost use Rattle.gb_ram_bounds.specs.Meaning.{IsSoundByFills, IsSoundStore, IsSo
 use crate::addresses::{AddressSet, is_in};
 use crate::cells::ByteCell;
 use crate::facts::{cut_or_same, is_to_cell};
-use crate::pointers::{Pointer, Pointers, is_same};
+use crate::pointers::{Pointers, is_same};
 use gb_domain::Bounds;
 use gb_low_bits::StridedInterval;
 use gb_low_bits::interval::bounds;
+use gb_ops::op::Pointer;
 
 /// On which side of its end a fill is.
 #[derive(Clone, Copy)]
@@ -267,7 +268,7 @@ fn near_end(reach: Reach, fill: &Fill) -> u16
 
 /// The fill with its extent, and no end. `None` where the extent is empty.
 #[tactic(auto, unfolding(crate::specs::Fills::fixed_at, crate::specs::Fills::is_surely_reached, crate::specs::Fills::is_reached))]
-fn fixed_at(end: FillEnd, pointers: &Pointers<Bounds>, fill: Fill) -> Option<Fill>
+pub(crate) fn fixed_at(end: FillEnd, pointers: &Pointers<Bounds>, fill: Fill) -> Option<Fill>
     ensures { result ≡ Fills.fixed_at end pointers.now fill }
 {
     if !is_surely_reached(end, pointers, near_end(end.reach, &fill)) {

@@ -3,14 +3,7 @@
 ghost use Rattle.std.specs.Prelude.{◌≡◌};
 ghost use Rattle.gb_ram_bounds.specs.Fills as Fills;
 
-/// What a store may go through: a pair of registers, or FF00+C.
-#[derive(Clone, Copy)]
-pub enum Pointer {
-    Bc,
-    De,
-    Hl,
-    HighC,
-}
+use gb_ops::op::Pointer;
 
 /// Something of each pointer.
 #[derive(Clone, Copy)]

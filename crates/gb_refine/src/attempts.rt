@@ -4,9 +4,9 @@
 
 use crate::rounds::{Made, Refinement, SearchLimits, SearchProgress};
 use crate::shrink::shrink;
+use gb_page::Finding;
 use gb_prune::limits::FEW_NODES;
 use gb_prune::{Rom, Rules};
-use gb_reports::Finding;
 use std::alloc::{AllocError, Global};
 
 /// The attempts so far.
@@ -15,6 +15,9 @@ struct Attempts<'a> {
     alloc: Global,
     rom: &'a Rom<'a>,
     limits: SearchLimits,
+    /// What was learnt by the rules of version 3, and by those of versions 1 and 2.
+    by_extended: Option<Refinement<'a>>,
+    by_simple: Option<Refinement<'a>>,
     /// The findings by the rules that are tried first.
     findings: Vec<Finding>,
 }
@@ -35,22 +38,47 @@ impl<'a> Attempts<'a> {
         nodes: usize,
         progress: &mut P,
     ) -> Result<Attempted, AllocError> {
-        let limits = SearchLimits {
-            nodes,
-            ..self.limits
-        };
-        let mut refinement = Refinement::new(self.alloc, self.rom, limits, rules)?;
+        let mut refinement = self.refinement(rules, nodes)?;
         match refinement.make(progress)? {
             Made::Certificate(bytes) => {
                 Ok(Attempted::Certificate(shrink(&refinement, bytes, progress)?))
             }
             Made::Findings(findings) => {
                 self.keep(rules, findings);
-                Ok(Attempted::Nothing {
-                    is_limited: refinement.is_limited,
-                })
+                let is_limited = refinement.is_limited;
+                self.keep_learnt(rules, refinement);
+                Ok(Attempted::Nothing { is_limited })
             }
         }
+    }
+
+    /// What was learnt by some rules is kept.
+    fn keep_learnt(&mut self, rules: Rules, refinement: Refinement<'a>) {
+        match rules {
+            Rules::Extended => self.by_extended = Some(refinement),
+            Rules::Simple => self.by_simple = Some(refinement),
+        }
+    }
+
+    /// What was learnt by some rules.
+    fn take_learnt(&mut self, rules: Rules) -> Option<Refinement<'a>> {
+        match rules {
+            Rules::Extended => self.by_extended.take(),
+            Rules::Simple => self.by_simple.take(),
+        }
+    }
+
+    /// What was learnt with fewer nodes goes on with so many; else nothing is known yet.
+    fn refinement(&mut self, rules: Rules, nodes: usize) -> Result<Refinement<'a>, AllocError> {
+        if let Some(mut refinement) = self.take_learnt(rules) {
+            refinement.allow(nodes)?;
+            return Ok(refinement);
+        }
+        let limits = SearchLimits {
+            nodes,
+            ..self.limits
+        };
+        Refinement::new(self.alloc, self.rom, limits, rules)
     }
 
     /// Findings are kept by the first rules alone.
@@ -151,6 +179,8 @@ pub(crate) fn made_certificate<P: SearchProgress>(
         alloc,
         rom,
         limits,
+        by_extended: None,
+        by_simple: None,
         findings: Vec::new(alloc),
     };
     attempts.make(progress)

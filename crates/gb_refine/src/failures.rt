@@ -1,41 +1,120 @@
 //! What there is to tell of failures.
 
-use gb_plans::pointer_cells;
-use gb_prune::{Cause, Failure, Run, TargetPlace};
-use gb_reports::{Finding, InstructionFinding};
+use gb_ops::op::Register;
+use gb_page::{Finding, InstructionFinding, PointerLoad};
+use gb_plans::{PointerSource, loaded_span, pointer_source, untracked_behind};
+use gb_prune::{Cause, Failure, PADDING, Run, Spot, TargetPlace};
 use std::alloc::{AllocError, Global};
 use std::collections::BTreeSet;
 
-/// What there is to tell of a failure, and the cells in which its pointer is kept.
+/// The most bytes of RAM that are named of those for which there was no room.
+const LEFT_OUT: usize = 4;
+
+/// What there is to tell of a failure, and where its pointer comes from in RAM.
 pub(crate) fn told(
     alloc: Global,
     run: &Run<'_>,
     failure: &Failure,
+    left_out: &BTreeSet<u16>,
 ) -> Result<Option<InstructionFinding>, AllocError> {
-    match InstructionFinding::of(alloc, run, failure)? {
-        Some(mut standing) => {
-            add_kept_in(alloc, run, failure, &mut standing.kept_in)?;
-            Ok(Some(standing))
-        }
-        None => Ok(None),
+    let Some(node) = run.nodes.get(failure.node) else {
+        return Ok(None);
+    };
+    let source = if failure.cause == Cause::JumpHl {
+        // Of a jump that isn't told.
+        PointerSource::none(alloc)
+    } else {
+        pointer_source(alloc, run, node.spot(), &failure.registers)?
+    };
+    let Some(mut finding) = told_with(alloc, run, failure, &source)? else {
+        return Ok(None);
+    };
+    if !left_out.is_empty() {
+        let behind = untracked_behind(alloc, run, node.spot(), &failure.registers)?;
+        add_left_out(&behind, left_out, &mut finding.left_out)?;
     }
+    Ok(Some(finding))
 }
 
-/// The cells in which the pointer of a failure is kept. Of a jump none are told.
-fn add_kept_in(
+/// Those of some bytes of RAM for which there was no room.
+fn add_left_out(
+    bytes: &BTreeSet<u16>,
+    left_out: &BTreeSet<u16>,
+    all: &mut Vec<u16>,
+) -> Result<(), AllocError> {
+    for byte in bytes {
+        if left_out.contains(byte) && all.len() < LEFT_OUT {
+            all.push(*byte)?;
+        }
+    }
+    Ok(())
+}
+
+/// What there is to tell of a failure whose pointer comes from here in RAM. Where it is loaded from several addresses, it is told
+/// at that load, since it was lost there.
+fn told_with(
     alloc: Global,
     run: &Run<'_>,
     failure: &Failure,
-    kept_in: &mut Vec<u16>,
-) -> Result<(), AllocError> {
-    let Some(node) = run.nodes.get(failure.node) else {
-        return Ok(());
+    source: &PointerSource,
+) -> Result<Option<InstructionFinding>, AllocError> {
+    let load = match source.loads.iter().next() {
+        Some(spot) if is_told_at_load(failure.cause) => load_at(run, failure, *spot),
+        _ => None,
     };
-    if failure.cause == Cause::JumpHl {
-        return Ok(());
+    let at = match load {
+        Some((node, _)) => Failure { node, ..*failure },
+        None => *failure,
+    };
+    let Some(mut finding) = InstructionFinding::of(alloc, run, &at)? else {
+        return Ok(None);
+    };
+    if let Some(place) = run.place_of(failure.node) {
+        finding.place = place;
     }
-    let cells = pointer_cells(alloc, run, node.spot(), &failure.registers)?;
-    add_cells(&cells, kept_in)
+    if let Some((_, load)) = load {
+        finding.load = Some(load);
+    }
+    add_cells(&source.cells, &mut finding.kept_in)?;
+    finding.is_any_address = load.is_some() || is_open(run, failure, source);
+    Ok(Some(finding))
+}
+
+/// Whether a failure is told at the load of its pointer.
+fn is_told_at_load(cause: Cause) -> bool {
+    matches!(cause, Cause::Store { .. } | Cause::CartridgeRam { .. })
+}
+
+/// How many addresses a store can reach at least whose pointer nothing bounds.
+const WIDE: u16 = 0x1000;
+
+/// Whether the pointer of a failure comes from cells, and nothing bounds it.
+fn is_open(run: &Run<'_>, failure: &Failure, source: &PointerSource) -> bool {
+    let Some(node) = run.nodes.get(failure.node) else {
+        return false;
+    };
+    let registers = &node.state.core().registers;
+    let mut is_any = false;
+    for high in [Register::B, Register::D, Register::H] {
+        let val = registers.get(high);
+        let is_end = val.lo == 0 || val.hi == u8::MAX;
+        is_any = is_any || (failure.registers.contains(high) && is_end);
+    }
+    let is_wide = match failure.cause {
+        Cause::Store { span } => span.last.saturating_sub(span.first) >= WIDE,
+        _ => false,
+    };
+    (is_any || is_wide) && !source.cells.is_empty()
+}
+
+/// The first node of a spot at which the pointer of a failure is loaded, and from where it may be loaded there.
+fn load_at(run: &Run<'_>, failure: &Failure, spot: Spot) -> Option<(usize, PointerLoad)> {
+    let number = *run.nodes_at(spot).first()?;
+    let load = PointerLoad {
+        from: loaded_span(run, spot)?,
+        used_at: run.nodes.get(failure.node)?.key.point(),
+    };
+    Some((number, load))
 }
 
 fn add_cells(cells: &BTreeSet<u16>, kept_in: &mut Vec<u16>) -> Result<(), AllocError> {
@@ -51,11 +130,12 @@ pub(crate) fn add_failures(
     run: &Run<'_>,
     place: TargetPlace,
     is_too_large: bool,
+    left_out: &BTreeSet<u16>,
     findings: &mut Vec<Finding>,
 ) -> Result<(), AllocError> {
     for failure in &run.failures {
         if run.place_of(failure.node) == Some(place) {
-            add_failure(alloc, run, failure, is_too_large, findings)?;
+            add_failure(alloc, run, failure, is_too_large, left_out, findings)?;
         }
     }
     Ok(())
@@ -67,9 +147,10 @@ pub(crate) fn add_failure(
     run: &Run<'_>,
     failure: &Failure,
     is_too_large: bool,
+    left_out: &BTreeSet<u16>,
     findings: &mut Vec<Finding>,
 ) -> Result<(), AllocError> {
-    if let Some(mut standing) = told(alloc, run, failure)? {
+    if let Some(mut standing) = told(alloc, run, failure, left_out)? {
         standing.is_too_large = is_too_large;
         findings.push(Finding::Instruction(standing))?;
     }
@@ -90,7 +171,7 @@ fn is_consequence(told: &[Finding], finding: &Finding) -> bool {
         return false;
     };
     match standing.cause {
-        Cause::Recursion { target: 0x38 } => !told.is_empty(),
+        Cause::Recursion { target } if target == PADDING => !told.is_empty(),
         Cause::Recursion { .. } => has_cause(told, standing.cause),
         _ => false,
     }

@@ -6,10 +6,12 @@ use crate::rounds::{
 };
 use crate::written::{is_accepted, written};
 use gb_ops::machine::Region;
+use gb_page::{Crowd, Finding, InstructionFinding};
 use gb_plans::{Plan, inline_plan, last_plan, plan_for, targets_to_follow};
 use gb_prune::limits::{DEAR_STEPS, EDITS, EDITS_OF_KEPT, OBSTACLES, STEPS_BACK};
-use gb_prune::{Cause, CodePoint, Failure, Rules, Run, RunEnd, TargetPlace, Wish, find_needs};
-use gb_reports::{Crowd, Finding, InstructionFinding};
+use gb_prune::{
+    Cause, CodePoint, Failure, PADDING, Rules, Run, RunEnd, TargetPlace, Wish, find_needs,
+};
 use std::alloc::{AllocError, Global};
 use std::collections::BTreeSet;
 
@@ -72,10 +74,20 @@ impl<'a> Refinement<'a> {
     ) -> Result<(), AllocError> {
         for place in &self.given_up {
             let is_too_large = self.too_large.contains(place);
-            add_failures(self.alloc, run, *place, is_too_large, findings)?;
+            let left_out = &self.cells.left_out;
+            add_failures(self.alloc, run, *place, is_too_large, left_out, findings)?;
         }
         match last {
-            Some(failure) => add_failure(self.alloc, run, failure, false, findings),
+            Some(failure) => {
+                add_failure(
+                    self.alloc,
+                    run,
+                    failure,
+                    false,
+                    &self.cells.left_out,
+                    findings,
+                )
+            }
             None => Ok(()),
         }
     }
@@ -108,15 +120,9 @@ impl<'a> Refinement<'a> {
         let Some(before) = &self.before else {
             return false;
         };
-        let is_no_code = matches!(
-            failure.cause,
-            Cause::Area
-                | Cause::Unreadable { .. }
-                | Cause::UndefinedOpcode { .. }
-                | Cause::Stop
-                | Cause::Recursion { target: 0x38 }
-        );
-        before.cause == Cause::JumpHl && is_no_code && comes_from(run, failure.node, before.place)
+        before.cause == Cause::JumpHl
+            && is_no_code(failure.cause)
+            && comes_from(run, failure.node, before.place)
     }
 
     /// A call of a circle of procedures that were followed in their callers, where these push without an end: the first that was
@@ -161,7 +167,7 @@ impl<'a> Refinement<'a> {
         if let Some(place) = self.recursion_behind(failure) {
             return Ok(Lesson::EndAt(place));
         }
-        match told(self.alloc, run, failure)? {
+        match told(self.alloc, run, failure, &self.cells.left_out)? {
             Some(finding) => self.learn_mending(run, failure, place, finding),
             None => self.give_up(run, failure, place),
         }
@@ -339,7 +345,8 @@ impl<'a> Refinement<'a> {
 
     /// A failure is looked into only where no more can be known of cells and widening, but in a long run.
     fn learn_failed(&self, run: &Run<'_>, failure: &Failure) -> Result<Lesson, AllocError> {
-        let news = self.news(run)?;
+        let mut news = self.news(run)?;
+        self.cells.add_waiting(&mut news.cells)?;
         if run.steps >= DEAR_STEPS || news.is_empty() {
             self.learn_at_once(run, failure, news)
         } else {
@@ -355,7 +362,7 @@ impl<'a> Refinement<'a> {
         failure: &Failure,
         news: News,
     ) -> Result<Lesson, AllocError> {
-        match self.learn_failure(run, failure)? {
+        match self.learn_first(run, failure)? {
             Lesson::Change(Change::Mend(mending)) => {
                 let mut mendings = Vec::new(self.alloc);
                 mendings.push(mending)?;
@@ -365,6 +372,21 @@ impl<'a> Refinement<'a> {
             lesson if news.is_empty() => Ok(lesson),
             _ => Ok(Lesson::Change(Change::Track(news))),
         }
+    }
+
+    /// A failure. A routine that seems to run already is often no more than what comes of a bank that isn't known, so where the
+    /// run has met such a failure too, that is mended first.
+    fn learn_first(&self, run: &Run<'_>, failure: &Failure) -> Result<Lesson, AllocError> {
+        if let Cause::Recursion { .. } = failure.cause {
+            for other in &run.passed {
+                if other.cause == Cause::Bank
+                    && let Lesson::Change(Change::Mend(mending)) = self.learn_failure(run, other)?
+                {
+                    return Ok(Lesson::Change(Change::Mend(mending)));
+                }
+            }
+        }
+        self.learn_failure(run, failure)
     }
 
     /// What may help against the failures that a run went past, one in the procedures of each target and each bank. Where the bank
@@ -399,6 +421,17 @@ impl<'a> Refinement<'a> {
         } else {
             Ok(Lesson::Change(Change::Track(news)))
         }
+    }
+}
+
+/// Whether a failure means that there is no code.
+fn is_no_code(cause: Cause) -> bool {
+    match cause {
+        Cause::Area | Cause::Unreadable { .. } | Cause::UndefinedOpcode { .. } | Cause::Stop => {
+            true
+        }
+        Cause::Recursion { target } => target == PADDING,
+        _ => false,
     }
 }
 

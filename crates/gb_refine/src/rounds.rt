@@ -3,15 +3,18 @@
 use crate::failures::tell;
 use crate::tracking::Cells;
 use gb_ops::machine::Region;
+use gb_page::{Crowd, Finding, InstructionFinding, Spent};
 use gb_plans::{Plan, learn_touched};
 use gb_prune::limits::{
-    ALL_STEPS, FEW_NODES, OBSTACLES, RUN_STEPS, STEPS_A_NODE, STEPS_ASKED, TAKEN_BACK,
-    TAKEN_BACK_OF_MANY,
+    ALL_STEPS, FEW_NODES, OBSTACLES, RUN_STEPS, STEPS_A_NODE, STEPS_A_NODE_OF_MANY, STEPS_ASKED,
+    TAKEN_BACK, TAKEN_BACK_OF_MANY,
 };
-use gb_prune::{Cause, CodePoint, Configuration, Rom, Rules, Run, RunEnd, TargetPlace, Wish};
-use gb_reports::{Crowd, Finding, InstructionFinding, Spent};
+use gb_prune::{
+    Cause, CodePoint, Configuration, Rom, Rules, Run, RunEnd, StackMisuse, TargetPlace, Wish,
+};
 use std::alloc::{AllocError, Global};
-use std::collections::{BTreeMap, BTreeSet};
+use std::collections::{BTreeMap, BTreeSet, HashSet};
+use std::mem;
 
 /// The bytes of a word.
 pub(crate) const WORD: usize = 2;
@@ -163,6 +166,8 @@ pub(crate) struct Refinement<'a> {
     pub(crate) is_single: bool,
     /// Where a finer configuration made the run too large.
     pub(crate) too_large: BTreeSet<TargetPlace>,
+    /// Where a store goes, or SP is set, by a pointer from RAM that nothing bounds: with more nodes it would only walk further.
+    any_address: BTreeSet<TargetPlace>,
     /// How many procedures began at each point of code in the last run.
     pub(crate) targets: BTreeMap<CodePoint, usize>,
     /// The nodes and the steps of the last run.
@@ -230,6 +235,7 @@ impl<'a> Refinement<'a> {
             taken_back: 0,
             is_single: false,
             too_large: BTreeSet::new(alloc),
+            any_address: BTreeSet::new(alloc),
             targets: BTreeMap::new(alloc),
             nodes: 0,
             steps: 0,
@@ -274,7 +280,7 @@ impl<'a> Refinement<'a> {
             return Ok(Lesson::OutOfTime);
         };
         progress.ran(run.nodes.len(), run.procedures.len());
-        self.cells.learn(run)?;
+        self.cells.learn(self.alloc, run)?;
         self.nodes = run.nodes.len();
         self.steps = run.steps;
         self.pairs = pairs_of(run);
@@ -351,6 +357,9 @@ impl<'a> Refinement<'a> {
             if let Cause::Recursion { .. } = finding.cause {
                 self.circles.push(place)?;
             }
+            if walks(&finding) {
+                self.any_address.insert(place)?;
+            }
             self.first.insert(place, finding)?;
         }
         Ok(())
@@ -403,18 +412,37 @@ impl<'a> Refinement<'a> {
 
     /// A run was too large: the last edit was too much, or there was none.
     fn shrink_back(&mut self, crowd: Crowd) -> Result<Option<Made>, AllocError> {
-        self.is_limited = true;
         let most = self.most_taken_back();
-        match self.take_back(most)? {
+        let place = self.take_back(most)?;
+        let is_any_address = match place {
+            Some(place) => self.any_address.contains(&place),
+            None => false,
+        };
+        if !is_any_address {
+            self.is_limited = true;
+        }
+        match place {
             Some(place) if self.given_up.len() < OBSTACLES => {
-                if !self.is_single {
+                if !self.is_single && !is_any_address {
                     self.too_large.insert(place)?;
                 }
                 Ok(None)
             }
             Some(place) => Ok(Some(self.end_at(place, Finding::TooLarge(crowd))?)),
-            None => Ok(Some(end_alone(self.alloc, Finding::TooLarge(crowd))?)),
+            None => Ok(Some(self.end_standing(Finding::TooLarge(crowd))?)),
         }
+    }
+
+    /// The failures that stand are told, as they were first met, and another finding.
+    fn end_standing(&mut self, other: Finding) -> Result<Made, AllocError> {
+        let mut findings = Vec::new(self.alloc);
+        for place in &self.given_up {
+            if let Some(standing) = self.first.remove(place) {
+                findings.push(Finding::Instruction(standing))?;
+            }
+        }
+        findings.push(other)?;
+        Ok(Made::Findings(findings))
     }
 
     /// The failure at a place is told, as it was first met, and another finding.
@@ -441,7 +469,7 @@ impl<'a> Refinement<'a> {
     fn as_first_met(&mut self, finding: Finding) -> Finding {
         match finding {
             Finding::Instruction(last) => match self.first.remove(&last.place) {
-                Some(mut first) if !first.kept_in.is_empty() => {
+                Some(mut first) if first.load.is_some() || !first.kept_in.is_empty() => {
                     first.is_too_large = last.is_too_large;
                     Finding::Instruction(first)
                 }
@@ -583,9 +611,40 @@ impl<'a> Refinement<'a> {
         self.cells.track(&mut self.configuration, &news.cells)
     }
 
-    /// How many steps of nodes all rounds together may take: fewer where there are to be few nodes.
+    /// How many steps of nodes all rounds together may take: fewer where there are to be few nodes, and more where many.
     fn most_steps(&self) -> u64 {
-        ALL_STEPS.min((self.limits.nodes as u64).saturating_mul(STEPS_A_NODE))
+        let nodes = self.limits.nodes as u64;
+        let many = nodes.saturating_mul(STEPS_A_NODE_OF_MANY);
+        ALL_STEPS.max(many).min(nodes.saturating_mul(STEPS_A_NODE))
+    }
+
+    /// No failure stands any more, but where a pointer comes from RAM that can be any address.
+    fn reopen(&mut self) -> Result<(), AllocError> {
+        let before = mem::replace(&mut self.given_up, Vec::new(self.alloc));
+        self.configuration.given_up = HashSet::new(self.alloc);
+        for place in before {
+            if self.any_address.contains(&place) {
+                self.stand(place)?;
+            }
+        }
+        Ok(())
+    }
+
+    /// More nodes are allowed from now on. What made a run too large may help then: no plan is taken back any more, and no failure
+    /// stands that one was made for.
+    pub(crate) fn allow(&mut self, nodes: usize) -> Result<(), AllocError> {
+        self.limits.nodes = nodes;
+        self.configuration.limit = nodes;
+        self.configuration.taken_back = BTreeSet::new(self.alloc);
+        self.reopen()?;
+        self.too_large = BTreeSet::new(self.alloc);
+        self.tried = BTreeMap::new(self.alloc);
+        self.before = None;
+        self.taken_back = 0;
+        self.is_single = false;
+        self.is_limited = false;
+        self.spent = 0;
+        Ok(())
     }
 
     /// A failure that was met and isn't told otherwise: the one to be mended last, or else the first by its place.
@@ -654,6 +713,15 @@ fn add_points(more: &BTreeSet<u8>, points: &mut BTreeSet<u8>) -> Result<(), Allo
         points.insert(*point)?;
     }
     Ok(())
+}
+
+/// Whether a store goes, or SP is set, by a pointer from RAM that nothing bounds.
+fn walks(finding: &InstructionFinding) -> bool {
+    let is_followed = matches!(
+        finding.cause,
+        Cause::Store { .. } | Cause::Stack(StackMisuse::SetByHl)
+    );
+    is_followed && finding.is_any_address
 }
 
 /// The region of one word below an address.

@@ -1,4 +1,5 @@
-//! Which memory cells are tracked: at most 64 by the rules of version 3, 32 by the others; code and what keys go by first.
+//! Which memory cells are tracked: at most 64 by the rules of version 3, 32 by the others; code and what keys go by first. Where
+//! there are more, those go first of which a run knew nothing, and others get their room.
 
 use gb_ops::machine::Region;
 use gb_prune::{Configuration, Run, is_ram};
@@ -10,6 +11,10 @@ use std::collections::BTreeSet;
 pub(crate) struct Cells {
     /// Cells that were read and are not tracked, since they can't be, or since others matter more.
     pub(crate) untracked: BTreeSet<u16>,
+    /// Those of them for which there was no room, and that no run had.
+    pub(crate) left_out: BTreeSet<u16>,
+    /// Cells that the last run tracked and of which no node knew anything.
+    idle: BTreeSet<u16>,
     /// Cells that instructions name.
     pub(crate) named: BTreeSet<u16>,
     /// Cells that hold code.
@@ -19,7 +24,7 @@ pub(crate) struct Cells {
 /// How much a cell matters; the greatest goes first where there are too many.
 #[derive(Clone, Copy, PartialEq, Eq, PartialOrd, Ord)]
 struct Rank {
-    /// 0 for code and keys, 1 for cells that instructions name, 2 for others.
+    /// 0 for code and keys, 1 for cells that instructions name, 2 for others, 3 for those of which nothing is known.
     class: u8,
     is_work_ram: bool,
     address: u16,
@@ -30,15 +35,32 @@ impl Cells {
     pub(crate) fn new(alloc: Global) -> Cells {
         Cells {
             untracked: BTreeSet::new(alloc),
+            left_out: BTreeSet::new(alloc),
+            idle: BTreeSet::new(alloc),
             named: BTreeSet::new(alloc),
             fetched: BTreeSet::new(alloc),
         }
     }
 
     /// Takes over what a run met.
-    pub(crate) fn learn(&mut self, run: &Run<'_>) -> Result<(), AllocError> {
+    pub(crate) fn learn(&mut self, alloc: Global, run: &Run<'_>) -> Result<(), AllocError> {
         add_all(&run.named, &mut self.named)?;
-        add_all(&run.fetched, &mut self.fetched)
+        add_all(&run.fetched, &mut self.fetched)?;
+        let configuration = run.configuration;
+        self.idle = if configuration.tracked.len() < configuration.rules.cell_room() {
+            BTreeSet::new(alloc)
+        } else {
+            idle_cells(alloc, run)?
+        };
+        Ok(())
+    }
+
+    /// Cells for which there was no room, as many as there are tracked ones of which nothing is known.
+    pub(crate) fn add_waiting(&self, cells: &mut Vec<u16>) -> Result<(), AllocError> {
+        for cell in self.left_out.iter().take(self.idle.len()) {
+            cells.push(*cell)?;
+        }
+        Ok(())
     }
 
     /// The cells that a run wants and that aren't tracked, but might be.
@@ -60,6 +82,8 @@ impl Cells {
     fn rank(&self, configuration: &Configuration, cell: u16) -> Rank {
         let class = if self.fetched.contains(&cell) || configuration.key_cells.contains(&cell) {
             0
+        } else if self.idle.contains(&cell) {
+            3
         } else if self.named.contains(&cell) {
             1
         } else {
@@ -110,6 +134,8 @@ impl Cells {
     ) -> Result<(), AllocError> {
         for cell in more {
             if is_ram(*cell) && !meets(configuration.region, *cell) {
+                self.untracked.remove(cell);
+                self.left_out.remove(cell);
                 configuration.tracked.insert(*cell)?;
             } else {
                 self.untracked.insert(*cell)?;
@@ -123,6 +149,9 @@ impl Cells {
                 break
             };
             self.drop_cell(configuration, cell)?;
+            if !self.idle.contains(&cell) {
+                self.left_out.insert(cell)?;
+            }
         }
         Ok(())
     }
@@ -150,6 +179,20 @@ impl Cells {
         }
         Ok(())
     }
+}
+
+/// The cells that a run tracked and of which no node of it knew anything.
+fn idle_cells(alloc: Global, run: &Run<'_>) -> Result<BTreeSet<u16>, AllocError> {
+    let mut idle = run.configuration.tracked.clone()?;
+    for node in &run.nodes {
+        for cell in node.state.cells() {
+            idle.remove(&cell.address);
+        }
+    }
+    for cell in &run.configuration.key_cells {
+        idle.remove(cell);
+    }
+    Ok(idle)
 }
 
 fn add_all(more: &BTreeSet<u16>, cells: &mut BTreeSet<u16>) -> Result<(), AllocError> {

@@ -22,9 +22,9 @@ use Rattle.gb_pairs.specs.Below.gb_vals.Meaning.{In}
 use Rattle.gb_pairs.proofs.Below.gb_vals_laws.MeaningLaws.{single-is}
 use Rattle.gb_pairs.specs.declared.values.Values.{Values}
 use Rattle.gb_pairs.specs.Meaning.{AreBytes}
-use Rattle.gb_places.specs.Meaning.{HoldOneByte}
-use Rattle.gb_places.specs.Places.{only_tested, tested, tested_before_a}
-use Rattle.gb_places.proofs.PlaceLaws.{without_test_sound, tested_sound, tested_before_a_sound}
+use Rattle.gb_copies.specs.Meaning.{HoldOneByte}
+use Rattle.gb_copies.specs.Places.{only_tested, tested, tested_before_a}
+use Rattle.gb_copies.proofs.PlaceLaws.{without_test_sound, tested_sound, tested_before_a_sound}
 use Rattle.gb_relations.specs.Bytes as bytes
 use Rattle.gb_relations.proofs.ResultLaws.{and-byte, alu-byte, compared-zero, compared-carry, below_zero}
 use Rattle.gb_relations.proofs.ByteLaws.{HoldOneByte-zero_register}

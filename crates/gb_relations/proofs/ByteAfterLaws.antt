@@ -29,7 +29,7 @@ use Rattle.gb_pairs.specs.declared.values.Values.{Values}
 use Rattle.gb_pairs.specs.Meaning.{AreBytes, Holds}
 use Rattle.gb_pairs.specs.Sound.{Within}
 use Rattle.gb_pairs.proofs.BoundsLaws.{bounds_of_sound}
-use Rattle.gb_places.specs.Meaning.{HoldOneByte}
+use Rattle.gb_copies.specs.Meaning.{HoldOneByte}
 use Rattle.gb_relations.specs.Written.{counted, written, writes_flags}
 use Rattle.gb_relations.specs.Places.{stored_place, behind_echo, loaded_place}
 use Rattle.gb_relations.specs.Bytes as bytes

@@ -20,10 +20,10 @@ use Rattle.gb_pairs.specs.declared.values.Values.{Values}
 use Rattle.gb_pairs.specs.Meaning.{AreBytes}
 use Rattle.gb_pairs.specs.Sound.{Within}
 use Rattle.gb_pairs.proofs.RegisterLaws.{get_same}
-use Rattle.gb_places.specs.Meaning.{HoldOneByte, held_at}
-use Rattle.gb_places.specs.Places.{only_tested, tested}
-use Rattle.gb_places.proofs.PlaceLaws.{without_register_sound, without_addresses_sound, without_test_sound, only_tested_sound, tested_sound}
-use Rattle.gb_places.proofs.CopyLaws.{copied_sound_register, copied_sound_address}
+use Rattle.gb_copies.specs.Meaning.{HoldOneByte, held_at}
+use Rattle.gb_copies.specs.Places.{only_tested, tested}
+use Rattle.gb_copies.proofs.PlaceLaws.{without_register_sound, without_addresses_sound, without_test_sound, only_tested_sound, tested_sound}
+use Rattle.gb_copies.proofs.CopyLaws.{copied_sound_register, copied_sound_address}
 use Rattle.gb_relations.specs.Places.{is_ram, stored_place, behind_echo, loaded_place}
 use Rattle.gb_relations.specs.Bytes as bytes
 use Rattle.gb_relations.specs.Sound.{IsKeptBut, Writes, Reads}

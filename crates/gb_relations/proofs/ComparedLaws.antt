@@ -21,10 +21,10 @@ use Rattle.gb_domain.specs.declared.places.Test.TheVariants as test
 use Rattle.gb_domain.specs.declared.places.OneByte.{OneByte}
 use Rattle.gb_domain.specs.Places.{no_byte, no_place}
 use Rattle.gb_pairs.specs.Meaning.{AreBytes}
-use Rattle.gb_pairs.specs.Written.{is_same}
-use Rattle.gb_places.specs.Meaning.{HoldOneByte}
-use Rattle.gb_places.specs.Places.{byte_at, with_place}
-use Rattle.gb_places.proofs.PlaceLaws.{only_tested_sound}
+use Rattle.gb_domain.specs.Places.{is_same_register}
+use Rattle.gb_copies.specs.Meaning.{HoldOneByte}
+use Rattle.gb_copies.specs.Places.{byte_at, with_place}
+use Rattle.gb_copies.proofs.PlaceLaws.{only_tested_sound}
 use Rattle.gb_relations.specs.Written.{written, writes_flags}
 use Rattle.gb_relations.specs.Compared.{comparison_of, writes_a, only_of_a, compared_by, compared_after}
 use Rattle.gb_relations.specs.Sound.{HasBytes, IsByteFree}
@@ -80,7 +80,7 @@ HoldOneByte-only_of_a b x y memory after f g same flags h = subst (λ k. HoldOne
 
 -- ---- registers that aren't A
 
-other_kept : (r : Register) (n : ℕ) (x : Registers ℕ) → is_same A r ≡ false → (set r n x).a ≡ x.a
+other_kept : (r : Register) (n : ℕ) (x : Registers ℕ) → is_same_register A r ≡ false → (set r n x).a ≡ x.a
 other_kept A n x h = not_so h
 other_kept B n x h = refl
 other_kept C n x h = refl
@@ -89,11 +89,11 @@ other_kept E n x h = refl
 other_kept H n x h = refl
 other_kept L n x h = refl
 
-a_kept : (rs : List Register) (x y : Registers ℕ) → list_any (is_same A) rs ≡ false → (overwritten rs x y).a ≡ x.a
+a_kept : (rs : List Register) (x y : Registers ℕ) → list_any (is_same_register A) rs ≡ false → (overwritten rs x y).a ≡ x.a
 a_kept [] x y h = refl
 a_kept (r ∷ rs) x y h = let p = or_parts _ _ h in a_kept rs (set r (get r y) x) y p.1 ∙ other_kept r (get r y) x p.0
 
-written_none : (o : Op) → writes_a o ≡ false → list_any (is_same A) (written o) ≡ false
+written_none : (o : Op) → writes_a o ≡ false → list_any (is_same_register A) (written o) ≡ false
 unfolding writes_a
 written_none (op.Load (operand.Register A) from) h = not_so h
 written_none o h = h

@@ -20,8 +20,8 @@ use Rattle.gb_domain.specs.declared.places.OneByte.{OneByte}
 use Rattle.gb_domain.specs.Places.{no_byte}
 use Rattle.gb_pairs.specs.declared.values.Values.{Values}
 use Rattle.gb_pairs.specs.Bounds.{is_one}
-use Rattle.gb_places.specs.Places as places
-use Rattle.gb_places.specs.Copies.{is_same_place, gives_way, two, copied}
+use Rattle.gb_copies.specs.Places as places
+use Rattle.gb_copies.specs.Copies.{is_same_place, gives_way, two, copied}
 use Rattle.gb_relations.specs.Written.{counted, written, writes_flags}
 use Rattle.gb_relations.specs.Places.{is_free, free_place, stored_place, behind_echo, loaded_place}
 use Rattle.gb_relations.specs.Bytes as bytes

@@ -32,8 +32,9 @@ use Rattle.gb_ops.specs.Arithmetic.{alu_result, incremented, decremented, shifte
 use Rattle.gb_ops.specs.Effects.{hl, with_indirect, operand_value, store_operand, update_operand, update_a, jump, push, call, return_to, only_if, effect_of}
 use Rattle.gb_domain.specs.Areas.{meets}
 use Rattle.gb_pairs.specs.Meaning.{AreBytes}
-use Rattle.gb_pairs.specs.Written.{is_same}
-use Rattle.gb_pairs.proofs.RegisterLaws.{AreBytes-set, same_register}
+use Rattle.gb_domain.specs.Places.{is_same_register}
+use Rattle.gb_domain.proofs.RegisterLaws.{same_register}
+use Rattle.gb_pairs.proofs.RegisterLaws.{AreBytes-set}
 use Rattle.gb_relations.specs.Written.{halves, stack_halves, counted, operand_register, moved_register, alu_register, written, is_af, writes_flags}
 use Rattle.gb_relations.specs.Places.{is_ram, is_free}
 use Rattle.gb_relations.specs.Sound.{HasBytes, Writes, IsByteFree}
@@ -112,10 +113,10 @@ Overwrites-updated operand.AtHl p c = refl
 
 Overwrites-moved : (to from : Operand) (p : Processor) (l : ℕ) → Overwrites (moved_register to from) p.registers (registers_of (store_operand p to (operand_value p from l)))
 unfolding store_operand operand_value
-Overwrites-moved (operand.Register to) (operand.Register from) p l = choose (is_same to from) refl
+Overwrites-moved (operand.Register to) (operand.Register from) p l = choose (is_same_register to from) refl
   where
     choose :
-        (b : Bool) → is_same to from ≡ b
+        (b : Bool) → is_same_register to from ≡ b
         → Overwrites (cond b [] (to ∷ [])) p.registers (set to (get from p.registers) p.registers)
     choose true e = ap (λ q. set to (get q p.registers) p.registers) (sym (same_register to from e)) ∙ set-same to p.registers
     choose false e = set-one to (get from p.registers) p.registers

@@ -1,15 +1,12 @@
 -- Where an instruction reads and writes by a pair, and the carry of ADD HL.
-use Rattle.std.proofs.Common.{◌≡◌, ℕ, ◌+◌, ◌<◌, ◌≤◌, Bool, Option, Some, None, nat_lt, refl, sym, subst}
-use Rattle.gb_ops.specs.declared.op.Operand.{Operand}
-use Rattle.gb_ops.specs.declared.op.Operand.TheVariants as operand
-use Rattle.gb_ops.specs.declared.op.Indirect.{Indirect}
-use Rattle.gb_ops.specs.declared.op.Indirect.TheVariants as indirect
+use Rattle.std.proofs.Common.{◌≡◌, ℕ, ◌+◌, ◌<◌, ◌≤◌, Bool, Option, Some, None, IfSome, nat_lt, refl, sym, subst}
+use Rattle.gb_ops.specs.declared.op.Pointer.{Pointer}
+use Rattle.gb_ops.specs.declared.op.Pointer.TheVariants as at
 use Rattle.gb_ops.specs.declared.op.Pair.{Pair}
 use Rattle.gb_ops.specs.declared.op.Op.{Op}
 use Rattle.gb_ops.specs.declared.op.Op.TheVariants as op
 use Rattle.gb_ops.specs.declared.registers.Registers.{Registers}
 use Rattle.gb_ops.specs.declared.registers.Processor.{Processor}
-use Rattle.gb_ops.specs.declared.machine.Computed.{Computed}
 use Rattle.gb_ops.specs.declared.machine.Read.{Read}
 use Rattle.gb_ops.specs.declared.machine.Read.TheVariants as read
 use Rattle.gb_ops.specs.declared.machine.Write.{Write}
@@ -17,7 +14,10 @@ use Rattle.gb_ops.specs.declared.machine.Write.TheVariants as write
 use Rattle.gb_ops.specs.Pairs.{pair_value}
 use Rattle.gb_ops.specs.Arithmetic.{word_sum_flags}
 use Rattle.gb_ops.specs.Effects as Effects
-use Rattle.gb_ops.specs.Effects.{hl, indirect_address, operand_read, read_of, store_operand, update_operand, update_a, effect_of}
+use Rattle.gb_ops.specs.Effects.{hl, read_of, effect_of}
+use Rattle.gb_ops.specs.Pointers as Pointers
+use Rattle.gb_ops.specs.Pointers.{pointed, high_register, low_register, byte_or_page, ReadsAt, WritesAt}
+use Rattle.gb_ops.proofs.PointerLaws.{follows}
 use Rattle.gb_domain.specs.declared.types.Val.{Val}
 use Rattle.gb_domain.specs.declared.pairs.WordPair.{WordPair}
 use Rattle.gb_domain.specs.declared.pairs.WordPair.TheVariants as words
@@ -26,31 +26,26 @@ use Rattle.gb_domain.specs.declared.pairs.Pairs.{Pairs}
 use Rattle.gb_domain.specs.declared.rules.Rules.{Rules}
 use Rattle.gb_domain.specs.declared.rules.Rules.TheVariants.{Simple, Extended}
 use Rattle.gb_pairs.specs.declared.values.Values.{Values}
-use Rattle.gb_pairs.specs.Bounds.{bounds_of}
 use Rattle.gb_pairs.specs.Meaning.{AreBytes, Holds}
 use Rattle.gb_pairs.specs.Moved.{added}
-use Rattle.gb_pairs.specs.Sound.{Within, IsCarry}
+use Rattle.gb_pairs.specs.Sound.{IsCarry}
 use Rattle.gb_pairs.proofs.BoundsLaws.{Within-bounds_of}
 use Rattle.gb_pairs.proofs.SumLaws.{added_sound}
 use Rattle.gb_relations.specs.Pairs.{addend, is_hl}
 use Rattle.gb_relations.specs.Transfer.{values_of}
-use Rattle.gb_relations.specs.Pointers.{operand_pointer, either_pointer, indirect_pointer, pointer_of, bounds_if, pointer_bounds, carry_after, known_carry, ReadsWithin, WritesWithin, PointsWithin, IsSoundPointer, IsIfKnown, IsSoundCarry}
+use Rattle.gb_relations.specs.Pointers.{pair_at, pair_pointed, pointer_of, bounds_if, pointer_bounds, carry_after, known_carry, WithinIf, ReadsWithin, WritesWithin, PointsWithin, IsSoundPointer, IsIfKnown, IsSoundCarry}
 use Rattle.gb_relations.proofs.PairLaws.{AreWords, bounds-below, Within-addend, addend-below}
 use Rattle.gb_relations.proofs.TransferLaws.{are_words}
 
 -- ---- addresses
 
-Within-hl : (v : Values) (p : Processor) → Holds v p.registers → Within (bounds_of words.Hl v) (hl p)
-unfolding pair_value
-Within-hl v p m = Within-bounds_of words.Hl v p.registers m
-
-Within-indirect :
-    (which : Indirect) (v : Values) (p : Processor) → Holds v p.registers → Within (bounds_of (indirect_pointer which) v) (indirect_address p which)
-unfolding indirect_address pair_value
-Within-indirect indirect.Bc v p m = Within-bounds_of words.Bc v p.registers m
-Within-indirect indirect.De v p m = Within-bounds_of words.De v p.registers m
-Within-indirect indirect.HlIncrement v p m = Within-hl v p m
-Within-indirect indirect.HlDecrement v p m = Within-hl v p m
+-- the pair of a pointer holds the address that it points to
+Within-pointed : (q : Pointer) (v : Values) (p : Processor) → Holds v p.registers → WithinIf (bounds_if (pair_at q) v) (pointed p q)
+unfolding pointed high_register low_register byte_or_page
+Within-pointed at.Bc v p m = Within-bounds_of words.Bc v p.registers m
+Within-pointed at.De v p m = Within-bounds_of words.De v p.registers m
+Within-pointed at.Hl v p m = Within-bounds_of words.Hl v p.registers m
+Within-pointed at.HighC v p m = tt
 
 -- where nothing is known
 
@@ -72,75 +67,44 @@ PointsWithin-bounds_if : (o : Option WordPair) (v : Values) (x : Registers ℕ) 
 PointsWithin-bounds_if None v x m = tt
 PointsWithin-bounds_if (Some p) v x m = Within-bounds_of p v x m
 
-ReadsWithin-operand :
-    (which : Operand) (v : Values) (p : Processor) → Holds v p.registers → ReadsWithin (bounds_if (operand_pointer which) v) (operand_read p which)
-unfolding operand_read
-ReadsWithin-operand (operand.Register r) v p m = tt
-ReadsWithin-operand operand.AtHl v p m = Within-hl v p m
+ReadsWithin-at : (b : Option Bounds) (a : ℕ) (r : Read) → ReadsAt a r → WithinIf b a → ReadsWithin b r
+unfolding ReadsAt
+ReadsWithin-at b a (read.Byte at) e w = subst (λ n. WithinIf b n) (sym e) w
+ReadsWithin-at b a r e w = tt
 
-WritesWithin-operand :
-    (which : Operand) (v : Values) (p : Processor) (n : ℕ)
-    → Holds v p.registers → WritesWithin (bounds_if (operand_pointer which) v) (store_operand p which n).write
-unfolding store_operand
-WritesWithin-operand (operand.Register r) v p n m = tt
-WritesWithin-operand operand.AtHl v p n m = Within-hl v p m
+WritesWithin-at : (b : Option Bounds) (a : ℕ) (w : Write) → WritesAt a w → WithinIf b a → WritesWithin b w
+unfolding WritesAt
+WritesWithin-at b a (write.Byte at n) e within = subst (λ n. WithinIf b n) (sym e) within
+WritesWithin-at b a w e within = tt
 
-WritesWithin-update :
-    (which : Operand) (v : Values) (p : Processor) (computed : Computed)
-    → Holds v p.registers → WritesWithin (bounds_if (operand_pointer which) v) (update_operand p which computed).write
-unfolding update_operand store_operand pair_value
-WritesWithin-update (operand.Register r) v p computed m = tt
-WritesWithin-update operand.AtHl v p computed m = Within-hl v p m
+-- what a byte's pointer says of its access
+abbrev Follows : Option Pointer → Processor → Read → Write → Type 0
+Follows q p r w = IfSome q (λ pointer. ReadsAt (pointed p pointer) r × WritesAt (pointed p pointer) w)
 
-ReadsWithin-load :
-    (to from : Operand) (v : Values) (p : Processor)
-    → Holds v p.registers → ReadsWithin (bounds_if (either_pointer (operand_pointer to) (operand_pointer from)) v) (operand_read p from)
-unfolding operand_read
-ReadsWithin-load to (operand.Register r) v p m = tt
-ReadsWithin-load (operand.Register r) operand.AtHl v p m = Within-hl v p m
-ReadsWithin-load operand.AtHl operand.AtHl v p m = Within-hl v p m
+ReadsWithin-followed :
+    (q : Option Pointer) (v : Values) (p : Processor) (r : Read) (w : Write)
+    → Holds v p.registers → Follows q p r w → ReadsWithin (bounds_if (pair_pointed q) v) r
+ReadsWithin-followed None v p r w m h = reads-anywhere r
+ReadsWithin-followed (Some q) v p r w m h = ReadsWithin-at _ _ r h.0 (Within-pointed q v p m)
 
-WritesWithin-load :
-    (to from : Operand) (v : Values) (p : Processor) (n : ℕ)
-    → Holds v p.registers → WritesWithin (bounds_if (either_pointer (operand_pointer to) (operand_pointer from)) v) (store_operand p to n).write
-unfolding store_operand
-WritesWithin-load (operand.Register r) from v p n m = tt
-WritesWithin-load operand.AtHl from v p n m = Within-hl v p m
+WritesWithin-followed :
+    (q : Option Pointer) (v : Values) (p : Processor) (r : Read) (w : Write)
+    → Holds v p.registers → Follows q p r w → WritesWithin (bounds_if (pair_pointed q) v) w
+WritesWithin-followed None v p r w m h = writes-anywhere w
+WritesWithin-followed (Some q) v p r w m h = WritesWithin-at _ _ w h.1 (Within-pointed q v p m)
 
 ReadsWithin-pointer : (o : Op) (v : Values) (p : Processor) → Holds v p.registers → ReadsWithin (bounds_if (pointer_of o) v) (read_of o p)
 unfolding pointer_of read_of
-ReadsWithin-pointer (op.StoreA to) v p m = tt
-ReadsWithin-pointer (op.LoadImmediate to n) v p m = tt
-ReadsWithin-pointer (op.LoadA from) v p m = Within-indirect from v p m
-ReadsWithin-pointer (op.Increment which) v p m = ReadsWithin-operand which v p m
-ReadsWithin-pointer (op.Decrement which) v p m = ReadsWithin-operand which v p m
-ReadsWithin-pointer (op.Load to from) v p m = ReadsWithin-load to from v p m
-ReadsWithin-pointer (op.Alu how which) v p m = ReadsWithin-operand which v p m
-ReadsWithin-pointer (op.Shift how which) v p m = ReadsWithin-operand which v p m
-ReadsWithin-pointer (op.Bit n which) v p m = ReadsWithin-operand which v p m
-ReadsWithin-pointer (op.Reset n which) v p m = ReadsWithin-operand which v p m
-ReadsWithin-pointer (op.Set n which) v p m = ReadsWithin-operand which v p m
 ReadsWithin-pointer op.JumpHl v p m = tt
 ReadsWithin-pointer op.LoadSpHl v p m = tt
-ReadsWithin-pointer o v p m = reads-anywhere (read_of o p)
+ReadsWithin-pointer o v p m = ReadsWithin-followed (Pointers.pointer_of o) v p (read_of o p) (effect_of o p 0 0).write m (follows o p 0 0)
 
 WritesWithin-pointer :
     (o : Op) (v : Values) (p : Processor) (l h : ℕ) → Holds v p.registers → WritesWithin (bounds_if (pointer_of o) v) (effect_of o p l h).write
-unfolding pointer_of effect_of update_a Effects.jump
-WritesWithin-pointer (op.LoadA from) v p l h m = tt
-WritesWithin-pointer (op.Alu how which) v p l h m = tt
-WritesWithin-pointer (op.Bit n which) v p l h m = tt
-WritesWithin-pointer (op.StoreA to) v p l h m = Within-indirect to v p m
-WritesWithin-pointer (op.Increment which) v p l h m = WritesWithin-update which v p _ m
-WritesWithin-pointer (op.Decrement which) v p l h m = WritesWithin-update which v p _ m
-WritesWithin-pointer (op.LoadImmediate to n) v p l h m = WritesWithin-operand to v p n m
-WritesWithin-pointer (op.Load to from) v p l h m = WritesWithin-load to from v p _ m
-WritesWithin-pointer (op.Shift how which) v p l h m = WritesWithin-update which v p _ m
-WritesWithin-pointer (op.Reset n which) v p l h m = WritesWithin-operand which v p _ m
-WritesWithin-pointer (op.Set n which) v p l h m = WritesWithin-operand which v p _ m
+unfolding pointer_of effect_of Effects.jump
 WritesWithin-pointer op.JumpHl v p l h m = tt
 WritesWithin-pointer op.LoadSpHl v p l h m = tt
-WritesWithin-pointer o v p l h m = writes-anywhere (effect_of o p l h).write
+WritesWithin-pointer o v p l h m = WritesWithin-followed (Pointers.pointer_of o) v p (read_of o p) (effect_of o p l h).write m (follows o p l h)
 
 IsSoundPointer-pointer_bounds : (rules : Rules) (o : Op) (registers : Registers Val) (s : Pairs) → IsSoundPointer o registers s (pointer_bounds rules o registers s)
 unfolding pointer_bounds

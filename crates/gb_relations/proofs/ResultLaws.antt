@@ -15,7 +15,7 @@ use Rattle.gb_ops.specs.Flags.{bit_of}
 use Rattle.gb_ops.specs.Pairs.{word}
 use Rattle.gb_ops.specs.Arithmetic.{alu_result, added, subtracted, logical, shifted_value, adjusted, mask_of, bit_reset, bit_set}
 use Rattle.gb_pairs.proofs.Below.gb_vals_laws.MeaningLaws.{bit-weight}
-use Rattle.gb_places.specs.Meaning.{IsTested}
+use Rattle.gb_copies.specs.Meaning.{IsTested}
 use Rattle.gb_relations.specs.Bytes.{is_zero_test}
 
 -- ---- bytes

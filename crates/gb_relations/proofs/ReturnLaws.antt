@@ -17,8 +17,8 @@ use Rattle.gb_domain.specs.declared.places.OneByte.{OneByte}
 use Rattle.gb_domain.specs.declared.relations.Relations.{Relations}
 use Rattle.gb_domain.specs.Pairs.{facts_of}
 use Rattle.gb_pairs.specs.Meaning.{word_of, other_of, IsLinked, HoldsPair}
-use Rattle.gb_places.specs.Meaning.{HoldOneByte}
-use Rattle.gb_places.specs.Places.{has_place, of_places, without_test}
+use Rattle.gb_copies.specs.Meaning.{HoldOneByte}
+use Rattle.gb_copies.specs.Places.{has_place, of_places, without_test}
 use Rattle.gb_relations.specs.declared.returned.Kept.{Kept}
 use Rattle.gb_relations.specs.Meaning.{IsZero, HoldRelations}
 use Rattle.gb_relations.specs.Returned.{is_pair_kept, is_other_kept, both, kept_places, byte_returned, pair_if_kept, zero_returned, link_if_kept, link_returned, facts_returned, returned, IsKept, IsSoundReturn}

@@ -19,7 +19,7 @@ use Rattle.gb_domain.specs.declared.pairs.WordPair.TheVariants as words
 use Rattle.gb_domain.specs.declared.places.OneByte.{OneByte}
 use Rattle.gb_pairs.specs.Written.{is_half}
 use Rattle.gb_pairs.proofs.RegisterLaws.{word_other}
-use Rattle.gb_places.specs.Meaning.{HoldOneByte}
+use Rattle.gb_copies.specs.Meaning.{HoldOneByte}
 use Rattle.gb_relations.specs.Meaning.{IsZero}
 use Rattle.gb_relations.specs.Written.{written, writes_flags}
 use Rattle.gb_relations.specs.Transfer.{zero_without, zero_without_registers, other_half, zero_by, zero_after}

@@ -25,8 +25,8 @@ use Rattle.gb_pairs.specs.Below.gb_vals.Vals.{is_single}
 use Rattle.gb_domain.specs.declared.pairs.Bounds.{Bounds}
 use Rattle.gb_pairs.specs.declared.values.Values.{Values}
 use Rattle.gb_pairs.specs.Bounds.{bounds_of}
-use Rattle.gb_places.specs.Places.{without_register, without_addresses, without_test, only_tested, tested, tested_before_a}
-use Rattle.gb_places.specs.Copies.{copied}
+use Rattle.gb_copies.specs.Places.{without_register, without_addresses, without_test, only_tested, tested, tested_before_a}
+use Rattle.gb_copies.specs.Copies.{copied}
 use Rattle.gb_relations.specs.Places.{stored_place, loaded_place}
 use Rattle.gb_relations.specs.Written.{written, writes_flags, counted}
 

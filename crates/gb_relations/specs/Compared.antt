@@ -10,8 +10,8 @@ use Rattle.gb_domain.specs.declared.places.Place.TheVariants as place
 use Rattle.gb_domain.specs.declared.places.Test.TheVariants as test
 use Rattle.gb_domain.specs.declared.places.OneByte.{OneByte}
 use Rattle.gb_domain.specs.Places.{no_byte}
-use Rattle.gb_pairs.specs.Written.{is_same}
-use Rattle.gb_places.specs.Places.{byte_at, only_tested}
+use Rattle.gb_domain.specs.Places.{is_same_register}
+use Rattle.gb_copies.specs.Places.{byte_at, only_tested}
 use Rattle.gb_relations.specs.Written.{written, writes_flags}
 
 -- what an instruction compares A with: CP its byte, AND and OR of A with itself 0
@@ -24,7 +24,7 @@ comparison_of _ = None
 -- it writes A; so does LD A,A
 unfoldable pub writes_a : Op → Bool
 writes_a (op.Load (operand.Register A) from) = true
-writes_a o = list_any (is_same A) (written o)
+writes_a o = list_any (is_same_register A) (written o)
 
 -- what is said of A alone
 unfoldable pub only_of_a : OneByte → OneByte

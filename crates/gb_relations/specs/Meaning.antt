@@ -6,7 +6,7 @@ use Rattle.gb_ops.specs.declared.registers.Flags.{Flags}
 use Rattle.gb_domain.specs.declared.pairs.WordPair.{WordPair}
 use Rattle.gb_domain.specs.declared.relations.Relations.{Relations}
 use Rattle.gb_pairs.specs.Meaning.{word_of, HoldPairs}
-use Rattle.gb_places.specs.Meaning.{HoldOneByte}
+use Rattle.gb_copies.specs.Meaning.{HoldOneByte}
 
 -- Z is set exactly where the pair is 0
 abbrev pub IsZero : Option WordPair → Registers ℕ → Flags → Type 0

@@ -1,10 +1,8 @@
 -- What pairs tell of an instruction beside themselves: the addresses of the byte that it reads or writes by a pair, and the carry
 -- of ADD HL (abstract interpretation: the interval domain; CPU instruction set: load instructions, 16-bit arithmetic; own).
 use Rattle.std.specs.Prelude.{◌≡◌, ℕ, ◌≤◌, Bool, Option, Some, None}
-use Rattle.gb_ops.specs.declared.op.Operand.{Operand}
-use Rattle.gb_ops.specs.declared.op.Operand.TheVariants as operand
-use Rattle.gb_ops.specs.declared.op.Indirect.{Indirect}
-use Rattle.gb_ops.specs.declared.op.Indirect.TheVariants as indirect
+use Rattle.gb_ops.specs.declared.op.Pointer.{Pointer}
+use Rattle.gb_ops.specs.declared.op.Pointer.TheVariants as at
 use Rattle.gb_ops.specs.declared.op.Op.{Op}
 use Rattle.gb_ops.specs.declared.op.Op.TheVariants as op
 use Rattle.gb_ops.specs.declared.machine.Read.{Read}
@@ -14,6 +12,7 @@ use Rattle.gb_ops.specs.declared.machine.Write.TheVariants as write
 use Rattle.gb_ops.specs.declared.registers.Registers.{Registers}
 use Rattle.gb_ops.specs.declared.registers.Processor.{Processor}
 use Rattle.gb_ops.specs.Effects as Effects
+use Rattle.gb_ops.specs.Pointers as Pointers
 use Rattle.gb_domain.specs.declared.types.Val.{Val}
 use Rattle.gb_domain.specs.declared.pairs.WordPair.{WordPair}
 use Rattle.gb_domain.specs.declared.pairs.WordPair.TheVariants as words
@@ -31,37 +30,22 @@ use Rattle.gb_relations.specs.Transfer.{values_of}
 
 -- ---- addresses
 
--- the pair that holds the operand's address
-abbrev pub operand_pointer : Operand → Option WordPair
-operand_pointer (operand.Register r) = None
-operand_pointer operand.AtHl = Some words.Hl
+-- the pair of a pointer; FF00+C is none
+abbrev pub pair_at : Pointer → Option WordPair
+pair_at at.Bc = Some words.Bc
+pair_at at.De = Some words.De
+pair_at at.Hl = Some words.Hl
+pair_at at.HighC = None
 
--- the first pair, if there is one, or the second
-abbrev pub either_pointer : Option WordPair → Option WordPair → Option WordPair
-either_pointer None q = q
-either_pointer (Some p) q = Some p
-
-abbrev pub indirect_pointer : Indirect → WordPair
-indirect_pointer indirect.Bc = words.Bc
-indirect_pointer indirect.De = words.De
-indirect_pointer _ = words.Hl
+abbrev pub pair_pointed : Option Pointer → Option WordPair
+pair_pointed None = None
+pair_pointed (Some pointer) = pair_at pointer
 
 -- the pair that holds the address of the byte that an instruction reads or writes, or that it jumps or sets SP to
 unfoldable pub pointer_of : Op → Option WordPair
-pointer_of (op.StoreA to) = Some (indirect_pointer to)
-pointer_of (op.LoadA from) = Some (indirect_pointer from)
-pointer_of (op.Increment which) = operand_pointer which
-pointer_of (op.Decrement which) = operand_pointer which
-pointer_of (op.LoadImmediate to v) = operand_pointer to
-pointer_of (op.Load to from) = either_pointer (operand_pointer to) (operand_pointer from)
-pointer_of (op.Alu how from) = operand_pointer from
-pointer_of (op.Shift how which) = operand_pointer which
-pointer_of (op.Bit n which) = operand_pointer which
-pointer_of (op.Reset n which) = operand_pointer which
-pointer_of (op.Set n which) = operand_pointer which
 pointer_of op.JumpHl = Some words.Hl
 pointer_of op.LoadSpHl = Some words.Hl
-pointer_of _ = None
+pointer_of o = pair_pointed (Pointers.pointer_of o)
 
 abbrev pub bounds_if : Option WordPair → Values → Option Bounds
 bounds_if None v = None

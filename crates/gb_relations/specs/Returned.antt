@@ -14,7 +14,7 @@ use Rattle.gb_domain.specs.declared.pairs.PairFacts.{PairFacts}
 use Rattle.gb_domain.specs.declared.places.OneByte.{OneByte}
 use Rattle.gb_domain.specs.declared.relations.Relations.{Relations}
 use Rattle.gb_pairs.specs.Bounds.{high_of, low_of}
-use Rattle.gb_places.specs.Places.{has_place, of_places, without_test}
+use Rattle.gb_copies.specs.Places.{has_place, of_places, without_test}
 use Rattle.gb_relations.specs.declared.returned.Kept.{Kept}
 use Rattle.gb_relations.specs.Meaning.{HoldRelations}
 

@@ -14,7 +14,7 @@ use Rattle.gb_ops.specs.declared.op.StackPair.{StackPair}
 use Rattle.gb_ops.specs.declared.op.StackPair.TheVariants as stack
 use Rattle.gb_ops.specs.declared.op.Op.{Op}
 use Rattle.gb_ops.specs.declared.op.Op.TheVariants as op
-use Rattle.gb_pairs.specs.Written.{is_same}
+use Rattle.gb_domain.specs.Places.{is_same_register}
 use Rattle.gb_relations.specs.declared.written.Written.{Written}
 use Rattle.gb_relations.specs.declared.written.Written.TheVariants as some
 
@@ -49,7 +49,7 @@ operand_register operand.AtHl = []
 
 -- LD r,r of one register writes nothing
 abbrev pub moved_register : Operand → Operand → List Register
-moved_register (operand.Register to) (operand.Register from) = if is_same to from then [] else to ∷ []
+moved_register (operand.Register to) (operand.Register from) = if is_same_register to from then [] else to ∷ []
 moved_register to from = operand_register to
 
 -- CP leaves A

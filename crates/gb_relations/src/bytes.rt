@@ -6,6 +6,10 @@ ghost use Rattle.gb_relations.specs.Bytes as Bytes;
 
 use crate::places::{loaded_place, stored_place};
 use crate::written::{Written, counted, writes_flags, written_by};
+use gb_copies::copies::copied;
+use gb_copies::places::{
+    only_tested, tested, tested_before_a, without_addresses, without_register, without_test,
+};
 use gb_domain::pairs::{Bounds, WordPair};
 use gb_domain::places::{OneByte, Place, Test};
 use gb_domain::types::Val;
@@ -14,10 +18,6 @@ use gb_ops::op::{AluOp, Indirect, Op, Operand, Register};
 use gb_pairs::bounds::bounds_of;
 use gb_pairs::is_single;
 use gb_pairs::values::Values;
-use gb_places::copies::copied;
-use gb_places::places::{
-    only_tested, tested, tested_before_a, without_addresses, without_register, without_test,
-};
 
 const A: Place = Place::Register(Register::A);
 

@@ -3,14 +3,14 @@
 ghost use Rattle.std.specs.Prelude.{◌≡◌};
 ghost use Rattle.std.specs.List.{list_any};
 ghost use Rattle.gb_ops.specs.declared.op.Register.TheVariants.{A};
-ghost use Rattle.gb_pairs.specs.Written.{is_same};
+ghost use Rattle.gb_domain.specs.Places.{is_same_register};
 ghost use Rattle.gb_relations.specs.Written.{list_of};
 ghost use Rattle.gb_relations.specs.Compared as Compared;
 
 use crate::written::{Written, writes_flags, written_by};
+use gb_copies::places::{byte_at, only_tested};
 use gb_domain::places::{OneByte, Place, Test};
 use gb_ops::op::{AluOp, Op, Operand, Register};
-use gb_places::places::{byte_at, only_tested};
 
 /// What an instruction compares A with.
 #[inline(always)]
@@ -26,14 +26,14 @@ fn comparison_of(op: Op) -> Option<u8>
 }
 
 fn is_a(register: Register) -> bool
-    ensures { result ≡ is_same A register }
+    ensures { result ≡ is_same_register A register }
 {
     Register::A == register
 }
 
 /// Whether A is among the registers.
 fn has_a(written: Written) -> bool
-    ensures { result ≡ list_any (is_same A) (list_of written) }
+    ensures { result ≡ list_any (is_same_register A) (list_of written) }
 {
     match written {
         Written::Nothing => false,

@@ -19,10 +19,10 @@ mod written;
 pub use returned::Kept;
 
 // What lies below, for the crates above.
+pub use gb_copies::covering::covers_byte;
+pub use gb_copies::sides::{PlaceContents, narrowed};
+pub use gb_domain::places::has_place;
 pub use gb_pairs::covering::covers_pairs;
 pub use gb_pairs::reduced::{reduce, restricted};
 pub use gb_pairs::values::Values;
 pub use gb_pairs::written::is_same_pair;
-pub use gb_places::covering::covers_byte;
-pub use gb_places::places::has_place;
-pub use gb_places::sides::{PlaceContents, narrowed};

@@ -12,30 +12,29 @@ use crate::pairs::{addend, is_hl};
 use crate::transfer::holds_words;
 use gb_domain::pairs::{Bounds, Pairs, WordPair};
 use gb_domain::types::{Rules, Val};
-use gb_ops::op::{Indirect, Op, Operand, Pair};
+use gb_ops::op::{Op, Pair, Pointer};
 use gb_ops::registers::Registers;
 use gb_pairs::bounds::bounds_of;
 use gb_pairs::moved::added;
 use gb_pairs::values::Values;
 
-/// The pair that holds the operand's address.
-fn operand_pointer(operand: Operand) -> Option<WordPair>
-    ensures { result ≡ Pointers.operand_pointer operand }
+/// The pair of a pointer. FF00+C is none.
+fn pair_at(pointer: Pointer) -> Option<WordPair>
+    ensures { result ≡ Pointers.pair_at pointer }
 {
-    match operand {
-        Operand::Register(_) => None,
-        Operand::AtHl => Some(WordPair::Hl),
+    match pointer {
+        Pointer::Bc => Some(WordPair::Bc),
+        Pointer::De => Some(WordPair::De),
+        Pointer::Hl => Some(WordPair::Hl),
+        Pointer::HighC => None,
     }
 }
 
-fn indirect_pointer(indirect: Indirect) -> WordPair
-    ensures { result ≡ Pointers.indirect_pointer indirect }
+/// The pair of a pointer, where there is one.
+fn pair_pointed(pointer: Option<Pointer>) -> Option<WordPair>
+    ensures { result ≡ Pointers.pair_pointed pointer }
 {
-    match indirect {
-        Indirect::Bc => WordPair::Bc,
-        Indirect::De => WordPair::De,
-        Indirect::HlIncrement | Indirect::HlDecrement => WordPair::Hl,
-    }
+    pair_at(pointer?)
 }
 
 /// The pair that holds the address of the byte that an instruction reads or writes, or that it jumps or sets SP to.
@@ -44,18 +43,8 @@ fn pointer_of(op: Op) -> Option<WordPair>
     ensures { result ≡ Pointers.pointer_of op }
 {
     match op {
-        Op::StoreA(indirect) | Op::LoadA(indirect) => Some(indirect_pointer(indirect)),
-        Op::Increment(operand)
-        | Op::Decrement(operand)
-        | Op::LoadImmediate(operand, _)
-        | Op::Alu(_, operand)
-        | Op::Shift(_, operand)
-        | Op::Bit(_, operand)
-        | Op::Reset(_, operand)
-        | Op::Set(_, operand) => operand_pointer(operand),
-        Op::Load(to, from) => operand_pointer(to).or(operand_pointer(from)),
         Op::JumpHl | Op::LoadSpHl => Some(WordPair::Hl),
-        _ => None,
+        _ => pair_pointed(op.pointer()),
     }
 }
 

@@ -4,12 +4,12 @@ ghost use Rattle.std.specs.Prelude.{◌≡◌};
 ghost use Rattle.gb_relations.specs.Returned as Returned;
 ghost use Rattle.gb_relations.specs.Returned.{IsSoundReturn};
 
+use gb_copies::places::without_test;
 use gb_domain::pairs::{Link, Other, PairFacts, Pairs, WordPair};
-use gb_domain::places::OneByte;
+use gb_domain::places::{OneByte, has_place};
 use gb_domain::relations::Relations;
 use gb_ops::registers::Registers;
 use gb_pairs::bounds::{high_of, low_of};
-use gb_places::places::{has_place, without_test};
 
 /// What a callee gives back as it was.
 #[derive(Clone, Copy)]

@@ -20,18 +20,7 @@ use gb_ops::machine::Region;
 use gb_ops::op::{AluOp, Op, Operand, Register};
 use gb_ops::registers::Registers;
 use gb_pairs::values::Values;
-
-/// Whether a register is one of a pair's two.
-fn is_half(register: Register, pair: WordPair) -> bool
-    ensures { result ≡ Halves.is_half register pair }
-{
-    matches!(
-        (register, pair),
-        (Register::B | Register::C, WordPair::Bc)
-            | (Register::D | Register::E, WordPair::De)
-            | (Register::H | Register::L, WordPair::Hl)
-    )
-}
+use gb_pairs::written::is_half;
 
 fn zero_without(register: Register, zero: Option<WordPair>) -> Option<WordPair>
     ensures { result ≡ Transfer.zero_without register zero }

@@ -5,6 +5,7 @@ ghost use Rattle.gb_ops.specs.declared.op.Register.TheVariants as register;
 ghost use Rattle.gb_pairs.specs.Written as Pairs;
 ghost use Rattle.gb_relations.specs.Written as Writes;
 
+use gb_domain::places::is_same_register;
 use gb_ops::op::{AluOp, Indirect, Op, Operand, Pair, Register, StackPair};
 
 /// The registers that an instruction writes.
@@ -14,12 +15,6 @@ pub(crate) enum Written {
     One(Register),
     Two(Register, Register),
     Three(Register, Register, Register),
-}
-
-fn is_same(x: Register, y: Register) -> bool
-    ensures { result ≡ Pairs.is_same x y }
-{
-    x == y
 }
 
 fn halves(pair: Pair) -> Written
@@ -81,7 +76,8 @@ fn moved_register(to: Operand, from: Operand) -> Written
     ensures { Writes.list_of result ≡ Writes.moved_register to from }
 {
     match (to, from) {
-        (Operand::Register(to), Operand::Register(from)) if is_same(to, from) => Written::Nothing,
+        (Operand::Register(to), Operand::Register(from)) if is_same_register(to, from) =>
+            Written::Nothing,
         _ => operand_register(to),
     }
 }

@@ -5,16 +5,25 @@ use crate::crowd::Crowd;
 use crate::handlers::switching_handlers;
 use crate::path::{Path, Start, bank_of};
 use gb_facts::Code;
-use gb_fixpoint::Abs;
 use gb_fixpoint::cause::{Cause, Failure};
 use gb_fixpoint::code_point::CodePoint;
 use gb_fixpoint::configuration::TargetPlace;
 use gb_fixpoint::register_set::RegisterSet;
 use gb_fixpoint::types::{Run, RunNode};
+use gb_fixpoint::{Abs, Span};
 use gb_ops::machine::Region;
 use gb_ops::op::Op;
 use gb_symbols::{SourceLine, Symbols};
 use std::alloc::{AllocError, Global};
+
+/// An access through a pointer, reported where a byte of the pointer is loaded from RAM.
+#[derive(Clone, Copy, PartialEq, Eq)]
+pub struct PointerLoad {
+    /// From where the byte may be loaded.
+    pub from: Span,
+    /// Where the access is.
+    pub used_at: CodePoint,
+}
 
 /// A failure at an instruction.
 #[derive(Drop)]
@@ -24,6 +33,12 @@ pub struct InstructionFinding {
     pub registers: RegisterSet,
     /// The bytes of RAM from which that address was loaded, where it was.
     pub kept_in: Vec<u16>,
+    /// Where the instruction loads a pointer, and the failure is at an access through it.
+    pub load: Option<PointerLoad>,
+    /// Whether the pointer comes from RAM, and nothing bounds its high byte.
+    pub is_any_address: bool,
+    /// The bytes of RAM from which it comes and whose values aren't kept, since there are too many.
+    pub left_out: Vec<u16>,
     /// Where the handlers begin that may return with another bank or gate, where that may be the cause.
     pub switching: Vec<u16>,
     /// The address, in the procedures that begin at another one.
@@ -176,6 +191,9 @@ impl InstructionFinding {
             cause: failure.cause,
             registers: failure.registers,
             kept_in: Vec::new(alloc),
+            load: None,
+            is_any_address: false,
+            left_out: Vec::new(alloc),
             switching,
             place,
             address,

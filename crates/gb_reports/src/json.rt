@@ -292,6 +292,7 @@ fn put_circumstances(
 ) -> Result<(), AllocError> {
     put_history(object, finding)?;
     object.put_addresses("kept_in", &finding.kept_in)?;
+    object.put_addresses("left_out", &finding.left_out)?;
     object.put_addresses("switching", &finding.switching)?;
     object.put_flag("too_large", finding.is_too_large)
 }

@@ -25,7 +25,7 @@ mod topic;
 pub use chain::{CallChain, EnteredRoutine, Root};
 pub use color::color_note;
 pub use crowd::{Count, Crowd, Multiplied, Multiplier, ReachedLimit};
-pub use finding::{Finding, InstructionFinding, Spent};
+pub use finding::{Finding, InstructionFinding, PointerLoad, Spent};
 pub use json::finding_json;
 pub use listing::Listing;
 pub use object::JsonObject;

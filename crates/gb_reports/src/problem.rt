@@ -1,6 +1,6 @@
 //! What can go wrong at an instruction, in a sentence.
 
-use crate::finding::InstructionFinding;
+use crate::finding::{InstructionFinding, PointerLoad};
 use gb_facts::{PADDING, interrupt_at, interrupt_name};
 use gb_fixpoint::Span;
 use gb_fixpoint::cause::{Cause, StackMisuse, TransferMisuse};
@@ -53,12 +53,35 @@ pub(crate) struct Problem<'a> {
 impl fmt::Display for Problem<'_> {
     fn fmt<W: fmt::Write>(&self, f: &mut fmt::Formatter<W>) -> fmt::Result {
         let Problem { finding, symbols } = *self;
+        if let Some(load) = finding.load {
+            return fmt_load(finding, load, symbols, f);
+        }
         match (plain_text(finding.cause), finding.cause) {
             (Some(text), _) => write!(f, "{text}"),
             (None, Cause::Recursion { .. }) => fmt_again(finding, symbols, f),
             _ => fmt_detailed(finding, f),
         }
     }
+}
+
+/// A byte of a pointer that is loaded from RAM, and what an access through the pointer can reach.
+fn fmt_load<W: fmt::Write>(
+    finding: &InstructionFinding,
+    load: PointerLoad,
+    symbols: &Symbols<'_>,
+    f: &mut fmt::Formatter<W>,
+) -> fmt::Result {
+    let from = Addresses::of(load.from);
+    let access = ShownAddress {
+        symbols: &*symbols,
+        bank: load.used_at.bank,
+        address: load.used_at.address,
+    };
+    write!(
+        f,
+        "This loads a byte of a pointer from {from}, which can be any byte. The pointer is used at {access}. "
+    )?;
+    fmt_access(finding, f)
 }
 
 /// What is done to the stack, where that is always the same sentence.

@@ -63,9 +63,17 @@ fn fmt_notes<W: fmt::Write>(
             " Keeping more values apart here goes over the limit of nodes (--nodes) or of copies."
         )?;
     }
-    if !finding.kept_in.is_empty() {
-        write!(f, " The pointer comes from RAM, at")?;
+    if !finding.kept_in.is_empty() && finding.load.is_none() {
+        write!(f, " The pointer may come from RAM, at")?;
         fmt_addresses(&finding.kept_in, symbols, f)?;
+        write!(f, ".")?;
+    }
+    if !finding.left_out.is_empty() {
+        write!(
+            f,
+            " The analysis keeps the values of 64 bytes of RAM at most, and left out"
+        )?;
+        fmt_addresses(&finding.left_out, symbols, f)?;
         write!(f, ".")?;
     }
     fmt_handlers(&finding.switching, f)

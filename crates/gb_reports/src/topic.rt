@@ -65,7 +65,9 @@ fn pointer_advice(finding: &InstructionFinding) -> Advice {
 
 /// A store: by a pointer that comes from RAM, over the stack, by another pointer, or to an address that is named.
 fn store_advice(finding: &InstructionFinding, span: Span) -> Advice {
-    if !finding.kept_in.is_empty() {
+    if finding.load.is_some() {
+        advice::LOADED_POINTER
+    } else if !finding.kept_in.is_empty() {
         advice::KEPT_POINTER
     } else if meets_stack(span, finding.region) {
         advice::CLEARS_STACK
@@ -80,7 +82,9 @@ fn store_advice(finding: &InstructionFinding, span: Span) -> Advice {
 
 /// An access to cartridge RAM: where there is none, by a pointer, or by an address that is named.
 fn cartridge_advice(finding: &InstructionFinding) -> Advice {
-    if finding.has_open_gate() {
+    if finding.load.is_some() {
+        advice::LOADED_POINTER
+    } else if finding.has_open_gate() {
         advice::NO_CARTRIDGE_RAM
     } else if finding.registers.is_empty() {
         advice::GATE_CLOSED

@@ -6,6 +6,12 @@ pub const LOOP: &[u8] = &[0x18, 0xFE];
 /// An undefined opcode.
 pub const UNDEFINED: &[u8] = &[0xD3];
 
+/// STOP.
+pub const STOPS: &[u8] = &[0x10, 0x00];
+
+/// LD SP,8000, and JR to itself.
+pub const ROM_STACK: &[u8] = &[0x31, 0x00, 0x80, 0x18, 0xFE];
+
 /// LD SP,E000; LD A,01; LDH (FF),A; EI; HALT; JR to the HALT: VBlank's interrupt leads to 0040 and back.
 pub const WAITS: &[u8] = &[
     0x31, 0x00, 0xE0, 0x3E, 0x01, 0xE0, 0xFF, 0xFB, 0x76, 0x18, 0xFD,

@@ -4,12 +4,12 @@ ghost use Rattle.std.specs.Prelude.{◌≡◌, ◌∷◌, IfSome};
 ghost use Rattle.gb_fields.specs.Format.{Gives, optional, byte};
 ghost use Rattle.gb_domain.specs.Pairs.{nothing_known};
 ghost use Rattle.gb_domain.specs.Places.{no_byte};
-ghost use Rattle.gb_domain.specs.RelationRules.{is_some_register, is_known, compared_a, test_alone};
+ghost use Rattle.gb_domain.specs.RelationRules.{is_known, compared_a, test_alone};
 ghost use Rattle.gb_states.specs.RelationReading.{defaulted, is_present, present_at, registers_at, address_at, test_of, byte_at, pair_of, pair_at, bounds_at, other_of, other_at, factor_at, link_of, link_at, facts_at, pairs_at, relations_at, relations_by};
 
 use crate::states::is_free;
 use gb_domain::pairs::{Bounds, Link, NOTHING_KNOWN, Other, PairFacts, Pairs, WordPair};
-use gb_domain::places::{NO_REGISTER, OneByte, Test};
+use gb_domain::places::{NO_REGISTER, OneByte, Test, is_some_register};
 use gb_domain::relations::Relations;
 use gb_domain::types::Rules;
 use gb_fields::CertFault;
@@ -66,18 +66,6 @@ fn present_at(test: Option<u8>, bytes: &[u8]) -> Result<(Present, &[u8]), CertFa
 
 // ---- places that hold one byte
 
-fn is_some_register(registers: Registers<bool>) -> bool
-    ensures { result ≡ is_some_register registers }
-{
-    registers.a
-        || registers.b
-        || registers.c
-        || registers.d
-        || registers.e
-        || registers.h
-        || registers.l
-}
-
 /// The registers among the places, one at least where there is no address.
 #[tactic(auto, unfolding(crate::specs::RelationReading::registers_at))]
 fn registers_at(address: bool, bytes: &[u8]) -> Result<(Registers<bool>, &[u8]), CertFault>
@@ -93,7 +81,7 @@ fn registers_at(address: bool, bytes: &[u8]) -> Result<(Registers<bool>, &[u8]),
         h: number / 32 % 2 == 1,
         l: number / 64 == 1,
     };
-    if !(address || is_some_register(registers)) {
+    if !(address || is_some_register(&registers)) {
         return Err(CertFault::Field);
     }
     Ok((registers, rest))

@@ -36,7 +36,7 @@ use Rattle.gb_product.proofs.Below.gb_abs_effects_laws.RangeLaws.{transfer_inhab
 use Rattle.gb_abs_memory.specs.Access.{stored_state}
 use Rattle.gb_abs_memory.proofs.AfterStoreLaws.{IsCore-stored_state}
 use Rattle.gb_product.specs.Below.gb_pairs.Meaning.{AreBytes}
-use Rattle.gb_product.specs.Below.gb_places.Meaning.{HoldOneByte}
+use Rattle.gb_product.specs.Below.gb_copies.Meaning.{HoldOneByte}
 use Rattle.gb_product.specs.Below.gb_relations.Meaning.{HoldRelations}
 use Rattle.gb_product.specs.Below.gb_relations.Compared.{compared_after}
 use Rattle.gb_product.specs.Below.gb_relations.Transfer.{relations_after}

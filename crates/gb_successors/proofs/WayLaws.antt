@@ -37,7 +37,7 @@ use Rattle.gb_product.specs.Below.gb_abs_effects.Targets.{target_of}
 use Rattle.gb_product.specs.Below.gb_abs_effects.Transfer.{transfer}
 use Rattle.gb_abs_memory.specs.Sound.{view}
 use Rattle.gb_product.specs.Below.gb_pairs.Meaning.{AreBytes}
-use Rattle.gb_product.specs.Below.gb_places.Meaning.{HoldOneByte}
+use Rattle.gb_product.specs.Below.gb_copies.Meaning.{HoldOneByte}
 use Rattle.gb_product.specs.Below.gb_relations.Compared.{comparison_of, writes_a, compared_after}
 use Rattle.gb_product.specs.Below.gb_relations.Written.{writes_flags}
 use Rattle.gb_product.specs.Below.gb_relations.Written.{written as written_registers}

@@ -11,7 +11,7 @@ const MOST: usize = 4096;
 
 /// What was called.
 #[derive(Clone, Copy, PartialEq, Eq)]
-pub enum Called {
+pub enum CallTarget {
     /// The routine at a place.
     Routine(CodePlace),
     /// The handler of an interrupt.
@@ -23,7 +23,7 @@ pub enum Called {
 pub struct OpenCall {
     /// The call, or the instruction that an interrupt came before.
     pub from: CodePlace,
-    pub called: Called,
+    pub called: CallTarget,
     /// SP after the call: where the return address lies.
     sp: u16,
 }
@@ -50,14 +50,14 @@ fn is_call(bytes: &[u8; 3]) -> bool {
 }
 
 /// What an event calls, with SP after it; `place` is where it leads.
-fn call_made(stepped: &Stepped, place: CodePlace) -> Option<(Called, u16)> {
+fn call_made(stepped: &Stepped, place: CodePlace) -> Option<(CallTarget, u16)> {
     let Write::Push(sp, _) = stepped.met.write else {
         return None;
     };
     let sp = sp.wrapping_sub(2);
     match stepped.event {
-        Event::Irq(number) => Some((Called::Interrupt(number), sp)),
-        Event::Run { .. } if is_call(&stepped.met.bytes) => Some((Called::Routine(place), sp)),
+        Event::Irq(number) => Some((CallTarget::Interrupt(number), sp)),
+        Event::Run { .. } if is_call(&stepped.met.bytes) => Some((CallTarget::Routine(place), sp)),
         _ => None,
     }
 }

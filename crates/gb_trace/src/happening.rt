@@ -1,6 +1,6 @@
 //! What went wrong, in a sentence.
 
-use crate::touch::{Touch, TouchKind};
+use crate::touch::{TouchKind, TouchedByte};
 use gb_ops::decode::decode;
 use gb_ops::machine::{Event, Region};
 use gb_ops::op::Op;
@@ -13,7 +13,7 @@ use std::fmt;
 pub struct Happening<'a> {
     pub sighting: &'a Sighting,
     pub region: Region,
-    pub touch: Option<Touch>,
+    pub touch: Option<TouchedByte>,
     /// Whether the cartridge has RAM or a clock.
     pub has_ram: bool,
 }
@@ -98,7 +98,10 @@ fn fmt_ram<W: fmt::Write>(happening: &Happening<'_>, f: &mut fmt::Formatter<W>) 
 }
 
 /// Memory that an OAM transfer closes.
-fn fmt_transfer<W: fmt::Write>(touch: Option<Touch>, f: &mut fmt::Formatter<W>) -> fmt::Result {
+fn fmt_transfer<W: fmt::Write>(
+    touch: Option<TouchedByte>,
+    f: &mut fmt::Formatter<W>,
+) -> fmt::Result {
     let (kind, address) = match touch {
         Some(touch) => (touch.kind, touch.address),
         None => (TouchKind::Read, 0),

@@ -1,7 +1,7 @@
 //! Calls and instructions, a line each.
 
-use crate::calls::{Called, OpenCall};
-use crate::recent::{Recent, StepKind, TraceStep};
+use crate::calls::{CallTarget, OpenCall};
+use crate::recent::{HardwareBytes, Recent, StepKind, TraceStep};
 use gb_ops::decode::decode;
 use gb_ops::machine::CodePlace;
 use gb_spelling::{Spelling, interrupt_name};
@@ -70,7 +70,7 @@ fn fmt_call<W: fmt::Write>(
         address: call.from.address,
     };
     match call.called {
-        Called::Routine(place) => {
+        CallTarget::Routine(place) => {
             let label = ShownLabel {
                 symbols,
                 bank: bank_of(place),
@@ -78,7 +78,7 @@ fn fmt_call<W: fmt::Write>(
             };
             write!(f, "\n    {label}, called at {from}")?;
         }
-        Called::Interrupt(number) => {
+        CallTarget::Interrupt(number) => {
             let name = interrupt_name(number);
             write!(f, "\n    {name} interrupt, at {from}")?;
         }
@@ -127,6 +127,18 @@ pub fn fmt_calls<W: fmt::Write>(
     Ok(())
 }
 
+/// What hardware gave a step.
+fn fmt_given<W: fmt::Write>(given: HardwareBytes, f: &mut fmt::Formatter<W>) -> fmt::Result {
+    match given {
+        HardwareBytes::Nothing => Ok(()),
+        HardwareBytes::Byte(byte) => write!(f, " (hardware gives ${byte:02X})"),
+        HardwareBytes::Bytes(first, second) => write!(
+            f,
+            " (hardware gives ${first:02X}, ${second:02X})"
+        ),
+    }
+}
+
 /// The last steps, the oldest first.
 pub fn fmt_recent<W: fmt::Write>(
     symbols: &Symbols<'_>,
@@ -143,6 +155,7 @@ pub fn fmt_recent<W: fmt::Write>(
             };
             let spelled = SpelledStep { step };
             write!(f, "\n    {at}: {spelled}")?;
+            fmt_given(step.given, f)?;
         }
     }
     Ok(())

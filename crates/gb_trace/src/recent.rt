@@ -15,23 +15,32 @@ pub enum StepKind {
     Interrupt(u8),
 }
 
-/// A step, and where it was.
+/// The bytes that hardware gave an instruction, where that is known.
+#[derive(Clone, Copy, PartialEq, Eq)]
+pub enum HardwareBytes {
+    Nothing,
+    Byte(u8),
+    Bytes(u8, u8),
+}
+
+/// A step, where it was, and what hardware gave it.
 #[derive(Clone, Copy)]
 pub struct TraceStep {
     pub place: CodePlace,
     pub kind: StepKind,
+    pub given: HardwareBytes,
 }
 
 impl TraceStep {
     /// What an event did; None where time passed and nothing else.
-    pub fn of(place: CodePlace, stepped: &Stepped) -> Option<TraceStep> {
+    pub fn of(place: CodePlace, stepped: &Stepped, given: HardwareBytes) -> Option<TraceStep> {
         let kind = match stepped.event {
             Event::Run { .. } => StepKind::Instruction(stepped.met.bytes),
             Event::HaltStay | Event::HaltBug => StepKind::Instruction([0x76, 0, 0]),
             Event::Irq(number) => StepKind::Interrupt(number),
             Event::Wait(_) => return None,
         };
-        Some(TraceStep { place, kind })
+        Some(TraceStep { place, kind, given })
     }
 }
 

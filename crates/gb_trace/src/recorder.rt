@@ -1,16 +1,16 @@
 //! A run played again, up to its fault.
 
 use crate::calls::OpenCalls;
-use crate::recent::{Recent, TraceStep};
+use crate::recent::{HardwareBytes, Recent, TraceStep};
 use gb_ops::machine::CodePlace;
-use gb_witness::{Console, FRAME_CYCLES, Keys, keys_at, place_now, seconds_of};
+use gb_witness::{Console, FRAME_CYCLES, Keys, Stepped, keys_at, place_now, seconds_of};
 use std::alloc::{AllocError, Global};
 
-/// What is kept of a run.
+/// What is kept of a run: its last instructions, and the calls that are open.
 #[derive(Drop)]
 pub struct Recorder {
-    pub recent: Recent,
-    pub calls: OpenCalls,
+    pub(crate) recent: Recent,
+    pub(crate) calls: OpenCalls,
 }
 
 /// A moment of a run: an event of a frame, both counted from 0.
@@ -29,6 +29,28 @@ impl Recorder {
         }
     }
 
+    /// Takes an event in: it was at `from`, hardware gave it these bytes, and it left PC at `place` and SP at `sp`.
+    ///
+    /// # Errors
+    ///
+    /// AllocError where memory ran out.
+    pub fn take(
+        &mut self,
+        from: CodePlace,
+        stepped: &Stepped,
+        given: HardwareBytes,
+        place: CodePlace,
+        sp: u16,
+    ) -> Result<(), AllocError> {
+        match TraceStep::of(from, stepped, given) {
+            Some(step) => {
+                self.recent.push(step);
+                self.calls.take(from, stepped, place, sp)
+            }
+            None => Ok(()),
+        }
+    }
+
     /// Plays one event, and answers whether it ended the frame.
     fn step(
         &mut self,
@@ -39,11 +61,14 @@ impl Recorder {
         let from: CodePlace = place_now(console);
         let before = console.cycles();
         let stepped = console.advance(keys, seconds);
-        if let Some(step) = TraceStep::of(from, &stepped) {
-            self.recent.push(step);
-            let sp = console.processor().sp;
-            self.calls.take(from, &stepped, place_now(console), sp)?;
-        }
+        let sp = console.processor().sp;
+        self.take(
+            from,
+            &stepped,
+            HardwareBytes::Nothing,
+            place_now(console),
+            sp,
+        )?;
         let is_passed = before + u16::from(stepped.cycles) >= FRAME_CYCLES;
         Ok(console.ending(is_passed).is_some())
     }

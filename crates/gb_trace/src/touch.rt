@@ -15,15 +15,15 @@ pub enum TouchKind {
 
 /// A byte that is touched.
 #[derive(Clone, Copy, PartialEq, Eq)]
-pub struct Touch {
+pub struct TouchedByte {
     pub kind: TouchKind,
     pub address: u16,
 }
 
-impl Touch {
+impl TouchedByte {
     /// The byte so many addresses after another one.
-    fn of(kind: TouchKind, address: u16, after: u16) -> Option<Touch> {
-        Some(Touch {
+    fn of(kind: TouchKind, address: u16, after: u16) -> Option<TouchedByte> {
+        Some(TouchedByte {
             kind,
             address: address.wrapping_add(after),
         })
@@ -43,42 +43,42 @@ fn fetched(sighting: &Sighting) -> u8 {
 }
 
 /// The bytes of the instruction.
-fn fetches(sighting: &Sighting) -> [Option<Touch>; 3] {
+fn fetches(sighting: &Sighting) -> [Option<TouchedByte>; 3] {
     let pc = sighting.processor.pc;
     let count = fetched(sighting);
     let mut touches = [None; 3];
     for (after, touch) in touches.iter_mut().enumerate() {
         if after < usize::from(count) {
-            *touch = Touch::of(TouchKind::Fetched, pc, after as u16);
+            *touch = TouchedByte::of(TouchKind::Fetched, pc, after as u16);
         }
     }
     touches
 }
 
 /// What is read besides.
-fn reads(read: Read) -> [Option<Touch>; 2] {
+fn reads(read: Read) -> [Option<TouchedByte>; 2] {
     match read {
         Read::Nothing => [None, None],
-        Read::Byte(address) => [Touch::of(TouchKind::Read, address, 0), None],
+        Read::Byte(address) => [TouchedByte::of(TouchKind::Read, address, 0), None],
         Read::Word(address) => [
-            Touch::of(TouchKind::Read, address, 0),
-            Touch::of(TouchKind::Read, address, 1),
+            TouchedByte::of(TouchKind::Read, address, 0),
+            TouchedByte::of(TouchKind::Read, address, 1),
         ],
     }
 }
 
 /// What is written.
-fn writes(write: Write) -> [Option<Touch>; 2] {
+fn writes(write: Write) -> [Option<TouchedByte>; 2] {
     match write {
         Write::Nothing => [None, None],
-        Write::Byte(address, _) => [Touch::of(TouchKind::Written, address, 0), None],
+        Write::Byte(address, _) => [TouchedByte::of(TouchKind::Written, address, 0), None],
         Write::Word(address, _) => [
-            Touch::of(TouchKind::Written, address, 0),
-            Touch::of(TouchKind::Written, address, 1),
+            TouchedByte::of(TouchKind::Written, address, 0),
+            TouchedByte::of(TouchKind::Written, address, 1),
         ],
         Write::Push(sp, _) => [
-            Touch::of(TouchKind::Pushed, sp, 0xFFFF),
-            Touch::of(TouchKind::Pushed, sp, 0xFFFE),
+            TouchedByte::of(TouchKind::Pushed, sp, 0xFFFF),
+            TouchedByte::of(TouchKind::Pushed, sp, 0xFFFE),
         ],
     }
 }
@@ -89,8 +89,8 @@ fn is_code(address: u16) -> bool {
 }
 
 /// Whether a byte that is touched has a fault of this kind.
-fn is_at_fault(touch: Touch, kind: FaultKind, region: Region) -> bool {
-    let Touch { kind: how, address } = touch;
+fn is_at_fault(touch: TouchedByte, kind: FaultKind, region: Region) -> bool {
+    let TouchedByte { kind: how, address } = touch;
     match kind {
         FaultKind::UndefinedOpcode => false,
         FaultKind::FetchedOutside => how == TouchKind::Fetched && !is_code(address),
@@ -104,7 +104,7 @@ fn is_at_fault(touch: Touch, kind: FaultKind, region: Region) -> bool {
 
 /// The first byte that has the lowest fault of an event. None for an undefined opcode, and where a page of cartridge RAM is written
 /// to FF46.
-pub fn touch_at_fault(sighting: &Sighting, region: Region) -> Option<Touch> {
+pub fn touch_at_fault(sighting: &Sighting, region: Region) -> Option<TouchedByte> {
     let kind = lowest_fault(sighting.faults);
     let [first, second, third] = fetches(sighting);
     let [read, next_read] = reads(sighting.met.read);

@@ -1,10 +1,11 @@
 //! The trace of a fault.
 
 use crate::happening::Happening;
+use crate::keys::HeldKeys;
 use crate::listing::{SpelledStep, bank_of, fmt_calls, fmt_recent, shown};
-use crate::recent::{StepKind, TraceStep};
+use crate::recent::{HardwareBytes, StepKind, TraceStep};
 use crate::recorder::{Moment, Recorder};
-use crate::touch::{Touch, touch_at_fault};
+use crate::touch::{TouchedByte, touch_at_fault};
 use bitflags::Flags;
 use gb_ops::machine::{CodePlace, Event, Region};
 use gb_symbols::{ShownAddress, Symbols};
@@ -24,17 +25,33 @@ pub struct FaultyRun<'a> {
     pub region: Region,
 }
 
+/// When a fault came, counted from 0.
+#[derive(Clone, Copy)]
+pub enum FaultMoment {
+    /// In a frame of a script, with these keys.
+    Frame(u32, Keys),
+    /// At an event of a list.
+    Event(u64),
+}
+
+/// A fault, and what is known of it.
+#[derive(Clone, Copy)]
+pub struct TracedFault {
+    pub moment: FaultMoment,
+    pub sighting: Sighting,
+    /// The stack region for which it is one.
+    pub region: Region,
+    /// The byte that is at fault, and its place.
+    pub touch: Option<(TouchedByte, CodePlace)>,
+    /// Whether the cartridge has RAM or a clock.
+    pub has_ram: bool,
+}
+
 /// What happened before a fault. It prints in several lines, the last without an end.
 #[derive(Drop)]
 pub struct Trace<'a> {
     symbols: &'a Symbols<'a>,
-    frame: u32,
-    keys: Keys,
-    sighting: Sighting,
-    region: Region,
-    /// The byte that is at fault, and its place.
-    touch: Option<(Touch, CodePlace)>,
-    has_ram: bool,
+    fault: TracedFault,
     recorder: Recorder,
 }
 
@@ -64,50 +81,51 @@ pub fn trace_fault<'a>(
         }
         None => None,
     };
-    Some(Trace {
-        symbols,
-        frame: run.frame,
-        keys: keys_at(run.script, run.frame),
+    let fault = TracedFault {
+        moment: FaultMoment::Frame(run.frame, keys_at(run.script, run.frame)),
         sighting: run.sighting,
         region: run.region,
         touch,
-        has_ram: rom.ram_banks() > 0 || rom.has_clock(),
-        recorder,
-    })
+        has_ram: has_ram(rom),
+    };
+    Some(Trace::new(symbols, fault, recorder))
 }
 
-/// The name of a key, by its bit.
-fn key_name(bit: u8) -> &'static str {
-    match bit {
-        0 => "A",
-        1 => "B",
-        2 => "Select",
-        3 => "Start",
-        4 => "Right",
-        5 => "Left",
-        6 => "Up",
-        _ => "Down",
+/// Whether a cartridge has RAM or a clock.
+pub fn has_ram(rom: &Rom<'_>) -> bool {
+    rom.ram_banks() > 0 || rom.has_clock()
+}
+
+impl<'a> Trace<'a> {
+    /// The trace of a fault, with what was kept of the run up to it.
+    pub fn new(symbols: &'a Symbols<'a>, fault: TracedFault, recorder: Recorder) -> Trace<'a> {
+        Trace {
+            symbols,
+            fault,
+            recorder,
+        }
     }
-}
 
-impl Trace<'_> {
     /// What the processor was about to do.
     fn step(&self) -> TraceStep {
-        let kind = match self.sighting.event {
+        let kind = match self.fault.sighting.event {
             Event::Irq(number) => StepKind::Interrupt(number),
             Event::HaltStay | Event::HaltBug => StepKind::Instruction([0x76, 0, 0]),
-            Event::Run { .. } | Event::Wait(_) => StepKind::Instruction(self.sighting.met.bytes),
+            Event::Run { .. } | Event::Wait(_) => StepKind::Instruction(
+                self.fault.sighting.met.bytes,
+            ),
         };
         TraceStep {
-            place: self.sighting.place,
+            place: self.fault.sighting.place,
             kind,
+            given: HardwareBytes::Nothing,
         }
     }
 
     /// SP, and how much of the stack is left.
     fn fmt_stack<W: fmt::Write>(&self, f: &mut fmt::Formatter<W>) -> fmt::Result {
-        let sp = self.sighting.processor.sp;
-        let Region { first, last } = self.region;
+        let sp = self.fault.sighting.processor.sp;
+        let Region { first, last } = self.fault.region;
         let size = u32::from(last).saturating_sub(u32::from(first)) + 1;
         let left = u32::from(sp).saturating_sub(u32::from(first));
         if sp >= first && left <= size {
@@ -123,40 +141,23 @@ impl Trace<'_> {
         }
     }
 
-    /// The keys that are held.
-    fn fmt_keys<W: fmt::Write>(&self, f: &mut fmt::Formatter<W>) -> fmt::Result {
-        write!(f, "\n  Keys:")?;
-        if self.keys.bits() == 0 {
-            return write!(f, " none");
-        }
-        let mut is_first = true;
-        for bit in 0..8 {
-            if self.keys.bits() >> bit & 1 == 1 {
-                let between = if is_first { " " } else { ", " };
-                let name = key_name(bit);
-                write!(f, "{between}{name}")?;
-                is_first = false;
-            }
-        }
-        Ok(())
-    }
-}
-
-impl fmt::Display for Trace<'_> {
-    fn fmt<W: fmt::Write>(&self, f: &mut fmt::Formatter<W>) -> fmt::Result {
+    /// What went wrong, where, and how much of the stack was left.
+    fn fmt_head<W: fmt::Write>(&self, f: &mut fmt::Formatter<W>) -> fmt::Result {
         let happening = Happening {
-            sighting: &self.sighting,
-            region: self.region,
-            touch: self.touch.map(|touched| touched.0),
-            has_ram: self.has_ram,
+            sighting: &self.fault.sighting,
+            region: self.fault.region,
+            touch: self.fault.touch.map(|touched| touched.0),
+            has_ram: self.fault.has_ram,
         };
-        let frame = self.frame;
-        write!(f, "frame {frame}: {happening}")?;
+        match self.fault.moment {
+            FaultMoment::Frame(number, _) => write!(f, "frame {number}: {happening}")?,
+            FaultMoment::Event(number) => write!(f, "event {number}: {happening}")?,
+        }
         let step = self.step();
         let at = shown(self.symbols, step.place);
         let spelled = SpelledStep { step };
         write!(f, "\n  At: {at}: {spelled}")?;
-        if let Some((_, place)) = self.touch {
+        if let Some((_, place)) = self.fault.touch {
             let touched = ShownAddress {
                 symbols: self.symbols,
                 bank: bank_of(place),
@@ -164,9 +165,31 @@ impl fmt::Display for Trace<'_> {
             };
             write!(f, "\n  Address: {touched}")?;
         }
-        self.fmt_stack(f)?;
-        self.fmt_keys(f)?;
+        self.fmt_stack(f)
+    }
+}
+
+impl fmt::Display for Trace<'_> {
+    fn fmt<W: fmt::Write>(&self, f: &mut fmt::Formatter<W>) -> fmt::Result {
+        self.fmt_head(f)?;
+        if let FaultMoment::Frame(_, keys) = self.fault.moment {
+            let keys = HeldKeys {
+                keys: keys.bits(),
+                between: ", ",
+            };
+            write!(f, "\n  Keys: {keys}")?;
+        }
         fmt_calls(self.symbols, self.recorder.calls.as_slice(), f)?;
         fmt_recent(self.symbols, &self.recorder.recent, f)
+    }
+}
+
+/// The beginning of a trace: what went wrong, where, and how much of the stack was left.
+#[derive(Clone, Copy)]
+pub struct TraceHead<'t, 'a>(pub &'t Trace<'a>);
+
+impl fmt::Display for TraceHead<'_, '_> {
+    fn fmt<W: fmt::Write>(&self, f: &mut fmt::Formatter<W>) -> fmt::Result {
+        self.0.fmt_head(f)
     }
 }

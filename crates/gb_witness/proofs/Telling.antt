@@ -15,7 +15,8 @@ use Rattle.gb_printed.specs.Below.gb_watch.declared.sighting.Sighting.{Sighting}
 use Rattle.gb_printed.specs.Below.gb_watch.declared.sighting.Watched.{Watched}
 use Rattle.gb_printed.specs.Below.gb_watch.declared.sighting.Watched.TheVariants as watched
 use Rattle.gb_printed.proofs.Below.gb_watch_laws.Playing.{faultless_runs, cut_runs, faulty_runs}
-use Rattle.gb_witness.specs.Witness.{fault_text}
+use Rattle.gb_witness.specs.Line.{fault_text}
+use Rattle.gb_witness.specs.declared.line.CountedIn.TheVariants as counted
 use Rattle.gb_witness.specs.Played.{IsFaultlessPlay, IsFaultyPlay, WatchedRunsArePlayed}
 
 whole_played : (region : Region) (keys : ℕ → Keys) (seconds : ℕ → ℕ) (frames : ℕ) (old : ConsoleState) (number : ℕ) (new : ConsoleState)
@@ -38,7 +39,7 @@ fault_played region keys seconds frames old number s new c =
     record {
       events = p.0;
       fault = p.1;
-      text = λ pc. ap (λ (f : Faults). fault_text f number s.place) (sym p.1.faults) ∙ ap (λ (a : CodePlace). fault_text (play (rom_of old) region (machine_of old) (p.0 ++ s.event ∷ [])).faults number a) place;
+      text = λ pc. ap (λ (f : Faults). fault_text f counted.Frame number s.place) (sym p.1.faults) ∙ ap (λ (a : CodePlace). fault_text (play (rom_of old) region (machine_of old) (p.0 ++ s.event ∷ [])).faults counted.Frame number a) place;
     }
 
 pub runs_played : WatchedRunsArePlayed

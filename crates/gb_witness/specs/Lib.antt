@@ -1,4 +1,5 @@
 pub mod Fault
+pub mod Line
 pub mod Witness
 pub mod Played
 pub mod Files

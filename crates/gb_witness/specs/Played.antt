@@ -11,7 +11,9 @@ use Rattle.gb_printed.specs.Below.gb_watch.Played.{IsPlayedWell, IsPlayedFault}
 use Rattle.gb_printed.specs.Below.gb_watch.declared.sighting.Sighting.{Sighting}
 use Rattle.gb_printed.specs.Below.gb_watch.declared.sighting.Watched.{Watched}
 use Rattle.gb_printed.specs.Below.gb_watch.declared.sighting.Watched.TheVariants as watched
-use Rattle.gb_witness.specs.Witness.{fault_text, watched_text}
+use Rattle.gb_witness.specs.Line.{fault_text}
+use Rattle.gb_witness.specs.Witness.{watched_text}
+use Rattle.gb_witness.specs.declared.line.CountedIn.TheVariants as counted
 
 -- events without a fault that a console answered
 pub record IsFaultlessPlay (region : Region) (old new : ConsoleState) : Type 0 where
@@ -22,7 +24,7 @@ pub record IsFaultlessPlay (region : Region) (old new : ConsoleState) : Type 0 w
 abbrev pub played_text : Region → ConsoleState → List Event → Event → ℕ → List ℕ
 played_text region old events last frame =
     let s : MState = (play (rom_of old) region (machine_of old) events).state in
-    fault_text (play (rom_of old) region (machine_of old) (events ++ last ∷ [])).faults frame (code_place (within (rom_of old) s).memory s.processor.pc)
+    fault_text (play (rom_of old) region (machine_of old) (events ++ last ∷ [])).faults counted.Frame frame (code_place (within (rom_of old) s).memory s.processor.pc)
 
 -- such events and one more that has a fault, and the line that says so
 pub record IsFaultyPlay (region : Region) (old : ConsoleState) (s : Sighting) (number : ℕ) (new : ConsoleState) : Type 0 where

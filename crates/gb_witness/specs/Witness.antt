@@ -1,30 +1,22 @@
 -- A script that is watched, and the line that says how it went (own).
-use Rattle.std.specs.Prelude.{ℕ, Bool, true, false, List, ◌++◌, codes, decimal, Option}
-use Rattle.gb_ops.specs.declared.machine.Faults.{Faults}
+use Rattle.std.specs.Prelude.{ℕ, Bool, true, false, List, Option}
 use Rattle.gb_ops.specs.declared.machine.Region.{Region}
-use Rattle.gb_ops.specs.declared.machine.CodePlace.{CodePlace}
 use Rattle.gb_text.specs.Sink.{Gains}
-use Rattle.gb_text.specs.Text.{line_feed, hex_word, GainsBeginning}
+use Rattle.gb_text.specs.Text.{GainsBeginning}
 use Rattle.gb_printed.specs.Below.gb_console.Console.{ConsoleState}
 use Rattle.gb_printed.specs.Below.gb_console.declared.frame.Ending.TheVariants as ending
 use Rattle.gb_printed.specs.Below.gb_watch.Watch.{IsWatchedRun}
 use Rattle.gb_printed.specs.Below.gb_watch.declared.sighting.Watched.{Watched}
 use Rattle.gb_printed.specs.Below.gb_watch.declared.sighting.Watched.TheVariants as watched
 use Rattle.gb_printed.specs.Script.{keys_at, seconds_of, ending_text}
-use Rattle.gb_printed.specs.Show.{hex_bank}
-use Rattle.gb_witness.specs.Fault.{fault_number, lowest_fault}
+use Rattle.gb_witness.specs.Line.{fault_text}
+use Rattle.gb_witness.specs.declared.line.CountedIn.TheVariants as counted
 use Rattle.gb_witness.specs.declared.witness.WatchedRun.{WatchedRun}
-
--- the line of an event with these faults: the lowest of them, its frame, and where the processor was before it
-abbrev pub fault_text : Faults → ℕ → CodePlace → List ℕ
-fault_text faults frame place =
-    codes "FAULT F" ++ decimal (fault_number (lowest_fault faults)) ++ codes " frame " ++ decimal frame
-    ++ codes " pc " ++ hex_word place.address ++ codes " bank " ++ hex_bank place.bank ++ line_feed
 
 -- how a watched run ended, with its number and the address of the next instruction
 abbrev pub watched_text : Watched → ℕ → ℕ → List ℕ
 watched_text (watched.Ended end) number pc = ending_text end number pc
-watched_text (watched.Faulted s) number pc = fault_text s.faults number s.place
+watched_text (watched.Faulted s) number pc = fault_text s.faults counted.Frame number s.place
 
 -- a frame was whole and without a fault
 abbrev pub is_whole : Watched → Bool

@@ -8,12 +8,14 @@
 
 pub mod fault;
 pub mod files;
+pub mod line;
 pub mod played;
 pub mod stack;
 pub mod witness;
 
 pub use fault::{FaultKind, lowest_fault};
 pub use files::{WatchOutcome, watch_bytes};
+pub use line::{CountedIn, fault_line, no_fault_line};
 pub use played::watched_runs_are_played;
 pub use stack::{FoundStack, find_stack};
 pub use witness::{WatchedRun, watch_line, watch_script, watch_script_shown};

@@ -5,13 +5,12 @@ ghost use Rattle.gb_printed.specs.Below.gb_console.Console.{rom_of};
 ghost use Rattle.gb_printed.specs.Below.gb_console.declared.frame.Ending.TheVariants as ending;
 ghost use Rattle.gb_printed.specs.Below.gb_watch.Verified.{IsVerifiedFor};
 ghost use Rattle.gb_printed.specs.Below.gb_watch.declared.sighting.Watched.TheVariants as watched;
-ghost use Rattle.gb_witness.specs.Witness.{fault_text, watched_text, is_whole, IsWatchedScript, IsWrittenWatch, IsBegunWatch};
+ghost use Rattle.gb_witness.specs.Witness.{watched_text, is_whole, IsWatchedScript, IsWrittenWatch, IsBegunWatch};
 
-use crate::fault::lowest_fault;
-use gb_ops::machine::{CodePlace, Faults, Region};
+use crate::line::{CountedIn, fault_line};
+use gb_ops::machine::Region;
 use gb_printed::{
-    Console, Ending, Progress, Silence, Watched, ending_line, keys_at, push_bank, seconds_of,
-    watch_frame,
+    Console, Ending, Progress, Silence, Watched, ending_line, keys_at, seconds_of, watch_frame,
 };
 use gb_text::line::Line;
 use gb_text::put::put_all;
@@ -24,30 +23,14 @@ pub struct WatchedRun {
     pub number: u32,
 }
 
-/// The line of an event with faults.
-fn fault_line(faults: Faults, frame: u32, place: CodePlace) -> Line
-    ensures { result ≡ fault_text faults frame place }
-{
-    let mut line = Line::new();
-    line.push_text(b"FAULT F");
-    line.push_number(u64::from(lowest_fault(faults).number()));
-    line.push_text(b" frame ");
-    line.push_number(u64::from(frame));
-    line.push_text(b" pc ");
-    line.push_word(place.address);
-    line.push_text(b" bank ");
-    push_bank(&mut line, place.bank);
-    line.end();
-    line
-}
-
 /// The line that says how a watched run ended.
 pub fn watch_line(run: WatchedRun, pc: u16) -> Line
     ensures { result ≡ watched_text run.watched run.number pc }
 {
+    let number = u64::from(run.number);
     match run.watched {
         Watched::Ended(ending) => ending_line(ending, run.number, pc),
-        Watched::Faulted(sighting) => fault_line(sighting.faults, run.number, sighting.place),
+        Watched::Faulted(seen) => fault_line(seen.faults, CountedIn::Frame, number, seen.place),
     }
 }
 

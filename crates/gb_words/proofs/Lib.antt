@@ -1,4 +1,5 @@
 pub mod PlainWords
+pub mod ReplayWords
 pub mod LeafWalk
 pub mod Leaves
 pub mod CommandWalk

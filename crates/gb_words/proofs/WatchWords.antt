@@ -1,5 +1,5 @@
 -- The words that ask for a watched script, one by one.
-use Rattle.std.proofs.Common.{◌≡◌, ◌≤◌, ℕ, true, false, List, Some, [], ◌∷◌, decimal, codes, Result, Ok, refl, sym, ◌∙◌, ap, ◌-◌, Bor, drop, take, take_all, inr, length, map, arith}
+use Rattle.std.proofs.Common.{◌≡◌, ◌≤◌, ℕ, true, false, List, Some, None, [], ◌∷◌, decimal, codes, Result, Ok, refl, sym, ◌∙◌, ap, ◌-◌, Bor, drop, take, take_all, inr, length, map, arith}
 use Rattle.std.specs.Prelude.{slice_index_or}
 use Rattle.std.specs.Str.Parse.{IsNumeral, ParsesUnsigned}
 use Rattle.std.proofs.lemmas.Bool.{ne_eqb}
@@ -30,9 +30,9 @@ front_words (a ∷ b ∷ e ∷ []) d h = absurd (omega arith)
 front_words (a ∷ b ∷ e ∷ f ∷ rest) d h = refl
 
 pub watched_words : (ws : List (Bor Text)) (d : Bor Text) (n : ℕ) (texts : WatchTexts) → 4 ≤ length ws → (slice_index_or ws 0 d).now ≡ codes "watch" → is_file (slice_index_or ws 1 d).now ≡ true
-    → is_file (slice_index_or ws 2 d).now ≡ true → IsFrames (slice_index_or ws 3 d).now n → Some texts ≡ options_in (map (λ w. w.now) (take (length ws - 4) (drop 4 ws)))
+    → is_file (slice_index_or ws 2 d).now ≡ true → IsFrames (slice_index_or ws 3 d).now n → Some texts ≡ options_in (map (λ w. w.now) (take (length ws - 4) (drop 4 ws))) → texts.events ≡ None
     → IsWatch (map (λ w. w.now) ws) (slice_index_or ws 1 d).now (slice_index_or ws 2 d).now n texts
-watched_words ws d n texts count name rom script frames options =
+watched_words ws d n texts count name rom script frames options none =
     inr (record {
       word = (slice_index_or ws 3 d).now;
       options = map (λ w. w.now) (drop 4 ws);
@@ -42,6 +42,7 @@ watched_words ws d n texts count name rom script frames options =
       frames_are = frames;
       options_are =
           sym (options ∙ ap (λ (rest : List (Bor Text)). options_in (map (λ w. w.now) rest)) (take_all (length ws - 4) (drop 4 ws) (omega (arith, length-drop 4 ws))));
+      no_events = none;
     })
 
 ok_value : (k n : ℕ) (r : Result ℕ (Unit {0})) → r ≡ Ok k → r ≡ Ok n → k ≡ n

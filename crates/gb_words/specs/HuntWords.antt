@@ -1,5 +1,5 @@
 -- Which words stand for which options of `hunt`.
-use Rattle.std.specs.Prelude.{List, [], ◌∷◌, codes, if◌then◌else◌, Option, Some, None, option_map}
+use Rattle.std.specs.Prelude.{Bool, true, false, List, [], ◌∷◌, codes, if◌then◌else◌, Option, Some, None, option_map}
 use Rattle.std.specs.Str.{bytes_eq}
 use Rattle.clap.specs.Words.{Text}
 use Rattle.gb_words.specs.declared.hunting.HuntOption.{HuntOption}
@@ -13,10 +13,12 @@ pub record HuntTexts : Type 0 where
   pub seed : Option Text
   pub stack : Option Text
   pub keys : Option Text
+  pub events : Option Text
   pub symbols : Option Text
+  pub any_timing : Bool
 
 abbrev pub no_hunt_texts : HuntTexts
-no_hunt_texts = record { frames = None; seconds = None; seed = None; stack = None; keys = None; symbols = None }
+no_hunt_texts = record { frames = None; seconds = None; seed = None; stack = None; keys = None; events = None; symbols = None; any_timing = false }
 
 abbrev pub hunt_option_named : Text → Option HuntOption
 hunt_option_named word =
@@ -25,8 +27,9 @@ hunt_option_named word =
     else (if bytes_eq word (codes "--seed") then Some option.Seed
     else (if bytes_eq word (codes "--stack") then Some option.Stack
     else (if bytes_eq word (codes "--keys") then Some option.Keys
+    else (if bytes_eq word (codes "--events") then Some option.Events
     else (if bytes_eq word (codes "--sym") then Some option.Symbols
-    else None)))))
+    else None))))))
 
 abbrev pub given : HuntOption → HuntTexts → Option Text
 given option.Frames texts = texts.frames
@@ -34,6 +37,7 @@ given option.Seconds texts = texts.seconds
 given option.Seed texts = texts.seed
 given option.Stack texts = texts.stack
 given option.Keys texts = texts.keys
+given option.Events texts = texts.events
 given option.Symbols texts = texts.symbols
 
 abbrev pub with_value : HuntOption → Text → HuntTexts → HuntTexts
@@ -42,6 +46,7 @@ with_value option.Seconds value texts = record texts { seconds = Some value }
 with_value option.Seed value texts = record texts { seed = Some value }
 with_value option.Stack value texts = record texts { stack = Some value }
 with_value option.Keys value texts = record texts { keys = Some value }
+with_value option.Events value texts = record texts { events = Some value }
 with_value option.Symbols value texts = record texts { symbols = Some value }
 
 -- what is not given yet
@@ -57,11 +62,21 @@ abbrev pub with_hunt_named : Option HuntOption → Text → Option HuntTexts →
 with_hunt_named (Some x) value (Some texts) = with_hunt_option x value texts
 with_hunt_named _ value _ = None
 
--- the options that some words are: names, each with its value behind it, in any order
+abbrev pub is_any_timing : Text → Bool
+is_any_timing word = bytes_eq word (codes "--any-timing")
+
+-- it is asked for once
+abbrev pub with_any_timing : Option HuntTexts → Option HuntTexts
+with_any_timing None = None
+with_any_timing (Some texts) = if texts.any_timing then None else Some (record texts { any_timing = true })
+
+-- the options that some words are, in any order: names, each with its value behind it, and `--any-timing`
 unfoldable pub hunt_options_in : List Text → Option HuntTexts
 hunt_options_in [] = Some no_hunt_texts
-hunt_options_in (name ∷ []) = None
-hunt_options_in (name ∷ value ∷ rest) = with_hunt_named (hunt_option_named name) value (hunt_options_in rest)
+hunt_options_in (name ∷ []) = if is_any_timing name then with_any_timing (Some no_hunt_texts) else None
+hunt_options_in (name ∷ value ∷ rest) =
+    if is_any_timing name then with_any_timing (hunt_options_in (value ∷ rest))
+    else with_hunt_named (hunt_option_named name) value (hunt_options_in rest)
 
 abbrev pub hunt_texts_of : HuntOptions → HuntTexts
 hunt_texts_of options = record {
@@ -70,5 +85,7 @@ hunt_texts_of options = record {
   seed = option_map (λ s. s.now) options.seed;
   stack = option_map (λ s. s.now) options.stack;
   keys = option_map (λ s. s.now) options.keys;
+  events = option_map (λ s. s.now) options.events;
   symbols = option_map (λ s. s.now) options.symbols;
+  any_timing = options.any_timing;
 }

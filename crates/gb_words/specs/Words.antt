@@ -1,5 +1,5 @@
 -- Which words stand for which task.
-use Rattle.std.specs.Prelude.{◌≡◌, ◌==◌, ◌||◌, ◌⊎◌, Bool, true, false, not, ℕ, pos, List, [], ◌∷◌, codes, if◌then◌else◌, Option, Some, None, option_map}
+use Rattle.std.specs.Prelude.{◌≡◌, ◌==◌, ◌||◌, ◌⊎◌, Bool, true, false, not, ℕ, pos, List, [], ◌∷◌, codes, if◌then◌else◌, Option, Some, None, is_some, option_map}
 use Rattle.std.specs.Str.{bytes_eq}
 use Rattle.std.specs.Str.Parse.{signed_digits_value}
 use Rattle.clap.specs.Words.{IsSignedIn, Text}
@@ -67,16 +67,18 @@ pub record WatchTexts : Type 0 where
   pub stack : Option Text
   pub cert : Option Text
   pub symbols : Option Text
+  pub events : Option Text
 
 abbrev pub no_texts : WatchTexts
-no_texts = record { stack = None; cert = None; symbols = None }
+no_texts = record { stack = None; cert = None; symbols = None; events = None }
 
 abbrev pub option_named : Text → Option WatchOption
 option_named word =
     if bytes_eq word (codes "--stack") then Some option.Stack
     else (if bytes_eq word (codes "--cert") then Some option.Cert
     else (if bytes_eq word (codes "--sym") then Some option.Symbols
-    else None))
+    else (if bytes_eq word (codes "--events") then Some option.Events
+    else None)))
 
 -- an option comes once
 abbrev pub once : Option Text → WatchTexts → Option WatchTexts
@@ -87,6 +89,7 @@ abbrev pub with_option : WatchOption → Text → WatchTexts → Option WatchTex
 with_option option.Stack value texts = once texts.stack (record texts { stack = Some value })
 with_option option.Cert value texts = once texts.cert (record texts { cert = Some value })
 with_option option.Symbols value texts = once texts.symbols (record texts { symbols = Some value })
+with_option option.Events value texts = once texts.events (record texts { events = Some value })
 
 abbrev pub with_named : Option WatchOption → Text → Option WatchTexts → Option WatchTexts
 with_named (Some x) value (Some texts) = with_option x value texts
@@ -103,9 +106,19 @@ texts_of options = record {
   stack = option_map (λ s. s.now) options.stack;
   cert = option_map (λ s. s.now) options.cert;
   symbols = option_map (λ s. s.now) options.symbols;
+  events = option_map (λ s. s.now) options.events;
 }
 
--- `watch`, the names of two files, a number of frames, and options
+-- options of which one names a file of events, and options of which none does
+abbrev pub are_options_with_events : Option WatchTexts → Bool
+are_options_with_events None = false
+are_options_with_events (Some texts) = is_some texts.events
+
+abbrev pub are_options_without_events : Option WatchTexts → Bool
+are_options_without_events None = false
+are_options_without_events (Some texts) = not (is_some texts.events)
+
+-- `watch`, the names of two files, a number of frames, and options of which none names a file of events
 pub record IsWatchWith (words : List Text) (rom script : Text) (frames : ℕ) (texts : WatchTexts) : Type 0 where
   pub word : Text
   pub options : List Text
@@ -114,6 +127,7 @@ pub record IsWatchWith (words : List Text) (rom script : Text) (frames : ℕ) (t
   pub script_is : is_file script ≡ true
   pub frames_are : IsFrames word frames
   pub options_are : options_in options ≡ Some texts
+  pub no_events : texts.events ≡ None
 
 -- the same without options
 pub record IsPlainWatch (words : List Text) (rom script : Text) (frames : ℕ) (texts : WatchTexts) : Type 0 where
@@ -124,6 +138,14 @@ pub record IsPlainWatch (words : List Text) (rom script : Text) (frames : ℕ) (
 
 abbrev pub IsWatch : List Text → Text → Text → ℕ → WatchTexts → Type 0
 IsWatch words rom script frames texts = IsPlainWatch words rom script frames texts ⊎ IsWatchWith words rom script frames texts
+
+-- `watch`, the name of a file, and options of which one names a file of events
+pub record IsReplay (words : List Text) (rom events : Text) (texts : WatchTexts) : Type 0 where
+  pub options : List Text
+  pub are : words ≡ codes "watch" ∷ rom ∷ options
+  pub rom_is : is_file rom ≡ true
+  pub options_are : options_in options ≡ Some texts
+  pub events_are : texts.events ≡ Some events
 
 -- `hunt`, the name of a file, and options
 pub record IsHuntWith (words : List Text) (rom : Text) (texts : HuntTexts) : Type 0 where
@@ -149,4 +171,5 @@ StandFor words (task.Show cert) = IsCommand words (codes "show") (cert.now ∷ [
 StandFor words (task.Upgrade cert to) = IsUpgrade words to cert.now
 StandFor words (task.Run rom script frames) = IsRun words rom.now script.now frames
 StandFor words (task.Watch rom script frames options) = IsWatch words rom.now script.now frames (texts_of options)
+StandFor words (task.Replay rom events options) = IsReplay words rom.now events.now (texts_of options)
 StandFor words (task.Hunt rom options) = IsHunt words rom.now (hunt_texts_of options)

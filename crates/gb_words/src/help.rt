@@ -83,6 +83,7 @@ It plays the cartridge with keys of its own and looks for a fault, as watch name
   NO FAULT frames N                  it played N frames and found none (status 0)
   CARTRIDGE Hn                       ROM isn't a valid ROM (status 2)
 NO FAULT proves nothing: other keys may lead to one. `certify` can prove that a game has none.
+With --any-timing it looks for interrupts and bytes from hardware instead of keys, and counts events.
 For a fault, stderr shows the place, the instruction, the open calls, the last instructions, and how to play it again.
 
 Write the options after ROM, in any order:
@@ -91,6 +92,8 @@ Write the options after ROM, in any order:
   --seed N             try other keys; the same seed and frames always give the same result (without it, 0)
   --stack FIRST..LAST  the stack's addresses, as in DF00..DFFF
   --keys OUT           write the keys to OUT, a byte for each frame, as run and watch read them
+  --any-timing         let interrupts come between any two instructions, and let hardware give any byte
+  --events OUT         with --any-timing, write the events to OUT, as watch --events reads them
   --sym FILE           show your labels: RGBDS .sym, SDCC .noi or .map
 Without --stack, the first `ld sp, n16` that runs gives the stack.
 It is the RAM from C000 or FF80 up to the byte below that address.
@@ -108,7 +111,12 @@ F1: an undefined opcode runs. F2: code is fetched from VRAM, SRAM, OAM, I/O or e
 stack. F4: SRAM is used while it is disabled. F5: memory other than HRAM is used during OAM DMA.
 stderr shows the place, the instruction, the open calls and the last instructions.
 
+With --events instead of SCRIPT and FRAMES, it plays a list of events, one a line, and counts events:
+  WHOLE events N                     all events ran without a fault (status 0)
+  FAULT Fn event N pc AAAA bank BBB  a fault at event N, counted from 0 (status 1)
+
 Write the options after FRAMES, in any order:
+  --events FILE        after ROM: play these events, as hunt --any-timing writes them
   --stack FIRST..LAST  the stack's addresses, as in DF00..DFFF
   --cert CERT          take them from this certificate
   --sym FILE           show your labels: RGBDS .sym, SDCC .noi or .map
@@ -116,4 +124,4 @@ Without --stack and --cert, the first `ld sp, n16` that runs gives the stack.
 It is the RAM from C000 or FF80 up to the byte below that address.
 
 If ROM isn't a valid ROM, it prints CARTRIDGE Hn only; for CERT, CERTIFICATE Cn only (status 2).
-ROM, SCRIPT or CERT can be - for standard input.";
+ROM, SCRIPT, FILE or CERT can be - for standard input.";

@@ -1,6 +1,6 @@
 //! The words of `hunt`, which `clap` knows without their options.
 
-ghost use Rattle.std.specs.Prelude.{◌≡◌, ◌∷◌, IfSome, List, codes, is_some, map, option_map, true, ℕ};
+ghost use Rattle.std.specs.Prelude.{◌≡◌, ◌∷◌, IfSome, List, Some, codes, is_some, map, option_map, true, ℕ};
 ghost use Rattle.gb_words.specs.HuntWords;
 ghost use Rattle.gb_words.specs.Words;
 
@@ -14,6 +14,7 @@ pub enum HuntOption {
     Seed,
     Stack,
     Keys,
+    Events,
     Symbols,
 }
 
@@ -30,8 +31,12 @@ pub struct HuntOptions<'a> {
     pub stack: Option<&'a str>,
     /// The file that the script is written to.
     pub keys: Option<&'a str>,
+    /// The file that the list of events is written to.
+    pub events: Option<&'a str>,
     /// The file of symbols.
     pub symbols: Option<&'a str>,
+    /// Whether interrupts may come at any time, and hardware gives any byte.
+    pub any_timing: bool,
 }
 
 impl HuntOptions<'_> {
@@ -45,7 +50,9 @@ impl HuntOptions<'_> {
             seed: None,
             stack: None,
             keys: None,
+            events: None,
             symbols: None,
+            any_timing: false,
         }
     }
 }
@@ -64,6 +71,8 @@ fn hunt_option_named(word: &str) -> Option<HuntOption>
         Some(HuntOption::Stack)
     } else if word == "--keys" {
         Some(HuntOption::Keys)
+    } else if word == "--events" {
+        Some(HuntOption::Events)
     } else if word == "--sym" {
         Some(HuntOption::Symbols)
     } else {
@@ -81,6 +90,7 @@ fn given<'a>(options: HuntOptions<'a>, option: HuntOption) -> Option<&'a str>
         HuntOption::Seed => options.seed,
         HuntOption::Stack => options.stack,
         HuntOption::Keys => options.keys,
+        HuntOption::Events => options.events,
         HuntOption::Symbols => options.symbols,
     }
 }
@@ -111,6 +121,10 @@ fn with_value<'a>(options: HuntOptions<'a>, option: HuntOption, value: &'a str) 
             keys: value,
             ..options
         },
+        HuntOption::Events => HuntOptions {
+            events: value,
+            ..options
+        },
         HuntOption::Symbols => HuntOptions {
             symbols: value,
             ..options
@@ -132,7 +146,27 @@ fn with_hunt_option<'a>(
     }
 }
 
-/// The options that some words are: names, each with its value.
+/// Whether a word asks for any timing.
+fn is_any_timing(word: &str) -> bool
+    ensures { result ≡ HuntWords.is_any_timing word.now }
+{
+    word == "--any-timing"
+}
+
+/// The options at any timing, which may be asked for once.
+fn with_any_timing<'a>(options: HuntOptions<'a>) -> Option<HuntOptions<'a>>
+    ensures { option_map HuntWords.hunt_texts_of result ≡ HuntWords.with_any_timing (Some (HuntWords.hunt_texts_of options.entry)) }
+{
+    if options.any_timing {
+        return None;
+    }
+    Some(HuntOptions {
+        any_timing: true,
+        ..options
+    })
+}
+
+/// The options that some words are: names, each with its value, and `--any-timing`.
 #[tactic(auto, unfolding(crate::specs::HuntWords::hunt_options_in))]
 fn hunt_options_of<'a>(words: &'a [&'a str]) -> Option<HuntOptions<'a>>
     ensures { option_map HuntWords.hunt_texts_of result ≡ HuntWords.hunt_options_in (map (λ word. word.now) words.now) }
@@ -140,6 +174,10 @@ fn hunt_options_of<'a>(words: &'a [&'a str]) -> Option<HuntOptions<'a>>
     let Some((name, others)) = words.split_first() else {
         return Some(HuntOptions::none());
     };
+    if is_any_timing(name) {
+        let options = hunt_options_of(others)?;
+        return with_any_timing(options);
+    }
     let Some((value, rest)) = others.split_first() else {
         return None;
     };

@@ -11,6 +11,7 @@ pub enum WatchOption {
     Stack,
     Cert,
     Symbols,
+    Events,
 }
 
 /// The options of `watch`, as they were given.
@@ -22,6 +23,8 @@ pub struct WatchOptions<'a> {
     pub cert: Option<&'a str>,
     /// The file of symbols.
     pub symbols: Option<&'a str>,
+    /// The file of events, which are played in place of a script of keys.
+    pub events: Option<&'a str>,
 }
 
 impl WatchOptions<'_> {
@@ -33,6 +36,7 @@ impl WatchOptions<'_> {
             stack: None,
             cert: None,
             symbols: None,
+            events: None,
         }
     }
 }
@@ -47,6 +51,8 @@ fn option_named(word: &str) -> Option<WatchOption>
         Some(WatchOption::Cert)
     } else if word == "--sym" {
         Some(WatchOption::Symbols)
+    } else if word == "--events" {
+        Some(WatchOption::Events)
     } else {
         None
     }
@@ -75,6 +81,10 @@ fn with_option<'a>(
                 options.symbols.is_some(),
                 WatchOptions { symbols, ..options },
             )
+        }
+        WatchOption::Events => {
+            let events = Some(value);
+            (options.events.is_some(), WatchOptions { events, ..options })
         }
     };
     if is_given { None } else { Some(more) }
@@ -125,7 +135,7 @@ fn frames_named(word: &str) -> Option<u32>
 pub(crate) fn watch_asked<'a>(words: &'a [&'a str]) -> Option<Task<'a>>
     ensures some { IfSome result (Words.StandFor (map (λ word. word.now) words.now)) }
     ensures all { (rom script : List ℕ) (n : ℕ) (options : List (List ℕ)) → map (λ word. word.now) words.now ≡ codes "watch" ∷ rom ∷ script ∷ decimal n ∷ options
-        → Words.is_file rom ≡ true → Words.is_file script ≡ true → n ≤ 36000 → is_some (Words.options_in options) ≡ true → is_some result ≡ true }
+        → Words.is_file rom ≡ true → Words.is_file script ≡ true → n ≤ 36000 → Words.are_options_without_events (Words.options_in options) ≡ true → is_some result ≡ true }
 {
     let [name, rom, script, frames, options @ ..] = words else {
         return None;
@@ -135,10 +145,34 @@ pub(crate) fn watch_asked<'a>(words: &'a [&'a str]) -> Option<Task<'a>>
     }
     let frames = frames_named(frames)?;
     let options = options_of(options)?;
+    if options.events.is_some() {
+        return None;
+    }
     Some(Task::Watch {
         rom,
         script,
         frames,
+        options,
+    })
+}
+
+/// The task that the words `watch ROM` and options ask for, one of which names a file of events.
+pub(crate) fn replay_asked<'a>(words: &'a [&'a str]) -> Option<Task<'a>>
+    ensures some { IfSome result (Words.StandFor (map (λ word. word.now) words.now)) }
+    ensures all { (rom : List ℕ) (options : List (List ℕ)) → map (λ word. word.now) words.now ≡ codes "watch" ∷ rom ∷ options
+        → Words.is_file rom ≡ true → Words.are_options_with_events (Words.options_in options) ≡ true → is_some result ≡ true }
+{
+    let [name, rom, options @ ..] = words else {
+        return None;
+    };
+    if *name != "watch" || !is_file(rom) {
+        return None;
+    }
+    let options = options_of(options)?;
+    let events = options.events?;
+    Some(Task::Replay {
+        rom,
+        events,
         options,
     })
 }

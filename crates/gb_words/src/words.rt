@@ -8,7 +8,7 @@ ghost use Rattle.gb_words.specs.Words;
 
 use crate::help;
 use crate::hunting::{HuntOptions, hunt_asked};
-use crate::watching::{WatchOptions, watch_asked};
+use crate::watching::{WatchOptions, replay_asked, watch_asked};
 use clap::error::ErrorKind;
 use clap::{Arg, ArgMatches, Command, Error};
 use std::alloc::{AllocError, Global};
@@ -59,7 +59,13 @@ pub enum Task<'a> {
         frames: u32,
         options: WatchOptions<'a>,
     },
-    /// A search of this cartridge for keys that lead to a fault.
+    /// A list of events that is played on this cartridge.
+    Replay {
+        rom: &'a str,
+        events: &'a str,
+        options: WatchOptions<'a>,
+    },
+    /// A search of this cartridge for keys, or events, that lead to a fault.
     Hunt {
         rom: &'a str,
         options: HuntOptions<'a>,
@@ -240,7 +246,7 @@ fn watch_command<'a>(alloc: Global) -> Result<Command<'a>, AllocError>
     );
     with_usage(
         command,
-        "gulmyrek watch <ROM> <SCRIPT> <FRAMES> [--stack FIRST..LAST] [--cert CERT] [--sym FILE]",
+        "gulmyrek watch <ROM> (<SCRIPT> <FRAMES> | --events FILE) [--stack FIRST..LAST] [--cert CERT] [--sym FILE]",
     )
 }
 
@@ -257,7 +263,7 @@ fn hunt_command<'a>(alloc: Global) -> Result<Command<'a>, AllocError>
     );
     with_usage(
         command,
-        "gulmyrek hunt <ROM> [--frames N] [--seconds N] [--seed N] [--stack FIRST..LAST] [--keys OUT] [--sym FILE]",
+        "gulmyrek hunt <ROM> [--any-timing] [--frames N] [--seconds N] [--seed N] [--stack FIRST..LAST] [--keys OUT | --events OUT] [--sym FILE]",
     )
 }
 
@@ -375,7 +381,9 @@ pub fn read_words<'a>(alloc: Global, words: &'a [&'a str]) -> Result<Task<'a>, E
         → Words.begins_with_hyphen rom ≡ false → Words.begins_with_hyphen script ≡ false → n ≤ 36000
         → IfErr result (λ e. kind_of e ≡ ErrorKind.OutOfMemory) }
     ensures watch { (rom script : List ℕ) (n : ℕ) (options : List (List ℕ)) → map (λ word. word.now) words.now ≡ codes "watch" ∷ rom ∷ script ∷ decimal n ∷ options
-        → Words.is_file rom ≡ true → Words.is_file script ≡ true → n ≤ 36000 → is_some (Words.options_in options) ≡ true → IsOk result }
+        → Words.is_file rom ≡ true → Words.is_file script ≡ true → n ≤ 36000 → Words.are_options_without_events (Words.options_in options) ≡ true → IsOk result }
+    ensures replay { (rom : List ℕ) (options : List (List ℕ)) → map (λ word. word.now) words.now ≡ codes "watch" ∷ rom ∷ options
+        → Words.is_file rom ≡ true → Words.are_options_with_events (Words.options_in options) ≡ true → IsOk result }
     ensures hunt { (rom : List ℕ) (options : List (List ℕ)) → map (λ word. word.now) words.now ≡ codes "hunt" ∷ rom ∷ options
         → Words.is_file rom ≡ true → is_some (HuntWords.hunt_options_in options) ≡ true → IsOk result }
 {
@@ -386,6 +394,9 @@ pub fn read_words<'a>(alloc: Global, words: &'a [&'a str]) -> Result<Task<'a>, E
         return Ok(task);
     }
     if let Some(task) = watch_asked(words) {
+        return Ok(task);
+    }
+    if let Some(task) = replay_asked(words) {
         return Ok(task);
     }
     if let Some(task) = hunt_asked(words) {

@@ -2,8 +2,10 @@
 //! what is in the way.
 
 use gb_console::Cert;
-use gb_page::{Extras, Facts, Outline, Sketch, facts_json, findings_page, page_of};
-use gb_refine::{Finding, InstructionFinding, Symbols};
+use gb_refine::{
+    Extras, Facts, Finding, FindingsExtras, InstructionFinding, Outline, Sketch, Symbols,
+    facts_json, findings_page, page_of,
+};
 use gb_text::Rom;
 use std::alloc::{AllocError, Global};
 use std::fmt;
@@ -217,7 +219,7 @@ pub fn report_findings<W: Write>(
     findings: &[Finding],
     symbols: &Symbols<'_>,
 ) -> io::Result<()> {
-    let page = findings_page(alloc, rom, findings, symbols, false)?;
+    let page = findings_page(alloc, rom, findings, symbols, FindingsExtras::none())?;
     let Some(Finding::Instruction(finding)) = findings.first() else {
         return Ok(());
     };

@@ -1,0 +1,5 @@
+pub mod WindowLaws
+pub mod ShadowLaws
+pub mod FittingLaws
+pub mod CoveringLaws
+pub mod ReturnedLaws

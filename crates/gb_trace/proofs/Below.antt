@@ -1,0 +1,2 @@
+-- Laws of the crates below, for those above.
+pub use Rattle.gb_witness.proofs.Below.gb_console_laws as gb_console_laws
