@@ -1,6 +1,7 @@
 //! A page on a certificate: on one that is there, or on one that is made first.
 
 use crate::compare::{changes_of, tell_verdict};
+use crate::crash::FoundCrash;
 use crate::files::{is_missing, write_file, write_whole};
 use crate::hunting::NoCertificate;
 use crate::making::{in_newest_version, is_accepted, made, refused_findings, report};

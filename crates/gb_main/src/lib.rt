@@ -92,9 +92,9 @@ pub use gb_vals::sums::{decrement, increment};
 
 // The verdict, and texts.
 pub use gb_trace::{
-    Answer, Outcome, Progress, RunOutcome, UpgradeTo, Upgraded, Verdict, check, ending_line,
-    header_bytes, header_line, run_bytes, run_script, run_script_shown, show_bytes, show_cert,
-    upgrade_bytes, verdict_ignores_version, verify_bytes,
+    Answer, Outcome, RunOutcome, UpgradeTo, Upgraded, Verdict, check, ending_line, header_bytes,
+    header_line, run_bytes, run_script, run_script_shown, show_bytes, show_cert, upgrade_bytes,
+    verdict_ignores_version, verify_bytes,
 };
 pub use gb_words::{
     HuntOption, HuntOptions, TargetVersion, Task, WatchOption, WatchOptions, read_words,
