@@ -179,7 +179,7 @@ length-where test xs = let n = length-filter test xs in let m = count_by-le-leng
 
 -- what a loop over cells takes for a cell behind the last
 abbrev pub blank : Cell
-blank = record { address = 0; val = record { lo = 0; hi = 0; origin = None } }
+blank = record { address = 0; val = record { lo = 0; hi = 0; low_bits = 0; origin = None } }
 
 -- what is left of a list has an element that passes
 left : {X : Type 0} (test : X → Bool) (xs : List X) (i : ℕ) (d : X) → i < length xs → test (get_or xs i d) ≡ true → 1 ≤ length (filter test (drop i xs))

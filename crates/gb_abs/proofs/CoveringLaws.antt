@@ -22,6 +22,7 @@ use Rattle.gb_domain.specs.declared.types.Ctl.{Ctl}
 use Rattle.gb_domain.specs.declared.types.Cell.{Cell}
 use Rattle.gb_domain.specs.declared.types.Core.{Core}
 use Rattle.gb_domain.specs.Types.{AbsState}
+use Rattle.gb_domain.proofs.ValueLaws.{has_covered}
 use Rattle.gb_abs.specs.Storage.{peek}
 use Rattle.gb_abs.specs.Meaning.{Holds, HoldsFlags, HoldsController, MeansCore, AreItems, MeansParts, IsMemory, ime_may_be}
 use Rattle.gb_abs.specs.Covering.{origin_number, covers_origin, covers_val, covers_may, covers_flags, covers_ime, covers_controller, covers_registers, covers_core, covers_items, cell_at, covers_cells, covers_parts, implied}
@@ -80,11 +81,13 @@ unfolding covers_val
 Holds-covered s t entry x h m =
     let p = and_parts _ _ h in
     let q = and_parts _ _ p.0 in
-    let lo : t.lo ≤ s.lo = leb-true _ _ q.0 in
-    let hi : s.hi ≤ t.hi = leb-true _ _ q.1 in
+    let bounds = and_parts _ _ q.0 in
+    let lo : t.lo ≤ s.lo = leb-true _ _ bounds.0 in
+    let hi : s.hi ≤ t.hi = leb-true _ _ bounds.1 in
     record {
       least = let a = m.least in omega arith;
       most = let a = m.most in omega arith;
+      low = has_covered s t x q.1 m.least m.most m.low;
       origin = λ o e. m.origin o (origin_from s.origin t.origin o p.1 e);
     }
 
@@ -188,7 +191,7 @@ abbrev pub AreCells : List Cell → MState → Storage → Type 0
 AreCells cells entry m = AllByRecursion (λ c. Holds c.val entry (peek m c.address)) cells
 
 pub Holds-any : (entry : MState) (x : ℕ) → x ≤ 255 → Holds any_val entry x
-Holds-any entry x h = record { least = omega arith; most = h; origin = λ o e. cc }
+Holds-any entry x h = record { least = omega arith; most = h; low = refl; origin = λ o e. cc }
 
 -- what is known of a byte holds of it
 pub Holds-cell : (cells : List Cell) (a : ℕ) (entry : MState) (m : Storage) → IsMemory m → AreCells cells entry m → Holds (cell_at a cells) entry (peek m a)

@@ -122,7 +122,7 @@ MeansCore-wait s entry x n m =
     }
 
 pub Holds-single : (n : ℕ) (entry : MState) → Holds (single n) entry n
-Holds-single n entry = record { least = omega arith; most = omega arith; origin = λ o e. cc }
+Holds-single n entry = record { least = omega arith; most = omega arith; low = refl; origin = λ o e. cc }
 
 -- ---- covering value by value
 
@@ -152,8 +152,8 @@ unfolding core_with_value
 MeansCore-with_value r s entry x m =
     let own = m.registers r in
     record {
-      registers = λ q. set_first (λ w y. Holds w entry y) r q (record (get r s.registers) { lo = get r x.processor.registers; hi = get r x.processor.registers })
-          s.registers x.processor.registers (record { least = omega arith; most = omega arith; origin = own.origin }) m.registers;
+      registers = λ q. set_first (λ w y. Holds w entry y) r q (record (get r s.registers) { lo = get r x.processor.registers; hi = get r x.processor.registers; low_bits = 0 })
+          s.registers x.processor.registers (record { least = omega arith; most = omega arith; low = refl; origin = own.origin }) m.registers;
       flags = m.flags;
       ie = m.ie;
       ime = m.ime;
@@ -241,7 +241,7 @@ IsCore-with_value s r n h c =
       ctl = c.ctl;
       flags = c.flags;
       ie = c.ie;
-      registers = λ q. set_one IsVal r q (record (get r s.registers) { lo = n; hi = n }) s.registers (record { order = omega arith; hi = h }) c.registers;
+      registers = λ q. set_one IsVal r q (record (get r s.registers) { lo = n; hi = n; low_bits = 0 }) s.registers (record { order = omega arith; hi = h; strided = refl }) c.registers;
     }
 
 ime_set_after-any : (i : ImeSet) → may_be_any i ≡ true → may_be_any (ime_set_after i) ≡ true

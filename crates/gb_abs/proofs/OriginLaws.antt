@@ -30,11 +30,11 @@ same_Some o p h = cc
 
 pub Holds-own : (o : Origin) (v : Val) (entry other : MState) (n : ℕ) → Holds v entry n → n ≡ origin_value o other → Holds (own o v) other n
 Holds-own o v entry other n h e =
-    record { least = h.least; most = h.most; origin = λ q is. subst (λ p. n ≡ origin_value p other) (same_Some o q is) e }
+    record { least = h.least; most = h.most; low = h.low; origin = λ q is. subst (λ p. n ≡ origin_value p other) (same_Some o q is) e }
 
 -- of what is no copy, the state at entry doesn't matter
 pub Holds-without_origin : (v : Val) (entry other : MState) (n : ℕ) → Holds v entry n → Holds (without_origin v) other n
-Holds-without_origin v entry other n h = record { least = h.least; most = h.most; origin = λ o e. cc }
+Holds-without_origin v entry other n h = record { least = h.least; most = h.most; low = h.low; origin = λ o e. cc }
 
 pub AreItems-without_origins :
     (items : List Val) (entry other : MState) (top : ℕ) (s : Storage) → AreItems items entry top s → AreItems (map without_origin items) other top s

@@ -50,6 +50,7 @@ Holds-widened v w entry n h =
     record {
       least = grind (arith, nat_tests);
       most = grind (arith, nat_tests);
+      low = refl;
       origin = λ o e. h.origin o (origin_kept v.origin w.origin (covers_origin v.origin w.origin) refl o e).0;
     }
 
@@ -60,6 +61,7 @@ Holds-widening v w entry n h =
     record {
       least = grind (arith, nat_tests);
       most = grind (arith, nat_tests);
+      low = refl;
       origin = λ o e. h.origin o (origin_kept v.origin w.origin (covers_origin v.origin w.origin) refl o e).1;
     }
 
@@ -69,7 +71,7 @@ IsVal-widened v w p q =
     let hi = p.hi in
     let order' = q.order in
     let hi' = q.hi in
-    record { order = grind (arith, nat_tests); hi = grind (arith, nat_tests) }
+    record { order = grind (arith, nat_tests); hi = grind (arith, nat_tests); strided = refl }
 
 -- ---- cells
 

@@ -40,6 +40,7 @@ widened v w =
     record {
       lo = if nat_lt w.lo v.lo then w.lo else v.lo;
       hi = if nat_lt v.hi w.hi then w.hi else v.hi;
+      low_bits = 0;
       origin = if covers_origin v.origin w.origin then w.origin else None;
     }
 

@@ -12,6 +12,7 @@ use Rattle.gb_domain.specs.declared.types.Ctl.{Ctl}
 use Rattle.gb_domain.specs.declared.types.Cell.{Cell}
 use Rattle.gb_domain.specs.declared.types.Core.{Core}
 use Rattle.gb_domain.specs.Types.{AbsState}
+use Rattle.gb_domain.specs.Values.{covers_low_bits}
 use Rattle.gb_vals.specs.Vals.{any_val}
 
 -- an origin's number in a certificate, by which two origins are compared
@@ -38,8 +39,10 @@ covers_origin from None = true
 covers_origin None (Some to) = false
 covers_origin (Some from) (Some to) = origin_number from == origin_number to
 
+-- t's bounds hold s's, what t says of low bits s says too, and s is a copy of what t is a copy of
 unfoldable pub covers_val : Val → Val → Bool
-covers_val s t = nat_le t.lo s.lo && nat_le s.hi t.hi && covers_origin s.origin t.origin
+covers_val s t =
+    nat_le t.lo s.lo && nat_le s.hi t.hi && covers_low_bits s t && covers_origin s.origin t.origin
 
 abbrev pub covers_may : May → May → Bool
 covers_may s t = implied s.set t.set && implied s.clear t.clear

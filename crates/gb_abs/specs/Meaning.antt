@@ -18,6 +18,7 @@ use Rattle.gb_domain.specs.declared.types.ImeSet.{ImeSet}
 use Rattle.gb_domain.specs.declared.types.Ctl.{Ctl}
 use Rattle.gb_domain.specs.declared.types.Core.{Core}
 use Rattle.gb_domain.specs.Types.{AbsState}
+use Rattle.gb_domain.specs.Values.{has_low_bits}
 use Rattle.gb_vals.specs.Meaning.{may_be}
 use Rattle.gb_abs.specs.Storage.{peek}
 
@@ -39,6 +40,7 @@ origin_value origin.ReturnLow s = peek s.storage s.processor.sp
 pub record Holds (v : Val) (entry : MState) (x : ℕ) : Type 0 where
   pub least : v.lo ≤ x
   pub most : x ≤ v.hi
+  pub low : has_low_bits v x ≡ true
   pub origin : (o : Origin) → v.origin ≡ Some o → x ≡ origin_value o entry
 
 pub record HoldsFlags (f : Flg) (entry : MState) (x : Flags) : Type 0 where

@@ -16,7 +16,7 @@ ime_set_after s = record { off = s.off; pending = false; on = s.pending || s.on 
 
 -- a register's bounds become one value of them; what it is a copy of and the flags stay
 unfoldable pub core_with_value : Register → ℕ → Core → Core
-core_with_value r n s = record s { registers = set r (record (get r s.registers) { lo = n; hi = n }) s.registers }
+core_with_value r n s = record s { registers = set r (record (get r s.registers) { lo = n; hi = n; low_bits = 0 }) s.registers }
 
 -- an instruction was executed: pending interrupts become on
 unfoldable pub core_settle : Core → Core

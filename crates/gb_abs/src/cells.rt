@@ -136,7 +136,12 @@ fn widened(val: Val, other: Val) -> Val
     } else {
         None
     };
-    Val { lo, hi, origin }
+    Val {
+        lo,
+        hi,
+        low_bits: 0,
+        origin,
+    }
 }
 
 fn widened_at(first: u16, last: u16, val: Val, cell: Cell) -> Cell

@@ -5,6 +5,7 @@ ghost use Rattle.gb_abs.specs.Sound.{IsPartOf};
 ghost use Rattle.gb_abs.specs.Covering.{origin_number, implied, covers_origin, covers_val, covers_may, covers_flags, covers_ime, covers_controller, covers_registers, covers_core, covers_items, cell_at, covers_cells, covers_parts};
 
 use gb_domain::types::{Abs, Cell, Core, Ctl, Flg, ImeSet, May, Origin, Val};
+use gb_domain::values::covers_low_bits;
 use gb_ops::registers::Registers;
 use gb_vals::vals::any;
 
@@ -53,7 +54,7 @@ pub fn covers_origin(from: Option<Origin>, to: Option<Origin>) -> bool
 pub fn covers_val(s: &Val, t: &Val) -> bool
     ensures { result ≡ covers_val s.now t.now }
 {
-    t.lo <= s.lo && s.hi <= t.hi && covers_origin(s.origin, t.origin)
+    t.lo <= s.lo && s.hi <= t.hi && covers_low_bits(s, t) && covers_origin(s.origin, t.origin)
 }
 
 /// Whether each value that s may have is one that t may have.

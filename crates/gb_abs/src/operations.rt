@@ -36,6 +36,7 @@ fn bounds_narrowed(register: Register, value: u8, core: &Core) -> Core
     let bounds = Val {
         lo: value,
         hi: value,
+        low_bits: 0,
         ..core.registers.get(register)
     };
     after.registers.set(register, bounds);
@@ -82,7 +83,7 @@ pub fn pass(starts: bool, cycles: u8, core: &mut Core)
 
 /// An instruction has ended, and its M-cycles pass: the bound of the OAM transfer's count falls by
 /// them, to 0 at least. Where the instruction started an OAM transfer, the bound is 161.
-#[tactic(auto, using(crate::proofs::OperationLaws::end_sound, crate::proofs::OperationLaws::end_inhabited))]
+#[tactic(auto, using(crate::proofs::OperationLaws::end_sound))]
 pub fn end(starts: bool, cycles: u8, core: &Core) -> Core
     ensures exact { result ≡ core_end starts cycles core.now }
     ensures sound { IsSoundEnd starts cycles core.now result }

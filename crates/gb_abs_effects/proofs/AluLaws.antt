@@ -73,7 +73,7 @@ Follows-alu how s entry x v y is_v h is m =
     let o = alu how a v s.flags in
     let c = alu_result how n y g in
     let gives : Gives o c = (alu_sound how a v s.flags o refl (is.registers A).hi is_v.hi).gives n y g (In-from a entry n (m.registers A)) (In-from v entry y h) (FlagsIn-from s.flags entry g m.flags) in
-    let value : Holds o.val entry c.value = record { least = gives.value.least; most = gives.value.most; origin = λ k e. alu-kept-value how a entry n y g k (m.registers A) (sym (alu_kept how a v s.flags o refl) ∙ e) } in
+    let value : Holds o.val entry c.value = record { least = gives.value.least; most = gives.value.most; low = gives.value.low; origin = λ k e. alu-kept-value how a entry n y g k (m.registers A) (sym (alu_kept how a v s.flags o refl) ∙ e) } in
     let flags : HoldsFlags o.flags entry c.flags = HoldsFlags-written o.flags entry c.flags gives.flags (alu_written how a v s.flags o refl) in
     Follows-update_a s entry x o c value flags m
 
@@ -90,7 +90,7 @@ Follows-itself how s entry x is m =
     let o = alu_itself how a s.flags in
     let c = result_with_itself how n g in
     let gives : Gives o c = (alu_itself_sound how a s.flags o refl).gives n g (In-from a entry n (m.registers A)) (FlagsIn-from s.flags entry g m.flags) in
-    let value : Holds o.val entry c.value = record { least = gives.value.least; most = gives.value.most; origin = λ k e. itself-kept-value how a entry n g k (m.registers A) (sym (alu_itself_kept how a s.flags o refl) ∙ e) } in
+    let value : Holds o.val entry c.value = record { least = gives.value.least; most = gives.value.most; low = gives.value.low; origin = λ k e. itself-kept-value how a entry n g k (m.registers A) (sym (alu_itself_kept how a s.flags o refl) ∙ e) } in
     let flags : HoldsFlags o.flags entry c.flags = HoldsFlags-written o.flags entry c.flags gives.flags (alu_itself_written how a s.flags o refl) in
     Follows-update_a s entry x o c value flags m
 
@@ -101,7 +101,7 @@ pub Follows-immediate :
     → v < 256 → IsCore s → MeansCore s entry x
     → Follows (update_a (alu how s.registers.a (single v) s.flags) s) entry x (Effects.update_a x.processor (alu_result how x.processor.registers.a v x.processor.flags))
 Follows-immediate how s entry x v small is m =
-    Follows-alu how s entry x (single v) v (record { order = omega arith; hi = small }) (Holds-single v entry) is m
+    Follows-alu how s entry x (single v) v (record { order = omega arith; hi = small; strided = refl }) (Holds-single v entry) is m
 
 pub Follows-apply_alu :
     (how : AluOp) (from : Operand) (s : Core) (entry x : MState) (low : Val) (l : ℕ)
@@ -124,7 +124,7 @@ IsAbsEffect-alu how s v h is =
     IsAbsEffect-update_a s (alu how s.registers.a v s.flags) (alu_inhabited how s.registers.a v s.flags (alu how s.registers.a v s.flags) refl (is.registers A) h is.flags) is
 
 pub IsAbsEffect-immediate : (how : AluOp) (s : Core) (v : ℕ) → v < 256 → IsCore s → IsAbsEffect (update_a (alu how s.registers.a (single v) s.flags) s)
-IsAbsEffect-immediate how s v small is = IsAbsEffect-alu how s (single v) (record { order = omega arith; hi = small }) is
+IsAbsEffect-immediate how s v small is = IsAbsEffect-alu how s (single v) (record { order = omega arith; hi = small; strided = refl }) is
 
 IsAbsEffect-itself : (how : AluOp) (s : Core) → IsCore s → IsAbsEffect (update_a (alu_itself how s.registers.a s.flags) s)
 IsAbsEffect-itself how s is =

@@ -26,7 +26,7 @@ some-is c d e = cc
 -- ---- bytes and flags
 
 pub In-from : (v : Val) (entry : MState) (n : ℕ) → Holds v entry n → In v n
-In-from v entry n h = record { least = h.least; most = h.most }
+In-from v entry n h = record { least = h.least; most = h.most; low = h.low }
 
 pub FlagsIn-from : (f : Flg) (entry : MState) (g : Flags) → HoldsFlags f entry g → FlagsIn f g
 FlagsIn-from f entry g h =
@@ -34,7 +34,7 @@ FlagsIn-from f entry g h =
 
 -- what is computed needs no origin
 pub Holds-computed : (v : Val) (entry : MState) (n : ℕ) → In v n → v.origin ≡ None → Holds v entry n
-Holds-computed v entry n m none = record { least = m.least; most = m.most; origin = λ o e. cc }
+Holds-computed v entry n m none = record { least = m.least; most = m.most; low = m.low; origin = λ o e. cc }
 
 pub HoldsFlags-written : (f : Flg) (entry : MState) (g : Flags) → FlagsIn f g → f.is_own ≡ false → HoldsFlags f entry g
 HoldsFlags-written f entry g m written =

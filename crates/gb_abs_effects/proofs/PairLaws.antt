@@ -72,7 +72,7 @@ In-raised v n small m = choose (nat_lt v.hi 255) refl
         let below : v.hi < 255 = grind (arith, nat_tests) in
         let p : v.lo ≤ n / 256 = m.least in
         let q : n / 256 ≤ v.hi = m.most in
-        record { least = omega arith; most = omega arith }
+        record { least = omega arith; most = omega arith; low = refl }
     choose false e = In-any ((n + 1) % 65536 / 256) (omega arith)
 
 In-lowered : (v : Val) (n : ℕ) → n < 65536 → In v (n / 256) → In (lowered v) ((n + 65535) % 65536 / 256)
@@ -83,7 +83,7 @@ In-lowered v n small m = choose (nat_lt 0 v.lo) refl
         let above : 0 < v.lo = grind (arith, nat_tests) in
         let p : v.lo ≤ n / 256 = m.least in
         let q : n / 256 ≤ v.hi = m.most in
-        record { least = omega arith; most = omega arith }
+        record { least = omega arith; most = omega arith; low = refl }
     choose false e = In-any ((n + 65535) % 65536 / 256) (omega arith)
 
 -- the word where the low byte moves alone
@@ -108,7 +108,7 @@ HoldsWord-moved_up w entry n small below h =
     let s : n % 256 ≤ w.low.hi = h.low.most in
     let same : (n + 1) % 65536 / 256 ≡ n / 256 = omega arith in
     let next : (n + 1) % 65536 % 256 ≡ n % 256 + 1 = omega arith in
-    HoldsWord-fresh (moved_up w) entry ((n + 1) % 65536) (record { least = omega arith; most = omega arith }) (record { least = omega arith; most = omega arith }) (record { high = refl; low = refl })
+    HoldsWord-fresh (moved_up w) entry ((n + 1) % 65536) (record { least = omega arith; most = omega arith; low = refl }) (record { least = omega arith; most = omega arith; low = refl }) (record { high = refl; low = refl })
 
 HoldsWord-moved_down : (w : Halves) (entry : MState) (n : ℕ) → n < 65536 → 0 < w.low.lo → HoldsWord w entry n → HoldsWord (moved_down w) entry ((n + 65535) % 65536)
 HoldsWord-moved_down w entry n small above h =
@@ -118,7 +118,7 @@ HoldsWord-moved_down w entry n small above h =
     let s : n % 256 ≤ w.low.hi = h.low.most in
     let same : (n + 65535) % 65536 / 256 ≡ n / 256 = omega arith in
     let less : (n + 65535) % 65536 % 256 ≡ n % 256 - 1 = omega arith in
-    HoldsWord-fresh (moved_down w) entry ((n + 65535) % 65536) (record { least = omega arith; most = omega arith }) (record { least = omega arith; most = omega arith }) (record { high = refl; low = refl })
+    HoldsWord-fresh (moved_down w) entry ((n + 65535) % 65536) (record { least = omega arith; most = omega arith; low = refl }) (record { least = omega arith; most = omega arith; low = refl }) (record { high = refl; low = refl })
 
 raised-fresh : (v : Val) → (raised v).origin ≡ None
 raised-fresh v = choose (nat_lt v.hi 255)
@@ -391,7 +391,7 @@ Holds-pushed : (f : Flg) (entry : MState) (g : Flags) → HoldsFlags f entry g �
 unfolding flags_val
 Holds-pushed f entry g h =
     let k : In (flags_val f) (flags_byte g) = flags_val_sound f (flags_val f) g refl (FlagsIn-from f entry g h) in
-    record { least = k.least; most = k.most; origin = λ o e. origins f.is_own o refl e }
+    record { least = k.least; most = k.most; low = k.low; origin = λ o e. origins f.is_own o refl e }
   where
     origins : (b : Bool) (o : Origin) → f.is_own ≡ b → own_origin b ≡ Some o → flags_byte g ≡ origin_value o entry
     origins true o own e = subst (λ k. flags_byte g ≡ origin_value k entry) (some-is origin.F o e) (ap flags_byte (h.own own))

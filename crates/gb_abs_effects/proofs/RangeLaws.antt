@@ -43,10 +43,10 @@ use Rattle.gb_abs_effects.proofs.AluLaws.{IsAbsEffect-immediate, IsAbsEffect-app
 -- ---- words
 
 any-byte : IsVal any_val
-any-byte = record { order = omega arith; hi = omega arith }
+any-byte = record { order = omega arith; hi = omega arith; strided = refl }
 
 single-byte : (n : ℕ) → n < 256 → IsVal (single n)
-single-byte n h = record { order = omega arith; hi = h }
+single-byte n h = record { order = omega arith; hi = h; strided = refl }
 
 IsWord-any : IsWord any_word
 IsWord-any = record { high = any-byte; low = any-byte }
@@ -62,14 +62,14 @@ raised-byte v h = choose (nat_lt v.hi 255) refl
     choose true e =
         let below : v.hi < 255 = grind (arith, nat_tests) in
         let p : v.lo ≤ v.hi = h.order in
-        record { order = omega arith; hi = omega arith }
+        record { order = omega arith; hi = omega arith; strided = refl }
     choose false e = any-byte
 
 lowered-byte : (v : Val) → IsVal v → IsVal (lowered v)
 lowered-byte v h = choose (nat_lt 0 v.lo)
   where
     choose : (b : Bool) → IsVal (cond b (between (v.lo - 1) v.hi) any_val)
-    choose true = let p : v.lo ≤ v.hi = h.order in record { order = omega arith; hi = h.hi }
+    choose true = let p : v.lo ≤ v.hi = h.order in record { order = omega arith; hi = h.hi; strided = refl }
     choose false = any-byte
 
 IsWord-next : (w : Halves) → IsWord w → IsWord (next_word w)
@@ -81,7 +81,7 @@ IsWord-next w h = choose (is_word_known w) (nat_lt w.low.hi 255) refl
     choose false true f =
         let below : w.low.hi < 255 = grind (arith, nat_tests) in
         let p : w.low.lo ≤ w.low.hi = h.low.order in
-        record { high = record { order = h.high.order; hi = h.high.hi }; low = record { order = omega arith; hi = omega arith } }
+        record { high = record { order = h.high.order; hi = h.high.hi; strided = refl }; low = record { order = omega arith; hi = omega arith; strided = refl } }
     choose false false f = record { high = raised-byte w.high h.high; low = any-byte }
 
 IsWord-previous : (w : Halves) → IsWord w → IsWord (previous_word w)
@@ -93,7 +93,7 @@ IsWord-previous w h = choose (is_word_known w) (nat_lt 0 w.low.lo)
     choose false true =
         let p : w.low.lo ≤ w.low.hi = h.low.order in
         let q : w.low.hi < 256 = h.low.hi in
-        record { high = record { order = h.high.order; hi = h.high.hi }; low = record { order = omega arith; hi = omega arith } }
+        record { high = record { order = h.high.order; hi = h.high.hi; strided = refl }; low = record { order = omega arith; hi = omega arith; strided = refl } }
     choose false false = record { high = lowered-byte w.high h.high; low = any-byte }
 
 IsWord-sum : (v w : Halves) → IsWord (word_sum v w)

@@ -120,7 +120,7 @@ indirect_span-last indirect.HlDecrement s is = hl_span-last s is
 
 pub high_span-last : (s : Core) → IsCore s → (high_span s).last < 65536
 unfolding high_span
-high_span-last s is = pair_span-last (single 0xFF) s.registers.c (record { order = omega arith; hi = omega arith }) (is.registers C)
+high_span-last s is = pair_span-last (single 0xFF) s.registers.c (record { order = omega arith; hi = omega arith; strided = refl }) (is.registers C)
 
 pub high-last : (b : ℕ) → b < 256 → 0xFF00 + b < 65536
 high-last b h = omega arith

@@ -10,7 +10,7 @@ use Rattle.gb_ops.specs.Cartridge.{at_least_one, kind_after, mbc1_after, mbc3_af
 use Rattle.gb_domain.specs.declared.types.Val.{Val}
 use Rattle.gb_domain.specs.declared.types.Ctl.{Ctl}
 use Rattle.gb_domain.specs.Rules.{IsVal, IsCtl}
-use Rattle.gb_abs.specs.Below.gb_vals.Meaning.{In}
+use Rattle.gb_abs.specs.Below.gb_vals.Meaning.{InBounds}
 use Rattle.gb_abs_memory.specs.declared.windows.ControllerRegister.{ControllerRegister}
 use Rattle.gb_abs_memory.specs.declared.windows.ControllerRegister.TheVariants as register
 use Rattle.gb_abs_memory.specs.declared.windows.Window.{Window}
@@ -208,7 +208,7 @@ IsInWindow-window_of k s w a h i =
 
 -- a store of a byte to an address of a window
 pub window-sound :
-    (k : Kind) (w : Window) (a n : ℕ) (v : Val) (c : Ctl) (old : Banks) → IsInWindow k w a → InCtl c old → In v n → n ≤ 255
+    (k : Kind) (w : Window) (a n : ℕ) (v : Val) (c : Ctl) (old : Banks) → IsInWindow k w a → InCtl c old → InBounds v n → n ≤ 255
     → InCtl (after_window k w.register v c) (kind_after k old a n)
 window-sound k w a n v c old at m i byte = (right_in k w at.is_window).sound a n v c old at.first at.last m i byte
 

@@ -143,7 +143,7 @@ answer_byte mapped.Transfer m a free ram ie rom byte = byte
 answer_byte mapped.Hardware m a free ram ie rom byte = byte
 
 any_holds : (entry : MState) (n : ℕ) → n ≤ 255 → Holds any_val entry n
-any_holds entry n h = record { least = omega arith; most = h; origin = λ o e. cc }
+any_holds entry n h = record { least = omega arith; most = h; low = refl; origin = λ o e. cc }
 
 -- IE is a byte
 ie_byte : (s : AbsState) (entry : MState) (base : ℕ) (x : MState) → MeansParts s entry base x → IsVal s.core.ie → x.storage.ie ≤ 255
@@ -282,10 +282,10 @@ joined-old : (v : Val) (n k : ℕ) (entry : MState) → Holds v entry k → Hold
 joined-old v n k entry h =
     let least = h.least in
     let most = h.most in
-    record { least = grind (arith, nat_tests); most = grind (arith, nat_tests); origin = λ o e. cc }
+    record { least = grind (arith, nat_tests); most = grind (arith, nat_tests); low = refl; origin = λ o e. cc }
 
 joined-new : (v : Val) (n : ℕ) (entry : MState) → Holds (joined v n) entry n
-joined-new v n entry = record { least = grind (arith, nat_tests); most = grind (arith, nat_tests); origin = λ o e. cc }
+joined-new v n entry = record { least = grind (arith, nat_tests); most = grind (arith, nat_tests); low = refl; origin = λ o e. cc }
 
 -- bytes of a bank
 Holds-table : (rom : List ℕ) (bank a more k : ℕ) (entry : MState) → k ≤ more → Holds (table rom bank a more) entry (rom_byte rom bank (a + k))
@@ -393,13 +393,13 @@ IsSoundLoad-loaded_val z rom s span ram limited =
 -- ---- a load gives a value
 
 IsVal-any : IsVal any_val
-IsVal-any = record { order = omega arith; hi = omega arith }
+IsVal-any = record { order = omega arith; hi = omega arith; strided = refl }
 
 IsVal-rom : (rom : List ℕ) (a : ℕ) (o : Option ℕ) → ((i : ℕ) → slice_index rom i ≤ 255) → IsVal (rom_val rom a o)
 IsVal-rom rom a None bytes = IsVal-any
 IsVal-rom rom a (Some bank) bytes =
     let byte : rom_byte rom bank a ≤ 255 = bytes _ in
-    record { order = omega arith; hi = omega arith }
+    record { order = omega arith; hi = omega arith; strided = refl }
 
 pub IsVal-cell : (cells : List Cell) (a : ℕ) → AreVals cells → IsVal (cell_at a cells)
 IsVal-cell [] a h = IsVal-any
@@ -456,7 +456,7 @@ IsVal-joined : (v : Val) (n : ℕ) → IsVal v → n ≤ 255 → IsVal (joined v
 IsVal-joined v n q h =
     let order = q.order in
     let hi = q.hi in
-    record { order = grind (arith, nat_tests); hi = grind (arith, nat_tests) }
+    record { order = grind (arith, nat_tests); hi = grind (arith, nat_tests); strided = refl }
 
 IsVal-table : (rom : List ℕ) (bank a more : ℕ) → ((i : ℕ) → slice_index rom i ≤ 255) → IsVal (table rom bank a more)
 IsVal-table rom bank a zero bytes = IsVal-rom rom a (Some bank) bytes

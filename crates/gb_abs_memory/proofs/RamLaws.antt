@@ -63,7 +63,7 @@ Holds-wider : (v w : Val) (entry : MState) (n : ℕ) → Holds v entry n → Hol
 Holds-wider v w entry n h =
     let least = h.least in
     let most = h.most in
-    record { least = grind (arith, nat_tests); most = grind (arith, nat_tests); origin = λ o e. h.origin o (kept o (covers_origin v.origin w.origin) refl e) }
+    record { least = grind (arith, nat_tests); most = grind (arith, nat_tests); low = refl; origin = λ o e. h.origin o (kept o (covers_origin v.origin w.origin) refl e) }
   where
     kept : (o : Origin) (b : Bool) → covers_origin v.origin w.origin ≡ b → cond b w.origin None ≡ Some o → v.origin ≡ Some o
     kept o true covers e = origin_from v.origin w.origin o covers e

@@ -9,7 +9,7 @@ use Rattle.gb_domain.specs.declared.types.Val.{Val}
 use Rattle.gb_domain.specs.declared.types.May.{May}
 use Rattle.gb_domain.specs.declared.types.Ctl.{Ctl}
 use Rattle.gb_domain.specs.Rules.{IsVal, IsCtl, has_value}
-use Rattle.gb_abs.specs.Below.gb_vals.Meaning.{In, may_be}
+use Rattle.gb_abs.specs.Below.gb_vals.Meaning.{InBounds, may_be}
 use Rattle.gb_abs.proofs.Below.gb_vals_laws.MeaningLaws.{may_be-by}
 use Rattle.gb_abs_memory.specs.declared.windows.ControllerRegister.{ControllerRegister}
 use Rattle.gb_abs_memory.specs.declared.windows.ControllerRegister.TheVariants as register
@@ -19,21 +19,21 @@ use Rattle.gb_abs_memory.proofs.CutLaws.{cut_holds, cut_least-reached, cut_most-
 
 -- ---- the gate and the mode
 
-pub gate_holds : (v : Val) (n : ℕ) → In v n → may_be (gate_after v) (n % 16 == 10) ≡ true
+pub gate_holds : (v : Val) (n : ℕ) → InBounds v n → may_be (gate_after v) (n % 16 == 10) ≡ true
 unfolding has_rest has_other_rest
 gate_holds v n m = may_be-by (gate_after v) (n % 16 == 10) (λ e. grind (arith, nat_tests)) (λ e. grind (arith, nat_tests))
 
-pub mode_holds : (v : Val) (n : ℕ) → In v n → may_be (mode_after v) (n % 2 == 1) ≡ true
+pub mode_holds : (v : Val) (n : ℕ) → InBounds v n → may_be (mode_after v) (n % 2 == 1) ≡ true
 unfolding has_rest
 mode_holds v n m = may_be-by (mode_after v) (n % 2 == 1) (λ e. grind (arith, nat_tests)) (λ e. grind (arith, nat_tests))
 
 -- some byte gives a bit
 pub record Gives (g : ℕ → Bool) (v : Val) (b : Bool) : Type 0 where
   pub byte : ℕ
-  pub stored : In v byte
+  pub stored : InBounds v byte
   pub is : g byte ≡ b
 
-with_rest : (n r : ℕ) (v : Val) → has_rest n r v ≡ true → In v (v.lo + (n + r - v.lo % n) % n)
+with_rest : (n r : ℕ) (v : Val) → has_rest n r v ≡ true → InBounds v (v.lo + (n + r - v.lo % n) % n)
 unfolding has_rest
 with_rest n r v h = record { least = omega arith; most = grind (arith, nat_tests) }
 
@@ -66,9 +66,9 @@ write_bank g r n = record r { bank = g r.bank n }
 
 -- a write leaves registers within the bounds and sets
 pub record IsSound (write : Banks → ℕ → Banks) (v : Val) (c after : Ctl) : Type 0 where
-  pub gives : (n : ℕ) (old : Banks) → InCtl c old → In v n → n ≤ 255 → InCtl after (write old n)
+  pub gives : (n : ℕ) (old : Banks) → InCtl c old → InBounds v n → n ≤ 255 → InCtl after (write old n)
 
-pub gate_sound : (g : ℕ → Bool) (m : May) (v : Val) (c : Ctl) → ((n : ℕ) → In v n → may_be m (g n) ≡ true) → IsSound (write_gate g) v c (record c { gate = m; is_kept = false })
+pub gate_sound : (g : ℕ → Bool) (m : May) (v : Val) (c : Ctl) → ((n : ℕ) → InBounds v n → may_be m (g n) ≡ true) → IsSound (write_gate g) v c (record c { gate = m; is_kept = false })
 gate_sound g m v c h = record {
   gives = λ n old w i byte. record {
     bank_least = w.bank_least;
@@ -80,7 +80,7 @@ gate_sound g m v c h = record {
   };
 }
 
-pub mode_sound : (g : ℕ → Bool) (m : May) (v : Val) (c : Ctl) → ((n : ℕ) → In v n → may_be m (g n) ≡ true) → IsSound (write_mode g) v c (record c { mode = m; is_kept = false })
+pub mode_sound : (g : ℕ → Bool) (m : May) (v : Val) (c : Ctl) → ((n : ℕ) → InBounds v n → may_be m (g n) ≡ true) → IsSound (write_mode g) v c (record c { mode = m; is_kept = false })
 mode_sound g m v c h = record {
   gives = λ n old w i byte. record {
     bank_least = w.bank_least;
@@ -93,7 +93,7 @@ mode_sound g m v c h = record {
 }
 
 second_sound :
-    (g : ℕ → ℕ) (lo hi : ℕ) (v : Val) (c : Ctl) → ((n : ℕ) → In v n → n ≤ 255 → (lo ≤ g n) × (g n ≤ hi))
+    (g : ℕ → ℕ) (lo hi : ℕ) (v : Val) (c : Ctl) → ((n : ℕ) → InBounds v n → n ≤ 255 → (lo ≤ g n) × (g n ≤ hi))
     → IsSound (write_second g) v c (record c { second_lo = lo; second_hi = hi; is_kept = false })
 second_sound g lo hi v c h = record {
   gives = λ n old w i byte. record {
@@ -107,7 +107,7 @@ second_sound g lo hi v c h = record {
 }
 
 bank_sound :
-    (g : ℕ → ℕ → ℕ) (lo hi : ℕ) (v : Val) (c : Ctl) → ((b n : ℕ) → c.bank_lo ≤ b → b ≤ c.bank_hi → In v n → (lo ≤ g b n) × (g b n ≤ hi))
+    (g : ℕ → ℕ → ℕ) (lo hi : ℕ) (v : Val) (c : Ctl) → ((b n : ℕ) → c.bank_lo ≤ b → b ≤ c.bank_hi → InBounds v n → (lo ≤ g b n) × (g b n ≤ hi))
     → IsSound (write_bank g) v c (record c { bank_lo = lo; bank_hi = hi; is_kept = false })
 bank_sound g lo hi v c h = record {
   gives = λ n old w i byte. record {
@@ -204,7 +204,7 @@ within c q =
       mode = λ b h. set_mode c (some_banks c) b some h;
     }
 
-pub least_in : (v : Val) → IsVal v → In v v.lo
+pub least_in : (v : Val) → IsVal v → InBounds v v.lo
 least_in v q = record { least = omega arith; most = q.order }
 
 pub gate_least :
@@ -242,7 +242,7 @@ mode_least g m v c q k h =
 -- some byte gives a number
 pub record Comes (g : ℕ → ℕ) (v : Val) (x : ℕ) : Type 0 where
   pub byte : ℕ
-  pub stored : In v byte
+  pub stored : InBounds v byte
   pub is : g byte ≡ x
 
 second_least :
@@ -267,7 +267,7 @@ pub record ComesOf (g : ℕ → ℕ → ℕ) (c : Ctl) (v : Val) (x : ℕ) : Typ
   pub least : c.bank_lo ≤ bank
   pub most : bank ≤ c.bank_hi
   pub byte : ℕ
-  pub stored : In v byte
+  pub stored : InBounds v byte
   pub is : g bank byte ≡ x
 
 bank_least :
@@ -299,7 +299,7 @@ after_window k (Some r) v c = ctl_after k r v c
 
 -- a store to a window leaves registers within the bounds, and no smaller ones hold them
 pub record IsRight (k : Kind) (w : Window) : Type 0 where
-  pub sound : (a n : ℕ) (v : Val) (c : Ctl) (old : Banks) → w.first ≤ a → a ≤ w.last → InCtl c old → In v n → n ≤ 255 → InCtl (after_window k w.register v c) (kind_after k old a n)
+  pub sound : (a n : ℕ) (v : Val) (c : Ctl) (old : Banks) → w.first ≤ a → a ≤ w.last → InCtl c old → InBounds v n → n ≤ 255 → InCtl (after_window k w.register v c) (kind_after k old a n)
   pub least : (a : ℕ) (v : Val) (c : Ctl) → w.first ≤ a → a ≤ w.last → IsVal v → IsCtl c → IsLeast (λ old n. kind_after k old a n) v c (after_window k w.register v c)
 
 leads_as :

@@ -101,7 +101,7 @@ is_table span = nat_le span.first span.last && (is_inside 0x0000 0x3FFF span || 
 
 -- the least interval that holds another one and a byte
 abbrev pub joined : Val → ℕ → Val
-joined v n = record { lo = if nat_lt n v.lo then n else v.lo; hi = if nat_lt v.hi n then n else v.hi; origin = None }
+joined v n = record { lo = if nat_lt n v.lo then n else v.lo; hi = if nat_lt v.hi n then n else v.hi; low_bits = 0; origin = None }
 
 -- the least interval that holds a byte of a bank, and so many behind it
 abbrev pub table : List ℕ → ℕ → ℕ → ℕ → Val

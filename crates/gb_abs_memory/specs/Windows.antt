@@ -8,7 +8,7 @@ use Rattle.gb_ops.specs.Cartridge.{at_least_one, kind_after}
 use Rattle.gb_domain.specs.declared.types.Val.{Val}
 use Rattle.gb_domain.specs.declared.types.May.{May}
 use Rattle.gb_domain.specs.declared.types.Ctl.{Ctl}
-use Rattle.gb_abs.specs.Below.gb_vals.Meaning.{In, may_be}
+use Rattle.gb_abs.specs.Below.gb_vals.Meaning.{InBounds, may_be}
 use Rattle.gb_abs.specs.declared.span.Span.{Span}
 use Rattle.gb_abs.specs.Span.{is_inside}
 use Rattle.gb_abs_memory.specs.declared.windows.ControllerRegister.{ControllerRegister}
@@ -125,16 +125,16 @@ pub record IsAddressOf (k : Kind) (r : ControllerRegister) (a : ℕ) : Type 0 wh
   pub first : window.first ≤ a
   pub last : a ≤ window.last
 
--- whatever the registers are and whichever byte is stored, they are within the result
+-- whatever the registers are and whichever byte within the bounds is stored, they are within the result
 pub record IsSoundWrite (k : Kind) (r : ControllerRegister) (v : Val) (c after : Ctl) : Type 0 where
-  pub gives : (a n : ℕ) (old : Banks) → IsAddressOf k r a → InCtl c old → In v n → n ≤ 255 → InCtl after (kind_after k old a n)
+  pub gives : (a n : ℕ) (old : Banks) → IsAddressOf k r a → InCtl c old → InBounds v n → n ≤ 255 → InCtl after (kind_after k old a n)
 
--- some registers and some byte lead to registers with a property
+-- some registers and some byte within the bounds lead to registers with a property
 pub record Leads (write : Banks → ℕ → Banks) (v : Val) (c : Ctl) (P : Banks → Type 0) : Type 0 where
   pub old : Banks
   pub byte : ℕ
   pub within : InCtl c old
-  pub stored : In v byte
+  pub stored : InBounds v byte
   pub after : P (write old byte)
 
 -- each end of the bounds, and each member of the sets, comes from some registers and some byte

@@ -99,6 +99,7 @@ fn joined(val: Val, byte: u8) -> Val
     Val {
         lo,
         hi,
+        low_bits: 0,
         origin: None,
     }
 }

@@ -8,8 +8,8 @@ use Rattle.gb_ops.specs.declared.op.Register.TheVariants.{A, B, C, D, E, H, L}
 use Rattle.gb_ops.specs.declared.registers.Registers.{Registers}
 use Rattle.gb_ops.specs.Registers.{get}
 use Rattle.gb_domain.specs.declared.pairs.Bounds.{Bounds}
-use Rattle.gb_low_bits.specs.declared.interval.StridedInterval.{StridedInterval}
-use Rattle.gb_low_bits.specs.Meaning.{In}
+use Rattle.gb_domain.specs.declared.interval.StridedInterval.{StridedInterval}
+use Rattle.gb_domain.specs.Meaning.{In}
 use Rattle.gb_copies.specs.Places.{is_address}
 use Rattle.gb_copies.proofs.RegisterLaws.{not_so}
 use Rattle.gb_bank_shadows.specs.declared.windows.BankWindow.{BankWindow}

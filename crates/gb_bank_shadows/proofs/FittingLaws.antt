@@ -10,14 +10,14 @@ use Rattle.gb_ops.specs.declared.machine.Kind.{Kind}
 use Rattle.gb_ops.specs.declared.machine.Kind.TheVariants as kind
 use Rattle.gb_ops.specs.Cartridge.{at_least_one}
 use Rattle.gb_domain.specs.declared.pairs.Bounds.{Bounds}
-use Rattle.gb_low_bits.specs.declared.interval.StridedInterval.{StridedInterval}
-use Rattle.gb_low_bits.specs.declared.low_bits.LowBits.{LowBits}
-use Rattle.gb_low_bits.specs.LowBits.{modulus, low_bits}
-use Rattle.gb_low_bits.specs.Interval.{least, greatest, strided, with_low_bits, low_bits_of, agree, more, cut}
-use Rattle.gb_low_bits.specs.Meaning.{In, InSome, IsWithin, AreIn}
-use Rattle.gb_low_bits.proofs.ModulusLaws.{Has-low_bits, low_bits-Has}
-use Rattle.gb_low_bits.proofs.IntervalLaws.{least-has, least-above, with_low_bits_leaves, cut_leaves}
-use Rattle.gb_low_bits.proofs.LowBitsLaws.{below, at_most}
+use Rattle.gb_domain.specs.declared.interval.StridedInterval.{StridedInterval}
+use Rattle.gb_domain.specs.declared.low_bits.LowBits.{LowBits}
+use Rattle.gb_domain.specs.LowBits.{modulus, low_bits}
+use Rattle.gb_domain.specs.Interval.{least, greatest, strided, with_low_bits, low_bits_of, agree, more, cut}
+use Rattle.gb_domain.specs.Meaning.{In, InSome, IsWithin, AreIn}
+use Rattle.gb_domain.proofs.ModulusLaws.{Has-low_bits, low_bits-Has}
+use Rattle.gb_domain.proofs.IntervalLaws.{least-has, least-above, with_low_bits_leaves, cut_leaves}
+use Rattle.gb_domain.proofs.LowBitsLaws.{below, at_most}
 use Rattle.gb_copies.specs.Sides.{least_from, greatest_from}
 use Rattle.gb_copies.proofs.LeastLaws.{IsAtMost, least_from-at_most, IsReached, greatest_from-reached, IsFoundIn, greatest_from-found}
 use Rattle.gb_bank_shadows.specs.declared.windows.BankWindow.{BankWindow}

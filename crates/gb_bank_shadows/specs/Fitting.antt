@@ -4,10 +4,10 @@ use Rattle.std.specs.List.{AllByRecursion, list_all}
 use Rattle.gb_ops.specs.declared.machine.Banks.{Banks}
 use Rattle.gb_ops.specs.declared.machine.Kind.{Kind}
 use Rattle.gb_domain.specs.declared.pairs.Bounds.{Bounds}
-use Rattle.gb_low_bits.specs.declared.interval.StridedInterval.{StridedInterval}
-use Rattle.gb_low_bits.specs.LowBits.{low_bits}
-use Rattle.gb_low_bits.specs.Interval.{with_low_bits, cut}
-use Rattle.gb_low_bits.specs.Meaning.{In}
+use Rattle.gb_domain.specs.declared.interval.StridedInterval.{StridedInterval}
+use Rattle.gb_domain.specs.LowBits.{low_bits}
+use Rattle.gb_domain.specs.Interval.{with_low_bits, cut}
+use Rattle.gb_domain.specs.Meaning.{In}
 use Rattle.gb_copies.specs.Sides.{least_from, greatest_from}
 use Rattle.gb_bank_shadows.specs.declared.windows.BankWindow.{BankWindow}
 use Rattle.gb_bank_shadows.specs.Windows.{has_windows, register_of, register_bits, counts_from_one, left_by}

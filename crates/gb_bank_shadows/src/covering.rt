@@ -5,8 +5,8 @@ ghost use Rattle.gb_bank_shadows.specs.Covering as Covering;
 
 use crate::shadows::Shadows;
 use crate::windows::{BankWindow, left_by};
+use gb_domain::StridedInterval;
 use gb_domain::pairs::Bounds;
-use gb_low_bits::StridedInterval;
 use gb_ops::machine::Kind;
 use gb_ops::op::Register;
 use gb_ops::registers::Registers;

@@ -5,10 +5,10 @@ ghost use Rattle.gb_copies.specs.Sides.{least_from, greatest_from};
 ghost use Rattle.gb_bank_shadows.specs.Fitting as Fitting;
 
 use crate::windows::{BankWindow, counts_from_one, register_bits};
+use gb_domain::StridedInterval;
+use gb_domain::interval::{cut, with_low_bits};
+use gb_domain::low_bits::low_bits;
 use gb_domain::pairs::Bounds;
-use gb_low_bits::StridedInterval;
-use gb_low_bits::interval::{cut, with_low_bits};
-use gb_low_bits::low_bits::low_bits;
 use gb_ops::machine::Kind;
 
 fn is_some_in(values: StridedInterval, wanted: Option<StridedInterval>) -> bool

@@ -33,6 +33,7 @@ pub(crate) const BASE: u16 = 0xE000;
 pub(crate) const ANY: Val = Val {
     lo: 0,
     hi: 255,
+    low_bits: 0,
     origin: None,
 };
 
@@ -212,6 +213,7 @@ fn single_states(alloc: Global, start: Core) -> Result<Vec<Abs>, AllocError> {
         let l = Val {
             lo: value,
             hi: value,
+            low_bits: 0,
             origin: None,
         };
         states.push(Abs::new(wide(start, l)))?;

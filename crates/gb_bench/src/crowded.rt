@@ -41,6 +41,7 @@ fn known(byte: u8) -> Val {
     Val {
         lo: byte,
         hi: byte,
+        low_bits: 0,
         origin: None,
     }
 }

@@ -9,13 +9,13 @@ use Rattle.gb_cert.specs.Below.gb_states.Reading.{origin_of}
 use Rattle.gb_cert.specs.Below.gb_states.Checked.{listed_items}
 use Rattle.gb_cert.specs.Below.gb_states.Spelling as spelled
 use Rattle.gb_cert.proofs.Below.gb_states_laws.ListedLaws.{no_items, items_front}
-use Rattle.gb_cert.proofs.CheckedLaws.{items_listed, cells_long}
+use Rattle.gb_cert.proofs.CheckedLaws.{cells_long}
 use Rattle.gb_product.specs.Below.gb_abs.Covering.{covers_val, covers_items, covers_cells}
 use Rattle.gb_product.specs.Below.gb_abs.Origins.{without_origin}
 use Rattle.gb_calls.specs.TakenOver.{returning}
 
 -- of three items and more the first is no copy
-pub returning_front : (xs : List Val) (x : Val) → 3 ≤ length xs → x ≡ without_origin (slice_index_or xs 0 (record { lo = 0; hi = 0; origin = None }))
+pub returning_front : (xs : List Val) (x : Val) → 3 ≤ length xs → x ≡ without_origin (slice_index_or xs 0 (record { lo = 0; hi = 0; low_bits = 0; origin = None }))
     → returning xs ≡ x ∷ returning (take (length xs - 1) (drop 1 xs))
 returning_front [] x h is = absurd (omega arith)
 returning_front (a ∷ []) x h is = absurd (omega arith)
@@ -28,10 +28,10 @@ returning_front (a ∷ b ∷ c ∷ rest) x h is =
 -- ---- covered in bytes
 
 abbrev first_of : List Val → Val
-first_of s = slice_index_or s 0 (record { lo = 0; hi = 0; origin = None })
+first_of s = slice_index_or s 0 (record { lo = 0; hi = 0; low_bits = 0; origin = None })
 
 abbrev first_in : List ℕ → Val
-first_in bytes = record { lo = slice_index bytes 0; hi = slice_index bytes 1; origin = origin_of (slice_index bytes 2) }
+first_in bytes = record { lo = slice_index bytes 0; hi = slice_index bytes 1; low_bits = 0; origin = origin_of (slice_index bytes 2) }
 
 abbrev rest_in : List ℕ → List Val
 rest_in bytes = listed_items (take (length bytes - 3) (drop 3 bytes))
@@ -70,11 +70,11 @@ and_true true = refl
 and_true false = refl
 
 -- where no cells are claimed, items alone are asked for
-pub listed_alone : (us vs ws : List Val) (cs ds : List Cell) (items cells : List ℕ) (r : Bool) → us ≡ vs → items ≡ flat_map spelled.val ws → cells ≡ flat_map spelled.cell ds
+pub listed_alone : (us vs ws : List Val) (cs ds : List Cell) (items cells : List ℕ) (r : Bool) → us ≡ vs → listed_items items ≡ ws → cells ≡ flat_map spelled.cell ds
     → (length cells == 0) ≡ true → r ≡ covers_items us (listed_items items) → r ≡ (covers_items vs ws && covers_cells cs ds)
 unfolding covers_cells
 listed_alone us vs ws cs [] items cells r same is are none e =
-    e ∙ (ap (λ (xs : List Val). covers_items xs (listed_items items)) same ∙ (ap (covers_items vs) (items_listed ws items is) ∙ and_true (covers_items vs ws)))
+    e ∙ (ap (λ (xs : List Val). covers_items xs (listed_items items)) same ∙ (ap (covers_items vs) is ∙ and_true (covers_items vs ws)))
 listed_alone us vs ws cs (d ∷ ds) items cells r same is are none e =
     let long = cells_long (d ∷ ds) cells are in
     let zero : length cells ≡ 0 = eqb-true (length cells) 0 none in

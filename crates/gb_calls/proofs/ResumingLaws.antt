@@ -348,6 +348,7 @@ Means-with_values s v entry base x cuts holds m =
           registers = λ r. record {
             least = (holds.registers r).least;
             most = (holds.registers r).most;
+            low = (holds.registers r).low;
             origin = λ o is. (m.parts.core.registers r).origin o (sym (cuts.origin r) ∙ is);
           };
           flags = m.parts.core.flags;
@@ -380,7 +381,7 @@ Means-reduced s entry base x sound bytes m =
 
     holds : HoldsValues v x.processor.registers
     holds = record {
-      registers = λ r. record { least = (m.parts.core.registers r).least; most = (m.parts.core.registers r).most };
+      registers = λ r. record { least = (m.parts.core.registers r).least; most = (m.parts.core.registers r).most; low = (m.parts.core.registers r).low };
       pairs = m.related.pairs;
     }
 

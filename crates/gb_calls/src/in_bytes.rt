@@ -44,7 +44,7 @@ fn covers_registers_in(s: &Registers<Val>, bytes: &[u8]) -> bool
 #[inline(always)]
 #[tactic(auto, unfolding(crate::specs::Opened::covers_val))]
 fn covers_val_of(s: &Val, lo: u8, hi: u8, number: u8) -> bool
-    ensures { result ≡ Covering.covers_val s.now (record { lo = lo; hi = hi; origin = origin_of number }) }
+    ensures { result ≡ Covering.covers_val s.now (record { lo = lo; hi = hi; low_bits = 0; origin = origin_of number }) }
 {
     lo <= s.lo && s.hi <= hi && covers_origin(s.origin, origin_of(number))
 }

@@ -1,6 +1,6 @@
 -- What is read again is what was checked.
-use Rattle.std.proofs.Common.{◌≡◌, ℕ, suc, ◌+◌, ◌*◌, ◌/◌, ◌%◌, ◌≤◌, Bool, true, ◌==◌, List, [], ◌∷◌, ◌++◌, length, drop, Option, Some, None, refl, sym, ap, ◌∙◌, append_assoc, length-append, arith}
-use Rattle.std.specs.List.{flat_map}
+use Rattle.std.proofs.Common.{◌≡◌, ℕ, suc, ◌+◌, ◌*◌, ◌/◌, ◌%◌, ◌≤◌, Bool, true, ◌&&◌, ◌==◌, List, [], ◌∷◌, ◌++◌, length, drop, Option, Some, None, refl, sym, ap, ◌∙◌, append_assoc, length-append, arith}
+use Rattle.std.specs.List.{flat_map, list_all}
 use Rattle.std.proofs.lemmas.Bool.{eqb-true}
 use Rattle.std.proofs.lemmas.List.Concat.{flat_map-cons}
 use Rattle.gb_ops.specs.declared.machine.Region.{Region}
@@ -24,7 +24,7 @@ use Rattle.gb_domain.specs.declared.rules.Rules.TheVariants.{Simple, Extended}
 use Rattle.gb_domain.specs.declared.relations.Relations.{Relations}
 use Rattle.gb_domain.specs.RelationRules.{has_place, compared, test_alone, IsRelations}
 use Rattle.gb_states.specs.Below.gb_fields.Limits.{unit}
-use Rattle.gb_states.specs.Rules.{is_whole, may_be_known}
+use Rattle.gb_states.specs.Rules.{is_whole, may_be_known, may_be_of, is_sayable, are_sayable, is_core_sayable, is_cell_sayable, is_state_sayable, IsState}
 use Rattle.gb_states.specs.RelationSpelling as told
 use Rattle.gb_states.specs.Checked.{flg_in, core_in, test_in, begins_with_zero, begins_with_zeros, are_none, listed_items, listed_cells}
 use Rattle.gb_states.proofs.RelationLaws.{is-alone, nothing-told}
@@ -34,14 +34,17 @@ use Rattle.gb_cert.proofs.Lending.{core-long, vals-long, cell-long, lists-behind
 word-again : (w : ℕ) → w % 256 + 256 * (w / 256) ≡ w
 word-again w = omega arith
 
-make_val : (lo hi : ℕ) (o p : Option Origin) → o ≡ p → (let v : Val = record { lo = lo; hi = hi; origin = o } in v) ≡ record { lo = lo; hi = hi; origin = p }
-make_val lo hi o p e = rw e refl
+make_val : (lo hi n : ℕ) (o p : Option Origin) → n ≡ 0 → o ≡ p → (let v : Val = record { lo = lo; hi = hi; low_bits = 0; origin = o } in v) ≡ record { lo = lo; hi = hi; low_bits = n; origin = p }
+make_val lo hi n o p z e = rw (z, e) refl
 
 abbrev again : Val → Val
-again v = record { lo = v.lo; hi = v.hi; origin = origin_of (spelled.origin_number v.origin) }
+again v = record { lo = v.lo; hi = v.hi; low_bits = 0; origin = origin_of (spelled.origin_number v.origin) }
 
-val-again : (v : Val) → again v ≡ v
-val-again v = make_val v.lo v.hi _ v.origin (origin_of-number v.origin)
+-- what can be said knows no low bits
+val-again : (rules : Rules) (v : Val) → is_sayable rules v ≡ true → again v ≡ v
+val-again rules v h =
+    let none : v.low_bits ≡ 0 = same v.low_bits 0 (and_both (may_be_of rules v.origin) (v.low_bits == 0) h).1 in
+    make_val v.lo v.hi v.low_bits _ v.origin none (origin_of-number v.origin)
 
 make_ctl : (a a2 b b2 c d : ℕ) (g g2 m m2 : May) (k k2 : Bool) → a ≡ a2 → b ≡ b2 → g ≡ g2 → m ≡ m2 → k ≡ k2
     → (let x : Ctl = record { bank_lo = a; bank_hi = b; second_lo = c; second_hi = d; gate = g; mode = m; is_kept = k } in x) ≡ record { bank_lo = a2; bank_hi = b2; second_lo = c; second_hi = d; gate = g2; mode = m2; is_kept = k2 }
@@ -65,16 +68,30 @@ make_core : (i i2 : ImeSet) (b : ℕ) (s s2 : Bool) (k k2 : Ctl) (f f2 : Flg) (v
     → (let x : Core = record { ime = i; bound = b; stack_set = s; ctl = k; flags = f; ie = v; registers = r } in x) ≡ record { ime = i2; bound = b; stack_set = s2; ctl = k2; flags = f2; ie = v2; registers = r2 }
 make_core i i2 b s s2 k k2 f f2 v v2 r r2 ei es ek ef ev er = rw (ei, es, ek, ef, ev, er) refl
 
-core-again : (c : Core) (t : Option ℕ) (rest : List ℕ) → core_in (spelled.core c t ++ rest) ≡ c
+core-again : (rules : Rules) (c : Core) (t : Option ℕ) (rest : List ℕ) → is_core_sayable rules c ≡ true → core_in (spelled.core c t ++ rest) ≡ c
 unfolding spelled.core spelled.ctl spelled.flg spelled.val spelled.vals
-core-again c t rest = by t
+core-again rules c t rest sayable = by t
   where
+    parts : (is_sayable rules c.ie ≡ true) × (are_sayable rules c.registers ≡ true)
+    parts = and_both (is_sayable rules c.ie) (are_sayable rules c.registers) sayable
+
+    ie : again c.ie ≡ c.ie
+    ie = val-again rules c.ie parts.0
+
     vals : (let r : Registers Val = record { a = again c.registers.a; b = again c.registers.b; c = again c.registers.c; d = again c.registers.d; e = again c.registers.e; h = again c.registers.h; l = again c.registers.l } in r) ≡ c.registers
-    vals = make_vals _ _ _ _ _ _ _ _ _ _ _ _ _ _ (val-again c.registers.a) (val-again c.registers.b) (val-again c.registers.c) (val-again c.registers.d) (val-again c.registers.e) (val-again c.registers.h) (val-again c.registers.l)
+    vals =
+        let r : Registers Val = c.registers in
+        let p = and_both (is_sayable rules r.a) (is_sayable rules r.b && (is_sayable rules r.c && (is_sayable rules r.d && (is_sayable rules r.e && (is_sayable rules r.h && is_sayable rules r.l))))) parts.1 in
+        let q = and_both (is_sayable rules r.b) (is_sayable rules r.c && (is_sayable rules r.d && (is_sayable rules r.e && (is_sayable rules r.h && is_sayable rules r.l)))) p.1 in
+        let s = and_both (is_sayable rules r.c) (is_sayable rules r.d && (is_sayable rules r.e && (is_sayable rules r.h && is_sayable rules r.l))) q.1 in
+        let u = and_both (is_sayable rules r.d) (is_sayable rules r.e && (is_sayable rules r.h && is_sayable rules r.l)) s.1 in
+        let v = and_both (is_sayable rules r.e) (is_sayable rules r.h && is_sayable rules r.l) u.1 in
+        let w = and_both (is_sayable rules r.h) (is_sayable rules r.l) v.1 in
+        make_vals _ _ _ _ _ _ _ _ _ _ _ _ _ _ (val-again rules r.a p.0) (val-again rules r.b q.0) (val-again rules r.c s.0) (val-again rules r.d u.0) (val-again rules r.e v.0) (val-again rules r.h w.0) (val-again rules r.l w.1)
 
     by : (o : Option ℕ) → core_in (spelled.core c o ++ rest) ≡ c
-    by None = make_core _ c.ime c.bound _ c.stack_set _ c.ctl _ c.flags _ c.ie _ c.registers (ime-number c.ime) (of-flag c.stack_set) (ctl-again c.ctl) (flg-again c.flags) (val-again c.ie) vals
-    by (Some a) = make_core _ c.ime c.bound _ c.stack_set _ c.ctl _ c.flags _ c.ie _ c.registers (ime-number c.ime) (of-flag c.stack_set) (ctl-again c.ctl) (flg-again c.flags) (val-again c.ie) vals
+    by None = make_core _ c.ime c.bound _ c.stack_set _ c.ctl _ c.flags _ c.ie _ c.registers (ime-number c.ime) (of-flag c.stack_set) (ctl-again c.ctl) (flg-again c.flags) ie vals
+    by (Some a) = make_core _ c.ime c.bound _ c.stack_set _ c.ctl _ c.flags _ c.ie _ c.registers (ime-number c.ime) (of-flag c.stack_set) (ctl-again c.ctl) (flg-again c.flags) ie vals
 
 test-again : (c : Core) (t : Option ℕ) (rest : List ℕ) → test_in (spelled.core c t ++ rest) ≡ t
 unfolding spelled.core
@@ -89,9 +106,16 @@ front-of : (rules : Rules) (role : Role) (region : Region) (bytes : List ℕ) (s
 unfolding spelled.state lists_of
 front-of rules role region bytes s h = h.parts ∙ append_assoc (spelled.core s.core (compared s.relations.byte.test)) (lists_of rules s) h.tail
 
+-- the parts of what can be said
+pub sayable-parts : (rules : Rules) (s : AbsState) → is_state_sayable rules s ≡ true
+    → (is_core_sayable rules s.core ≡ true) × ((list_all (is_sayable rules) s.items ≡ true) × (list_all (is_cell_sayable rules) s.cells ≡ true))
+sayable-parts rules s h =
+    let p = and_both (is_core_sayable rules s.core) (list_all (is_sayable rules) s.items && list_all (is_cell_sayable rules) s.cells) h in
+    (p.0, and_both (list_all (is_sayable rules) s.items) (list_all (is_cell_sayable rules) s.cells) p.1)
+
 -- the core of a state that stands in bytes
 pub core-stands : (rules : Rules) (role : Role) (region : Region) (bytes : List ℕ) (s : AbsState) → StateStands rules role region bytes s → core_in bytes ≡ s.core
-core-stands rules role region bytes s h = ap (λ (b : List ℕ). core_in b) (front-of rules role region bytes s h) ∙ core-again s.core (compared s.relations.byte.test) (lists_of rules s ++ h.tail)
+core-stands rules role region bytes s h = ap (λ (b : List ℕ). core_in b) (front-of rules role region bytes s h) ∙ core-again rules s.core (compared s.relations.byte.test) (lists_of rules s ++ h.tail) (sayable-parts rules s h.is_state.sayable).0
 
 -- and its test
 pub test-stands : (rules : Rules) (role : Role) (region : Region) (bytes : List ℕ) (s : AbsState) → StateStands rules role region bytes s → test_in bytes ≡ compared s.relations.byte.test
@@ -162,27 +186,31 @@ plain_state s e f g = by s.items s.cells (test_alone (compared s.relations.byte.
 
 -- ---- lists that are read again
 
-items-again : (vs : List Val) → listed_items (flat_map spelled.val vs) ≡ vs
+items-again : (rules : Rules) (vs : List Val) → list_all (is_sayable rules) vs ≡ true → listed_items (flat_map spelled.val vs) ≡ vs
 unfolding listed_items spelled.val
-items-again [] = refl
-items-again (v ∷ vs) = ap listed_items (flat_map-cons spelled.val v vs) ∙ (ap (λ (w : Val). w ∷ listed_items (flat_map spelled.val vs)) (val-again v) ∙ ap (λ (ws : List Val). v ∷ ws) (items-again vs))
+items-again rules [] h = refl
+items-again rules (v ∷ vs) h =
+    let p = and_both (is_sayable rules v) (list_all (is_sayable rules) vs) h in
+    ap listed_items (flat_map-cons spelled.val v vs)
+    ∙ (ap (λ (w : Val). w ∷ listed_items (flat_map spelled.val vs)) (val-again rules v p.0) ∙ ap (λ (ws : List Val). v ∷ ws) (items-again rules vs p.1))
 
 make_cell : (a b : ℕ) (v w : Val) → a ≡ b → v ≡ w → (let c : Cell = record { address = a; val = v } in c) ≡ record { address = b; val = w }
 make_cell a b v w e f = rw (e, f) refl
 
-cells-again : (xs : List Cell) → listed_cells (flat_map spelled.cell xs) ≡ xs
+cells-again : (rules : Rules) (xs : List Cell) → list_all (is_cell_sayable rules) xs ≡ true → listed_cells (flat_map spelled.cell xs) ≡ xs
 unfolding listed_cells spelled.cell spelled.val spelled.word
-cells-again [] = refl
-cells-again (x ∷ xs) =
+cells-again rules [] h = refl
+cells-again rules (x ∷ xs) h =
+    let p = and_both (is_sayable rules x.val) (list_all (is_cell_sayable rules) xs) h in
     ap listed_cells (flat_map-cons spelled.cell x xs)
-    ∙ (ap (λ (y : Cell). y ∷ listed_cells (flat_map spelled.cell xs)) (make_cell _ x.address _ x.val (word-again x.address) (val-again x.val))
-    ∙ ap (λ (ys : List Cell). x ∷ ys) (cells-again xs))
+    ∙ (ap (λ (y : Cell). y ∷ listed_cells (flat_map spelled.cell xs)) (make_cell _ x.address _ x.val (word-again x.address) (val-again rules x.val p.0))
+    ∙ ap (λ (ys : List Cell). x ∷ ys) (cells-again rules xs p.1))
 
-pub items_listed : (vs : List Val) (bytes : List ℕ) → bytes ≡ flat_map spelled.val vs → listed_items bytes ≡ vs
-items_listed vs bytes e = ap listed_items e ∙ items-again vs
+pub items-listed : (rules : Rules) (role : Role) (region : Region) (s : AbsState) (bytes : List ℕ) → IsState rules role region s → bytes ≡ flat_map spelled.val s.items → listed_items bytes ≡ s.items
+items-listed rules role region s bytes h e = ap listed_items e ∙ items-again rules s.items (sayable-parts rules s h.sayable).1.0
 
-pub cells_listed : (xs : List Cell) (bytes : List ℕ) → bytes ≡ flat_map spelled.cell xs → listed_cells bytes ≡ xs
-cells_listed xs bytes e = ap listed_cells e ∙ cells-again xs
+pub cells-listed : (rules : Rules) (role : Role) (region : Region) (s : AbsState) (bytes : List ℕ) → IsState rules role region s → bytes ≡ flat_map spelled.cell s.cells → listed_cells bytes ≡ s.cells
+cells-listed rules role region s bytes h e = ap listed_cells e ∙ cells-again rules s.cells (sayable-parts rules s h.sayable).1.1
 
 pub items_long : (vs : List Val) (bytes : List ℕ) → bytes ≡ flat_map spelled.val vs → length bytes ≡ 3 * length vs
 items_long vs bytes e = ap length e ∙ vals-long vs

@@ -9,7 +9,7 @@ use Rattle.gb_cert.specs.declared.writer.ProcedurePlan.{ProcedurePlan}
 use Rattle.gb_cert.specs.declared.writer.NodePlan.{NodePlan}
 use Rattle.gb_cert.specs.declared.writer.WriteFault.{WriteFault}
 use Rattle.gb_cert.specs.declared.writer.WriteFault.TheVariants as fault
-use Rattle.gb_cert.specs.Written.{rules_in, exit_of, is_half, has_many_items, has_many_cells, is_related, has_return, is_unspellable, state_has, exit_has, returns_with, stands_with, have_states, has_half_need, say_base, AreSpellable, IsWriteFault}
+use Rattle.gb_cert.specs.Written.{rules_in, exit_of, is_half, has_many_items, has_many_cells, is_related, has_unsayable, is_unspellable, state_has, exit_has, returns_with, stands_with, have_states, has_half_need, say_base, AreSpellable, IsWriteFault}
 
 neither : (a b : Bool) → (a || b) ≡ false → (a ≡ false) × (b ≡ false)
 neither true b h = cc
@@ -38,15 +38,15 @@ record Says (rules : Rules) (s : AbsState) : Type 0 where
   items : has_many_items rules s ≡ false
   cells : has_many_cells rules s ≡ false
   related : is_related rules s ≡ false
-  return : has_return rules s ≡ false
+  unsayable : has_unsayable rules s ≡ false
 
 says : (rules : Rules) (s : AbsState) → is_unspellable rules s ≡ false → Says rules s
 says rules s h =
-    let a = neither (is_half rules s) (has_many_items rules s || (has_many_cells rules s || (is_related rules s || has_return rules s))) h in
-    let b = neither (has_many_items rules s) (has_many_cells rules s || (is_related rules s || has_return rules s)) a.1 in
-    let c = neither (has_many_cells rules s) (is_related rules s || has_return rules s) b.1 in
-    let d = neither (is_related rules s) (has_return rules s) c.1 in
-    record { half = a.0; items = b.0; cells = c.0; related = d.0; return = d.1 }
+    let a = neither (is_half rules s) (has_many_items rules s || (has_many_cells rules s || (is_related rules s || has_unsayable rules s))) h in
+    let b = neither (has_many_items rules s) (has_many_cells rules s || (is_related rules s || has_unsayable rules s)) a.1 in
+    let c = neither (has_many_cells rules s) (is_related rules s || has_unsayable rules s) b.1 in
+    let d = neither (is_related rules s) (has_unsayable rules s) c.1 in
+    record { half = a.0; items = b.0; cells = c.0; related = d.0; unsayable = d.1 }
 
 pub spellable :
     (version : Version) (region : Region) (procedures : List ProcedurePlan) (nodes : List NodePlan) → say_base (rules_in version) region procedures ≡ false → list_any (has_half_need (rules_in version)) procedures ≡ false
@@ -59,7 +59,7 @@ spellable version region procedures nodes base need exits states =
       items = none (has_many_items (rules_in version)) (λ s h. (says (rules_in version) s h).items);
       cells = none (has_many_cells (rules_in version)) (λ s h. (says (rules_in version) s h).cells);
       relations = none (is_related (rules_in version)) (λ s h. (says (rules_in version) s h).related);
-      origins = none (has_return (rules_in version)) (λ s h. (says (rules_in version) s h).return);
+      values = none (has_unsayable (rules_in version)) (λ s h. (says (rules_in version) s h).unsayable);
       bases = base;
     }
 
@@ -95,7 +95,7 @@ fault-states version region procedures nodes fault.HalfWord h = or_second _ _ h
 fault-states version region procedures nodes fault.Items h = h
 fault-states version region procedures nodes fault.Cells h = h
 fault-states version region procedures nodes fault.Relations h = h
-fault-states version region procedures nodes fault.Origins h = h
+fault-states version region procedures nodes fault.Values h = h
 fault-states version region procedures nodes fault.Memory h = tt
 fault-states version region procedures nodes fault.Procedures h = not_so (sym (no-states procedures nodes) ∙ h)
 fault-states version region procedures nodes fault.Nodes h = not_so (sym (no-states procedures nodes) ∙ h)

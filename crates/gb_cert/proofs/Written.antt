@@ -18,7 +18,7 @@ use Rattle.gb_states.specs.Spelling.{spelling, head}
 use Rattle.gb_cert.specs.declared.writer.Version.{Version}
 use Rattle.gb_cert.specs.declared.writer.ProcedurePlan.{ProcedurePlan}
 use Rattle.gb_cert.specs.declared.writer.NodePlan.{NodePlan}
-use Rattle.gb_cert.specs.Written.{number_of, rules_in, procedure_of, node_of, certificate_of, head_of, exit_of, is_half, has_many_items, has_many_cells, is_related, has_return, exit_has, returns_with, stands_with, have_states, has_half_need, says_base, say_base, is_wide, is_deep, has_no_entry, IsProcedureFault, IsWriteFault}
+use Rattle.gb_cert.specs.Written.{number_of, rules_in, procedure_of, node_of, certificate_of, head_of, exit_of, is_half, has_many_items, has_many_cells, is_related, has_unsayable, exit_has, returns_with, stands_with, have_states, has_half_need, says_base, say_base, is_wide, is_deep, has_no_entry, IsProcedureFault, IsWriteFault}
 use Rattle.gb_cert.specs.declared.writer.WriteFault.{WriteFault}
 use Rattle.gb_cert.specs.declared.writer.WriteFault.TheVariants as fault
 
@@ -120,7 +120,7 @@ refused_by version region procedures nodes fault.HalfWord h e =
 refused_by version region procedures nodes fault.Items h e = not_so (sym (no_states (has_many_items (rules_in version)) version region procedures nodes (λ s role is. not_more _ (length s.items) is.item_count) h) ∙ e)
 refused_by version region procedures nodes fault.Cells h e = not_so (sym (no_states (has_many_cells (rules_in version)) version region procedures nodes (λ s role is. not_more _ (length s.cells) is.cell_count) h) ∙ e)
 refused_by version region procedures nodes fault.Relations h e = not_so (sym (no_states (is_related (rules_in version)) version region procedures nodes (λ s role is. not_is _ is.known) h) ∙ e)
-refused_by version region procedures nodes fault.Origins h e = not_so (sym (no_states (has_return (rules_in version)) version region procedures nodes (λ s role is. not_is _ is.traced) h) ∙ e)
+refused_by version region procedures nodes fault.Values h e = not_so (sym (no_states (has_unsayable (rules_in version)) version region procedures nodes (λ s role is. not_is _ is.sayable) h) ∙ e)
 refused_by version region procedures nodes fault.Base h e = not_so (sym (no_base_said (rules_in version) region _ procedures h.procedures) ∙ e)
 refused_by version region procedures nodes fault.Ranges h e = not_so (sym (none_wide (rules_in version) region _ true procedures h.procedures) ∙ e)
 refused_by version region procedures nodes fault.Need h e = not_so (sym (none_deep (rules_in version) region _ true procedures h.procedures) ∙ e)

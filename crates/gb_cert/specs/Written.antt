@@ -8,7 +8,7 @@ use Rattle.gb_domain.specs.declared.rules.Rules.TheVariants.{Simple, Extended}
 use Rattle.gb_domain.specs.Limits.{rules_of, item_room, cell_room}
 use Rattle.gb_states.specs.Below.gb_fields.Limits.{procedure_limit, node_limit, range_limit, unit}
 use Rattle.gb_states.specs.Below.gb_fields.Rules.{usual_base}
-use Rattle.gb_states.specs.Rules.{is_whole, may_be_known, is_state_traced}
+use Rattle.gb_states.specs.Rules.{is_whole, may_be_known, is_state_sayable}
 use Rattle.gb_domain.specs.Types.{AbsState, ProcedureParts, Node}
 use Rattle.gb_domain.specs.Certificate.{Certificate}
 use Rattle.gb_states.specs.Spelling.{letter, word, node_number}
@@ -82,13 +82,13 @@ has_many_cells rules s = nat_lt (cell_room rules) (length s.cells)
 abbrev pub is_related : Rules → AbsState → Bool
 is_related rules s = not (may_be_known rules s.relations)
 
--- a value is a copy of the return word's bytes
-abbrev pub has_return : Rules → AbsState → Bool
-has_return rules s = not (is_state_traced rules s)
+-- a value is a copy of the return word's bytes, in versions 1 and 2, or has low bits that are known
+abbrev pub has_unsayable : Rules → AbsState → Bool
+has_unsayable rules s = not (is_state_sayable rules s)
 
 -- one of them
 abbrev pub is_unspellable : Rules → AbsState → Bool
-is_unspellable rules s = is_half rules s || (has_many_items rules s || (has_many_cells rules s || (is_related rules s || has_return rules s)))
+is_unspellable rules s = is_half rules s || (has_many_items rules s || (has_many_cells rules s || (is_related rules s || has_unsayable rules s)))
 
 -- The state can't be said for the reason with this name.
 abbrev pub state_has : Rules → WriteFault → AbsState → Bool
@@ -96,7 +96,7 @@ state_has rules fault.HalfWord s = is_half rules s
 state_has rules fault.Items s = has_many_items rules s
 state_has rules fault.Cells s = has_many_cells rules s
 state_has rules fault.Relations s = is_related rules s
-state_has rules fault.Origins s = has_return rules s
+state_has rules fault.Values s = has_unsayable rules s
 state_has rules _ s = false
 
 abbrev pub exit_has : (AbsState → Bool) → Option AbsState → Bool
@@ -144,15 +144,15 @@ IsProcedureFault nodes procedures fault.Need = list_any is_deep procedures ≡ t
 IsProcedureFault nodes procedures fault.Entry = list_any (has_no_entry nodes) procedures ≡ true
 IsProcedureFault nodes procedures _ = ⊥
 
--- A version can say these parts: bytes of stack are whole words in versions 1 and 2, where states also have no more than 16 words
--- and 32 cells, know nothing of several parts together but a test of A, and have no copy of the return word, and where bases are
--- the usual ones.
+-- A version can say these parts: no low bits of values are known, and bytes of stack are whole words in versions 1 and 2, where
+-- states also have no more than 16 words and 32 cells, know nothing of several parts together but a test of A, and have no copy of
+-- the return word, and where bases are the usual ones.
 pub record AreSpellable (version : Version) (region : Region) (procedures : List ProcedurePlan) (nodes : List NodePlan) : Type 0 where
   pub words : have_half_words (rules_in version) procedures nodes ≡ false
   pub items : have_states (has_many_items (rules_in version)) procedures nodes ≡ false
   pub cells : have_states (has_many_cells (rules_in version)) procedures nodes ≡ false
   pub relations : have_states (is_related (rules_in version)) procedures nodes ≡ false
-  pub origins : have_states (has_return (rules_in version)) procedures nodes ≡ false
+  pub values : have_states (has_unsayable (rules_in version)) procedures nodes ≡ false
   pub bases : say_base (rules_in version) region procedures ≡ false
 
 -- There are no more procedures and nodes than the version takes, it can say them, no procedure declares too many ranges or needs
@@ -174,7 +174,7 @@ IsWriteFault version region procedures nodes fault.HalfWord = have_half_words (r
 IsWriteFault version region procedures nodes fault.Items = have_states (has_many_items (rules_in version)) procedures nodes ≡ true
 IsWriteFault version region procedures nodes fault.Cells = have_states (has_many_cells (rules_in version)) procedures nodes ≡ true
 IsWriteFault version region procedures nodes fault.Relations = have_states (is_related (rules_in version)) procedures nodes ≡ true
-IsWriteFault version region procedures nodes fault.Origins = have_states (has_return (rules_in version)) procedures nodes ≡ true
+IsWriteFault version region procedures nodes fault.Values = have_states (has_unsayable (rules_in version)) procedures nodes ≡ true
 IsWriteFault version region procedures nodes fault.Base = say_base (rules_in version) region procedures ≡ true
 IsWriteFault version region procedures nodes fault.Ranges = list_any is_wide procedures ≡ true
 IsWriteFault version region procedures nodes fault.Need = list_any is_deep procedures ≡ true

@@ -4,8 +4,8 @@ ghost use Rattle.std.specs.Prelude.{◌≡◌, ◌||◌, ◌&&◌, true, false, 
 ghost use Rattle.std.specs.List.{list_any, list_all};
 ghost use Rattle.gb_domain.specs.RelationRules.{is_a_alone, is_test_byte, is_known, are_unknown, is_test_alone};
 ghost use Rattle.gb_states.specs.Below.gb_fields.Rules.{usual_base, is_whole};
-ghost use Rattle.gb_states.specs.Rules.{is_traced, are_traced, is_core_traced, is_cell_traced, is_state_traced, may_be_known};
-ghost use Rattle.gb_cert.specs.Written.{exit_of, is_odd, is_half, has_many_items, has_many_cells, is_related, has_return, is_unspellable, state_has, exit_has, returns_with, stands_with, has_half_need, says_base, say_base, rules_in, AreSpellable, IsWriteFault};
+ghost use Rattle.gb_states.specs.Rules.{may_be_of, is_sayable, are_sayable, is_core_sayable, is_cell_sayable, is_state_sayable, may_be_known};
+ghost use Rattle.gb_cert.specs.Written.{exit_of, is_odd, is_half, has_many_items, has_many_cells, is_related, has_unsayable, is_unspellable, state_has, exit_has, returns_with, stands_with, has_half_need, says_base, say_base, rules_in, AreSpellable, IsWriteFault};
 
 use crate::told::is_known;
 use crate::writer::{NodePlan, ProcedurePlan, Version, WriteFault};
@@ -63,67 +63,74 @@ fn may_be_known(rules: Rules, relations: &Relations) -> bool
     }
 }
 
-// ---- origins
+// ---- values
 
-/// Whether a value is a copy of what there is by these rules.
-fn is_traced(rules: Rules, val: Val) -> bool
-    ensures { result ≡ is_traced rules val }
+/// Whether there is what a value is a copy of by these rules.
+fn may_be_of(rules: Rules, origin: Option<Origin>) -> bool
+    ensures { result ≡ may_be_of rules origin }
 {
     match rules {
         Rules::Simple => !matches!(
-            val.origin,
+            origin,
             Some(Origin::ReturnHigh) | Some(Origin::ReturnLow)
         ),
         Rules::Extended => true,
     }
 }
 
-fn are_traced(rules: Rules, registers: &Registers<Val>) -> bool
-    ensures { result ≡ are_traced rules registers.now }
+/// Whether these rules' versions can say a value.
+fn is_sayable(rules: Rules, val: Val) -> bool
+    ensures { result ≡ is_sayable rules val }
 {
-    is_traced(rules, registers.a)
-        && is_traced(rules, registers.b)
-        && is_traced(rules, registers.c)
-        && is_traced(rules, registers.d)
-        && is_traced(rules, registers.e)
-        && is_traced(rules, registers.h)
-        && is_traced(rules, registers.l)
+    may_be_of(rules, val.origin) && val.low_bits == 0
 }
 
-fn is_core_traced(rules: Rules, core: &Core) -> bool
-    ensures { result ≡ is_core_traced rules core.now }
+fn are_sayable(rules: Rules, registers: &Registers<Val>) -> bool
+    ensures { result ≡ are_sayable rules registers.now }
 {
-    is_traced(rules, core.ie) && are_traced(rules, &core.registers)
+    is_sayable(rules, registers.a)
+        && is_sayable(rules, registers.b)
+        && is_sayable(rules, registers.c)
+        && is_sayable(rules, registers.d)
+        && is_sayable(rules, registers.e)
+        && is_sayable(rules, registers.h)
+        && is_sayable(rules, registers.l)
 }
 
-fn are_items_traced(rules: Rules, items: &[Val]) -> bool
-    ensures { result ≡ list_all (is_traced rules) items.now }
+fn is_core_sayable(rules: Rules, core: &Core) -> bool
+    ensures { result ≡ is_core_sayable rules core.now }
+{
+    is_sayable(rules, core.ie) && are_sayable(rules, &core.registers)
+}
+
+fn are_items_sayable(rules: Rules, items: &[Val]) -> bool
+    ensures { result ≡ list_all (is_sayable rules) items.now }
 {
     for item in items {
-        if !is_traced(rules, *item) {
+        if !is_sayable(rules, *item) {
             return false;
         }
     }
     true
 }
 
-fn are_cells_traced(rules: Rules, cells: &[Cell]) -> bool
-    ensures { result ≡ list_all (is_cell_traced rules) cells.now }
+fn are_cells_sayable(rules: Rules, cells: &[Cell]) -> bool
+    ensures { result ≡ list_all (is_cell_sayable rules) cells.now }
 {
     for cell in cells {
-        if !is_traced(rules, cell.val) {
+        if !is_sayable(rules, cell.val) {
             return false;
         }
     }
     true
 }
 
-fn is_state_traced(rules: Rules, state: &Abs) -> bool
-    ensures { result ≡ is_state_traced rules state.now }
+fn is_state_sayable(rules: Rules, state: &Abs) -> bool
+    ensures { result ≡ is_state_sayable rules state.now }
 {
-    is_core_traced(rules, state.core())
-        && are_items_traced(rules, state.items())
-        && are_cells_traced(rules, state.cells())
+    is_core_sayable(rules, state.core())
+        && are_items_sayable(rules, state.items())
+        && are_cells_sayable(rules, state.cells())
 }
 
 // ---- states
@@ -156,8 +163,8 @@ fn check_state(rules: Rules, state: &Abs) -> Result<(), WriteFault>
     if !may_be_known(rules, state.relations()) {
         return Err(WriteFault::Relations);
     }
-    if !is_state_traced(rules, state) {
-        return Err(WriteFault::Origins);
+    if !is_state_sayable(rules, state) {
+        return Err(WriteFault::Values);
     }
     Ok(())
 }

@@ -133,6 +133,7 @@ impl<'a> StateRef<'a> {
     /// The bytes of its stack items, three each, the oldest first.
     pub fn items(&self) -> &'a [u8]
         ensures items { result.now ≡ flat_map spelled.val self.now.items }
+        ensures listed { checked.listed_items result.now ≡ self.now.items }
         ensures few { length self.now.items ≤ 255 }
     {
         counted(from_place(self.bytes, CORE), item_width(self.rules)).0
@@ -149,6 +150,7 @@ impl<'a> StateRef<'a> {
     pub fn told(&self) -> (Relations, &'a [u8])
         ensures relations { result.0 ≡ self.now.relations }
         ensures cells { result.1.now ≡ flat_map spelled.cell self.now.cells }
+        ensures listed { checked.listed_cells result.1.now ≡ self.now.cells }
         ensures few { length self.now.cells ≤ 64 }
     {
         let (_, told) = counted(from_place(self.bytes, CORE), item_width(self.rules));
@@ -168,6 +170,7 @@ impl<'a> StateRef<'a> {
     /// The bytes of its memory cells, five each, in order of address.
     pub fn cells(&self) -> &'a [u8]
         ensures cells { result.now ≡ flat_map spelled.cell self.now.cells }
+        ensures listed { checked.listed_cells result.now ≡ self.now.cells }
         ensures few { length self.now.cells ≤ 64 }
     {
         self.told().1
@@ -180,7 +183,7 @@ impl<'a> StateRef<'a> {
         (self.cells().len() / CELL) as u8
     }
     /// It is put in the place of another state. It takes no memory.
-    #[tactic(auto, using(crate::proofs::CheckedLaws::items_listed, crate::proofs::CheckedLaws::cells_listed, crate::proofs::CheckedLaws::items_long, crate::proofs::CheckedLaws::cells_long))]
+    #[tactic(auto, using(crate::proofs::CheckedLaws::items_long, crate::proofs::CheckedLaws::cells_long))]
     pub fn read(&self, state: &mut Abs)
         ensures { state.new ≡ self.now }
     {

@@ -66,8 +66,8 @@ pub enum WriteFault {
     Cells,
     /// A state knows more of several parts together than a test of A, in version 1 or 2.
     Relations,
-    /// A value is a copy of the return word's high or low byte, in version 1 or 2.
-    Origins,
+    /// A value is a copy of the return word's high or low byte, in version 1 or 2, or low bits of it are known.
+    Values,
     /// A procedure has another base than the one that versions 1 and 2 mean.
     Base,
     /// A procedure has more than 8 ranges.

@@ -30,7 +30,7 @@ use Rattle.gb_copies.specs.Sound.{HoldContents, HoldContentsIn, IsSoundNarrowing
 -- ---- the byte's bounds
 
 In-cut : (v w : Val) (x : ℕ) → In v x → In w x → In (cut v w) x
-In-cut v w x m n = record { least = grind (arith, nat_tests); most = grind (arith, nat_tests) }
+In-cut v w x m n = record { least = grind (arith, nat_tests); most = grind (arith, nat_tests); low = refl }
 
 In-cut_if : (is : Bool) (w v : Val) (x : ℕ) → (is ≡ true → In w x) → In v x → In (cut_if is w v) x
 In-cut_if true w v x n m = In-cut v w x m (n refl)
@@ -157,7 +157,7 @@ IsHeld-with_ends : (v : Val) (l g : Option ℕ) (x : ℕ) → IsAtMost l x → I
 unfolding IsHeld
 IsHeld-with_ends v None g x l h = absurd l
 IsHeld-with_ends v (Some a) None x l h = absurd h
-IsHeld-with_ends v (Some a) (Some b) x l h = record { least = l; most = h }
+IsHeld-with_ends v (Some a) (Some b) x l h = record { least = l; most = h; low = refl }
 
 IsHeld-with_bits : (m : ℕ) (wanted : Bool) (v : Val) (x : ℕ) → has_bits m wanted x ≡ true → In v x → IsHeld (with_bits m wanted v) x
 unfolding with_bits
@@ -197,7 +197,7 @@ IsPieceIn-meet first end v = choose (nat_lt (larger v.lo first) (smaller (v.hi +
   where
     choose :
         (b : Bool) → nat_lt (larger v.lo first) (smaller (v.hi + 1) end) ≡ b
-        → IsPieceIn v (cond b (Some (record v { lo = larger v.lo first; hi = smaller (v.hi + 1) end - 1 })) None)
+        → IsPieceIn v (cond b (Some (record v { lo = larger v.lo first; hi = smaller (v.hi + 1) end - 1; low_bits = 0 })) None)
     choose true e = record { least = grind (arith, nat_tests); most = grind (arith, nat_tests); order = grind (arith, nat_tests) }
     choose false e = tt
 
@@ -248,7 +248,7 @@ IsPieceIn-side_of (test.Bits n) condition.NotCarry v h = record { least = omega 
 -- ---- the places
 
 In-given : (is : Bool) (v w : Val) (x : ℕ) → (is ≡ true → In v x) → In w x → In (given is v w) x
-In-given true v w x n m = let k = n refl in record { least = k.least; most = k.most }
+In-given true v w x n m = let k = n refl in record { least = k.least; most = k.most; low = refl }
 In-given false v w x n m = m
 
 with_byte-register :
@@ -313,10 +313,10 @@ narrowed_sound b k c o e =
 -- ---- contents are cut
 
 IsCutVal-same : (v : Val) → IsCutVal v v
-IsCutVal-same v = record { least = omega arith; most = omega arith; order = λ h. h; origin = refl }
+IsCutVal-same v = record { least = omega arith; most = omega arith; order = λ h. h; strided = λ h. h; origin = refl }
 
 IsCutVal-given : (is : Bool) (v w : Val) → (is ≡ true → Within w v) → v.lo ≤ v.hi → IsCutVal w (given is v w)
-IsCutVal-given true v w h order = let k = h refl in record { least = k.least; most = k.most; order = λ o. order; origin = refl }
+IsCutVal-given true v w h order = let k = h refl in record { least = k.least; most = k.most; order = λ o. order; strided = λ s. refl; origin = refl }
 IsCutVal-given false v w h order = IsCutVal-same w
 
 given-other : (is : Bool) (v w : Val) → is ≡ false → given is v w ≡ w

@@ -16,7 +16,7 @@ use Rattle.gb_copies.specs.Places.{has_address}
 
 -- v with the bounds that it shares with another value
 abbrev pub cut : Val → Val → Val
-cut v x = record v { lo = larger v.lo x.lo; hi = smaller v.hi x.hi }
+cut v x = record v { lo = larger v.lo x.lo; hi = smaller v.hi x.hi; low_bits = 0 }
 
 abbrev pub cut_if : Bool → Val → Val → Val
 cut_if true x v = cut v x
@@ -47,7 +47,7 @@ greatest_from passes zero v = None
 greatest_from passes (suc n) v = if passes v then Some v else greatest_from passes n (v - 1)
 
 abbrev pub with_ends : Val → Option ℕ → Option ℕ → Option Val
-with_ends v (Some lo) (Some hi) = Some (record v { lo = lo; hi = hi })
+with_ends v (Some lo) (Some hi) = Some (record v { lo = lo; hi = hi; low_bits = 0 })
 with_ends v _ _ = None
 
 -- v's values with one of the bits, or those with none: the least to the greatest
@@ -73,7 +73,7 @@ is_asked (test.Bits m) _ = false
 
 -- a place gets the byte's bounds; its origin stays
 abbrev pub given : Bool → Val → Val → Val
-given true v x = record x { lo = v.lo; hi = v.hi }
+given true v x = record x { lo = v.lo; hi = v.hi; low_bits = 0 }
 given false v x = x
 
 unfoldable pub with_byte : OneByte → Val → PlaceContents → PlaceContents

@@ -11,6 +11,7 @@ use Rattle.gb_domain.specs.declared.types.Val.{Val}
 use Rattle.gb_domain.specs.declared.places.Place.{Place}
 use Rattle.gb_domain.specs.declared.places.Test.{Test}
 use Rattle.gb_domain.specs.declared.places.OneByte.{OneByte}
+use Rattle.gb_domain.specs.Values.{is_strided}
 use Rattle.gb_vals.specs.Meaning.{In}
 use Rattle.gb_copies.specs.declared.sides.PlaceContents.{PlaceContents}
 use Rattle.gb_copies.specs.Meaning.{IsTested, HoldOneByte, held_at}
@@ -95,11 +96,12 @@ pub record IsSoundNarrowing (b : OneByte) (k : Condition) (c : PlaceContents) (o
       (x : Registers ℕ) (memory : ℕ → ℕ) (f : Flags)
       → HoldContents b c x memory → HoldOneByte b x memory f → is_met k f ≡ true → HoldContentsIn b o x memory
 
--- the new bounds lie within the old ones and stay in order, and what the value is a copy of stays
+-- the new bounds lie within the old ones, stay in order and have the low bits, and what the value is a copy of stays
 pub record IsCutVal (old new : Val) : Type 0 where
   pub least : old.lo ≤ new.lo
   pub most : new.hi ≤ old.hi
   pub order : old.lo ≤ old.hi → new.lo ≤ new.hi
+  pub strided : is_strided old ≡ true → is_strided new ≡ true
   pub origin : new.origin ≡ old.origin
 
 -- contents are cut, and only at places of the byte

@@ -25,6 +25,7 @@ fn cut(val: Val, other: Val) -> Val
     Val {
         lo: val.lo.max(other.lo),
         hi: val.hi.min(other.hi),
+        low_bits: 0,
         origin: val.origin,
     }
 }
@@ -99,6 +100,7 @@ fn with_bits(mask: u8, wanted: bool, val: Val) -> Option<Val>
     Some(Val {
         lo,
         hi,
+        low_bits: 0,
         origin: val.origin,
     })
 }
@@ -135,6 +137,7 @@ fn given(is_place: bool, byte: Val, at_place: Val) -> Val
         Val {
             lo: byte.lo,
             hi: byte.hi,
+            low_bits: 0,
             origin: at_place.origin,
         }
     } else {

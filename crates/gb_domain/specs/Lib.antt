@@ -1,7 +1,10 @@
 pub mod Areas
 pub mod Certificate
+pub mod Interval
 pub mod Lending
 pub mod Limits
+pub mod LowBits
+pub mod Meaning
 pub mod Pairs
 pub mod Places
 pub mod RelationRules
@@ -9,3 +12,4 @@ pub mod Relations
 pub mod Rules
 pub mod Settings
 pub mod Types
+pub mod Values

@@ -12,6 +12,7 @@ use Rattle.gb_domain.specs.declared.types.Core.{Core}
 use Rattle.gb_domain.specs.declared.types.Halves.{Halves}
 use Rattle.gb_domain.specs.declared.types.Cell.{Cell}
 use Rattle.gb_domain.specs.Areas.{is_area, meets}
+use Rattle.gb_domain.specs.Values.{is_strided}
 
 -- Each element is right, by what the one before it leaves; s is what the first begins with.
 abbrev pub IsChain : {S X : Type 0} → (S → X → Type 0) → (X → S) → S → List X → Type 0
@@ -20,10 +21,11 @@ IsChain good next s (x ∷ xs) = good s x × IsChain good next (next x) xs
 
 -- ---- values
 
--- An interval of bytes.
+-- An interval of bytes, or of those bytes in it that have the low bits of its ends.
 pub record IsVal (v : Val) : Type 0 where
   pub order : v.lo ≤ v.hi
   pub hi : v.hi < 256
+  pub strided : is_strided v ≡ true
 
 -- the bit has a value
 abbrev pub has_value : May → Bool

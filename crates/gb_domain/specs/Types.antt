@@ -49,11 +49,11 @@ origin_of_register register.L = L
 
 -- any byte
 abbrev pub any_val : Val
-any_val = record { lo = 0; hi = 255; origin = None }
+any_val = record { lo = 0; hi = 255; low_bits = 0; origin = None }
 
 -- A list's unused places hold defaults. Those are zeros, which are written at once.
 abbrev pub zero_val : Val
-zero_val = record { lo = 0; hi = 0; origin = None }
+zero_val = record { lo = 0; hi = 0; low_bits = 0; origin = None }
 
 abbrev pub zero_cell : Cell
 zero_cell = record { address = 0; val = zero_val }

@@ -46,11 +46,14 @@ impl Origin {
     }
 }
 
-/// An interval of bytes, both ends included, and what its value is a copy of.
+/// An interval of bytes, both ends included, of which only those count that have as many low bits of `lo` as `low_bits` says, and
+/// what its value is a copy of.
 #[derive(Clone, Copy, PartialEq, Eq)]
 pub struct Val {
     pub lo: u8,
     pub hi: u8,
+    /// How many low bits all its values have in common, at most 7: 0 where none are known, and for a single value.
+    pub low_bits: u8,
     pub origin: Option<Origin>,
 }
 
@@ -114,6 +117,7 @@ impl Default for Val {
         Val {
             lo: 0,
             hi: 0,
+            low_bits: 0,
             origin: None,
         }
     }
@@ -129,6 +133,7 @@ impl Default for Cell {
             val: Val {
                 lo: 0,
                 hi: 0,
+                low_bits: 0,
                 origin: None,
             },
         }

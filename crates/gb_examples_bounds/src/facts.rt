@@ -2,7 +2,7 @@
 
 use gb_domain::pairs::{ANY_BOUNDS, Bounds};
 use gb_domain::types::Range;
-use gb_low_bits::{LowBits, StridedInterval};
+use gb_domain::{LowBits, StridedInterval};
 use gb_ram_bounds::covering::{byte_at, gives_facts};
 use gb_ram_bounds::facts::{has_address, keeps_facts, level_after};
 use gb_ram_bounds::returned::returned_level;

@@ -2,7 +2,7 @@
 
 use gb_domain::pairs::{ANY_BOUNDS, Bounds};
 use gb_domain::types::Range;
-use gb_low_bits::{LowBits, StridedInterval};
+use gb_domain::{LowBits, StridedInterval};
 use gb_ops::op::Pointer;
 use gb_ram_bounds::covering::{byte_at, gives_fills};
 use gb_ram_bounds::fills::{filled, is_in_extent, lowered, raised, written};

@@ -1,13 +1,13 @@
 //! Low bits, and intervals of bytes that have them.
 
-use gb_low_bits::interval::{cut, lies_in, with_low_bits};
+use gb_domain::interval::{cut, lies_in, with_low_bits};
+use gb_domain::low_bits::{common, covers};
+use gb_domain::{LowBits, StridedInterval};
 use gb_low_bits::logic::{complement, conjunction, disjunction, exclusion, reset_bit, set_bit};
-use gb_low_bits::low_bits::{common, covers};
 use gb_low_bits::shifts::{doubled, halved, swapped};
 use gb_low_bits::sums::{
     decremented, difference, high_decremented, high_incremented, incremented, sum,
 };
-use gb_low_bits::{LowBits, StridedInterval};
 use std::process::Abort;
 
 /// So many low bits, which are these.

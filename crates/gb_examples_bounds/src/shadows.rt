@@ -8,9 +8,9 @@ use gb_bank_shadows::shadows::{
 };
 use gb_bank_shadows::windows::{is_in_window, left_by};
 use gb_bank_shadows::{BankWindow, Known, Preserved, Shadows};
+use gb_domain::StridedInterval;
 use gb_domain::pairs::Bounds;
 use gb_domain::places::{NO_REGISTER, OneByte, Place};
-use gb_low_bits::StridedInterval;
 use gb_ops::machine::Kind;
 use gb_ops::op::Register;
 use gb_ops::registers::Registers;

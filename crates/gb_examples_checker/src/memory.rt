@@ -353,6 +353,7 @@ fn refuses_stores(rt: HostRuntime) -> Result<(), Fail> {
 const OWN: Val = Val {
     lo: 0xC0,
     hi: 0xC0,
+    low_bits: 0,
     origin: Some(Origin::Ie),
 };
 
@@ -360,6 +361,7 @@ const OWN: Val = Val {
 const IE: Val = Val {
     lo: 1,
     hi: 1,
+    low_bits: 0,
     origin: None,
 };
 
@@ -367,6 +369,7 @@ const IE: Val = Val {
 const FIRST: Val = Val {
     lo: 11,
     hi: 11,
+    low_bits: 0,
     origin: None,
 };
 
@@ -374,6 +377,7 @@ const FIRST: Val = Val {
 const SECOND: Val = Val {
     lo: 12,
     hi: 12,
+    low_bits: 0,
     origin: None,
 };
 
@@ -426,12 +430,14 @@ const EXTENDED_STORES: [(u16, u16, Val, Left); 3] = [
 const HIGH: Val = Val {
     lo: 64,
     hi: 65,
+    low_bits: 0,
     origin: Some(Origin::B),
 };
 
 const LOW: Val = Val {
     lo: 66,
     hi: 67,
+    low_bits: 0,
     origin: None,
 };
 

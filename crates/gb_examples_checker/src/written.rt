@@ -80,6 +80,7 @@ fn full() -> Core {
 const OF_H: Val = Val {
     lo: 0x80,
     hi: 0x8F,
+    low_bits: 0,
     origin: Some(Origin::H),
 };
 
@@ -365,6 +366,8 @@ struct Amounts {
     items: u8,
     cells: u16,
     origin: Option<Origin>,
+    /// A is even.
+    is_even: bool,
     zero: Option<WordPair>,
 }
 
@@ -379,6 +382,7 @@ const LEAST: Amounts = Amounts {
     items: 0,
     cells: 0,
     origin: None,
+    is_even: false,
     zero: None,
 };
 
@@ -493,7 +497,14 @@ const LIMITS: &[(Amounts, Option<WriteFault>)] = &[
             origin: Some(Origin::ReturnLow),
             ..LEAST_IN_VERSION_2
         },
-        Some(WriteFault::Origins),
+        Some(WriteFault::Values),
+    ),
+    (
+        Amounts {
+            is_even: true,
+            ..LEAST_IN_VERSION_3
+        },
+        Some(WriteFault::Values),
     ),
     (
         Amounts {
@@ -530,6 +541,10 @@ fn main_node(state: &Abs) -> NodePlan<'_> {
 fn state_of(amounts: &Amounts) -> Abs {
     let mut core = entered();
     core.registers.a.origin = amounts.origin;
+    if amounts.is_even {
+        core.registers.a.hi = 254;
+        core.registers.a.low_bits = 1;
+    }
     let plain = Abs::new(core);
     let mut state = match append_bytes(Rules::Extended, &plain, amounts.items) {
         Some(state) => state,

@@ -239,6 +239,7 @@ fn an_unknown_carry_is_rotated_in(rt: HostRuntime) {
 const A: Val = Val {
     lo: 3,
     hi: 9,
+    low_bits: 0,
     origin: Some(Origin::A),
 };
 
@@ -252,6 +253,7 @@ const THREE: Val = Val {
 const ZERO: Val = Val {
     lo: 0,
     hi: 0,
+    low_bits: 0,
     origin: None,
 };
 

@@ -202,6 +202,27 @@ fn wider_states_cover_narrower_ones(rt: HostRuntime) {
     assert!(rt; covers(&few, &with_cell(Rules::Simple, &few, 0xC000, up_to(2))));
 }
 
+/// The bytes from a least one to a greatest one that have as many of its low bits.
+fn each_of(lo: u8, hi: u8, low_bits: u8) -> Val {
+    Val {
+        low_bits,
+        ..from_to(lo, hi)
+    }
+}
+
+/// What another one says of low bits a value must say too; a single value says all of them.
+#[test]
+fn low_bits_are_asked_for(rt: HostRuntime) {
+    let fours = each_of(0, 12, 2);
+    assert!(rt; covers_val(&fours, &from_to(0, 12)));
+    assert!(rt; covers_val(&fours, &each_of(0, 14, 1)));
+    assert!(rt; covers_val(&from_to(8, 8), &fours));
+    assert!(rt; !covers_val(&from_to(6, 6), &fours));
+    assert!(rt; !covers_val(&from_to(0, 12), &fours));
+    assert!(rt; !covers_val(&each_of(0, 12, 1), &fours));
+    assert!(rt; !covers_val(&each_of(1, 9, 2), &fours));
+}
+
 fn with_test(test: Option<u8>) -> Abs {
     let mut state = Abs::new(entered());
     state.set_relations(compared(test));

@@ -35,6 +35,7 @@ fn seen_val(origin: Origin, val: Val) -> Val {
         Val {
             lo: 0,
             hi: 255,
+            low_bits: 0,
             origin: val.origin,
         }
     } else {

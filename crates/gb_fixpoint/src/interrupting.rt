@@ -62,11 +62,13 @@ fn return_word(address: u16) -> [Val; 2] {
         Val {
             lo: high,
             hi: high,
+            low_bits: 0,
             origin: Some(Origin::ReturnHigh),
         },
         Val {
             lo: low,
             hi: low,
+            low_bits: 0,
             origin: Some(Origin::ReturnLow),
         },
     ]

@@ -20,6 +20,7 @@ pub fn join_val(a: Val, b: Val) -> Val {
     Val {
         lo: a.lo.min(b.lo),
         hi: a.hi.max(b.hi),
+        low_bits: 0,
         origin: join_origin(a.origin, b.origin),
     }
 }

@@ -113,6 +113,7 @@ impl Steps {
             } else {
                 new.hi
             },
+            low_bits: 0,
             origin: new.origin,
         }
     }

@@ -4,14 +4,15 @@ use Rattle.std.proofs.lemmas.Bool.{and_parts, or_cases, eqb-true}
 use Rattle.std.proofs.lemmas.Nat.Bits.{bit_at_and, bit_at_or, bit_at_xor, bit_at-lt}
 use Rattle.std.specs.Prelude.{bit_xor, min, max}
 use Rattle.std.specs.Int.{bit_at}
-use Rattle.gb_low_bits.specs.declared.low_bits.LowBits.{LowBits}
-use Rattle.gb_low_bits.specs.LowBits.{modulus, low_bits, all_of, count_passing}
+use Rattle.gb_domain.specs.declared.low_bits.LowBits.{LowBits}
+use Rattle.gb_domain.specs.LowBits.{modulus, low_bits, all_of, count_passing}
 use Rattle.gb_low_bits.specs.Sums.{one_if}
 use Rattle.gb_low_bits.specs.Logic.{is_bit, decides, is_known, known_bits, conjunction, disjunction, exclusion, complement, mask_of, reset_bit, set_bit, complemented, with_bit_reset, with_bit_set}
-use Rattle.gb_low_bits.specs.Meaning.{Has, IsSound, IsSoundOfTwo}
-use Rattle.gb_low_bits.proofs.ModulusLaws.{each_modulus, Has-low_bits, Has-bit, congruent-bits}
-use Rattle.gb_low_bits.proofs.PassingLaws.{count_passing-passes}
-use Rattle.gb_low_bits.proofs.LowBitsLaws.{below, Has-all_of}
+use Rattle.gb_domain.specs.Meaning.{Has}
+use Rattle.gb_low_bits.specs.Meaning.{IsSound, IsSoundOfTwo}
+use Rattle.gb_domain.proofs.ModulusLaws.{each_modulus, Has-low_bits, Has-bit, congruent-bits}
+use Rattle.gb_domain.proofs.PassingLaws.{count_passing-passes}
+use Rattle.gb_domain.proofs.LowBitsLaws.{below, Has-all_of}
 
 -- ---- single bits
 

@@ -1,11 +1,12 @@
 -- Low bits of shifts are those of the machine's.
 use Rattle.std.proofs.Common.{◌≡◌, ℕ, ◌+◌, ◌-◌, ◌*◌, ◌/◌, ◌%◌, ◌≤◌, sym, ◌∙◌, subst, arith}
 use Rattle.std.specs.Prelude.{min}
-use Rattle.gb_low_bits.specs.declared.low_bits.LowBits.{LowBits}
-use Rattle.gb_low_bits.specs.LowBits.{modulus}
+use Rattle.gb_domain.specs.declared.low_bits.LowBits.{LowBits}
+use Rattle.gb_domain.specs.LowBits.{modulus}
 use Rattle.gb_low_bits.specs.Shifts.{doubled, halved, swapped}
-use Rattle.gb_low_bits.specs.Meaning.{Has, IsSound, IsSoundOfDigit, shifted_left, shifted_right, with_digits_swapped}
-use Rattle.gb_low_bits.proofs.ModulusLaws.{each_count, Has-low_bits, congruent-byte, modulus-eight}
+use Rattle.gb_domain.specs.Meaning.{Has}
+use Rattle.gb_low_bits.specs.Meaning.{IsSound, IsSoundOfDigit, shifted_left, shifted_right, with_digits_swapped}
+use Rattle.gb_domain.proofs.ModulusLaws.{each_count, Has-low_bits, congruent-byte, modulus-eight}
 
 -- ---- SLA
 

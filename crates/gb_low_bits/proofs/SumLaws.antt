@@ -2,11 +2,12 @@
 use Rattle.std.proofs.Common.{◌≡◌, ℕ, ◌+◌, ◌-◌, ◌*◌, ◌/◌, ◌%◌, ◌<◌, ◌≤◌, Bool, true, false, Option, Some, None, nat_lt, cond, refl, sym, ◌∙◌, ap, subst, arith}
 use Rattle.std.proofs.lemmas.Bool.Decides.{nat_tests}
 use Rattle.std.specs.Prelude.{min}
-use Rattle.gb_low_bits.specs.declared.low_bits.LowBits.{LowBits}
-use Rattle.gb_low_bits.specs.LowBits.{modulus, no_low_bits}
+use Rattle.gb_domain.specs.declared.low_bits.LowBits.{LowBits}
+use Rattle.gb_domain.specs.LowBits.{modulus, no_low_bits}
 use Rattle.gb_low_bits.specs.Sums.{one_if, sum, difference, incremented, decremented, high_incremented, high_decremented}
-use Rattle.gb_low_bits.specs.Meaning.{Has, MayBe, IsSound, IsSoundOfSum, IsSoundOfHigh, added, subtracted, next_byte, previous_byte, next_word, previous_word}
-use Rattle.gb_low_bits.proofs.ModulusLaws.{each_modulus, Has-low_bits, Has-fewer, congruent-byte}
+use Rattle.gb_domain.specs.Meaning.{Has}
+use Rattle.gb_low_bits.specs.Meaning.{MayBe, IsSound, IsSoundOfSum, IsSoundOfHigh, added, subtracted, next_byte, previous_byte, next_word, previous_word}
+use Rattle.gb_domain.proofs.ModulusLaws.{each_modulus, Has-low_bits, Has-fewer, congruent-byte}
 
 -- ---- congruence of sums
 

@@ -1,6 +1,4 @@
-pub mod LowBits
 pub mod Sums
 pub mod Logic
 pub mod Shifts
-pub mod Interval
 pub mod Meaning

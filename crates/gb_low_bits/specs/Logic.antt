@@ -1,8 +1,8 @@
 -- Low bits of bitwise operations (CPU instruction set: bitwise logic, bit flags; own).
 use Rattle.std.specs.Prelude.{ℕ, ◌-◌, ◌%◌, ◌^◌, Bool, true, false, ◌&&◌, ◌||◌, ◌==◌, bit_and, bit_or, bit_xor, Option, Some, None}
 use Rattle.std.specs.Int.{bit_at}
-use Rattle.gb_low_bits.specs.declared.low_bits.LowBits.{LowBits}
-use Rattle.gb_low_bits.specs.LowBits.{low_bits, all_of, has_bit, count_passing}
+use Rattle.gb_domain.specs.declared.low_bits.LowBits.{LowBits}
+use Rattle.gb_domain.specs.LowBits.{low_bits, all_of, has_bit, count_passing}
 use Rattle.gb_low_bits.specs.Sums.{one_if}
 
 -- the bit is known to be this one

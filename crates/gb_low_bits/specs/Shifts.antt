@@ -1,7 +1,7 @@
 -- Low bits of shifts (CPU instruction set: bit shifts; own).
 use Rattle.std.specs.Prelude.{ℕ, ◌+◌, ◌-◌, ◌*◌, ◌/◌, ◌%◌, min}
-use Rattle.gb_low_bits.specs.declared.low_bits.LowBits.{LowBits}
-use Rattle.gb_low_bits.specs.LowBits.{low_bits}
+use Rattle.gb_domain.specs.declared.low_bits.LowBits.{LowBits}
+use Rattle.gb_domain.specs.LowBits.{low_bits}
 
 -- ADD A,A and SLA: bit 0 is clear, and each other bit was the one below
 unfoldable pub doubled : LowBits → LowBits

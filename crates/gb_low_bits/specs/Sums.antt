@@ -1,7 +1,7 @@
 -- Low bits of sums and differences (CPU instruction set: 8-bit and 16-bit arithmetic; own).
 use Rattle.std.specs.Prelude.{ℕ, ◌+◌, ◌-◌, Bool, true, false, Option, Some, None, if◌then◌else◌, nat_lt, min}
-use Rattle.gb_low_bits.specs.declared.low_bits.LowBits.{LowBits}
-use Rattle.gb_low_bits.specs.LowBits.{low_bits, no_low_bits}
+use Rattle.gb_domain.specs.declared.low_bits.LowBits.{LowBits}
+use Rattle.gb_domain.specs.LowBits.{low_bits, no_low_bits}
 
 abbrev pub one_if : Bool → ℕ
 one_if true = 1

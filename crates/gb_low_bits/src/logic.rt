@@ -2,10 +2,10 @@
 
 ghost use Rattle.std.specs.Prelude.{◌≡◌, ◌<◌, bit_and, bit_or, bit_xor};
 ghost use Rattle.gb_low_bits.specs.Logic as Logic;
-ghost use Rattle.gb_low_bits.specs.LowBits.{count_passing};
+ghost use Rattle.gb_domain.specs.LowBits.{count_passing};
 ghost use Rattle.gb_low_bits.specs.Meaning.{IsSound, IsSoundOfTwo};
 
-use crate::low_bits::{LowBits, all_of, bit_at, low_bits};
+use gb_domain::low_bits::{LowBits, all_of, bit_at, low_bits};
 
 #[tactic(auto, unfolding(crate::specs::Logic::is_known))]
 fn is_known(deciding: Option<bool>, left: LowBits, right: LowBits, bit: u8) -> bool
@@ -29,7 +29,7 @@ fn decides(deciding: Option<bool>, known: LowBits, bit: u8) -> bool
 }
 
 /// How many low bits of the result are known, where a bit of one operand may decide it.
-#[tactic(auto, using(crate::proofs::PassingLaws::passing_found, crate::proofs::PassingLaws::passing_next, crate::proofs::PassingLaws::passing_none), unfolding(crate::specs::Logic::known_bits))]
+#[tactic(auto, using(gb_domain::proofs::PassingLaws::passing_found, gb_domain::proofs::PassingLaws::passing_next, gb_domain::proofs::PassingLaws::passing_none), unfolding(crate::specs::Logic::known_bits))]
 fn known_bits(deciding: Option<bool>, left: LowBits, right: LowBits) -> u8
     ensures { result ≡ Logic.known_bits deciding left right }
 {

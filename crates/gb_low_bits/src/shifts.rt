@@ -4,7 +4,7 @@ ghost use Rattle.std.specs.Prelude.{◌≡◌};
 ghost use Rattle.gb_low_bits.specs.Shifts as Shifts;
 ghost use Rattle.gb_low_bits.specs.Meaning.{IsSound, IsSoundOfDigit, shifted_left, shifted_right, with_digits_swapped};
 
-use crate::low_bits::{LowBits, low_bits};
+use gb_domain::low_bits::{LowBits, low_bits};
 
 /// ADD A,A and SLA: one more low bit, which is clear.
 #[tactic(auto, using(crate::proofs::ShiftLaws::doubled_sound), unfolding(crate::specs::Shifts::doubled))]

@@ -4,7 +4,7 @@ ghost use Rattle.std.specs.Prelude.{◌≡◌};
 ghost use Rattle.gb_low_bits.specs.Sums as Sums;
 ghost use Rattle.gb_low_bits.specs.Meaning.{IsSound, IsSoundOfSum, IsSoundOfHigh, added, subtracted, next_byte, previous_byte, next_word, previous_word};
 
-use crate::low_bits::{LowBits, low_bits, none};
+use gb_domain::low_bits::{LowBits, low_bits, none};
 
 /// ADD, with a carry known to be clear, and ADC. A carry that isn't known leaves nothing.
 #[tactic(auto, using(crate::proofs::SumLaws::sum_sound), unfolding(crate::specs::Sums::sum))]

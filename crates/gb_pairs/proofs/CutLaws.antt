@@ -1,6 +1,7 @@
 -- Reducing only cuts: values and bounds become smaller, origins and links stay.
-use Rattle.std.proofs.Common.{◌≡◌, ◌-◌, ◌*◌, ◌≤◌, Bool, true, false, ◌||◌, cond, nat_lt, Option, Some, None, refl, sym, ◌∙◌, subst, arith}
+use Rattle.std.proofs.Common.{◌≡◌, ℕ, ◌-◌, ◌*◌, ◌≤◌, Bool, true, false, ◌&&◌, ◌||◌, ◌==◌, cond, nat_lt, Option, Some, None, refl, sym, ◌∙◌, subst, arith}
 use Rattle.std.specs.Prelude.{IfSome, option_and_then}
+use Rattle.std.proofs.lemmas.Bool.{and_parts, eqb-true}
 use Rattle.std.proofs.lemmas.Bool.Decides.{nat_tests}
 use Rattle.gb_ops.specs.declared.op.Register.{Register}
 use Rattle.gb_ops.specs.Registers.{get}
@@ -12,10 +13,11 @@ use Rattle.gb_domain.specs.declared.pairs.Other.{Other}
 use Rattle.gb_domain.specs.declared.pairs.Other.TheVariants as other
 use Rattle.gb_domain.specs.declared.pairs.Link.{Link}
 use Rattle.gb_domain.specs.Pairs.{facts_of}
+use Rattle.gb_domain.specs.Values.{have_same, has_low_bits, is_strided}
 use Rattle.gb_vals.specs.Logic.{smaller, larger}
 use Rattle.gb_pairs.specs.declared.values.Values.{Values}
 use Rattle.gb_pairs.specs.Bounds.{cut, is_empty, high_of, low_of, box, bounds_of}
-use Rattle.gb_pairs.specs.Reduced.{size, pairs_at, cut_by_other, others_at, cut_val, with_register, with_bounds, with_register_if, with_bounds_if, cut_other, cut_other_if, high_bounds, low_bounds, with_bytes_if, settled, reduced_by_link, reduced_within, reduced_pair, reduced_once, reduced, restricted}
+use Rattle.gb_pairs.specs.Reduced.{size, pairs_at, cut_by_other, others_at, low_bits_within, cut_val, with_register, with_bounds, with_register_if, with_bounds_if, cut_other, cut_other_if, high_bounds, low_bounds, with_bytes_if, settled, reduced_by_link, reduced_within, reduced_pair, reduced_once, reduced, restricted}
 use Rattle.gb_pairs.specs.Sound.{IsCut}
 use Rattle.gb_pairs.proofs.RegisterLaws.{each_set, each_facts}
 
@@ -57,7 +59,25 @@ record IsPartVal (y v : Val) : Type 0 where
   least : v.lo ≤ y.lo
   most : y.hi ≤ v.hi
   order : y.lo ≤ y.hi
+  strided : is_strided v ≡ true → is_strided y ≡ true
   origin : y.origin ≡ v.origin
+
+-- low bits that stay, of a value that stays
+pub kept_low : (v : Val) (lo n : ℕ) (c : Bool) → (c ≡ true → lo ≡ v.lo) → has_low_bits v n ≡ true → have_same (cond c v.low_bits 0) n lo ≡ true
+kept_low v lo n true e h = subst (λ m. have_same v.low_bits n m ≡ true) (sym (e refl)) h
+kept_low v lo n false e h = refl
+
+kept_strided :
+    (v : Val) (lo hi : ℕ) (c : Bool)
+    → (c ≡ true → (lo ≡ v.lo) × (hi ≡ v.hi)) → is_strided v ≡ true → is_strided (record v { lo = lo; hi = hi; low_bits = cond c v.low_bits 0 }) ≡ true
+kept_strided v lo hi true e h =
+    let k = e refl in
+    subst (λ (n : ℕ). is_strided (record v { lo = n; hi = hi }) ≡ true) (sym k.0)
+    (subst (λ (n : ℕ). is_strided (record v { lo = v.lo; hi = n }) ≡ true) (sym k.1) h)
+kept_strided v lo hi false e h = refl
+
+pub both_stay : (v : Val) (lo hi : ℕ) → (lo == v.lo && hi == v.hi) ≡ true → (lo ≡ v.lo) × (hi ≡ v.hi)
+both_stay v lo hi h = let p = and_parts (lo == v.lo) (hi == v.hi) h in (eqb-true lo v.lo p.0, eqb-true hi v.hi p.1)
 
 IfSome-cut_val : (v : Val) (d : Bounds) → IfSome (cut_val v d) (λ y. IsPartVal y v)
 unfolding cut_val
@@ -65,13 +85,16 @@ IfSome-cut_val v d = choose (nat_lt (smaller v.hi d.last) (larger v.lo d.first))
   where
     choose :
         (b : Bool) → nat_lt (smaller v.hi d.last) (larger v.lo d.first) ≡ b
-        → IfSome (cond b None (Some (record v { lo = larger v.lo d.first; hi = smaller v.hi d.last }))) (λ y. IsPartVal y v)
+        → IfSome (cond b None (Some (record v { lo = larger v.lo d.first; hi = smaller v.hi d.last; low_bits = low_bits_within (larger v.lo d.first) (smaller v.hi d.last) v }))) (λ y. IsPartVal y v)
     choose true e = tt
     choose false e =
         record {
           least = grind (arith, nat_tests);
           most = grind (arith, nat_tests);
           order = grind (arith, nat_tests);
+          strided =
+              kept_strided v (larger v.lo d.first) (smaller v.hi d.last) (larger v.lo d.first == v.lo && smaller v.hi d.last == v.hi)
+              (both_stay v (larger v.lo d.first) (smaller v.hi d.last));
           origin = refl;
         }
 
@@ -83,6 +106,7 @@ IsCut-itself v =
       least = λ r. omega arith;
       most = λ r. omega arith;
       order = λ r e. e;
+      strided = λ r e. e;
       origin = λ r. refl;
       first = λ p. omega arith;
       last = λ p. omega arith;
@@ -95,6 +119,7 @@ IsCut-trans u v w h k =
       least = λ r. let a = h.least r in let b = k.least r in omega arith;
       most = λ r. let a = h.most r in let b = k.most r in omega arith;
       order = λ r e. k.order r (h.order r e);
+      strided = λ r e. k.strided r (h.strided r e);
       origin = λ r. k.origin r ∙ h.origin r;
       first = λ p. let a = h.first p in let b = k.first p in omega arith;
       last = λ p. let a = h.last p in let b = k.last p in omega arith;
@@ -110,6 +135,8 @@ IsCut-with_register u v r y h k =
       least = each_set (λ q z. (get q u.registers).lo ≤ z.lo) r y v.registers least h.least;
       most = each_set (λ q z. z.hi ≤ (get q u.registers).hi) r y v.registers most h.most;
       order = each_set (λ q z. (get q u.registers).lo ≤ (get q u.registers).hi → z.lo ≤ z.hi) r y v.registers (λ e. k.order) h.order;
+      strided =
+          each_set (λ q z. is_strided (get q u.registers) ≡ true → is_strided z ≡ true) r y v.registers (λ e. k.strided (h.strided r e)) h.strided;
       origin = each_set (λ q z. z.origin ≡ (get q u.registers).origin) r y v.registers (k.origin ∙ h.origin r) h.origin;
       first = h.first;
       last = h.last;
@@ -123,6 +150,7 @@ IsCut-with_bounds u v p b h k =
       least = h.least;
       most = h.most;
       order = h.order;
+      strided = h.strided;
       origin = h.origin;
       first = each_facts (λ q f. (facts_of q u.pairs).bounds.first ≤ f.bounds.first) p _ v.pairs k.first h.first;
       last = each_facts (λ q f. f.bounds.last ≤ (facts_of q u.pairs).bounds.last) p _ v.pairs k.last h.last;

@@ -1,5 +1,5 @@
 -- Of plain pairs reducing leaves the same values, where each pair's own bounds are those that its bytes give.
-use Rattle.std.proofs.Common.{◌≡◌, ℕ, ◌/◌, ◌%◌, ◌<◌, ◌≤◌, Bool, true, false, ◌==◌, cond, nat_lt, Option, Some, None, is_none, refl, sym, ◌∙◌, ap, subst, arith}
+use Rattle.std.proofs.Common.{◌≡◌, ℕ, ◌/◌, ◌%◌, ◌<◌, ◌≤◌, Bool, true, false, ◌&&◌, ◌==◌, cond, nat_lt, Option, Some, None, is_none, refl, sym, ◌∙◌, ap, subst, arith}
 use Rattle.std.specs.Prelude.{option_and_then}
 use Rattle.std.proofs.lemmas.Bool.{and_parts, leb-true}
 use Rattle.std.proofs.lemmas.Bool.Decides.{nat_tests}
@@ -12,23 +12,27 @@ use Rattle.gb_domain.specs.declared.pairs.Bounds.{Bounds}
 use Rattle.gb_domain.specs.declared.pairs.Link.{Link}
 use Rattle.gb_domain.specs.declared.pairs.PairFacts.{PairFacts}
 use Rattle.gb_domain.specs.Pairs.{facts_of}
-use Rattle.gb_domain.specs.Rules.{IsVal}
 use Rattle.gb_vals.specs.Logic.{smaller, larger}
 use Rattle.gb_pairs.specs.declared.values.Values.{Values}
 use Rattle.gb_pairs.specs.Bounds.{cut, is_empty, high_of, low_of, box, bounds_of}
 use Rattle.gb_pairs.specs.Plain.{is_plain, are_plain, with_boxes, EndInBytes}
-use Rattle.gb_pairs.specs.Reduced.{cut_val, with_bounds, high_bounds, low_bounds, with_bytes_if, settled, reduced_within, reduced_pair, reduced_once, reduced}
+use Rattle.gb_pairs.specs.Reduced.{low_bits_within, cut_val, with_bounds, high_bounds, low_bounds, with_bytes_if, settled, reduced_within, reduced_pair, reduced_once, reduced}
 use Rattle.gb_pairs.specs.Meaning.{Holds}
 use Rattle.gb_pairs.specs.Sound.{IsSoundReducing}
 use Rattle.gb_pairs.proofs.RegisterLaws.{each_facts}
 use Rattle.gb_pairs.proofs.BoundsLaws.{Within-bytes}
 use Rattle.gb_pairs.proofs.ReducedLaws.{Holds-with_bounds}
 
+-- a value's ends are in order, and bytes
+record IsOrdered (v : Val) : Type 0 where
+  order : v.lo ≤ v.hi
+  hi : v.hi < 256
+
 -- a pair's bytes aren't empty, and it says nothing beyond them
 record IsPlain (h l : Val) (f : PairFacts) : Type 0 where
   link : f.link ≡ None
-  high : IsVal h
-  low : IsVal l
+  high : IsOrdered h
+  low : IsOrdered l
   first : f.bounds.first ≤ (box h l).first
   last : (box h l).last ≤ f.bounds.last
 
@@ -46,6 +50,9 @@ with_box p v = with_bounds p (box_of p v) v
 
 -- ---- one pair
 
+itself : (n : ℕ) → (n == n) ≡ true
+itself n = grind (arith, nat_tests)
+
 -- a value that lies in the bounds stays
 cut_val-whole : (v : Val) (d : Bounds) → d.first ≤ v.lo → v.lo ≤ v.hi → v.hi ≤ d.last → cut_val v d ≡ Some v
 unfolding cut_val
@@ -53,9 +60,11 @@ cut_val-whole v d first order last =
     let lo : larger v.lo d.first ≡ v.lo = grind (arith, nat_tests) in
     let hi : smaller v.hi d.last ≡ v.hi = grind (arith, nat_tests) in
     let none : nat_lt v.hi v.lo ≡ false = grind (arith, nat_tests) in
-    subst (λ n. cond (nat_lt (smaller v.hi d.last) n) None (Some (record v { lo = n; hi = smaller v.hi d.last })) ≡ Some v) (sym lo)
-    (subst (λ n. cond (nat_lt n v.lo) None (Some (record v { lo = v.lo; hi = n })) ≡ Some v) (sym hi)
-    (subst (λ b. cond b None (Some v) ≡ Some v) (sym none) refl))
+    let stays : (v.lo == v.lo && v.hi == v.hi) ≡ true = rw (itself v.lo, itself v.hi) refl in
+    subst (λ n. cond (nat_lt (smaller v.hi d.last) n) None (Some (record v { lo = n; hi = smaller v.hi d.last; low_bits = low_bits_within n (smaller v.hi d.last) v })) ≡ Some v) (sym lo)
+    (subst (λ n. cond (nat_lt n v.lo) None (Some (record v { lo = v.lo; hi = n; low_bits = low_bits_within v.lo n v })) ≡ Some v) (sym hi)
+    (subst (λ b. cond (nat_lt v.hi v.lo) None (Some (record v { low_bits = cond b v.low_bits 0 })) ≡ Some v) (sym stays)
+    (subst (λ b. cond b None (Some v) ≡ Some v) (sym none) refl)))
 
 high_whole : (high low : Val) (f : PairFacts) → IsPlain high low f → cut_val high (high_bounds (box high low)) ≡ Some high
 high_whole high low f h =

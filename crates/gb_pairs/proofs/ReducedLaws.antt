@@ -1,5 +1,5 @@
 -- Reducing loses no registers.
-use Rattle.std.proofs.Common.{◌≡◌, ℕ, ◌/◌, ◌%◌, ◌<◌, Bool, true, false, ◌==◌, ◌||◌, cond, nat_lt, Option, Some, None, refl, sym, subst, arith}
+use Rattle.std.proofs.Common.{◌≡◌, ℕ, ◌/◌, ◌%◌, ◌<◌, Bool, true, false, ◌&&◌, ◌==◌, ◌||◌, cond, nat_lt, Option, Some, None, refl, sym, subst, arith}
 use Rattle.std.specs.Prelude.{IfSome, option_and_then}
 use Rattle.std.proofs.lemmas.Bool.{eqb-true}
 use Rattle.std.proofs.lemmas.Bool.Decides.{nat_tests}
@@ -20,11 +20,11 @@ use Rattle.gb_vals.specs.Meaning.{In}
 use Rattle.gb_pairs.specs.declared.values.Values.{Values}
 use Rattle.gb_pairs.specs.Bounds.{is_empty, high_of, low_of, bounds_of, bounds_of_other}
 use Rattle.gb_pairs.specs.Meaning.{word_of, other_of, IsLinked, HoldsPair, AreBytes, Holds}
-use Rattle.gb_pairs.specs.Reduced.{cut_by_other, others_at, cut_val, with_register, with_bounds, with_register_if, with_bounds_if, cut_other, cut_other_if, high_bounds, low_bounds, with_bytes_if, settled, reduced_by_link, reduced_within, reduced_pair, reduced_once, reduced, restricted}
+use Rattle.gb_pairs.specs.Reduced.{cut_by_other, others_at, low_bits_within, cut_val, with_register, with_bounds, with_register_if, with_bounds_if, cut_other, cut_other_if, high_bounds, low_bounds, with_bytes_if, settled, reduced_by_link, reduced_within, reduced_pair, reduced_once, reduced, restricted}
 use Rattle.gb_pairs.specs.Sound.{Within, HoldsIn, IsSoundByLink, IsSoundReducing, IsSoundRestriction, IsCut}
 use Rattle.gb_pairs.proofs.RegisterLaws.{each_set, each_facts}
 use Rattle.gb_pairs.proofs.BoundsLaws.{Within-cut, Within-bounds_of, Within-bounds_of_other, word_of-is, word_below, other_below}
-use Rattle.gb_pairs.proofs.CutLaws.{reduced_pair_cuts, reduced_by_two_cuts, reduced_once_cuts}
+use Rattle.gb_pairs.proofs.CutLaws.{kept_low, both_stay, reduced_pair_cuts, reduced_by_two_cuts, reduced_once_cuts}
 use Rattle.gb_pairs.proofs.KeptLaws.{bounds_of_below, ArePairs-cut}
 use Rattle.gb_pairs.proofs.LinkLaws.{WithinIf, Within-cut_by_other, cut_by_other-last, Within-others_at}
 
@@ -59,9 +59,16 @@ InIf-cut_val v d n h k = choose (nat_lt (smaller v.hi d.last) (larger v.lo d.fir
   where
     choose :
         (b : Bool) → nat_lt (smaller v.hi d.last) (larger v.lo d.first) ≡ b
-        → InIf (cond b None (Some (record v { lo = larger v.lo d.first; hi = smaller v.hi d.last }))) n
+        → InIf (cond b None (Some (record v { lo = larger v.lo d.first; hi = smaller v.hi d.last; low_bits = low_bits_within (larger v.lo d.first) (smaller v.hi d.last) v }))) n
     choose true e = absurd (grind (arith, nat_tests))
-    choose false e = record { least = grind (arith, nat_tests); most = grind (arith, nat_tests) }
+    choose false e =
+        record {
+          least = grind (arith, nat_tests);
+          most = grind (arith, nat_tests);
+          low =
+              kept_low v (larger v.lo d.first) n (larger v.lo d.first == v.lo && smaller v.hi d.last == v.hi)
+              (λ e. (both_stay v (larger v.lo d.first) (smaller v.hi d.last) e).0) h.low;
+        }
 
 HoldsIn-with_register_if :
     (r : Register) (o : Option Val) (v : Values) (x : Registers ℕ) → InIf o (get r x) → Holds v x → HoldsIn (with_register_if r o v) x

@@ -1,6 +1,6 @@
 -- Reducing: values are cut to what their pairs and links leave (abstract interpretation: a reduced product; own). Interval
 -- arithmetic is used only where it doesn't go round at 65536.
-use Rattle.std.specs.Prelude.{ℕ, ◌+◌, ◌-◌, ◌*◌, ◌/◌, ◌%◌, Bool, true, false, ◌||◌, ◌==◌, if◌then◌else◌, nat_lt, Option, Some, None, option_and_then}
+use Rattle.std.specs.Prelude.{ℕ, ◌+◌, ◌-◌, ◌*◌, ◌/◌, ◌%◌, Bool, true, false, ◌&&◌, ◌||◌, ◌==◌, if◌then◌else◌, nat_lt, Option, Some, None, option_and_then}
 use Rattle.std.specs.Int.{div_ceil}
 use Rattle.gb_ops.specs.declared.op.Register.{Register}
 use Rattle.gb_ops.specs.declared.registers.Registers.{Registers}
@@ -81,12 +81,16 @@ others_at l o b =
 
 -- ---- cutting
 
+-- what is known of low bits where a value's bounds become these: of a value that stays what was known, else nothing
+abbrev pub low_bits_within : ℕ → ℕ → Val → ℕ
+low_bits_within lo hi v = if lo == v.lo && hi == v.hi then v.low_bits else 0
+
 -- what of a value is in d; none where that is empty
 unfoldable pub cut_val : Val → Bounds → Option Val
 cut_val v d =
     let lo = larger v.lo d.first in
     let hi = smaller v.hi d.last in
-    if nat_lt hi lo then None else Some (record v { lo = lo; hi = hi })
+    if nat_lt hi lo then None else Some (record v { lo = lo; hi = hi; low_bits = low_bits_within lo hi v })
 
 abbrev pub with_facts : WordPair → PairFacts → Pairs → Pairs
 with_facts pair.Bc f s = record s { bc = f }

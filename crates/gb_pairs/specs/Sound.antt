@@ -1,5 +1,5 @@
 -- What operations on pairs promise of the registers (abstract interpretation: soundness; own).
-use Rattle.std.specs.Prelude.{◌≡◌, ℕ, ◌+◌, ◌/◌, ◌%◌, ◌≤◌, Bool, nat_lt, Option, Some, None}
+use Rattle.std.specs.Prelude.{◌≡◌, ℕ, ◌+◌, ◌/◌, ◌%◌, ◌≤◌, Bool, true, nat_lt, Option, Some, None}
 use Rattle.gb_ops.specs.declared.op.Register.{Register}
 use Rattle.gb_ops.specs.declared.registers.Registers.{Registers}
 use Rattle.gb_ops.specs.Registers.{get, set}
@@ -9,6 +9,7 @@ use Rattle.gb_domain.specs.declared.pairs.Bounds.{Bounds}
 use Rattle.gb_domain.specs.declared.pairs.Link.{Link}
 use Rattle.gb_domain.specs.declared.pairs.Pairs.{Pairs}
 use Rattle.gb_domain.specs.Pairs.{facts_of}
+use Rattle.gb_domain.specs.Values.{is_strided}
 use Rattle.gb_pairs.specs.declared.values.Values.{Values}
 use Rattle.gb_pairs.specs.declared.moved.HlSum.{HlSum}
 use Rattle.gb_pairs.specs.Bounds.{high_of, low_of}
@@ -45,11 +46,13 @@ pub record IsSoundByLink (p : WordPair) (l : Link) (o b : Bounds) (v : Values) (
 pub record IsSoundRestriction (p : WordPair) (within : Bounds) (v : Values) (o : Option Values) : Type 0 where
   pub gives : (x : Registers ℕ) → Within within (word_of p x) → Holds v x → HoldsIn o x
 
--- each value and each pair's own bounds are cut or stay, a value's in order; origins and links stay
+-- each value and each pair's own bounds are cut or stay, a value's in order and with ends that have its low bits; origins and links
+-- stay
 pub record IsCut (v w : Values) : Type 0 where
   pub least : (r : Register) → (get r v.registers).lo ≤ (get r w.registers).lo
   pub most : (r : Register) → (get r w.registers).hi ≤ (get r v.registers).hi
   pub order : (r : Register) → (get r v.registers).lo ≤ (get r v.registers).hi → (get r w.registers).lo ≤ (get r w.registers).hi
+  pub strided : (r : Register) → is_strided (get r v.registers) ≡ true → is_strided (get r w.registers) ≡ true
   pub origin : (r : Register) → (get r w.registers).origin ≡ (get r v.registers).origin
   pub first : (p : WordPair) → (facts_of p v.pairs).bounds.first ≤ (facts_of p w.pairs).bounds.first
   pub last : (p : WordPair) → (facts_of p w.pairs).bounds.last ≤ (facts_of p v.pairs).bounds.last

@@ -2,7 +2,7 @@
 
 ghost use Rattle.std.specs.Prelude.{◌≡◌, ◌*◌, IfSome};
 ghost use Rattle.gb_domain.specs.Pairs.{ArePairs};
-ghost use Rattle.gb_pairs.specs.Reduced.{values_of, values_if, is_rising, size, pair_at, pairs_at, cut_by_other, multiple_at, multiples_at, others_at, cut_val, with_facts, with_bounds, with_bounds_if, cut_other, high_bounds, low_bounds, settled, reduced_by_link, reduced_pair, reduced_once, reduced, restricted};
+ghost use Rattle.gb_pairs.specs.Reduced.{values_of, values_if, is_rising, size, pair_at, pairs_at, cut_by_other, multiple_at, multiples_at, others_at, low_bits_within, cut_val, with_facts, with_bounds, with_bounds_if, cut_other, high_bounds, low_bounds, settled, reduced_by_link, reduced_pair, reduced_once, reduced, restricted};
 ghost use Rattle.gb_pairs.specs.Sound.{IsSoundByLink, IsSoundReducing, IsSoundRestriction, IsCut};
 
 use crate::bounds::{bounds_of, bounds_of_other, cut, facts_of, high_of, is_empty, low_of};
@@ -128,6 +128,17 @@ fn others_at(link: Link, other: Bounds, bounds: Bounds) -> Option<Bounds>
     }
 }
 
+/// What is known of low bits where a value's bounds become these: of a value that stays what was known, else nothing.
+fn low_bits_within(lo: u16, hi: u16, val: Val) -> u8
+    ensures { result ≡ low_bits_within lo hi val }
+{
+    if lo == val.lo.into() && hi == val.hi.into() {
+        val.low_bits
+    } else {
+        0
+    }
+}
+
 /// What of a value is in some bounds.
 #[tactic(auto, unfolding(crate::specs::Reduced::cut_val))]
 fn cut_val(val: Val, bounds: Bounds) -> Option<Val>
@@ -141,6 +152,7 @@ fn cut_val(val: Val, bounds: Bounds) -> Option<Val>
     Some(Val {
         lo: lo as u8,
         hi: hi as u8,
+        low_bits: low_bits_within(lo, hi, val),
         origin: val.origin,
     })
 }

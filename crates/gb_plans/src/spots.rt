@@ -49,6 +49,7 @@ pub fn high_of(node: &RunNode, pointer: Pointer) -> Val {
         None => Val {
             lo: 0xFF,
             hi: 0xFF,
+            low_bits: 0,
             origin: None,
         },
     }

@@ -1,5 +1,5 @@
 -- Cores whose registers are cut, one after another.
-use Rattle.std.proofs.Common.{◌≡◌, ◌≤◌, refl, ◌∙◌, arith}
+use Rattle.std.proofs.Common.{◌≡◌, ◌≤◌, true, refl, ◌∙◌, arith}
 use Rattle.gb_ops.specs.declared.op.Register.{Register}
 use Rattle.gb_ops.specs.declared.registers.Registers.{Registers}
 use Rattle.gb_ops.specs.Registers.{get}
@@ -10,6 +10,7 @@ use Rattle.gb_domain.specs.declared.types.Flg.{Flg}
 use Rattle.gb_domain.specs.declared.types.Core.{Core}
 use Rattle.gb_domain.specs.Pairs.{ArePairs}
 use Rattle.gb_domain.specs.Rules.{IsVal, IsCore}
+use Rattle.gb_domain.specs.Values.{is_strided}
 use Rattle.gb_abs_effects.proofs.CoreLaws.{IsCore-changed}
 use Rattle.gb_product.specs.Sound.{IsCutCore, IsCutTogether}
 
@@ -18,6 +19,7 @@ pub record AreCut (s t : Registers Val) : Type 0 where
   pub least : (r : Register) → (get r s).lo ≤ (get r t).lo
   pub most : (r : Register) → (get r t).hi ≤ (get r s).hi
   pub order : (r : Register) → (get r s).lo ≤ (get r s).hi → (get r t).lo ≤ (get r t).hi
+  pub strided : (r : Register) → is_strided (get r s) ≡ true → is_strided (get r t) ≡ true
   pub origin : (r : Register) → (get r t).origin ≡ (get r s).origin
 
 pub AreCut-trans : (s t u : Registers Val) → AreCut s t → AreCut t u → AreCut s u
@@ -26,6 +28,7 @@ AreCut-trans s t u h k =
       least = λ r. let a = h.least r in let b = k.least r in omega arith;
       most = λ r. let a = h.most r in let b = k.most r in omega arith;
       order = λ r e. k.order r (h.order r e);
+      strided = λ r e. k.strided r (h.strided r e);
       origin = λ r. k.origin r ∙ h.origin r;
     }
 
@@ -35,6 +38,7 @@ IsCutCore-registers s vals h =
       least = h.least;
       most = h.most;
       order = h.order;
+      strided = h.strided;
       origin = h.origin;
       own = refl;
       ime = refl;
@@ -50,6 +54,7 @@ IsCutCore-flags s f own =
       least = λ r. omega arith;
       most = λ r. omega arith;
       order = λ r e. e;
+      strided = λ r e. e;
       origin = λ r. refl;
       own = own;
       ime = refl;
@@ -68,6 +73,7 @@ IsCutCore-trans s t u h k =
       least = λ r. let a = h.least r in let b = k.least r in omega arith;
       most = λ r. let a = h.most r in let b = k.most r in omega arith;
       order = λ r e. k.order r (h.order r e);
+      strided = λ r e. k.strided r (h.strided r e);
       origin = λ r. k.origin r ∙ h.origin r;
       own = k.own ∙ h.own;
       ime = k.ime ∙ h.ime;
@@ -85,7 +91,7 @@ IsCore-cut s vals h is = IsCore-changed s vals s.flags s.ime (λ r. val r) is.fl
         let old = is.registers r in
         let most = h.most r in
         let hi = old.hi in
-        record { order = h.order r old.order; hi = omega arith }
+        record { order = h.order r old.order; hi = omega arith; strided = h.strided r old.strided }
 
 pub IsCutTogether-pairs : (r : Relations) (s : Pairs) → (ArePairs r.pairs → ArePairs s) → IsCutTogether r (record r { pairs = s })
 IsCutTogether-pairs r s h = record { byte = refl; zero = refl; pairs = h }

@@ -52,7 +52,7 @@ MeansCore-cut core vals entry x in_vals origin m =
     held r =
         let old : Holds (get r core.registers) entry (get r x.processor.registers) = m.registers r in
         let bounds = in_vals r in
-        record { least = bounds.least; most = bounds.most; origin = λ o e. old.origin o (sym (origin r) ∙ e) }
+        record { least = bounds.least; most = bounds.most; low = bounds.low; origin = λ o e. old.origin o (sym (origin r) ∙ e) }
 
 pub AreRelated-cut : (r : Relations) (s : Pairs) (x : MState) → HoldPairs s x.processor.registers → AreRelated r x → AreRelated (record r { pairs = s }) x
 AreRelated-cut r s x pairs m = record { byte = m.byte; zero = m.zero; pairs = pairs }

@@ -108,7 +108,7 @@ reduced_branch_sound rules b o e are = with_cell_sound b _ o e (reduced_sound ru
 -- ---- what is cut
 
 pub AreCut-values : (v w : Values) → IsCut v w → AreCut v.registers w.registers
-AreCut-values v w h = record { least = h.least; most = h.most; order = h.order; origin = h.origin }
+AreCut-values v w h = record { least = h.least; most = h.most; order = h.order; strided = h.strided; origin = h.origin }
 
 IsReduced-with_values :
     (core : Core) (r : Relations) (o : Option Values) → IfSome o (IsCut (values_of core.registers r.pairs)) → IfSome (with_values_if core r o) (IsReduced core r)

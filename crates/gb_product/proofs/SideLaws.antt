@@ -106,7 +106,7 @@ held_in_memory (Some b) cells entry x a memory h e =
 
 Holds-cut : (old new : Val) (entry : MState) (n : ℕ) → IsCutVal old new → In new n → Holds old entry n → Holds new entry n
 Holds-cut old new entry n cut in_new h =
-    record { least = in_new.least; most = in_new.most; origin = λ o e. h.origin o (sym cut.origin ∙ e) }
+    record { least = in_new.least; most = in_new.most; low = in_new.low; origin = λ o e. h.origin o (sym cut.origin ∙ e) }
 
 known_cell_holds :
     (address : Option ℕ) (v : Val) (entry x : MState)
@@ -134,8 +134,8 @@ known_cell_val (Some a) v h = choose (is_any v)
     choose true = tt
     choose false = h
 
-IsVal-any : IsVal (record { lo = 0; hi = 255; origin = None })
-IsVal-any = record { order = omega arith; hi = omega arith }
+IsVal-any : IsVal (record { lo = 0; hi = 255; low_bits = 0; origin = None })
+IsVal-any = record { order = omega arith; hi = omega arith; strided = refl }
 
 IsVal-cell_at : (a : ℕ) (cells : List Cell) → AllByRecursion (λ c. IsVal c.val) cells → IsVal (cell_at a cells)
 IsVal-cell_at a [] h = IsVal-any
@@ -153,7 +153,7 @@ IsVal-cut : (old new : Val) → IsCutVal old new → IsVal old → IsVal new
 IsVal-cut old new cut is =
     let most = cut.most in
     let hi = is.hi in
-    record { order = cut.order is.order; hi = omega arith }
+    record { order = cut.order is.order; hi = omega arith; strided = cut.strided is.strided }
 
 -- ---- a side where a condition is met
 
@@ -163,6 +163,7 @@ AreCut-contents b c left h =
       least = λ r. (h.registers r).least;
       most = λ r. (h.registers r).most;
       order = λ r. (h.registers r).order;
+      strided = λ r. (h.registers r).strided;
       origin = λ r. (h.registers r).origin;
     }
 

@@ -12,6 +12,7 @@ use Rattle.gb_domain.specs.declared.types.Core.{Core}
 use Rattle.gb_domain.specs.Pairs.{ArePairs}
 use Rattle.gb_domain.specs.Rules.{IsVal, IsCore}
 use Rattle.gb_domain.specs.Types.{AbsState}
+use Rattle.gb_domain.specs.Values.{is_strided}
 use Rattle.gb_abs_effects.specs.Below.gb_abs.Meaning.{Holds, MeansCore, IsMemory}
 use Rattle.gb_abs_effects.specs.Below.gb_abs.Storage.{peek}
 use Rattle.gb_relations.specs.Below.gb_pairs.Meaning.{AreBytes}
@@ -31,6 +32,7 @@ pub record IsCutCore (s t : Core) : Type 0 where
   pub least : (r : Register) → (get r s.registers).lo ≤ (get r t.registers).lo
   pub most : (r : Register) → (get r t.registers).hi ≤ (get r s.registers).hi
   pub order : (r : Register) → (get r s.registers).lo ≤ (get r s.registers).hi → (get r t.registers).lo ≤ (get r t.registers).hi
+  pub strided : (r : Register) → is_strided (get r s.registers) ≡ true → is_strided (get r t.registers) ≡ true
   pub origin : (r : Register) → (get r t.registers).origin ≡ (get r s.registers).origin
   pub own : t.flags.is_own ≡ s.flags.is_own
   pub ime : t.ime ≡ s.ime

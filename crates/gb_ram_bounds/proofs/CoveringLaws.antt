@@ -4,10 +4,10 @@ use Rattle.std.proofs.lemmas.Bool.{and_parts, or_cases}
 use Rattle.std.proofs.lemmas.Bool.Decides.{nat_tests}
 use Rattle.std.specs.List.{list_all, list_any}
 use Rattle.gb_domain.specs.declared.pairs.Bounds.{Bounds}
-use Rattle.gb_low_bits.specs.declared.interval.StridedInterval.{StridedInterval}
-use Rattle.gb_low_bits.specs.Interval.{any_byte, lies_in}
-use Rattle.gb_low_bits.specs.Meaning.{In}
-use Rattle.gb_low_bits.proofs.IntervalLaws.{In-lies_in}
+use Rattle.gb_domain.specs.declared.interval.StridedInterval.{StridedInterval}
+use Rattle.gb_domain.specs.Interval.{any_byte, lies_in}
+use Rattle.gb_domain.specs.Meaning.{In}
+use Rattle.gb_domain.proofs.IntervalLaws.{In-lies_in}
 use Rattle.gb_ram_bounds.specs.declared.cells.ByteCell.{ByteCell}
 use Rattle.gb_ram_bounds.specs.declared.facts.Fact.{Fact}
 use Rattle.gb_ram_bounds.specs.declared.pointers.Pointers.{Pointers}

@@ -4,10 +4,10 @@ use Rattle.std.proofs.lemmas.Bool.{and_parts, eqb-true}
 use Rattle.std.proofs.lemmas.Bool.Decides.{nat_tests}
 use Rattle.std.specs.Prelude.{min, max}
 use Rattle.std.specs.List.{list_all}
-use Rattle.gb_low_bits.specs.declared.interval.StridedInterval.{StridedInterval}
-use Rattle.gb_low_bits.specs.Interval.{cut, lies_in}
-use Rattle.gb_low_bits.specs.Meaning.{In, InSome}
-use Rattle.gb_low_bits.proofs.IntervalLaws.{cut_leaves, In-lies_in}
+use Rattle.gb_domain.specs.declared.interval.StridedInterval.{StridedInterval}
+use Rattle.gb_domain.specs.Interval.{cut, lies_in}
+use Rattle.gb_domain.specs.Meaning.{In, InSome}
+use Rattle.gb_domain.proofs.IntervalLaws.{cut_leaves, In-lies_in}
 use Rattle.gb_ram_bounds.specs.declared.cells.ByteCell.{ByteCell}
 use Rattle.gb_ram_bounds.specs.declared.addresses.AddressSet.{AddressSet}
 use Rattle.gb_ram_bounds.specs.declared.facts.Fact.{Fact}

@@ -4,11 +4,11 @@ use Rattle.std.proofs.lemmas.Bool.{and_parts, eqb-true}
 use Rattle.std.proofs.lemmas.Bool.Decides.{nat_tests}
 use Rattle.std.specs.Prelude.{min, max}
 use Rattle.gb_domain.specs.declared.pairs.Bounds.{Bounds}
-use Rattle.gb_low_bits.specs.declared.interval.StridedInterval.{StridedInterval}
-use Rattle.gb_low_bits.specs.LowBits.{modulus}
-use Rattle.gb_low_bits.specs.Interval.{bounds}
-use Rattle.gb_low_bits.specs.Meaning.{In}
-use Rattle.gb_low_bits.proofs.ModulusLaws.{Has-low_bits}
+use Rattle.gb_domain.specs.declared.interval.StridedInterval.{StridedInterval}
+use Rattle.gb_domain.specs.LowBits.{modulus}
+use Rattle.gb_domain.specs.Interval.{bounds}
+use Rattle.gb_domain.specs.Meaning.{In}
+use Rattle.gb_domain.proofs.ModulusLaws.{Has-low_bits}
 use Rattle.gb_ram_bounds.specs.declared.cells.ByteCell.{ByteCell}
 use Rattle.gb_ram_bounds.specs.declared.addresses.AddressSet.{AddressSet}
 use Rattle.gb_ops.specs.declared.op.Pointer.{Pointer}

@@ -1,6 +1,6 @@
 -- Sets of addresses (abstract interpretation: strided intervals; own).
 use Rattle.std.specs.Prelude.{ℕ, zero, suc, ◌+◌, ◌-◌, Bool, true, false, ◌&&◌, ◌||◌, ◌==◌, nat_le}
-use Rattle.gb_low_bits.specs.LowBits.{are_congruent}
+use Rattle.gb_domain.specs.LowBits.{are_congruent}
 use Rattle.gb_ram_bounds.specs.declared.addresses.AddressSet.{AddressSet}
 
 -- from first to last, those whose low byte has the low bits

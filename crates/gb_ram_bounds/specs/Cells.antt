@@ -1,6 +1,6 @@
 -- Which addresses have a memory cell (own).
 use Rattle.std.specs.Prelude.{ℕ, ◌==◌, Bool, true, false, List, [], ◌∷◌, Option, Some, None, if◌then◌else◌}
-use Rattle.gb_low_bits.specs.declared.interval.StridedInterval.{StridedInterval}
+use Rattle.gb_domain.specs.declared.interval.StridedInterval.{StridedInterval}
 use Rattle.gb_ram_bounds.specs.declared.cells.ByteCell.{ByteCell}
 
 -- what the cell at an address says

@@ -2,8 +2,8 @@
 use Rattle.std.specs.Prelude.{◌≡◌, ℕ, ◌+◌, ◌<◌, ◌≤◌, true, false, List, take, Option, Some, None}
 use Rattle.std.specs.List.{AllByRecursion}
 use Rattle.gb_domain.specs.declared.pairs.Bounds.{Bounds}
-use Rattle.gb_low_bits.specs.declared.interval.StridedInterval.{StridedInterval}
-use Rattle.gb_low_bits.specs.Meaning.{In}
+use Rattle.gb_domain.specs.declared.interval.StridedInterval.{StridedInterval}
+use Rattle.gb_domain.specs.Meaning.{In}
 use Rattle.gb_ram_bounds.specs.declared.cells.ByteCell.{ByteCell}
 use Rattle.gb_ram_bounds.specs.declared.addresses.AddressSet.{AddressSet}
 use Rattle.gb_ram_bounds.specs.declared.facts.Fact.{Fact}

@@ -3,8 +3,8 @@
 ghost use Rattle.std.specs.Prelude.{◌≡◌};
 ghost use Rattle.gb_ram_bounds.specs.Addresses as Addresses;
 
-use gb_low_bits::LowBits;
-use gb_low_bits::low_bits::are_congruent;
+use gb_domain::LowBits;
+use gb_domain::low_bits::are_congruent;
 
 /// The addresses from `first` to `last` whose low byte has the low bits.
 #[derive(Clone, Copy)]

@@ -3,7 +3,7 @@
 ghost use Rattle.std.specs.Prelude.{◌≡◌};
 ghost use Rattle.gb_ram_bounds.specs.Cells as Cells;
 
-use gb_low_bits::StridedInterval;
+use gb_domain::StridedInterval;
 
 /// What the byte at an address may be.
 #[derive(Clone, Copy)]

@@ -8,9 +8,8 @@ use crate::cells::{ByteCell, cell_at, has_cell};
 use crate::facts::{Fact, cut_by_facts, has_address};
 use crate::fills::{Fill, FillEnd, Reach, cut_by_fills, may_reach};
 use crate::pointers::{Pointers, is_same};
-use gb_domain::Bounds;
-use gb_low_bits::StridedInterval;
-use gb_low_bits::interval::{bounds, lies_in};
+use gb_domain::interval::{bounds, lies_in};
+use gb_domain::{Bounds, StridedInterval};
 
 #[tactic(auto, unfolding(crate::specs::Covering::byte_at))]
 fn known_byte(

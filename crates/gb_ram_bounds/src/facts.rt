@@ -6,8 +6,8 @@ ghost use Rattle.gb_ram_bounds.specs.Meaning.{IsSoundByFacts, IsSoundLevel, AreK
 
 use crate::addresses::{AddressSet, is_in, is_one};
 use crate::cells::{ByteCell, has_cell};
-use gb_low_bits::StridedInterval;
-use gb_low_bits::interval::{cut, lies_in};
+use gb_domain::StridedInterval;
+use gb_domain::interval::{cut, lies_in};
 
 /// The bytes at `first`, `first` + `step` and so on to `last` have one of these values each, cells apart.
 #[derive(Clone, Copy)]

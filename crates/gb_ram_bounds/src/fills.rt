@@ -8,9 +8,8 @@ use crate::addresses::{AddressSet, is_in};
 use crate::cells::ByteCell;
 use crate::facts::{cut_or_same, is_to_cell};
 use crate::pointers::{Pointers, is_same};
-use gb_domain::Bounds;
-use gb_low_bits::StridedInterval;
-use gb_low_bits::interval::bounds;
+use gb_domain::interval::bounds;
+use gb_domain::{Bounds, StridedInterval};
 use gb_ops::op::Pointer;
 
 /// On which side of its end a fill is.

@@ -23,6 +23,7 @@ pub const SET: May = May {
 pub const ANY: Val = Val {
     lo: 0,
     hi: 255,
+    low_bits: 0,
     origin: None,
 };
 
@@ -49,6 +50,7 @@ pub fn from_to(lo: u8, hi: u8) -> Val {
     Val {
         lo,
         hi,
+        low_bits: 0,
         origin: None,
     }
 }
@@ -58,6 +60,7 @@ pub fn copy_of(register: Register, lo: u8, hi: u8) -> Val {
     Val {
         lo,
         hi,
+        low_bits: 0,
         origin: Some(Origin::of(register)),
     }
 }

@@ -1,5 +1,5 @@
 -- The fields of a state: what is read is spelled so, and what is spelled so is read.
-use Rattle.std.proofs.Common.{◌≡◌, ℕ, zero, suc, ◌+◌, ◌*◌, ◌/◌, ◌%◌, ◌<◌, ◌≤◌, Bool, true, false, ◌&&◌, ◌||◌, ◌==◌, nat_le, List, [], ◌∷◌, ◌⊎◌, inl, inr, Option, Some, None, refl, arith}
+use Rattle.std.proofs.Common.{◌≡◌, ℕ, zero, suc, ◌+◌, ◌*◌, ◌/◌, ◌%◌, ◌<◌, ◌≤◌, Bool, true, false, ◌&&◌, ◌||◌, ◌==◌, nat_le, List, [], ◌∷◌, ◌⊎◌, inl, inr, Option, Some, None, refl, sym, ap, arith}
 use Rattle.std.specs.Prelude.{IfSome}
 use Rattle.std.proofs.lemmas.Bool.Decides.{nat_tests}
 use Rattle.gb_ops.specs.declared.op.Register.{Register}
@@ -21,11 +21,11 @@ use Rattle.gb_domain.specs.declared.rules.Rules.TheVariants.{Simple, Extended}
 use Rattle.gb_domain.specs.Areas.{is_area}
 use Rattle.gb_domain.specs.Rules.{has_value, IsVal, IsFlg, IsCtl, may_be_any, IsCore}
 use Rattle.gb_fields.specs.Limits.{origin_limit}
-use Rattle.gb_states.specs.Rules.{may_be_of, is_traced, are_traced, is_core_traced}
+use Rattle.gb_states.specs.Rules.{may_be_of, is_sayable, are_sayable, is_core_sayable}
 use Rattle.gb_fields.specs.Reading.{is_between, is_ordered, word_of, word, quad_of, quad, node_number_by, node_number, byte_between, word_between, count_within, is_one, yes_no}
 use Rattle.gb_states.specs.Reading.{origin_of, origin_at, to_val, val_at, to_may, may_at, to_ime, ime_at, is_test, to_test, test_at, to_flags, have_values, is_own_number, is_two, to_flg, flg_at, to_ctl, ctl_at, to_vals, vals_at, Tested, to_core, is_stack_right, core_at}
 use Rattle.gb_states.specs.Spelling as spelled
-use Rattle.gb_states.proofs.Formats.{IsFormat, IsFormat-byte, IsFormat-both, IsFormat-checked, IsFormat-mapped, IsFormat-as, IsFormat-spelled}
+use Rattle.gb_states.proofs.Formats.{IsFormat, IsFormat-byte, IsFormat-both, IsFormat-checked, IsFormat-mapped, IsFormat-onto, IsFormat-as, IsFormat-spelled}
 
 -- ---- tests
 
@@ -280,14 +280,28 @@ are_ordered lo hi order small = ((omega arith, small), is_le lo hi order)
 
 -- a value, of what there is by these rules
 abbrev pub IsValFor : Rules → Val → Type 0
-IsValFor rules v = IsVal v × (is_traced rules v ≡ true)
+IsValFor rules v = IsVal v × (is_sayable rules v ≡ true)
+
+abbrev IsReadVal : Rules → (ℕ × ℕ) × Option Origin → Type 0
+IsReadVal rules p = AreOrdered p.0.0 p.0.1 × (may_be_of rules p.1 ≡ true)
+
+val-there : (rules : Rules) (p : (ℕ × ℕ) × Option Origin) → IsReadVal rules p → (from_val (to_val p) ≡ p) × IsValFor rules (to_val p)
+unfolding from_val
+val-there rules p h = (refl, (record { order = le_is p.0.0 p.0.1 h.0.1; hi = h.0.0.1; strided = refl }, both_and _ _ h.1 refl))
+
+-- what can be said knows no low bits
+val-again : (rules : Rules) (v : Val) → IsValFor rules v → IsReadVal rules (from_val v) × (to_val (from_val v) ≡ v)
+unfolding from_val
+val-again rules v h =
+    let s = and_both (may_be_of rules v.origin) (v.low_bits == 0) h.1 in
+    let none : 0 ≡ v.low_bits = sym (same v.low_bits 0 s.1) in
+    ((are_ordered v.lo v.hi h.0.order h.0.hi, s.0), ap (λ (n : ℕ). (let w : Val = record { lo = v.lo; hi = v.hi; low_bits = n; origin = v.origin } in w)) none)
 
 pub IsFormat-val : (rules : Rules) → IsFormat (val_at rules) spelled.val (IsValFor rules)
 unfolding val_at from_val spelled.val
 IsFormat-val rules =
-    IsFormat-as (val_at rules) spelled.val (λ v. AreOrdered v.lo v.hi × (is_traced rules v ≡ true)) (IsValFor rules) (λ v h. (record { order = le_is v.lo v.hi h.0.1; hi = h.0.0.1 }, h.1)) (λ v h. (are_ordered v.lo v.hi h.0.order h.0.hi, h.1))
-    (IsFormat-mapped to_val from_val _ _ _ (λ x h. refl) (λ y h. refl)
-    (IsFormat-both _ _ _ _ _ _ (IsFormat-checked fault.Field is_ordered _ _ _ (IsFormat-both byte byte _ _ _ _ IsFormat-byte IsFormat-byte)) (IsFormat-origin rules)))
+    IsFormat-onto to_val from_val _ _ (IsReadVal rules) (IsValFor rules) (val-there rules) (val-again rules)
+    (IsFormat-both _ _ _ _ _ _ (IsFormat-checked fault.Field is_ordered _ _ _ (IsFormat-both byte byte _ _ _ _ IsFormat-byte IsFormat-byte)) (IsFormat-origin rules))
 
 number-may : (b : ℕ) → (b < 256) × (is_between 1 3 b ≡ true) → spelled.may_number (to_may b) ≡ b
 unfolding all_below
@@ -559,7 +573,7 @@ AreVals rules r = IsValFor rules r.a × (IsValFor rules r.b × (IsValFor rules r
 
 -- values, of what there is by these rules
 abbrev pub AreValsFor : Rules → Registers Val → Type 0
-AreValsFor rules s = ((r : Register) → IsVal (get r s)) × (are_traced rules s ≡ true)
+AreValsFor rules s = ((r : Register) → IsVal (get r s)) × (are_sayable rules s ≡ true)
 
 vals-each : (rules : Rules) (s : Registers Val) → AreVals rules s → (r : Register) → IsVal (get r s)
 vals-each rules s h A = h.0.0
@@ -575,7 +589,7 @@ vals-are rules s h = (vals-each rules s h, both_and _ _ h.0.1 (both_and _ _ h.1.
 
 are-vals : (rules : Rules) (s : Registers Val) → AreValsFor rules s → AreVals rules s
 are-vals rules s h =
-    let of : Val → Bool = is_traced rules in
+    let of : Val → Bool = is_sayable rules in
     let a = and_both (of s.a) (of s.b && (of s.c && (of s.d && (of s.e && (of s.h && of s.l))))) h.1 in
     let b = and_both (of s.b) (of s.c && (of s.d && (of s.e && (of s.h && of s.l)))) a.1 in
     let c = and_both (of s.c) (of s.d && (of s.e && (of s.h && of s.l))) b.1 in
@@ -606,7 +620,7 @@ AreCore rules role k = (may_be_any k.0.ime ≡ true) × (((k.0.bound < 256) × (
 pub record IsCoreFor (rules : Rules) (role : Role) (k : Tested) : Type 0 where
   pub core : IsCore k.0
   pub stack : is_stack_right role k.0.stack_set ≡ true
-  pub traced : is_core_traced rules k.0 ≡ true
+  pub sayable : is_core_sayable rules k.0 ≡ true
   pub test : IfSome k.1 (λ a. a < 256)
 
 core-is : (rules : Rules) (role : Role) (k : Tested) → AreCore rules role k → IsCoreFor rules role k
@@ -620,14 +634,14 @@ core-is rules role k h = record {
     registers = h.1.1.1.1.1.1.1.0;
   };
   stack = h.1.1.0.1;
-  traced = both_and _ _ h.1.1.1.1.1.1.0.1 h.1.1.1.1.1.1.1.1;
+  sayable = both_and _ _ h.1.1.1.1.1.1.0.1 h.1.1.1.1.1.1.1.1;
   test = h.1.1.1.0;
 }
 
 is-core : (rules : Rules) (role : Role) (k : Tested) → IsCoreFor rules role k → AreCore rules role k
 is-core rules role k h =
     let small : k.0.bound < 256 = omega (arith, h.core.bound) in
-    let t = and_both (is_traced rules k.0.ie) (are_traced rules k.0.registers) h.traced in
+    let t = and_both (is_sayable rules k.0.ie) (are_sayable rules k.0.registers) h.sayable in
     (h.core.ime, ((small, is_within 161 k.0.bound h.core.bound), ((tt, h.stack), (h.test, (h.core.ctl, (h.core.flags, ((h.core.ie, t.0), (h.core.registers, t.1))))))))
 
 -- a core behind its test

@@ -28,14 +28,14 @@ no_cells (a ∷ b ∷ c ∷ d ∷ e ∷ rest) h = absurd (omega arith)
 
 -- the first, and what is behind it
 pub items_front : (bytes : List ℕ) (o : Option Origin) → 3 ≤ length bytes → o ≡ origin_of (slice_index bytes 2)
-    → listed_items bytes ≡ (record { lo = slice_index bytes 0; hi = slice_index bytes 1; origin = o }) ∷ listed_items (take (length bytes - 3) (drop 3 bytes))
+    → listed_items bytes ≡ (record { lo = slice_index bytes 0; hi = slice_index bytes 1; low_bits = 0; origin = o }) ∷ listed_items (take (length bytes - 3) (drop 3 bytes))
 unfolding listed_items
 items_front [] o h is = absurd (omega arith)
 items_front (a ∷ []) o h is = absurd (omega arith)
 items_front (a ∷ b ∷ []) o h is = absurd (omega arith)
 items_front (a ∷ b ∷ c ∷ rest) o h is =
     let long : length (a ∷ b ∷ c ∷ rest) - 3 ≡ length rest = omega arith in
-    let one : Option Origin → Val = λ p. record { lo = a; hi = b; origin = p } in
+    let one : Option Origin → Val = λ p. record { lo = a; hi = b; low_bits = 0; origin = p } in
     ap (λ (p : Option Origin). one p ∷ listed_items rest) (sym is) ∙ ap (λ (xs : List ℕ). one o ∷ listed_items xs) (sym (ap (λ (n : ℕ). take n rest) long ∙ take_all (length rest) rest (omega arith)))
 
 pub cells_front : (bytes : List ℕ) (x : Cell) → 5 ≤ length bytes → x ≡ cell_of (slice_index bytes 0) (slice_index bytes 1) (slice_index bytes 2) (slice_index bytes 3) (slice_index bytes 4)

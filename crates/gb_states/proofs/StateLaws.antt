@@ -21,7 +21,7 @@ use Rattle.gb_domain.specs.Types.{AbsState, ProcedureParts, Node}
 use Rattle.gb_fields.specs.Format.{both, followed, optional, byte}
 use Rattle.gb_domain.specs.Areas.{is_area, meets, is_free_byte}
 use Rattle.gb_domain.specs.Rules.{IsChain, IsVal, IsCell, after_cell}
-use Rattle.gb_states.specs.Rules.{IsRange, IsState, IsProcedure, IsNode, after_range, role_of, may_have_items, may_be_pushed, is_traced, is_core_traced, is_cell_traced, fits, is_base_of, is_whole, key, is_from}
+use Rattle.gb_states.specs.Rules.{IsRange, IsState, IsProcedure, IsNode, after_range, role_of, may_have_items, may_be_pushed, is_sayable, is_core_sayable, is_cell_sayable, fits, is_base_of, is_whole, key, is_from}
 use Rattle.gb_fields.specs.Reading.{is_between, word, word_between, node_number, count_within, yes_no, may_return, returns_at, is_below, entry_at, base_at, times, need_at, key_at}
 use Rattle.gb_states.specs.Reading.{Tested, core_at, val_at, item_count_at, items_at, is_free, to_cell, cell_at, cells_at, to_state, state_at, to_range, range_at, ranges_at, exit_at, Body, body_at, to_procedure, procedure_at, to_node, node_at}
 use Rattle.gb_states.specs.RelationReading.{relations_by}
@@ -62,7 +62,7 @@ pub record AreItems (rules : Rules) (role : Role) (stack_set : Bool) (items : Li
   pub whole : is_whole rules (length items) ≡ true
   pub few : length items ≤ item_room rules
   pub each : AllByRecursion IsVal items
-  pub traced : list_all (is_traced rules) items ≡ true
+  pub sayable : list_all (is_sayable rules) items ≡ true
 
 -- Counted in units there are none where there are none.
 none-counted : (rules : Rules) (n : ℕ) → n % unit rules ≡ 0 → (n / unit rules == 0) ≡ (n == 0)
@@ -92,19 +92,19 @@ AreCounted rules role stack_set items =
 
 items-are : (rules : Rules) (role : Role) (stack_set : Bool) (items : List Val) → AreCounted rules role stack_set items → AreItems rules role stack_set items
 items-are rules role stack_set items h =
-    let each = all_parts IsVal (is_traced rules) items (all_of_chain (IsValFor rules) items h.1.1) in
+    let each = all_parts IsVal (is_sayable rules) items (all_of_chain (IsValFor rules) items h.1.1) in
     record {
       pushed = sym (pushed-counted rules role stack_set (length items) h.1.0) ∙ h.0.1;
       whole = is_whole_of rules (length items) h.1.0;
       few = few-counted rules (length items) h.1.0 h.0.0;
       each = each.0;
-      traced = each.1;
+      sayable = each.1;
     }
 
 are-items : (rules : Rules) (role : Role) (stack_set : Bool) (items : List Val) → AreItems rules role stack_set items → AreCounted rules role stack_set items
 are-items rules role stack_set items h =
     let whole = whole_is rules (length items) h.whole in
-    ((counted-few rules (length items) h.few, pushed-counted rules role stack_set (length items) whole ∙ h.pushed), (whole, chain_of_all (IsValFor rules) items (parts_all IsVal (is_traced rules) items h.each h.traced)))
+    ((counted-few rules (length items) h.few, pushed-counted rules role stack_set (length items) whole ∙ h.pushed), (whole, chain_of_all (IsValFor rules) items (parts_all IsVal (is_sayable rules) items h.each h.sayable)))
 
 item_limit_small : (rules : Rules) → item_limit rules < 256
 unfolding item_limit
@@ -131,7 +131,7 @@ from_cell : Cell → ℕ × Val
 from_cell c = (c.address, c.val)
 
 abbrev IsCellFor : Rules → Region → ℕ → Cell → Type 0
-IsCellFor rules region least c = IsCell region least c × (is_cell_traced rules c ≡ true)
+IsCellFor rules region least c = IsCell region least c × (is_cell_sayable rules c ≡ true)
 
 abbrev IsCellPair : Rules → Region → ℕ → Cell → Type 0
 IsCellPair rules region least c = (((c.address < 65536) × (is_free_byte region c.address ≡ true)) × (nat_le least c.address ≡ true)) × IsValFor rules c.val
@@ -156,7 +156,7 @@ IsFormat-cell rules region least =
 pub record AreCells (rules : Rules) (region : Region) (cells : List Cell) : Type 0 where
   pub few : length cells ≤ cell_room rules
   pub chain : IsChain (IsCell region) after_cell 0 cells
-  pub traced : list_all (is_cell_traced rules) cells ≡ true
+  pub sayable : list_all (is_cell_sayable rules) cells ≡ true
 
 cell_room_small : (rules : Rules) → cell_room rules < 256
 unfolding cell_room
@@ -167,10 +167,10 @@ abbrev AreCellsFor : Rules → Region → List Cell → Type 0
 AreCellsFor rules region cells = (length cells ≤ cell_room rules) × IsChain (IsCellFor rules region) after_cell 0 cells
 
 cells-are : (rules : Rules) (region : Region) (cells : List Cell) → AreCellsFor rules region cells → AreCells rules region cells
-cells-are rules region cells h = let k = chain_parts (IsCell region) (is_cell_traced rules) after_cell 0 cells h.1 in record { few = h.0; chain = k.0; traced = k.1 }
+cells-are rules region cells h = let k = chain_parts (IsCell region) (is_cell_sayable rules) after_cell 0 cells h.1 in record { few = h.0; chain = k.0; sayable = k.1 }
 
 are-cells : (rules : Rules) (region : Region) (cells : List Cell) → AreCells rules region cells → AreCellsFor rules region cells
-are-cells rules region cells h = (h.few, parts_chain (IsCell region) (is_cell_traced rules) after_cell 0 cells h.chain h.traced)
+are-cells rules region cells h = (h.few, parts_chain (IsCell region) (is_cell_sayable rules) after_cell 0 cells h.chain h.sayable)
 
 IsFormat-cells : (rules : Rules) (region : Region) → IsFormat (cells_at rules region) (spelled.counted spelled.cell) (AreCells rules region)
 unfolding cells_at
@@ -207,20 +207,20 @@ state-there rules role region p h = (
     cell_count = h.1.1.1.few;
     relations = told-relations rules region p.0.1 p.1.1.0 h.0.test h.1.1.0;
     known = told-known rules region p.0.1 p.1.1.0 h.1.1.0;
-    traced = both_and _ _ h.0.traced (both_and _ _ h.1.0.traced h.1.1.1.traced);
+    sayable = both_and _ _ h.0.sayable (both_and _ _ h.1.0.sayable h.1.1.1.sayable);
   },
 )
 
 state-again : (rules : Rules) (role : Role) (region : Region) (s : AbsState) → IsState rules role region s → AreParts rules role region (from_state s) × (to_state (from_state s) ≡ s)
 unfolding from_state
 state-again rules role region s h =
-    let t = and_both (is_core_traced rules s.core) (list_all (is_traced rules) s.items && list_all (is_cell_traced rules) s.cells) h.traced in
-    let u = and_both (list_all (is_traced rules) s.items) (list_all (is_cell_traced rules) s.cells) t.1 in (
+    let t = and_both (is_core_sayable rules s.core) (list_all (is_sayable rules) s.items && list_all (is_cell_sayable rules) s.cells) h.sayable in
+    let u = and_both (list_all (is_sayable rules) s.items) (list_all (is_cell_sayable rules) s.cells) t.1 in (
       (
-        record { core = h.core; stack = h.stack; traced = t.0; test = compared-small s.relations.byte.test h.relations.byte.test },
+        record { core = h.core; stack = h.stack; sayable = t.0; test = compared-small s.relations.byte.test h.relations.byte.test },
         (
-          record { pushed = h.pushed; whole = h.whole; few = h.item_count; each = h.items; traced = u.0 },
-          (is-told rules region s.relations h.relations h.known, record { few = h.cell_count; chain = h.cells; traced = u.1 }),
+          record { pushed = h.pushed; whole = h.whole; few = h.item_count; each = h.items; sayable = u.0 },
+          (is-told rules region s.relations h.relations h.known, record { few = h.cell_count; chain = h.cells; sayable = u.1 }),
         ),
       ),
       refl,

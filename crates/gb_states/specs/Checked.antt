@@ -12,7 +12,7 @@ use Rattle.gb_fields.specs.Reading.{word_of, is_one}
 use Rattle.gb_states.specs.Reading.{origin_of, to_may, to_ime, to_test, to_flags, to_flg, is_two}
 
 abbrev pub val_in : List ℕ → ℕ → Val
-val_in b i = record { lo = slice_index b i; hi = slice_index b (i + 1); origin = origin_of (slice_index b (i + 2)) }
+val_in b i = record { lo = slice_index b i; hi = slice_index b (i + 1); low_bits = 0; origin = origin_of (slice_index b (i + 2)) }
 
 abbrev pub flg_in : ℕ → ℕ → Flg
 flg_in bits own = to_flg (to_flags bits, is_two own)
@@ -67,11 +67,11 @@ are_none Extended b = are_three_zeros b
 
 -- of items, three bytes each
 unfoldable pub listed_items : List ℕ → List Val
-listed_items (lo ∷ hi ∷ number ∷ rest) = record { lo = lo; hi = hi; origin = origin_of number } ∷ listed_items rest
+listed_items (lo ∷ hi ∷ number ∷ rest) = record { lo = lo; hi = hi; low_bits = 0; origin = origin_of number } ∷ listed_items rest
 listed_items bytes = []
 
 abbrev pub cell_of : ℕ → ℕ → ℕ → ℕ → ℕ → Cell
-cell_of low high lo hi number = record { address = word_of (low, high); val = record { lo = lo; hi = hi; origin = origin_of number } }
+cell_of low high lo hi number = record { address = word_of (low, high); val = record { lo = lo; hi = hi; low_bits = 0; origin = origin_of number } }
 
 -- of cells, five bytes each
 unfoldable pub listed_cells : List ℕ → List Cell

@@ -51,7 +51,7 @@ unfoldable pub origin_at : Rules → Read (Option Origin)
 origin_at rules = mapped origin_of (byte_between 0 (origin_limit rules))
 
 abbrev pub to_val : (ℕ × ℕ) × Option Origin → Val
-to_val p = record { lo = p.0.0; hi = p.0.1; origin = p.1 }
+to_val p = record { lo = p.0.0; hi = p.0.1; low_bits = 0; origin = p.1 }
 
 unfoldable pub val_at : Rules → Read Val
 val_at rules = mapped to_val (both (checked fault.Field is_ordered (both byte byte)) (origin_at rules))

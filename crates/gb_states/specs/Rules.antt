@@ -69,22 +69,22 @@ abbrev pub may_be_of : Rules → Option Origin → Bool
 may_be_of Simple o = not (is_return_origin o)
 may_be_of Extended o = true
 
--- the value is a copy of what there is by these rules
-abbrev pub is_traced : Rules → Val → Bool
-is_traced rules v = may_be_of rules v.origin
+-- By these rules the value can be said: it is a copy of what there is, and no low bits are known.
+abbrev pub is_sayable : Rules → Val → Bool
+is_sayable rules v = may_be_of rules v.origin && v.low_bits == 0
 
-abbrev pub are_traced : Rules → Registers Val → Bool
-are_traced rules s = is_traced rules s.a && (is_traced rules s.b && (is_traced rules s.c && (is_traced rules s.d && (is_traced rules s.e && (is_traced rules s.h && is_traced rules s.l)))))
+abbrev pub are_sayable : Rules → Registers Val → Bool
+are_sayable rules s = is_sayable rules s.a && (is_sayable rules s.b && (is_sayable rules s.c && (is_sayable rules s.d && (is_sayable rules s.e && (is_sayable rules s.h && is_sayable rules s.l)))))
 
-abbrev pub is_core_traced : Rules → Core → Bool
-is_core_traced rules c = is_traced rules c.ie && are_traced rules c.registers
+abbrev pub is_core_sayable : Rules → Core → Bool
+is_core_sayable rules c = is_sayable rules c.ie && are_sayable rules c.registers
 
-abbrev pub is_cell_traced : Rules → Cell → Bool
-is_cell_traced rules c = is_traced rules c.val
+abbrev pub is_cell_sayable : Rules → Cell → Bool
+is_cell_sayable rules c = is_sayable rules c.val
 
 -- each value of a state is
-abbrev pub is_state_traced : Rules → AbsState → Bool
-is_state_traced rules s = is_core_traced rules s.core && (list_all (is_traced rules) s.items && list_all (is_cell_traced rules) s.cells)
+abbrev pub is_state_sayable : Rules → AbsState → Bool
+is_state_sayable rules s = is_core_sayable rules s.core && (list_all (is_sayable rules) s.items && list_all (is_cell_sayable rules) s.cells)
 
 -- By the rules of versions 1 and 2 nothing is known of several parts together but a test of A.
 abbrev pub may_be_known : Rules → Relations → Bool
@@ -103,7 +103,7 @@ pub record IsState (rules : Rules) (role : Role) (region : Region) (s : AbsState
   pub cell_count : length s.cells ≤ cell_room rules
   pub relations : IsRelations region s.relations
   pub known : may_be_known rules s.relations ≡ true
-  pub traced : is_state_traced rules s ≡ true
+  pub sayable : is_state_sayable rules s ≡ true
 
 -- ---- procedures and nodes
 

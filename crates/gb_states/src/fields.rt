@@ -53,7 +53,13 @@ pub fn val_at(rules: Rules, bytes: &[u8]) -> Result<(Val, &[u8]), CertFault>
         return Err(CertFault::Field);
     }
     let (origin, rest) = origin_at(rules, rest)?;
-    Ok((Val { lo, hi, origin }, rest))
+    let val = Val {
+        lo,
+        hi,
+        low_bits: 0,
+        origin,
+    };
+    Ok((val, rest))
 }
 
 #[inline(always)]
@@ -255,6 +261,7 @@ fn val_in(bytes: &[u8], place: usize) -> Val
     Val {
         lo: bytes[place],
         hi: bytes[place + 1],
+        low_bits: 0,
         origin: origin_of(bytes[place + 2]),
     }
 }

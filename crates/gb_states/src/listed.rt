@@ -15,6 +15,7 @@ pub fn append_items(state: &mut Abs, bytes: &[u8])
         state.push_item(Val {
             lo: *lo,
             hi: *hi,
+            low_bits: 0,
             origin: origin_of(*number),
         });
         append_items(state, rest);
@@ -31,6 +32,7 @@ fn cell_of(low: u8, high: u8, lo: u8, hi: u8, number: u8) -> Cell
         val: Val {
             lo,
             hi,
+            low_bits: 0,
             origin: origin_of(number),
         },
     }

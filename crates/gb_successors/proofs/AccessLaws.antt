@@ -90,7 +90,7 @@ clear_stack region core h = by core.bound region.first h
 -- ---- reads
 
 any_holds : (entry : MState) (n : ℕ) → n ≤ 255 → Holds any_val entry n
-any_holds entry n h = record { least = omega arith; most = h; origin = λ o e. cc }
+any_holds entry n h = record { least = omega arith; most = h; low = refl; origin = λ o e. cc }
 
 -- what an instruction reads, without a fault
 pub record Loads (z : Setting) (rom : List ℕ) (s : AbsState) (what : AbsRead) (entry : MState) (m : View) (r : Read) (reads : List ℕ) : Type 0 where

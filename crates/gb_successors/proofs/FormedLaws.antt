@@ -95,13 +95,13 @@ IsCore-carry (Some false) c h =
     }
 
 IsVal-bare : (r : Register) (s : Registers Val) → IsVal (get r s) → IsVal (get r (registers_without_origins s))
-IsVal-bare A s h = record { order = h.order; hi = h.hi }
-IsVal-bare B s h = record { order = h.order; hi = h.hi }
-IsVal-bare C s h = record { order = h.order; hi = h.hi }
-IsVal-bare D s h = record { order = h.order; hi = h.hi }
-IsVal-bare E s h = record { order = h.order; hi = h.hi }
-IsVal-bare H s h = record { order = h.order; hi = h.hi }
-IsVal-bare L s h = record { order = h.order; hi = h.hi }
+IsVal-bare A s h = record { order = h.order; hi = h.hi; strided = h.strided }
+IsVal-bare B s h = record { order = h.order; hi = h.hi; strided = h.strided }
+IsVal-bare C s h = record { order = h.order; hi = h.hi; strided = h.strided }
+IsVal-bare D s h = record { order = h.order; hi = h.hi; strided = h.strided }
+IsVal-bare E s h = record { order = h.order; hi = h.hi; strided = h.strided }
+IsVal-bare H s h = record { order = h.order; hi = h.hi; strided = h.strided }
+IsVal-bare L s h = record { order = h.order; hi = h.hi; strided = h.strided }
 
 IsCore-bare : (c : Core) → IsCore c → IsCore (core_without_origins c)
 unfolding core_without_origins
@@ -111,7 +111,7 @@ IsCore-bare c h =
       bound = h.bound;
       ctl = record { bank = h.ctl.bank; bank_hi = h.ctl.bank_hi; second = h.ctl.second; second_hi = h.ctl.second_hi; gate = h.ctl.gate; mode = h.ctl.mode };
       flags = record { zero = h.flags.zero; subtract = h.flags.subtract; half_carry = h.flags.half_carry; carry = h.flags.carry };
-      ie = record { order = h.ie.order; hi = h.ie.hi };
+      ie = record { order = h.ie.order; hi = h.ie.hi; strided = h.ie.strided };
       registers = λ r. IsVal-bare r c.registers (h.registers r);
     }
 

@@ -152,7 +152,7 @@ small_indirect indirect.HlDecrement s c = small_hl s c
 
 small_high : (s : Core) → IsCore s → (high_span s).last < 65536
 unfolding high_span
-small_high s c = small_pair _ s.registers.c (record { order = omega arith; hi = omega arith }) (c.registers C)
+small_high s c = small_pair _ s.registers.c (record { order = omega arith; hi = omega arith; strided = refl }) (c.registers C)
 
 IsPlainRead-operand : (which : Operand) (s : Core) → IsCore s → IsPlainRead (operand_read which s)
 unfolding operand_read

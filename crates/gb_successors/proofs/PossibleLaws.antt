@@ -101,7 +101,7 @@ taken_by o p l h i j taken = by (Flags.condition_of o) refl
     by (Some k) e = is_taken-with o k p i j e ∙ (sym (is_taken-with o k p l h e) ∙ taken)
 
 holds_any : (entry : MState) (n : ℕ) → n ≤ 255 → Holds any_val entry n
-holds_any entry n h = record { least = omega arith; most = h; origin = λ o e. cc }
+holds_any entry n h = record { least = omega arith; most = h; low = refl; origin = λ o e. cc }
 
 -- no OAM transfer runs
 abbrev at_rest : MState → MState
@@ -359,13 +359,13 @@ ended_registers true n core = refl
 ended_registers false n core = refl
 
 bare : (r : Register) (s : Registers Val) (n : ℕ) → In (get r s) n → In (get r (registers_without_origins s)) n
-bare A s n h = record { least = h.least; most = h.most }
-bare B s n h = record { least = h.least; most = h.most }
-bare C s n h = record { least = h.least; most = h.most }
-bare D s n h = record { least = h.least; most = h.most }
-bare E s n h = record { least = h.least; most = h.most }
-bare H s n h = record { least = h.least; most = h.most }
-bare L s n h = record { least = h.least; most = h.most }
+bare A s n h = record { least = h.least; most = h.most; low = h.low }
+bare B s n h = record { least = h.least; most = h.most; low = h.low }
+bare C s n h = record { least = h.least; most = h.most; low = h.low }
+bare D s n h = record { least = h.least; most = h.most; low = h.low }
+bare E s n h = record { least = h.least; most = h.most; low = h.low }
+bare H s n h = record { least = h.least; most = h.most; low = h.low }
+bare L s n h = record { least = h.least; most = h.most; low = h.low }
 
 moved_registers : (m : StackMove) (r : Register) (core : Core) (n : ℕ) → In (get r core.registers) n → In (get r (moved_core m core).registers) n
 unfolding moved_core core_without_origins

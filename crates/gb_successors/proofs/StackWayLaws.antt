@@ -460,7 +460,7 @@ abbrev with_return_word : AbsState → Core → ℕ → ℕ → AbsState
 with_return_word s c low high = record s { core = c; items = single high ∷ single low ∷ [] }
 
 Holds-single : (entry : MState) (n : ℕ) → Holds (single n) entry n
-Holds-single entry n = record { least = omega arith; most = omega arith; origin = λ o h. cc }
+Holds-single entry n = record { least = omega arith; most = omega arith; low = refl; origin = λ o h. cc }
 
 single-held : (entry : MState) (n v : ℕ) → Holds (single n) entry v → v ≡ n
 single-held entry n v h =
@@ -469,7 +469,7 @@ single-held entry n v h =
     omega arith
 
 Holds-any : (entry : MState) (n : ℕ) → n ≤ 255 → Holds any_val entry n
-Holds-any entry n h = record { least = omega arith; most = h; origin = λ o e. cc }
+Holds-any entry n h = record { least = omega arith; most = h; low = refl; origin = λ o e. cc }
 
 return_word_means : (s : AbsState) (c : Core) (entry : MState) (base : ℕ) (x : MState) → MeansParts s entry base x → s.core.stack_set ≡ true → s.items ≡ [] → (y : MState) → y.storage ≡ x.storage → y.processor.sp ≡ x.processor.sp → MeansCore c entry y
     → MeansParts (with_return_word s c (peek x.storage base) (peek x.storage (base + 1))) entry (base + 2) y

@@ -185,7 +185,7 @@ loads z rom region ranges row a s entry base x reads c k plain ram limited =
     (limited_same region s.core c (read_of row.op c) k.keeps ∙ limited)
 
 IsVal-any : IsVal any_val
-IsVal-any = record { order = omega arith; hi = omega arith }
+IsVal-any = record { order = omega arith; hi = omega arith; strided = refl }
 
 -- SP as a pair, whose halves are bytes
 pub IsWord-sp : (z : Setting) (s : AbsState) (entry : MState) (base : ℕ) (x : MState) → IsBase z base → MeansParts s entry base x → IsWord (sp_halves z s)
@@ -201,7 +201,7 @@ IsWord-sp z s entry base x right m =
         let small = m.sp in
         let least = h.least in
         let less = l.least in
-        record { high = record { order = omega arith; hi = omega arith }; low = record { order = omega arith; hi = omega arith } }
+        record { high = record { order = omega arith; hi = omega arith; strided = refl }; low = record { order = omega arith; hi = omega arith; strided = refl } }
 
 IsWord-any : IsWord any_word
 IsWord-any = record { high = IsVal-any; low = IsVal-any }

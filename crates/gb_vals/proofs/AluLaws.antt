@@ -18,6 +18,8 @@ use Rattle.gb_vals.specs.Alu.{alu, alu_itself, nothing_left, result_with_itself}
 use Rattle.gb_vals.proofs.MeaningLaws.{known-may_be_same, In-single, IsOutcome-sound, IsOutcome-sound_of_two}
 use Rattle.gb_vals.proofs.SumLaws.{Gives-sum, Gives-difference, sum-byte, difference-byte}
 use Rattle.gb_vals.proofs.LogicLaws.{Gives-conjunction, Gives-disjunction, Gives-exclusion, Gives-of_itself, conjunction-byte, disjunction-byte, exclusion-byte, of_itself-byte}
+use Rattle.gb_domain.specs.Values.{is_strided}
+use Rattle.gb_vals.proofs.StrideLaws.{alu-strided, alu_itself-strided}
 
 Gives-alu :
     (how : AluOp) (a v : Val) (f : Flg) (x y : ℕ) (g : Flags)
@@ -47,7 +49,7 @@ unfolding subtracted
 Gives-difference_with_itself x subtract o m =
     let nothing : (x + 256 - (x + 0)) % 256 ≡ 0 = omega arith in
     record {
-      value = record { least = omega arith; most = omega arith };
+      value = record { least = omega arith; most = omega arith; low = refl };
       flags = record {
         zero = known-may_be_same true ((x + 256 - (x + 0)) % 256 == 0) (grind (arith, nat_tests));
         subtract = refl;
@@ -103,8 +105,10 @@ pub alu_inhabited :
     (how : AluOp) (a v : Val) (f : Flg) (o : AbsComputed) → o ≡ alu how a v f → IsVal a → IsVal v → IsFlg f → IsOutcome o
 alu_inhabited how a v f o e p q flags =
     IsOutcome-sound_of_two (alu_result how) a v f o (alu_sound how a v f o e p.hi q.hi) p q flags (subst (λ r. r.val.hi < 256) (sym e) (alu-byte how a v f p q))
+    (subst (λ r. is_strided r.val ≡ true) (sym e) (alu-strided how a v f p.strided))
 
 pub alu_itself_inhabited :
     (how : AluOp) (a : Val) (f : Flg) (o : AbsComputed) → o ≡ alu_itself how a f → IsVal a → IsFlg f → IsOutcome o
 alu_itself_inhabited how a f o e p flags =
     IsOutcome-sound (result_with_itself how) a f o (alu_itself_sound how a f o e) p flags (subst (λ r. r.val.hi < 256) (sym e) (alu_itself-byte how a f p))
+    (subst (λ r. is_strided r.val ≡ true) (sym e) (alu_itself-strided how a f p.strided))

@@ -13,6 +13,7 @@ use Rattle.gb_vals.specs.Flags.{known, greatest_flags}
 use Rattle.gb_vals.specs.Meaning.{In, FlagsIn, may_be, IsSoundOfVal, IsSoundOfTest, IsSoundAnswer, HasOne}
 use Rattle.gb_vals.specs.Bits.{tested, tested_any, test_bit, reset_bit, set_bit, has_bit, may_have_bit, enables, may_enable}
 use Rattle.gb_vals.proofs.MeaningLaws.{known-may_be, either-may_be, single-is, In-single, In-least, IsVal-from, IsFlg-from, FlagsIn-greatest}
+use Rattle.gb_vals.proofs.StrideLaws.{reset_bit-strided, set_bit-strided}
 
 -- ---- BIT
 
@@ -67,7 +68,7 @@ In-reset_bit n v x m = choose (is_single v) refl
     choose true e = subst (λ k. In (single (machine.bit_reset n k)) (machine.bit_reset n x)) (single-is v x e m) (In-single _)
     choose false e =
         let below : machine.bit_reset n x ≤ x = reset-below n x in
-        record { least = omega arith; most = omega arith }
+        record { least = omega arith; most = omega arith; low = refl }
 
 In-set_bit : (n : ℕ) (v : Val) (x : ℕ) → v.hi < 256 → In v x → In (set_bit n v) (machine.bit_set n x)
 unfolding set_bit
@@ -78,7 +79,7 @@ In-set_bit n v x byte m = choose (is_single v) refl
     choose false e =
         let above : x ≤ machine.bit_set n x = set-above n x in
         let below : machine.bit_set n x < 256 = set-byte n x (omega arith) in
-        record { least = omega arith; most = omega arith }
+        record { least = omega arith; most = omega arith; low = refl }
 
 reset_bit-byte : (n : ℕ) (v : Val) → IsVal v → (reset_bit n v).hi < 256
 unfolding reset_bit
@@ -105,11 +106,11 @@ set_bit_sound n v o e byte =
 
 pub reset_bit_inhabited : (n : ℕ) (v o : Val) → o ≡ reset_bit n v → IsVal v → IsVal o
 reset_bit_inhabited n v o e h =
-    subst (λ r. IsVal r) (sym e) (IsVal-from (reset_bit n v) _ (In-reset_bit n v v.lo (In-least v h)) (reset_bit-byte n v h))
+    subst (λ r. IsVal r) (sym e) (IsVal-from (reset_bit n v) _ (In-reset_bit n v v.lo (In-least v h)) (reset_bit-byte n v h) (reset_bit-strided n v))
 
 pub set_bit_inhabited : (n : ℕ) (v o : Val) → o ≡ set_bit n v → IsVal v → IsVal o
 set_bit_inhabited n v o e h =
-    subst (λ r. IsVal r) (sym e) (IsVal-from (set_bit n v) _ (In-set_bit n v v.lo h.hi (In-least v h)) (set_bit-byte n v h))
+    subst (λ r. IsVal r) (sym e) (IsVal-from (set_bit n v) _ (In-set_bit n v v.lo h.hi (In-least v h)) (set_bit-byte n v h) (set_bit-strided n v))
 
 -- ---- a bit that a value may have
 

@@ -27,8 +27,8 @@ IsHeld-meet first end x v low high m = choose (nat_lt (larger v.lo first) (small
   where
     choose :
         (b : Bool) → nat_lt (larger v.lo first) (smaller (v.hi + 1) end) ≡ b
-        → IsHeld (cond b (Some (record v { lo = larger v.lo first; hi = smaller (v.hi + 1) end - 1 })) None) x
-    choose true e = record { least = grind (arith, nat_tests); most = grind (arith, nat_tests) }
+        → IsHeld (cond b (Some (record v { lo = larger v.lo first; hi = smaller (v.hi + 1) end - 1; low_bits = 0 })) None) x
+    choose true e = record { least = grind (arith, nat_tests); most = grind (arith, nat_tests); low = refl }
     choose false e = absurd (grind (arith, nat_tests))
 
 IsHeld-without : (n x : ℕ) (v : Val) → v.hi < 256 → (x == n) ≡ false → In v x → IsHeld (without n v) x

@@ -13,6 +13,8 @@ use Rattle.gb_vals.specs.Outcomes.{exact}
 use Rattle.gb_vals.specs.Meaning.{In, FlagsIn, Gives, IsSound, IsOutcome}
 use Rattle.gb_vals.specs.Daa.{adjusted_any, adjustment_of}
 use Rattle.gb_vals.proofs.MeaningLaws.{either-may_be, known-is, single-is, In-any, Gives-exact, IsOutcome-sound}
+use Rattle.gb_domain.specs.Values.{is_strided}
+use Rattle.gb_vals.proofs.StrideLaws.{adjustment-strided}
 
 adjusted-byte : (a : ℕ) (f : Flags) → (adjusted a f).value < 256
 unfolding adjusted
@@ -72,3 +74,4 @@ adjustment_of-byte a f = choose (is_single a && (is_known f.subtract && is_known
 pub adjust_inhabited : (a : Val) (f : Flg) (o : AbsComputed) → o ≡ adjustment_of a f → IsVal a → IsFlg f → IsOutcome o
 adjust_inhabited a f o e val flags =
     IsOutcome-sound adjusted a f o (adjust_sound a f o e) val flags (subst (λ r. r.val.hi < 256) (sym e) (adjustment_of-byte a f))
+    (subst (λ r. is_strided r.val ≡ true) (sym e) (adjustment-strided a f))

@@ -8,4 +8,5 @@ pub mod LogicLaws
 pub mod MeaningLaws
 pub mod OriginLaws
 pub mod ShiftLaws
+pub mod StrideLaws
 pub mod SumLaws

@@ -16,6 +16,8 @@ use Rattle.gb_vals.specs.Outcomes.{exact}
 use Rattle.gb_vals.specs.Meaning.{In, FlagsIn, Gives, IsSound, IsOutcome}
 use Rattle.gb_vals.specs.Logic.{smaller, larger, logical, conjunction, disjunction, exclusion, of_itself, complement_result, complement}
 use Rattle.gb_vals.proofs.MeaningLaws.{known-may_be, single-is, zero_by-may_be, In-any, Gives-exact, IsOutcome-sound}
+use Rattle.gb_domain.specs.Values.{is_strided}
+use Rattle.gb_vals.proofs.StrideLaws.{complement-strided}
 
 -- ---- bounds of bits
 
@@ -72,7 +74,7 @@ Gives-conjunction a v x y m n = choose (is_single a && is_single v) refl
         Gives-exact (machine.logical (bit_and a.lo v.lo) true) (machine.logical (bit_and x y) true) same
     choose false e =
         Gives-logical (between 0 (smaller a.hi v.hi)) (bit_and x y) true
-        (record { least = omega arith; most = and-holds a.hi v.hi x y m.most n.most })
+        (record { least = omega arith; most = and-holds a.hi v.hi x y m.most n.most; low = refl })
 
 pub Gives-disjunction :
     (a v : Val) (x y : ℕ) → a.hi < 256 → v.hi < 256 → In a x → In v y → Gives (disjunction a v) (machine.logical (bit_or x y) false)
@@ -91,7 +93,7 @@ Gives-disjunction a v x y p q m n = choose (is_single a && is_single v) refl
     choose false e =
         let byte : bit_or x y < 256 = or-byte x y (omega arith) (omega arith) in
         Gives-logical (between (larger a.lo v.lo) 255) (bit_or x y) false
-        (record { least = or-holds a.lo v.lo x y m.least n.least; most = omega arith })
+        (record { least = or-holds a.lo v.lo x y m.least n.least; most = omega arith; low = refl })
 
 pub Gives-exclusion :
     (a v : Val) (x y : ℕ) → a.hi < 256 → v.hi < 256 → In a x → In v y → Gives (exclusion a v) (machine.logical (bit_xor x y) false)
@@ -126,7 +128,7 @@ Gives-complement : (a : Val) (f : Flg) (x : ℕ) (g : Flags) → In a x → Flag
 unfolding complement
 Gives-complement a f x g m h =
     record {
-      value = record { least = omega arith; most = omega arith };
+      value = record { least = omega arith; most = omega arith; low = refl };
       flags = record { zero = h.zero; subtract = refl; half_carry = refl; carry = h.carry };
     }
 
@@ -140,6 +142,7 @@ complement-byte a f = omega arith
 pub complement_inhabited : (a : Val) (f : Flg) (o : AbsComputed) → o ≡ complement a f → IsVal a → IsFlg f → IsOutcome o
 complement_inhabited a f o e val flags =
     IsOutcome-sound complement_result a f o (complement_sound a f o e) val flags (subst (λ r. r.val.hi < 256) (sym e) (complement-byte a f))
+    (subst (λ r. is_strided r.val ≡ true) (sym e) (complement-strided a f))
 
 -- ---- results are bytes
 

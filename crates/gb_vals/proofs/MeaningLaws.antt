@@ -8,6 +8,8 @@ use Rattle.gb_domain.specs.declared.types.Val.{Val}
 use Rattle.gb_domain.specs.declared.types.May.{May}
 use Rattle.gb_domain.specs.declared.types.Flg.{Flg}
 use Rattle.gb_domain.specs.Rules.{IsVal, IsFlg, has_value}
+use Rattle.gb_domain.specs.Values.{is_strided}
+use Rattle.gb_domain.proofs.ValueLaws.{same_itself}
 use Rattle.gb_ops.specs.Flags.{bit_of}
 use Rattle.gb_vals.specs.declared.outcome.AbsComputed.{AbsComputed}
 use Rattle.gb_vals.specs.Vals.{single, any_val, is_single}
@@ -72,13 +74,13 @@ greatest-may_be m h = choose m.set refl
 -- ---- bytes
 
 pub In-any : (x : ℕ) → x < 256 → In any_val x
-In-any x h = record { least = omega arith; most = omega arith }
+In-any x h = record { least = omega arith; most = omega arith; low = refl }
 
 pub single-is : (v : Val) (x : ℕ) → is_single v ≡ true → In v x → x ≡ v.lo
 single-is v x h m = grind (arith, nat_tests)
 
 pub In-single : (x : ℕ) → In (single x) x
-In-single x = record { least = omega arith; most = omega arith }
+In-single x = record { least = omega arith; most = omega arith; low = refl }
 
 -- Z by the bounds of a result
 pub zero_by-may_be : (v : Val) (x : ℕ) → In v x → may_be (zero_by v) (x == 0) ≡ true
@@ -116,25 +118,25 @@ IsFlg-from f x h =
       carry = has_value-from f.carry x.carry h.carry;
     }
 
-pub IsVal-from : (v : Val) (x : ℕ) → In v x → v.hi < 256 → IsVal v
-IsVal-from v x m byte = record { order = omega arith; hi = byte }
+pub IsVal-from : (v : Val) (x : ℕ) → In v x → v.hi < 256 → is_strided v ≡ true → IsVal v
+IsVal-from v x m byte strided = record { order = omega arith; hi = byte; strided = strided }
 
 pub In-least : (v : Val) → IsVal v → In v v.lo
-In-least v h = record { least = omega arith; most = h.order }
+In-least v h = record { least = omega arith; most = h.order; low = same_itself v.low_bits v.lo }
 
-IsOutcome-from : (o : AbsComputed) (c : Computed) → Gives o c → o.val.hi < 256 → IsOutcome o
-IsOutcome-from o c h byte =
-    record { val = IsVal-from o.val c.value h.value byte; flags = IsFlg-from o.flags c.flags h.flags }
+IsOutcome-from : (o : AbsComputed) (c : Computed) → Gives o c → o.val.hi < 256 → is_strided o.val ≡ true → IsOutcome o
+IsOutcome-from o c h byte strided =
+    record { val = IsVal-from o.val c.value h.value byte strided; flags = IsFlg-from o.flags c.flags h.flags }
 
 -- what is sound has a value, where the operands have one
 pub IsOutcome-sound :
     (machine : ℕ → Flags → Computed) (v : Val) (f : Flg) (o : AbsComputed)
-    → IsSound machine v f o → IsVal v → IsFlg f → o.val.hi < 256 → IsOutcome o
-IsOutcome-sound machine v f o sound val flags byte =
-    IsOutcome-from o _ (sound.gives v.lo (greatest_flags f) (In-least v val) (FlagsIn-greatest f flags)) byte
+    → IsSound machine v f o → IsVal v → IsFlg f → o.val.hi < 256 → is_strided o.val ≡ true → IsOutcome o
+IsOutcome-sound machine v f o sound val flags byte strided =
+    IsOutcome-from o _ (sound.gives v.lo (greatest_flags f) (In-least v val) (FlagsIn-greatest f flags)) byte strided
 
 pub IsOutcome-sound_of_two :
     (machine : ℕ → ℕ → Flags → Computed) (a v : Val) (f : Flg) (o : AbsComputed)
-    → IsSoundOfTwo machine a v f o → IsVal a → IsVal v → IsFlg f → o.val.hi < 256 → IsOutcome o
-IsOutcome-sound_of_two machine a v f o sound val other flags byte =
-    IsOutcome-from o _ (sound.gives a.lo v.lo (greatest_flags f) (In-least a val) (In-least v other) (FlagsIn-greatest f flags)) byte
+    → IsSoundOfTwo machine a v f o → IsVal a → IsVal v → IsFlg f → o.val.hi < 256 → is_strided o.val ≡ true → IsOutcome o
+IsOutcome-sound_of_two machine a v f o sound val other flags byte strided =
+    IsOutcome-from o _ (sound.gives a.lo v.lo (greatest_flags f) (In-least a val) (In-least v other) (FlagsIn-greatest f flags)) byte strided

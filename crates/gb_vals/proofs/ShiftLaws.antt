@@ -16,6 +16,8 @@ use Rattle.gb_vals.specs.Outcomes.{exact}
 use Rattle.gb_vals.specs.Meaning.{In, FlagsIn, may_be, Gives, IsSound, IsOutcome}
 use Rattle.gb_vals.specs.Shifts.{is_carry_known, shifted_val, carry_out, shifted_any, shift_of, shift_result, rotation_of_a, rotation_result}
 use Rattle.gb_vals.proofs.MeaningLaws.{bit-weight, either-may_be, known-is, single-is, In-any, Gives-exact, IsOutcome-sound}
+use Rattle.gb_domain.specs.Values.{is_strided}
+use Rattle.gb_vals.proofs.StrideLaws.{shift-strided, rotation-strided}
 
 shifted-byte : (how : Shift) (x : ℕ) (c : Bool) → x < 256 → machine.shifted_value how x c < 256
 unfolding machine.shifted_value
@@ -30,7 +32,7 @@ shifted-byte shift.Srl x c h = omega arith
 
 In-shifted_val : (how : Shift) (v : Val) (x : ℕ) (c : Bool) → v.hi < 256 → In v x → In (shifted_val how v) (machine.shifted_value how x c)
 unfolding machine.shifted_value
-In-shifted_val shift.Srl v x c h m = record { least = omega arith; most = omega arith }
+In-shifted_val shift.Srl v x c h m = record { least = omega arith; most = omega arith; low = refl }
 In-shifted_val shift.Rlc v x c h m = In-any _ (shifted-byte shift.Rlc x c (omega arith))
 In-shifted_val shift.Rrc v x c h m = In-any _ (shifted-byte shift.Rrc x c (omega arith))
 In-shifted_val shift.Rl v x c h m = In-any _ (shifted-byte shift.Rl x c (omega arith))
@@ -129,6 +131,7 @@ shift-byte how v f h = choose (is_single v && is_carry_known how f.carry)
 pub shift_inhabited : (how : Shift) (v : Val) (f : Flg) (o : AbsComputed) → o ≡ shift_of how v f → IsVal v → IsFlg f → IsOutcome o
 shift_inhabited how v f o e val flags =
     IsOutcome-sound (shift_result how) v f o (shift_sound how v f o e val.hi) val flags (subst (λ r. r.val.hi < 256) (sym e) (shift-byte how v f val))
+    (subst (λ r. is_strided r.val ≡ true) (sym e) (shift-strided how v f))
 
 rotation-byte : (how : Shift) (a : Val) (f : Flg) → IsVal a → (rotation_of_a how a f).val.hi < 256
 unfolding rotation_of_a
@@ -137,3 +140,4 @@ rotation-byte how a f h = shift-byte how a f h
 pub rotate_a_inhabited : (how : Shift) (a : Val) (f : Flg) (o : AbsComputed) → o ≡ rotation_of_a how a f → IsVal a → IsFlg f → IsOutcome o
 rotate_a_inhabited how a f o e val flags =
     IsOutcome-sound (rotation_result how) a f o (rotate_a_sound how a f o e val.hi) val flags (subst (λ r. r.val.hi < 256) (sym e) (rotation-byte how a f val))
+    (subst (λ r. is_strided r.val ≡ true) (sym e) (rotation-strided how a f))

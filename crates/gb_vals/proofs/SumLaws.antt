@@ -16,6 +16,8 @@ use Rattle.gb_vals.specs.Meaning.{In, FlagsIn, may_be, Gives, IsSound, IsOutcome
 use Rattle.gb_domain.specs.Rules.{IsVal, IsFlg}
 use Rattle.gb_vals.specs.Sums.{cut, zero_of, sum_of, difference_of, least_bit, greatest_bit, are_known, sum, difference, counted, keeping_carry, next_val, previous_val, increment, decrement}
 use Rattle.gb_vals.proofs.MeaningLaws.{In-any, bit-least, bit-greatest, IsOutcome-sound, known-may_be, either-may_be, may_be-by, known-is, single-is, In-single, zero_by-may_be, Gives-exact}
+use Rattle.gb_domain.specs.Values.{is_strided}
+use Rattle.gb_vals.proofs.StrideLaws.{increment-strided, decrement-strided}
 
 -- ---- whole numbers from least to most
 
@@ -25,7 +27,7 @@ In-cut least most x low high = choose (least / 256 == most / 256) refl
     choose : (b : Bool) → (least / 256 == most / 256) ≡ b → In (cond b (between (least % 256) (most % 256)) any_val) (x % 256)
     choose true e =
         let same : least / 256 ≡ most / 256 = grind (arith, nat_tests) in
-        record { least = omega arith; most = omega arith }
+        record { least = omega arith; most = omega arith; low = refl }
     choose false e = In-any (x % 256) (omega arith)
 
 zero_of-may_be : (least most x : ℕ) → least ≤ x → x ≤ most → may_be (zero_of least most) (x % 256 == 0) ≡ true
@@ -112,7 +114,7 @@ In-next v x m = choose (nat_lt v.hi 255) refl
     choose : (b : Bool) → nat_lt v.hi 255 ≡ b → In (cond b (between ((v.lo + 1) % 256) (v.hi + 1)) any_val) ((x + 1) % 256)
     choose true e =
         let small : v.hi < 255 = grind (arith, nat_tests) in
-        record { least = omega arith; most = omega arith }
+        record { least = omega arith; most = omega arith; low = refl }
     choose false e = In-any _ (omega arith)
 
 In-previous : (v : Val) (x : ℕ) → x < 256 → In v x → In (previous_val v) ((x + 255) % 256)
@@ -121,7 +123,7 @@ In-previous v x byte m = choose (nat_lt 0 v.lo) refl
     choose : (b : Bool) → nat_lt 0 v.lo ≡ b → In (cond b (between (v.lo - 1) (v.hi - 1)) any_val) ((x + 255) % 256)
     choose true e =
         let large : 0 < v.lo = grind (arith, nat_tests) in
-        record { least = omega arith; most = omega arith }
+        record { least = omega arith; most = omega arith; low = refl }
     choose false e = In-any _ (omega arith)
 
 -- the outcome of a known operand, C as it was
@@ -227,7 +229,9 @@ decrement-byte v f byte = choose (is_single v)
 pub increment_inhabited : (v : Val) (f : Flg) (o : AbsComputed) → o ≡ increment v f → IsVal v → IsFlg f → IsOutcome o
 increment_inhabited v f o e val flags =
     IsOutcome-sound incremented v f o (increment_sound v f o e) val flags (subst (λ r. r.val.hi < 256) (sym e) (increment-byte v f))
+    (subst (λ r. is_strided r.val ≡ true) (sym e) (increment-strided v f))
 
 pub decrement_inhabited : (v : Val) (f : Flg) (o : AbsComputed) → o ≡ decrement v f → IsVal v → IsFlg f → IsOutcome o
 decrement_inhabited v f o e val flags =
     IsOutcome-sound decremented v f o (decrement_sound v f o e val.hi) val flags (subst (λ r. r.val.hi < 256) (sym e) (decrement-byte v f val.hi))
+    (subst (λ r. is_strided r.val ≡ true) (sym e) (decrement-strided v f))

@@ -31,7 +31,7 @@ set_bit n v = if is_single v then single (machine.bit_set n v.lo) else between v
 abbrev pub has_bit : ℕ → ℕ → Bool
 has_bit i n = n / 2 ^ i % 2 == 1
 
--- one of the values has bit i: an end has it, or the bits above it change from the least value to the greatest
+-- a byte within the bounds has bit i: an end has it, or the bits above it change from the least value to the greatest
 unfoldable pub may_have_bit : Val → ℕ → Bool
 may_have_bit v i = has_bit i v.lo || has_bit i v.hi || nat_lt (v.lo / 2 ^ i / 2) (v.hi / 2 ^ i / 2)
 
@@ -39,6 +39,6 @@ may_have_bit v i = has_bit i v.lo || has_bit i v.hi || nat_lt (v.lo / 2 ^ i / 2)
 abbrev pub enables : ℕ → Bool
 enables n = not (n % 32 == 0)
 
--- one of the values enables an interrupt: of two that follow one another one does
+-- a byte within the bounds enables an interrupt: of two that follow one another one does
 unfoldable pub may_enable : Val → Bool
 may_enable v = nat_lt v.lo v.hi || enables v.lo

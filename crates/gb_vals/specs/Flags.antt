@@ -66,7 +66,7 @@ with_own is_own f = record f { is_own = is_own }
 -- PUSH AF: F as a byte, from its least to its greatest
 unfoldable pub flags_val : Flg → Val
 flags_val f =
-    record { lo = flags_byte (least_flags f); hi = flags_byte (greatest_flags f); origin = own_origin f.is_own }
+    record { lo = flags_byte (least_flags f); hi = flags_byte (greatest_flags f); low_bits = 0; origin = own_origin f.is_own }
 
 -- POP AF: the flags of a known byte, else any; F keeps its own origin alone
 unfoldable pub flags_of_val : Val → Flg

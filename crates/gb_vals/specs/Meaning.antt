@@ -6,12 +6,19 @@ use Rattle.gb_domain.specs.declared.types.Val.{Val}
 use Rattle.gb_domain.specs.declared.types.May.{May}
 use Rattle.gb_domain.specs.declared.types.Flg.{Flg}
 use Rattle.gb_domain.specs.Rules.{IsVal, IsFlg}
+use Rattle.gb_domain.specs.Values.{has_low_bits}
 use Rattle.gb_vals.specs.declared.outcome.AbsComputed.{AbsComputed}
 
--- v stands for x
+-- x is within v's bounds, whatever its low bits
+pub record InBounds (v : Val) (x : ℕ) : Type 0 where
+  pub least : v.lo ≤ x
+  pub most : x ≤ v.hi
+
+-- v stands for x: x is within the bounds, and has the low bits
 pub record In (v : Val) (x : ℕ) : Type 0 where
   pub least : v.lo ≤ x
   pub most : x ≤ v.hi
+  pub low : has_low_bits v x ≡ true
 
 -- a bit may be so
 abbrev pub may_be : May → Bool → Bool
@@ -50,14 +57,14 @@ pub record IsSoundOfTest (machine : ℕ → Flags → Flags) (v : Val) (f o : Fl
 pub record IsSoundOfFlags (machine : Flags → Flags) (f o : Flg) : Type 0 where
   pub gives : (g : Flags) → FlagsIn f g → FlagsIn o (machine g)
 
--- the answer is yes where one of the values has a property
+-- the answer is yes where a byte within the bounds has a property
 pub record IsSoundAnswer (property : ℕ → Bool) (v : Val) (answer : Bool) : Type 0 where
-  pub gives : (x : ℕ) → In v x → property x ≡ true → answer ≡ true
+  pub gives : (x : ℕ) → InBounds v x → property x ≡ true → answer ≡ true
 
--- one of the values has a property
+-- a byte within the bounds has a property
 pub record HasOne (property : ℕ → Bool) (v : Val) : Type 0 where
   pub value : ℕ
-  pub within : In v value
+  pub within : InBounds v value
   pub holds : property value ≡ true
 
 -- an outcome has a value, and each flag has one

@@ -35,7 +35,7 @@ unfoldable pub meet : ℕ → ℕ → Val → Option Val
 meet first end v =
     let lo = larger v.lo first in
     let after = smaller (v.hi + 1) end in
-    if nat_lt lo after then Some (record v { lo = lo; hi = after - 1 }) else None
+    if nat_lt lo after then Some (record v { lo = lo; hi = after - 1; low_bits = 0 }) else None
 
 -- all but n, where n is an end
 abbrev pub without : ℕ → Val → Option Val

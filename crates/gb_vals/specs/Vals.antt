@@ -4,7 +4,7 @@ use Rattle.gb_domain.specs.declared.types.Val.{Val}
 
 -- a computed interval is no copy of anything
 abbrev pub between : ℕ → ℕ → Val
-between lo hi = record { lo = lo; hi = hi; origin = None }
+between lo hi = record { lo = lo; hi = hi; low_bits = 0; origin = None }
 
 abbrev pub single : ℕ → Val
 single x = between x x

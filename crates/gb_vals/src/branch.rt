@@ -55,6 +55,7 @@ fn meet(first: u16, end: u16, val: Val) -> Option<Val>
         Some(Val {
             lo: lo as u8,
             hi: (after - 1) as u8,
+            low_bits: 0,
             origin: val.origin,
         })
     } else {

@@ -109,19 +109,27 @@ fn any_flags(is_own: bool) -> Flg
     }
 }
 
+#[tactic(auto, unfolding(crate::specs::Flags::flags_val))]
+fn least_to_greatest(flags: Flg) -> Val
+    ensures { result ≡ Sets.flags_val flags }
+{
+    Val {
+        lo: flags_byte(least_flags(flags)),
+        hi: flags_byte(greatest_flags(flags)),
+        low_bits: 0,
+        origin: own_origin(flags.is_own),
+    }
+}
+
 /// PUSH AF: F as a byte, from its least to its greatest; a copy of F where F is its own.
-#[tactic(auto, using(crate::proofs::FlagLaws::flags_val_sound, crate::proofs::FlagLaws::flags_val_inhabited), unfolding(crate::specs::Flags::flags_val))]
+#[tactic(auto, using(crate::proofs::FlagLaws::flags_val_kept))]
 pub fn flags_val(flags: Flg) -> Val
     ensures exact { result ≡ Sets.flags_val flags }
     ensures sound { (x : Flags) → FlagsIn flags x → In result (flags_byte x) }
     ensures inhabited { IsFlg flags → IsVal result }
     ensures kept { result.origin ≡ Sets.own_origin flags.is_own }
 {
-    Val {
-        lo: flags_byte(least_flags(flags)),
-        hi: flags_byte(greatest_flags(flags)),
-        origin: own_origin(flags.is_own),
-    }
+    least_to_greatest(flags)
 }
 
 /// POP AF: the flags of a known byte, its low four bits dropped; of another byte, any flags. F is

@@ -12,6 +12,7 @@ pub fn between(lo: u8, hi: u8) -> Val
     Val {
         lo,
         hi,
+        low_bits: 0,
         origin: None,
     }
 }

@@ -16,6 +16,7 @@ use Rattle.gb_rules.specs.Below.gb_domain.declared.types.Origin.{Origin}
 use Rattle.gb_rules.specs.Below.gb_domain.declared.types.Origin.TheVariants as origin
 use Rattle.gb_rules.specs.Below.gb_domain.declared.types.Val.{Val}
 use Rattle.gb_rules.specs.Below.gb_domain.Types.{AbsState, ProcedureParts, Node}
+use Rattle.gb_rules.specs.Below.gb_domain.Values.{have_same}
 use Rattle.gb_rules.specs.Below.gb_states.Rules.{IsCertificate, is_of, have_entries}
 use Rattle.gb_rules.specs.Below.gb_domain.Certificate.{Certificate}
 use Rattle.gb_rules.specs.Below.gb_abs.Storage.{peek, peek_by}
@@ -47,20 +48,20 @@ least x m h = omega arith
 most : (x m : ℕ) → x ≡ m → x ≤ m
 most x m h = omega arith
 
-Holds-own : (v : Val) (entry : MState) (x : ℕ) (o : Origin) → v.lo ≡ x → v.hi ≡ x → v.origin ≡ Some o → x ≡ origin_value o entry → Holds v entry x
-Holds-own v entry x o l h e s =
-    record { least = omega arith; most = omega arith; origin = λ q i. let j : o ≡ q = same_Some _ _ (sym e ∙ i) in s ∙ ap (λ p. origin_value p entry) j }
+Holds-own : (v : Val) (entry : MState) (x : ℕ) (o : Origin) → v.lo ≡ x → v.hi ≡ x → v.origin ≡ Some o → x ≡ origin_value o entry → v.low_bits ≡ 0 → Holds v entry x
+Holds-own v entry x o l h e s none =
+    record { least = omega arith; most = omega arith; low = subst (λ n. have_same n x v.lo ≡ true) (sym none) refl; origin = λ q i. let j : o ≡ q = same_Some _ _ (sym e ∙ i) in s ∙ ap (λ p. origin_value p entry) j }
 
 Holds-start : (rom : List ℕ) (cert : Certificate) (s : MState) (r : Register) → s.processor ≡ processor_at_power_up rom
     → Holds (get r (core_at_power_up rom cert.region).registers) s (get r s.processor.registers)
 unfolding core_at_power_up processor_at_power_up
-Holds-start rom cert s A h = let e = sym (ap (λ p. p.registers.a) h) in Holds-own _ _ _ origin.A e e refl refl
-Holds-start rom cert s B h = let e = sym (ap (λ p. p.registers.b) h) in Holds-own _ _ _ origin.B e e refl refl
-Holds-start rom cert s C h = let e = sym (ap (λ p. p.registers.c) h) in Holds-own _ _ _ origin.C e e refl refl
-Holds-start rom cert s D h = let e = sym (ap (λ p. p.registers.d) h) in Holds-own _ _ _ origin.D e e refl refl
-Holds-start rom cert s E h = let e = sym (ap (λ p. p.registers.e) h) in Holds-own _ _ _ origin.E e e refl refl
-Holds-start rom cert s H h = let e = sym (ap (λ p. p.registers.h) h) in Holds-own _ _ _ origin.H e e refl refl
-Holds-start rom cert s L h = let e = sym (ap (λ p. p.registers.l) h) in Holds-own _ _ _ origin.L e e refl refl
+Holds-start rom cert s A h = let e = sym (ap (λ p. p.registers.a) h) in Holds-own _ _ _ origin.A e e refl refl refl
+Holds-start rom cert s B h = let e = sym (ap (λ p. p.registers.b) h) in Holds-own _ _ _ origin.B e e refl refl refl
+Holds-start rom cert s C h = let e = sym (ap (λ p. p.registers.c) h) in Holds-own _ _ _ origin.C e e refl refl refl
+Holds-start rom cert s D h = let e = sym (ap (λ p. p.registers.d) h) in Holds-own _ _ _ origin.D e e refl refl refl
+Holds-start rom cert s E h = let e = sym (ap (λ p. p.registers.e) h) in Holds-own _ _ _ origin.E e e refl refl refl
+Holds-start rom cert s H h = let e = sym (ap (λ p. p.registers.h) h) in Holds-own _ _ _ origin.H e e refl refl refl
+Holds-start rom cert s L h = let e = sym (ap (λ p. p.registers.l) h) in Holds-own _ _ _ origin.L e e refl refl refl
 
 HoldsFlags-start : (rom : List ℕ) (cert : Certificate) (s : MState) → s.processor ≡ processor_at_power_up rom
     → HoldsFlags (core_at_power_up rom cert.region).flags s s.processor.flags
@@ -81,7 +82,7 @@ MeansCore-at_start rom cert s h =
     record {
       registers = λ r. Holds-start rom cert s r h.processor;
       flags = HoldsFlags-start rom cert s h.processor;
-      ie = Holds-own _ _ _ origin.Ie (sym h.ie) (sym h.ie) refl refl;
+      ie = Holds-own _ _ _ origin.Ie (sym h.ie) (sym h.ie) refl refl refl;
       ime = ap (λ p. ime_may_be (core_at_power_up rom cert.region).ime p.ime) h.processor;
       controller = record {
         bank_least = least s.storage.banks.bank 1 (ap (λ c. c.bank) h.banks);

@@ -1,9 +1,11 @@
 -- A certificate stays one in version 3.
-use Rattle.std.proofs.Common.{◌≡◌, ℕ, if◌then◌else◌, zero, suc, ◌+◌, ◌≤◌, Bool, true, false, not, ◌||◌, ◌==◌, List, [], ◌∷◌, ◌++◌, length, map, Option, Some, None, refl, ◌∙◌, ap, subst, arith}
+use Rattle.std.proofs.Common.{◌≡◌, ℕ, if◌then◌else◌, zero, suc, ◌+◌, ◌≤◌, Bool, true, false, not, ◌&&◌, ◌||◌, ◌==◌, nat_le, nat_lt, List, [], ◌∷◌, ◌++◌, length, map, Option, Some, None, refl, sym, ◌∙◌, ap, subst, arith}
 use Rattle.std.specs.Prelude.{slice_get, IfSome, min}
 use Rattle.std.specs.List.{list_all}
+use Rattle.std.proofs.lemmas.Bool.{and_parts}
 use Rattle.std.proofs.lemmas.Bool.Decides.{nat_tests}
 use Rattle.gb_ops.specs.declared.machine.Region.{Region}
+use Rattle.gb_ops.specs.declared.registers.Registers.{Registers}
 use Rattle.gb_rules.specs.Below.gb_domain.declared.types.Val.{Val}
 use Rattle.gb_rules.specs.Below.gb_domain.declared.types.Cell.{Cell}
 use Rattle.gb_rules.specs.Below.gb_domain.declared.rules.Rules.{Rules}
@@ -12,10 +14,11 @@ use Rattle.gb_rules.specs.Below.gb_domain.Types.{AbsState, ProcedureParts, Node}
 use Rattle.gb_rules.specs.Below.gb_domain.Certificate.{Certificate}
 use Rattle.gb_rules.specs.Below.gb_domain.Limits.{rules_of, item_room, cell_room}
 use Rattle.gb_rules.specs.Below.gb_domain.Rules.{IsChain, IsVal}
+use Rattle.gb_rules.specs.Below.gb_domain.Values.{have_same}
 use Rattle.gb_rules.specs.Below.gb_fields.Limits.{unit, node_limit, range_room}
 use Rattle.gb_rules.specs.Below.gb_states.declared.role.Role.{Role}
 use Rattle.gb_rules.specs.Below.gb_states.declared.role.Role.TheVariants as role
-use Rattle.gb_rules.specs.Below.gb_states.Rules.{is_whole, may_be_pushed, is_traced, is_cell_traced, is_state_traced, IsState, IsProcedure, IsNode, IsCertificate, is_of, have_entries, is_after, key}
+use Rattle.gb_rules.specs.Below.gb_states.Rules.{is_whole, may_be_pushed, may_be_of, is_sayable, are_sayable, is_core_sayable, is_cell_sayable, is_state_sayable, IsState, IsProcedure, IsNode, IsCertificate, is_of, have_entries, is_after, key}
 use Rattle.gb_rules.proofs.Below.gb_states_laws.StateLaws.{limit_bound}
 use Rattle.gb_verify.specs.Widened.{return_word, above_return_word, widened_node, widened_need, widened_procedure, widened_procedures, widened_by, widened}
 
@@ -25,16 +28,41 @@ any_whole : (n : ℕ) → is_whole Extended n ≡ true
 unfolding unit
 any_whole n = grind (arith, nat_tests)
 
-vals_traced : (vs : List Val) → list_all (is_traced Extended) vs ≡ true
-vals_traced [] = refl
-vals_traced (v ∷ vs) = vals_traced vs
+both : {a b : Bool} → a ≡ true → b ≡ true → (a && b) ≡ true
+both e f = rw (e, f) refl
 
-cells_traced : (cs : List Cell) → list_all (is_cell_traced Extended) cs ≡ true
-cells_traced [] = refl
-cells_traced (c ∷ cs) = cells_traced cs
+val_sayable : (v : Val) → is_sayable Simple v ≡ true → is_sayable Extended v ≡ true
+val_sayable v h = (and_parts (may_be_of Simple v.origin) (v.low_bits == 0) h).1
 
-traced : (s : AbsState) → is_state_traced Extended s ≡ true
-traced s = rw (vals_traced s.items, cells_traced s.cells) refl
+vals_sayable : (vs : List Val) → list_all (is_sayable Simple) vs ≡ true → list_all (is_sayable Extended) vs ≡ true
+vals_sayable [] h = refl
+vals_sayable (v ∷ vs) h =
+    let p = and_parts (is_sayable Simple v) (list_all (is_sayable Simple) vs) h in
+    both (val_sayable v p.0) (vals_sayable vs p.1)
+
+cells_sayable : (cs : List Cell) → list_all (is_cell_sayable Simple) cs ≡ true → list_all (is_cell_sayable Extended) cs ≡ true
+cells_sayable [] h = refl
+cells_sayable (c ∷ cs) h =
+    let p = and_parts (is_sayable Simple c.val) (list_all (is_cell_sayable Simple) cs) h in
+    both (val_sayable c.val p.0) (cells_sayable cs p.1)
+
+registers_sayable : (s : Registers Val) → are_sayable Simple s ≡ true → are_sayable Extended s ≡ true
+registers_sayable s h =
+    let of : Val → Bool = is_sayable Simple in
+    let a = and_parts (of s.a) (of s.b && (of s.c && (of s.d && (of s.e && (of s.h && of s.l))))) h in
+    let b = and_parts (of s.b) (of s.c && (of s.d && (of s.e && (of s.h && of s.l)))) a.1 in
+    let c = and_parts (of s.c) (of s.d && (of s.e && (of s.h && of s.l))) b.1 in
+    let d = and_parts (of s.d) (of s.e && (of s.h && of s.l)) c.1 in
+    let e = and_parts (of s.e) (of s.h && of s.l) d.1 in
+    let l = and_parts (of s.h) (of s.l) e.1 in
+    both (val_sayable s.a a.0) (both (val_sayable s.b b.0) (both (val_sayable s.c c.0) (both (val_sayable s.d d.0) (both (val_sayable s.e e.0) (both (val_sayable s.h l.0) (val_sayable s.l l.1))))))
+
+sayable : (s : AbsState) → is_state_sayable Simple s ≡ true → is_state_sayable Extended s ≡ true
+sayable s h =
+    let p = and_parts (is_core_sayable Simple s.core) (list_all (is_sayable Simple) s.items && list_all (is_cell_sayable Simple) s.cells) h in
+    let c = and_parts (is_sayable Simple s.core.ie) (are_sayable Simple s.core.registers) p.0 in
+    let l = and_parts (list_all (is_sayable Simple) s.items) (list_all (is_cell_sayable Simple) s.cells) p.1 in
+    both (both (val_sayable s.core.ie c.0) (registers_sayable s.core.registers c.1)) (both (vals_sayable s.items l.0) (cells_sayable s.cells l.1))
 
 pushed : (role : Role) (stack_set : Bool) (n : ℕ) → may_be_pushed Simple role stack_set n ≡ true → may_be_pushed Extended role stack_set n ≡ true
 pushed role.Main b n h = h
@@ -62,15 +90,15 @@ state_extended role region s h = record {
   cell_count = cells_fit (length s.cells) h.cell_count;
   relations = h.relations;
   known = refl;
-  traced = traced s;
+  sayable = sayable s h.sayable;
 }
 
 stack_set : (b : Bool) (n : ℕ) → (b || false) ≡ true → may_be_pushed Extended role.Other b n ≡ true
 stack_set true n h = refl
 stack_set false n h = cc
 
-any_byte : (v : Val) → v.lo ≡ 0 → v.hi ≡ 255 → IsVal v
-any_byte v e f = record { order = omega (arith, e, f); hi = omega (arith, f) }
+any_byte : (v : Val) → v.lo ≡ 0 → v.hi ≡ 255 → v.low_bits ≡ 0 → IsVal v
+any_byte v e f g = record { order = omega (arith, e, f); hi = omega (arith, f); strided = subst (λ n. (n == 0 || nat_le n 7 && (nat_lt v.lo v.hi && have_same n v.hi v.lo)) ≡ true) (sym g) refl }
 
 state_entered : (region : Region) (s : AbsState) → IsState Simple role.Other region s → IsState Extended role.Other region (above_return_word true s)
 state_entered region s h =
@@ -79,14 +107,14 @@ state_entered region s h =
       core = e.core;
       stack = e.stack;
       pushed = stack_set s.core.stack_set (length (return_word ++ s.items)) e.stack;
-      items = (any_byte _ refl refl, (any_byte _ refl refl, e.items));
+      items = (any_byte _ refl refl refl, (any_byte _ refl refl refl, e.items));
       whole = any_whole (length (return_word ++ s.items));
       item_count = omega (arith, items_fit (length s.items) h.item_count);
       cells = e.cells;
       cell_count = e.cell_count;
       relations = e.relations;
       known = refl;
-      traced = traced (above_return_word true s);
+      sayable = e.sayable;
     }
 
 -- a node's state, by whether it is main's

@@ -11,7 +11,7 @@ use Rattle.gb_rules.specs.Below.gb_vals.Flags.{known}
 
 -- a register's value at power-up, which is its own origin
 abbrev pub own : Register → ℕ → Val
-own r x = record { lo = x; hi = x; origin = Some (origin_of_register r) }
+own r x = record { lo = x; hi = x; low_bits = 0; origin = Some (origin_of_register r) }
 
 -- H and C are clear where the header's checksum is 00
 unfoldable pub core_at_power_up : List ℕ → Region → Core
@@ -23,7 +23,7 @@ core_at_power_up rom region =
       stack_set = region.last == 0xFFFD;
       ctl = record { bank_lo = 1; bank_hi = 1; second_lo = 0; second_hi = 0; gate = known false; mode = known false; is_kept = true };
       flags = record { zero = known true; subtract = known false; half_carry = known others; carry = known others; is_own = true };
-      ie = record { lo = 0; hi = 0; origin = Some origin.Ie };
+      ie = record { lo = 0; hi = 0; low_bits = 0; origin = Some origin.Ie };
       registers = record { a = own A 0x01; b = own B 0x00; c = own C 0x13; d = own D 0x00; e = own E 0xD8; h = own H 0x01; l = own L 0x4D };
     }
 

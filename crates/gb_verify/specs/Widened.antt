@@ -11,7 +11,7 @@ use Rattle.gb_rules.specs.Below.gb_domain.RelationRules.{is_test_alone}
 
 -- the word that was pushed as the procedure was entered, its high byte first
 abbrev pub return_word : List Val
-return_word = record { lo = 0; hi = 255; origin = Some ReturnHigh } ∷ record { lo = 0; hi = 255; origin = Some ReturnLow } ∷ []
+return_word = record { lo = 0; hi = 255; low_bits = 0; origin = Some ReturnHigh } ∷ record { lo = 0; hi = 255; low_bits = 0; origin = Some ReturnLow } ∷ []
 
 -- In version 3 it lies below the other items of a procedure that was entered.
 abbrev pub below_items : Bool → List Val

@@ -28,6 +28,7 @@ fn own(register: Register, value: u8) -> Val
     Val {
         lo: value,
         hi: value,
+        low_bits: 0,
         origin: Some(Origin::of(register)),
     }
 }
@@ -65,6 +66,7 @@ pub fn core_at_power_up(rom: &Rom<'_>, region: Region) -> Core
         ie: Val {
             lo: 0,
             hi: 0,
+            low_bits: 0,
             origin: Some(Origin::Ie),
         },
         registers: Registers {

@@ -1,5 +1,5 @@
 use Rattle.std.proofs.Common.{◌≡◌, ◌-◌}
-use Rattle.gb_low_bits.specs.LowBits.{passing, count_passing}
+use Rattle.gb_domain.specs.LowBits.{passing, count_passing}
 use Rattle.gb_low_bits.specs.Logic.{is_known}
 use Rattle.gb_low_bits.proofs.logic.known_bits.Given as goal
 

@@ -3,6 +3,7 @@ use Rattle.gb_domain.specs.Types.{AbsState}
 use Rattle.gb_domain.specs.RelationRules.{compared}
 use Rattle.gb_states.specs.RelationReading.{relations_by}
 use Rattle.gb_cert.specs.Borrowed.{state_in, item_width}
+use Rattle.gb_cert.proofs.CheckedLaws.{cells-listed}
 use Rattle.gb_cert.proofs.Lending.{few-cells, CountsOff, told-lent, relations-lent, cells-lent, no-error}
 use Rattle.gb_cert.proofs.state.StateRef.told.Goals as goal
 
@@ -29,6 +30,15 @@ returns-clause-cells c =
     let test : c.test.result ≡ compared s.relations.byte.test = c.test.ensures ∙ ap (λ (n : AbsState). compared n.relations.byte.test) (sym c.self.view_is) in
     let read = sym (ap (λ (t : Option ℕ). relations_by c.self.inside.rules c.self.inside.region t c.counted.result.1.now) test) ∙ c.in-Ok.ensures in
     rw (← c.self.view_is) (cells-lent c.self.inside.rules c.self.inside.role c.self.inside.region c.self.inside.bytes.now c.counted.result.0.now c.counted.result.1.now c.in-Ok.cells.now c.counted-in-Ok.result.0.now c.counted-in-Ok.result.1.now c.in-Ok.relations s c.self.invariant f read c.counted-in-Ok.ensures)
+
+pub returns-clause-listed : goal.returns-clause-listed
+returns-clause-listed c =
+    let f : CountsOff (item_width c.self.inside.rules) (drop 40 c.self.inside.bytes.now) c.counted.result.0.now c.counted.result.1.now = λ n xs rest e l. c.counted.ensures n xs rest (c.from_place.ensures ∙ e) (l ∙ ap (λ (w : ℕ). w * n) (sym c.item_width.ensures.exact)) in
+    let s = (state_in c.self.inside.rules c.self.inside.role c.self.inside.region c.self.inside.bytes.now) in
+    let test : c.test.result ≡ compared s.relations.byte.test = c.test.ensures ∙ ap (λ (n : AbsState). compared n.relations.byte.test) (sym c.self.view_is) in
+    let read = sym (ap (λ (t : Option ℕ). relations_by c.self.inside.rules c.self.inside.region t c.counted.result.1.now) test) ∙ c.in-Ok.ensures in
+    let lent = cells-lent c.self.inside.rules c.self.inside.role c.self.inside.region c.self.inside.bytes.now c.counted.result.0.now c.counted.result.1.now c.in-Ok.cells.now c.counted-in-Ok.result.0.now c.counted-in-Ok.result.1.now c.in-Ok.relations s c.self.invariant f read c.counted-in-Ok.ensures in
+    rw (← c.self.view_is) (cells-listed c.self.inside.rules c.self.inside.role c.self.inside.region s c.counted-in-Ok.result.0.now c.self.invariant.is_state lent)
 
 pub returns-clause-few : goal.returns-clause-few
 returns-clause-few c =

@@ -1,8 +1,8 @@
 //! Intervals of bytes of which only each 2^n-th counts, and cutting them.
 
 ghost use Rattle.std.specs.Prelude.{◌≡◌, true, Option, IfSome};
-ghost use Rattle.gb_low_bits.specs.Interval as Interval;
-ghost use Rattle.gb_low_bits.specs.Meaning.{AreIn, IsWithin, IsStrided, AllHave, Leaves, LiesIn};
+ghost use Rattle.gb_domain.specs.Interval as Interval;
+ghost use Rattle.gb_domain.specs.Meaning.{AreIn, IsWithin, IsStrided, AllHave, Leaves, LiesIn};
 
 use crate::low_bits::{LowBits, all_of, are_congruent, covers, low_bits, modulus};
 

@@ -4,9 +4,9 @@ use Rattle.std.proofs.lemmas.Nat.{mod-pow-add, mod_low, field_of, mod_below, pow
 use Rattle.std.proofs.Math.Pow.{pow_mono}
 use Rattle.std.specs.Prelude.{min}
 use Rattle.std.specs.Int.{bit_at}
-use Rattle.gb_low_bits.specs.declared.low_bits.LowBits.{LowBits}
-use Rattle.gb_low_bits.specs.LowBits.{modulus, low_bits}
-use Rattle.gb_low_bits.specs.Meaning.{Has}
+use Rattle.gb_domain.specs.declared.low_bits.LowBits.{LowBits}
+use Rattle.gb_domain.specs.LowBits.{modulus, low_bits}
+use Rattle.gb_domain.specs.Meaning.{Has}
 
 -- a fact about each count of low bits
 pub each_count : (P : ℕ → Type 0) → P 0 → P 1 → P 2 → P 3 → P 4 → P 5 → P 6 → P 7 → P 8 → (n : ℕ) → n ≤ 8 → P n

@@ -4,11 +4,11 @@ use Rattle.std.proofs.lemmas.Bool.{and_parts, eqb-true}
 use Rattle.std.proofs.lemmas.Bool.Decides.{nat_tests}
 use Rattle.std.specs.Prelude.{min}
 use Rattle.std.specs.Int.{bit_at}
-use Rattle.gb_low_bits.specs.declared.low_bits.LowBits.{LowBits}
-use Rattle.gb_low_bits.specs.LowBits.{modulus, all_of, fewer, common, are_congruent, covers, is_common, count_passing}
-use Rattle.gb_low_bits.specs.Meaning.{Has, IsPartOf}
-use Rattle.gb_low_bits.proofs.ModulusLaws.{Has-low_bits, Has-fewer, Has-bit, congruent-bits, congruent-fewer}
-use Rattle.gb_low_bits.proofs.PassingLaws.{count_passing-passes}
+use Rattle.gb_domain.specs.declared.low_bits.LowBits.{LowBits}
+use Rattle.gb_domain.specs.LowBits.{modulus, all_of, fewer, common, are_congruent, covers, is_common, count_passing}
+use Rattle.gb_domain.specs.Meaning.{Has, IsPartOf}
+use Rattle.gb_domain.proofs.ModulusLaws.{Has-low_bits, Has-fewer, Has-bit, congruent-bits, congruent-fewer}
+use Rattle.gb_domain.proofs.PassingLaws.{count_passing-passes}
 
 pub below : (i n : ℕ) → nat_lt i n ≡ true → i < n
 below i n h = grind (arith, nat_tests)

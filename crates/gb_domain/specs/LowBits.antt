@@ -1,7 +1,7 @@
 -- Low bits that are known (abstract interpretation: congruences modulo a power of two; own).
 use Rattle.std.specs.Prelude.{ℕ, suc, zero, ◌+◌, ◌%◌, ◌^◌, Bool, ◌&&◌, ◌==◌, if◌then◌else◌, nat_le, nat_lt, min}
 use Rattle.std.specs.Int.{bit_at}
-use Rattle.gb_low_bits.specs.declared.low_bits.LowBits.{LowBits}
+use Rattle.gb_domain.specs.declared.low_bits.LowBits.{LowBits}
 
 -- of n low bits, eight at most
 unfoldable pub modulus : ℕ → ℕ

@@ -3,13 +3,13 @@ use Rattle.std.proofs.Common.{◌≡◌, ℕ, ◌+◌, ◌-◌, ◌%◌, ◌^◌
 use Rattle.std.proofs.lemmas.Bool.{and_parts, eqb-true}
 use Rattle.std.proofs.lemmas.Bool.Decides.{nat_tests}
 use Rattle.std.specs.Prelude.{min, max, IfSome}
-use Rattle.gb_low_bits.specs.declared.low_bits.LowBits.{LowBits}
-use Rattle.gb_low_bits.specs.declared.interval.StridedInterval.{StridedInterval}
-use Rattle.gb_low_bits.specs.LowBits.{modulus, low_bits, all_of, are_congruent}
-use Rattle.gb_low_bits.specs.Interval.{low_bits_of, least, greatest, strided, with_low_bits, agree, more, cut, lies_in}
-use Rattle.gb_low_bits.specs.Meaning.{Has, In, InSome, IsWithin, IsStrided, Leaves, AreIn, AllHave, LiesIn}
-use Rattle.gb_low_bits.proofs.ModulusLaws.{each_modulus, Has-low_bits, low_bits-Has, Has-fewer, modulus-eight}
-use Rattle.gb_low_bits.proofs.LowBitsLaws.{Has-all_of, Has-covered, at_most}
+use Rattle.gb_domain.specs.declared.low_bits.LowBits.{LowBits}
+use Rattle.gb_domain.specs.declared.interval.StridedInterval.{StridedInterval}
+use Rattle.gb_domain.specs.LowBits.{modulus, low_bits, all_of, are_congruent}
+use Rattle.gb_domain.specs.Interval.{low_bits_of, least, greatest, strided, with_low_bits, agree, more, cut, lies_in}
+use Rattle.gb_domain.specs.Meaning.{Has, In, InSome, IsWithin, IsStrided, Leaves, AreIn, AllHave, LiesIn}
+use Rattle.gb_domain.proofs.ModulusLaws.{each_modulus, Has-low_bits, low_bits-Has, Has-fewer, modulus-eight}
+use Rattle.gb_domain.proofs.LowBitsLaws.{Has-all_of, Has-covered, at_most}
 
 -- ---- the least and the greatest value
 
@@ -71,7 +71,7 @@ greatest-below hi k = omega arith
 
 -- ---- intervals of what has low bits
 
-Has-zero : (x y : ℕ) → Has (low_bits 0 y) x
+pub Has-zero : (x y : ℕ) → Has (low_bits 0 y) x
 unfolding modulus
 Has-zero x y = Has-low_bits 0 x y (one x y)
   where
@@ -209,7 +209,7 @@ with_low_bits_strided lo hi k o e byte = subst (λ r. IfSome r IsStrided) (sym e
 
 -- ---- low bits of intervals
 
-In-Has : (v : StridedInterval) (x : ℕ) → In v x → Has (low_bits_of v) x
+pub In-Has : (v : StridedInterval) (x : ℕ) → In v x → Has (low_bits_of v) x
 unfolding low_bits_of
 In-Has v x m = choose (v.lo == v.hi) refl
   where

@@ -2,7 +2,7 @@
 use Rattle.std.proofs.Common.{◌≡◌, ℕ, zero, suc, ◌+◌, ◌<◌, ◌≤◌, Bool, true, false, ◌==◌, cond, refl, ◌∙◌, ap, subst, arith}
 use Rattle.std.proofs.lemmas.Bool.{eqb-true}
 use Rattle.std.proofs.lemmas.Bool.Decides.{nat_tests}
-use Rattle.gb_low_bits.specs.LowBits.{passing, count_passing}
+use Rattle.gb_domain.specs.LowBits.{passing, count_passing}
 
 pub passing_none : (passes : ℕ → Bool) (n i : ℕ) → n ≡ 0 → passing passes n i ≡ i
 passing_none passes n i e = rw e refl

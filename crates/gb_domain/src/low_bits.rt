@@ -2,8 +2,8 @@
 
 ghost use Rattle.std.specs.Prelude.{◌≡◌, ◌<◌, ◌≤◌, true};
 ghost use Rattle.std.specs.Int.{bit_at};
-ghost use Rattle.gb_low_bits.specs.LowBits as Known;
-ghost use Rattle.gb_low_bits.specs.Meaning.{Has, IsPartOf};
+ghost use Rattle.gb_domain.specs.LowBits as Known;
+ghost use Rattle.gb_domain.specs.Meaning.{Has, IsPartOf};
 
 /// What is known of the low bits of a byte: of as many as `count` says, eight at most, it has those of `bits`.
 #[derive(Clone, Copy, PartialEq, Eq)]
@@ -58,7 +58,8 @@ pub fn fewer(count: u8, known: LowBits) -> LowBits
     low_bits(count.min(known.count), known.bits.into())
 }
 
-pub(crate) fn bit_at(value: u8, bit: u8) -> u8
+/// A bit of a byte.
+pub fn bit_at(value: u8, bit: u8) -> u8
     requires { bit < 8 }
     ensures { result ≡ bit_at value bit }
 {

@@ -1,8 +1,8 @@
 -- Intervals of bytes that leave out all but each 2 ^ n-th (abstract interpretation: strided intervals; own).
 use Rattle.std.specs.Prelude.{ℕ, ◌+◌, ◌-◌, ◌%◌, Bool, ◌&&◌, ◌==◌, Option, Some, None, if◌then◌else◌, nat_le, min, max}
-use Rattle.gb_low_bits.specs.declared.low_bits.LowBits.{LowBits}
-use Rattle.gb_low_bits.specs.declared.interval.StridedInterval.{StridedInterval}
-use Rattle.gb_low_bits.specs.LowBits.{modulus, low_bits, all_of, are_congruent, covers}
+use Rattle.gb_domain.specs.declared.low_bits.LowBits.{LowBits}
+use Rattle.gb_domain.specs.declared.interval.StridedInterval.{StridedInterval}
+use Rattle.gb_domain.specs.LowBits.{modulus, low_bits, all_of, are_congruent, covers}
 
 -- all bytes from lo to hi
 abbrev pub bounds : ℕ → ℕ → StridedInterval

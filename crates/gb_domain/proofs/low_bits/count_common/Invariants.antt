@@ -1,6 +1,6 @@
 use Rattle.std.proofs.Common.{◌≡◌, ◌-◌}
-use Rattle.gb_low_bits.specs.LowBits.{is_common, passing, count_passing}
-use Rattle.gb_low_bits.proofs.low_bits.count_common.Given as goal
+use Rattle.gb_domain.specs.LowBits.{is_common, passing, count_passing}
+use Rattle.gb_domain.proofs.low_bits.count_common.Given as goal
 
 abbrev pub invariant-loop-bit : goal.invariant-loop-bit
 invariant-loop-bit l =
