@@ -5,6 +5,7 @@ use crate::code_point::CodePoint;
 use crate::contexts::Context;
 use crate::keys::{ControllerKey, KnownRegisters, NodeKey, ProcedureKey};
 use crate::limits::PROCEDURES;
+use crate::probing::Arrival;
 use crate::register_set::RegisterSet;
 use crate::stop::RunStop;
 use crate::tracking::keep_tracked;
@@ -39,6 +40,10 @@ impl<'a> Run<'a> {
         keep_tracked(&mut entered, self.tracked.as_slice());
         let cells = self.number_entry_cells(point, entered.cells())?;
         let key = self.procedure_key(entered.core(), point, is_handler, cells, context);
+        if let Some(probed) = &mut self.probed {
+            probed.push(Arrival::Procedure(key))?;
+            return self.go_behind_probed(number, point, caller, back);
+        }
         let callee = self.procedure_with(key)?;
         self.link(number, procedure, callee, target)?;
         self.arrive(Some(number), NodeKey::of_entry(callee, point), &entered)?;
@@ -112,7 +117,7 @@ impl<'a> Run<'a> {
     }
 
     /// A node becomes a site of a callee. A call that closes a cycle of procedures is a failure.
-    fn link(
+    pub(crate) fn link(
         &mut self,
         number: usize,
         caller: usize,

@@ -7,6 +7,7 @@ use crate::keys::{KnownRegisters, NodeKey};
 use crate::limits::{
     GROWTHS, HEAD_GROWTHS, PAGES, PAIR_GROWTHS, SIMPLE_GROWTHS, SIMPLE_HEAD_GROWTHS,
 };
+use crate::probing::Arrival;
 use crate::register_set::{REGISTERS, RegisterSet};
 use crate::steps::{Growth, link_in};
 use crate::stop::RunStop;
@@ -285,6 +286,10 @@ impl<'a> Run<'a> {
         key: NodeKey,
         state: &Abs,
     ) -> Result<(), RunStop> {
+        if let Some(probed) = &mut self.probed {
+            probed.push(Arrival::Node(key))?;
+            return Ok(());
+        }
         if let Some(number) = self.node_index.get(&key) {
             let number = *number;
             return self.grow(number, state);

@@ -136,7 +136,7 @@ impl<'a> Run<'a> {
             return Ok(());
         };
         let core = *node.state.core();
-        if !core.ime.on {
+        if !core.ime.on || self.probed.is_some() {
             return Ok(());
         }
         for interrupt in 0..INTERRUPT_COUNT {
@@ -157,16 +157,29 @@ impl<'a> Run<'a> {
         CodePoint::of(self.rom, &node.state.core().ctl, vector_of(interrupt))
     }
 
-    /// A handler comes at a node. Where nothing is new in that, nothing is done.
+    /// A handler comes at a node. Where it begins and ends with nothing new, only that it comes there is recorded.
     fn dispatch(&mut self, number: usize, interrupt: u8) -> Result<(), RunStop> {
         let Some(node) = self.nodes.get(number) else {
             return Ok(());
         };
         let vector = self.vector_of(interrupt, node);
-        if self.is_handled(number, node, vector) {
-            return Ok(());
+        let (procedure, address) = (node.key.procedure, node.key.address);
+        match self.holding_handler(node, vector) {
+            Some(handler) => self.link_handler(number, procedure, handler, vector),
+            None => self.dispatch_to(number, vector, address),
         }
-        let address = node.key.address;
+    }
+
+    /// A handler comes at a node at an address, with something new.
+    fn dispatch_to(
+        &mut self,
+        number: usize,
+        vector: CodePoint,
+        address: u16,
+    ) -> Result<(), RunStop> {
+        let Some(node) = self.nodes.get(number) else {
+            return Ok(());
+        };
         let mut after = left_by_dispatch(self.rules(), address, &node.state);
         self.call(number, &mut after, vector.address, address, true)
     }
@@ -190,23 +203,38 @@ impl<'a> Run<'a> {
         self.procedure_index.get(&key).copied()
     }
 
-    /// Whether a handler comes at a node and leaves it with nothing new.
-    fn is_handled(&self, number: usize, node: &RunNode, vector: CodePoint) -> bool {
+    /// The handler that comes at a node with nothing new, and leaves it with nothing new.
+    fn holding_handler(&self, node: &RunNode, vector: CodePoint) -> Option<usize> {
         if node.state.core().bound != 0 || !self.is_plain(vector) {
-            return false;
+            return None;
         }
         let entered = entered_core(node.state.core());
-        let Some(handler) = self.handler_of(node, vector, &entered) else {
-            return false;
-        };
-        match self.procedures.get(handler) {
-            Some(handler) => {
-                handler.sites.contains(&number)
-                    && self.is_entered(handler, node, &entered)
-                    && is_left(handler, node)
-            }
-            None => false,
+        let number = self.handler_of(node, vector, &entered)?;
+        let handler = self.procedures.get(number)?;
+        if self.is_entered(handler, node, &entered) && is_left(handler, node) {
+            Some(number)
+        } else {
+            None
         }
+    }
+
+    /// A node becomes a site of a handler that begins and leaves it with nothing new.
+    fn link_handler(
+        &mut self,
+        number: usize,
+        procedure: usize,
+        handler: usize,
+        vector: CodePoint,
+    ) -> Result<(), RunStop> {
+        let is_known = match self.procedures.get(handler) {
+            Some(handler) => handler.sites.contains(&number),
+            None => true,
+        };
+        if is_known {
+            return Ok(());
+        }
+        self.link(number, procedure, handler, vector.address)?;
+        self.inherit_ranges(procedure, handler)
     }
 
     /// Whether a handler's first node holds all that it begins with at a node.

@@ -7,7 +7,8 @@
 //! Code is named by its `code_point`, bank and address. States: `joining`, `steps` and `ranges` join and widen them, `configuration`, `keys` and `register_set` say how
 //! finely they are told apart, `cause` why a run stops. What is against an instruction in a state is `instruction` and
 //! `refusals`, by the checker's own tests; what is asked of the stack is stated again, told apart more finely. The
-//! run: read `types` and `run`, then `stepping`, `flow`, `calls` and `exits`; `entries` is for who orders procedures.
+//! run: read `types` and `run`, then `stepping`, `flow`, `calls` and `exits`; `entries` is for who orders procedures, and `probing`
+//! says whether another configuration would tell anything apart.
 #![tactic(auto)]
 
 mod asking;
@@ -28,6 +29,7 @@ mod joining;
 pub mod keys;
 pub mod limits;
 mod linking;
+mod probing;
 mod ranges;
 mod reading;
 mod records;
@@ -47,6 +49,7 @@ pub use cause::{Cause, Failure, RunEnd, StackMisuse, TransferMisuse, Wish};
 pub use configuration::{Configuration, EntryCells, TargetPlace, TouchedCell};
 pub use entries::Entered;
 pub use keys::{ControllerKey, KnownRegisters, NodeKey, ProcedureKey};
+pub use probing::EditedPlaces;
 pub use register_set::RegisterSet;
 pub use types::{
     CallSite, CellRead, CellStore, CellValue, Edge, PlacedWord, Run, RunNode, RunProcedure, Spot,

@@ -89,6 +89,9 @@ pub const EDITS: u32 = 12;
 /// The most edits for one place where the pointer is kept in RAM: it would be told apart through all memory.
 pub const EDITS_OF_KEPT: u32 = 6;
 
+/// How many edits that tell nothing apart are made after one run, each found by asking where its nodes would go.
+pub const IDLE_EDITS: u32 = 32;
+
 /// How many plans of an attempt are taken back with another one tried in their place, where few nodes are allowed.
 pub const TAKEN_BACK: u32 = 4;
 

@@ -154,7 +154,7 @@ fn link_to_register(
 }
 
 /// A link of a pair that holds in both states: with what is counted down first, and with another pair before its bytes,
-/// since a byte goes round where its pair goes on.
+/// since a byte goes round where its pair goes on: a copy may end by either pointer, and the other one is known by it.
 fn inferred(
     pair: WordPair,
     linked: &Pairs,
@@ -163,8 +163,8 @@ fn inferred(
 ) -> Option<Link> {
     link_to_pair(pair, linked, before, behind, true)
         .or(link_to_register(pair, before, behind, true))
-        .or(link_to_register(pair, before, behind, false))
         .or(link_to_pair(pair, linked, before, behind, false))
+        .or(link_to_register(pair, before, behind, false))
 }
 
 /// What is known of pairs in both states, with links that hold in both where none is known yet.

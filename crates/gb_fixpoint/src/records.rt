@@ -109,6 +109,9 @@ impl<'a> Run<'a> {
         let cell = span.first;
         if span.is_one() {
             self.copied.insert(cell)?;
+            if (val.lo, val.hi) != (0, u8::MAX) {
+                self.set.insert(cell)?;
+            }
             if !is_known && stores_a(op) && self.configuration.tracked.contains(&cell) {
                 self.stores.insert(CellStore { cell, spot })?;
             }

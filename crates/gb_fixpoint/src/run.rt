@@ -43,14 +43,14 @@ impl<'a> Run<'a> {
     pub fn new(
         alloc: Global,
         rom: &'a Rom<'a>,
-        configuration: &'a Configuration,
+        configuration: &Configuration,
     ) -> Result<Run<'a>, AllocError> {
         let points = configuration.points.clone()?;
         let tracked = configuration.tracked.iter().copied().collect(alloc)?;
         let widening = Steps::new(&points);
         Ok(Run {
             rom,
-            configuration,
+            configuration: configuration.clone()?,
             nodes: Vec::new(alloc),
             procedures: Vec::new(alloc),
             at: HashMap::new(alloc),
@@ -60,6 +60,7 @@ impl<'a> Run<'a> {
             fetched: BTreeSet::new(alloc),
             reads: BTreeSet::new(alloc),
             copied: BTreeSet::new(alloc),
+            set: BTreeSet::new(alloc),
             named: BTreeSet::new(alloc),
             killers: BTreeSet::new(alloc),
             switches: BTreeSet::new(alloc),
@@ -85,6 +86,7 @@ impl<'a> Run<'a> {
             widening,
             cell_points: BTreeSet::new(alloc),
             creeps: BTreeMap::new(alloc),
+            probed: None,
         })
     }
 
@@ -168,6 +170,7 @@ impl<'a> Run<'a> {
     /// A failure at a place that was given up is kept, the first of each place, and stops nothing.
     pub(crate) fn keep(&mut self, outcome: Result<(), RunStop>) -> Result<(), RunStop> {
         match outcome {
+            Err(RunStop::Failed(_) | RunStop::Wanted(_)) if self.probed.is_some() => Ok(()),
             Err(RunStop::Failed(failure)) if self.is_given_up(failure.node) => {
                 if !self.has_failed(failure.node) {
                     self.failures.push(failure)?;

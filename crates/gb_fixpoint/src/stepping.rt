@@ -111,6 +111,9 @@ impl<'a> Run<'a> {
             let cause = Cause::ReturnWithBytes { bytes };
             return Err(Run::failure(number, cause, RegisterSet::empty()));
         }
+        if self.probed.is_some() {
+            return Ok(());
+        }
         keep_tracked(state, self.tracked.as_slice());
         if self.leaves_others(procedure, state) {
             self.want_inline(procedure)?;

@@ -4,6 +4,7 @@ use crate::cause::{Failure, Wish};
 use crate::code_point::CodePoint;
 use crate::configuration::Configuration;
 use crate::keys::{NodeKey, ProcedureKey};
+use crate::probing::Arrival;
 use crate::ranges::RangeSet;
 use crate::steps::Steps;
 use gb_verify::{Abs, Rom};
@@ -25,6 +26,16 @@ pub struct Edge {
     pub procedure: usize,
     pub from: CodePoint,
     pub to: CodePoint,
+}
+
+impl Edge {
+    /// Where it leads from.
+    pub fn source(&self) -> Spot {
+        Spot {
+            procedure: self.procedure,
+            point: self.from,
+        }
+    }
 }
 
 /// A procedure calls another one, or is interrupted by it.
@@ -142,7 +153,7 @@ pub struct RunProcedure {
 #[derive(Drop)]
 pub struct Run<'a> {
     pub rom: &'a Rom<'a>,
-    pub configuration: &'a Configuration,
+    pub configuration: Configuration,
     pub nodes: Vec<RunNode>,
     /// Procedure 0 is main.
     pub procedures: Vec<RunProcedure>,
@@ -159,6 +170,8 @@ pub struct Run<'a> {
     pub reads: BTreeSet<CellRead>,
     /// Cells that were stored to each by itself, as a loop does whose rounds are told apart.
     pub(crate) copied: BTreeSet<u16>,
+    /// Cells that were stored to each by itself, with a value that says something: of others no state would know anything.
+    pub set: BTreeSet<u16>,
     /// Cells that an instruction names: LD A,(n16) and LDH A,(n8).
     pub named: BTreeSet<u16>,
     /// Stores to several addresses that dropped tracked cells.
@@ -203,4 +216,6 @@ pub struct Run<'a> {
     pub(crate) cell_points: BTreeSet<CellPoint>,
     /// How often cells were widened.
     pub(crate) creeps: BTreeMap<Creep, u8>,
+    /// Where the steps lead that are only probed; None while the run goes on.
+    pub(crate) probed: Option<Vec<Arrival>>,
 }

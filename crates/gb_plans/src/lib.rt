@@ -22,6 +22,7 @@ mod waiting;
 mod ways;
 
 pub use below::learn_touched;
+pub use gb_fixpoint::EditedPlaces;
 pub use cells::{PointerSource, loaded_span, pointer_source, untracked_behind};
 pub use plan::{Edit, Plan, parted_by};
 pub use plans::{inline_plan, last_plan, plan_for};

@@ -123,7 +123,7 @@ fn split_counter(
                 point: *head,
             };
             let place = place_of(run, spot);
-            let is_split = split_at(run.configuration, place).contains(register);
+            let is_split = split_at(&run.configuration, place).contains(register);
             if !is_split && is_wide_count(run, spot, register) {
                 return Ok(Some(Plan::of(alloc, Edit::Split(place, register))?));
             }

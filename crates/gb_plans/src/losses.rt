@@ -106,7 +106,7 @@ fn parting(run: &Run<'_>, number: usize, part: LostPart) -> Option<Edit> {
         }
         LostPart::Register(register) => {
             let registers = RegisterSet::of(&[register]);
-            let is_new = !registers.is_inside(&parted_by(run.configuration, target));
+            let is_new = !registers.is_inside(&parted_by(&run.configuration, target));
             if is_new {
                 Some(Edit::Part(target, registers))
             } else {

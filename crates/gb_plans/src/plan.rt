@@ -3,7 +3,7 @@
 use crate::carries::is_carry_read;
 use crate::spots::place_of;
 use crate::ways::Ways;
-use gb_fixpoint::Rules;
+use gb_fixpoint::{EditedPlaces, Rules};
 use gb_fixpoint::code_point::CodePoint;
 use gb_fixpoint::configuration::{Configuration, TargetPlace};
 use gb_fixpoint::register_set::{REGISTERS, RegisterSet};
@@ -168,6 +168,29 @@ impl Plan {
             }
         }
         Ok(keys)
+    }
+
+    /// Adds where the changes tell states apart; whether they do so there alone, and change nothing else.
+    pub fn add_edited(&self, edited: &mut EditedPlaces) -> Result<bool, AllocError> {
+        for edit in &self.edits {
+            match edit {
+                Edit::Key(place)
+                | Edit::Carry(place)
+                | Edit::Page(place)
+                | Edit::Unpage(place)
+                | Edit::Split(place, _)
+                | Edit::Count(place, _)
+                | Edit::Peel(place, _)
+                | Edit::CountItems(place, _) => {
+                    edited.places.insert(*place)?;
+                }
+                Edit::Part(target, _) | Edit::PartBank(target) | Edit::PartCell(target, _) => {
+                    edited.targets.insert(*target)?;
+                }
+                Edit::Cell(_) | Edit::Inline(_) => return Ok(false),
+            }
+        }
+        Ok(true)
     }
 
     /// Makes the changes.

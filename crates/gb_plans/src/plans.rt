@@ -72,7 +72,7 @@ fn part(
         return Ok(None);
     };
     let target = run.target(number);
-    let is_new = !registers.is_inside(&parted_by(run.configuration, target));
+    let is_new = !registers.is_inside(&parted_by(&run.configuration, target));
     if number == 0 || procedure.key.is_handler || !is_new {
         return Ok(None);
     }
@@ -143,7 +143,7 @@ fn wide_at_entry(run: &Run<'_>, number: usize, wanted: &RegisterSet) -> Register
             wide.insert(register);
         }
     }
-    if wide.is_inside(&parted_by(run.configuration, run.target(number))) {
+    if wide.is_inside(&parted_by(&run.configuration, run.target(number))) {
         unknown
     } else {
         wide

@@ -89,7 +89,7 @@ impl Walk {
 
     /// Whether a register is split at a place already.
     fn is_split(run: &Run<'_>, place: TargetPlace, register: Register) -> bool {
-        split_at(run.configuration, place).contains(register)
+        split_at(&run.configuration, place).contains(register)
     }
 
     /// One register alone is open: it may be split here.
@@ -105,7 +105,7 @@ impl Walk {
         };
         // What was told apart beside another register isn't bounded earlier.
         if by == SliceBy::First
-            && !split_at(run.configuration, place_of(run, self.spot())).is_empty()
+            && !split_at(&run.configuration, place_of(run, self.spot())).is_empty()
         {
             return;
         }

@@ -33,8 +33,7 @@ impl<'a> Refinement<'a> {
 
     /// What a run wants to know besides what is known.
     fn news(&self, run: &Run<'_>) -> Result<News, AllocError> {
-        let tracked = &self.configuration.tracked;
-        let cells = self.cells.missing(self.alloc, &run.wanted, tracked)?;
+        let cells = self.cells.missing(self.alloc, run)?;
         let points = self.new_points(&run.points)?;
         Ok(News { cells, points })
     }

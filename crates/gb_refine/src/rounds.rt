@@ -4,9 +4,9 @@ use crate::failures::tell;
 use crate::tracking::Cells;
 use gb_ops::machine::Region;
 use gb_page::{Crowd, Finding, InstructionFinding, Spent};
-use gb_plans::{Plan, learn_touched};
+use gb_plans::{EditedPlaces, Plan, learn_touched};
 use gb_prune::limits::{
-    ALL_STEPS, FEW_NODES, OBSTACLES, RUN_STEPS, STEPS_A_NODE, STEPS_A_NODE_OF_MANY, STEPS_ASKED,
+    ALL_STEPS, FEW_NODES, IDLE_EDITS, OBSTACLES, RUN_STEPS, STEPS_A_NODE, STEPS_A_NODE_OF_MANY, STEPS_ASKED,
     TAKEN_BACK, TAKEN_BACK_OF_MANY,
 };
 use gb_prune::{
@@ -256,17 +256,7 @@ impl<'a> Refinement<'a> {
     }
 
     fn lesson<P: SearchProgress>(&mut self, progress: &mut P) -> Result<Lesson, AllocError> {
-        // A copy, since the run is still asked while what it teaches is written down.
-        let configuration = self.configuration.clone()?;
-        self.lesson_under(&configuration, progress)
-    }
-
-    fn lesson_under<P: SearchProgress>(
-        &mut self,
-        configuration: &Configuration,
-        progress: &mut P,
-    ) -> Result<Lesson, AllocError> {
-        let mut run = Run::new(self.alloc, self.rom, configuration)?;
+        let mut run = Run::new(self.alloc, self.rom, &self.configuration)?;
         self.lesson_of(&mut run, progress)
     }
 
@@ -289,7 +279,34 @@ impl<'a> Refinement<'a> {
         if run.rules() == Rules::Extended {
             learn_touched(self.alloc, run, &mut self.configuration)?;
         }
-        self.learn(run, outcome)
+        let lesson = self.learn(run, outcome)?;
+        self.past_idle(run, outcome, lesson)
+    }
+
+    /// A lesson, and behind it what the run teaches further while the edits tell nothing apart: a round under them would end
+    /// where this one did.
+    fn past_idle(
+        &mut self,
+        run: &mut Run<'_>,
+        outcome: RunEnd,
+        first: Lesson,
+    ) -> Result<Lesson, AllocError> {
+        let mut lesson = first;
+        for _ in 0..IDLE_EDITS {
+            let mut finer = self.configuration.clone()?;
+            let Some(edited) = edits_of(self.alloc, &lesson, &mut finer)? else {
+                break;
+            };
+            if run.is_refined_by(finer, &edited)? {
+                break;
+            }
+            if let Lesson::Change(change) = lesson {
+                self.change(change)?;
+            }
+            run.configuration = self.configuration.clone()?;
+            lesson = self.learn(run, outcome)?;
+        }
+        Ok(lesson)
     }
 
     /// Something is refined; what was before is kept.
@@ -706,6 +723,29 @@ fn outcome_of<P: SearchProgress>(
         }
     }
     Ok(Some(RunEnd::TooLarge))
+}
+
+/// Makes the edits of a lesson in a configuration, where it is about nothing else: where they tell states apart.
+fn edits_of(
+    alloc: Global,
+    lesson: &Lesson,
+    finer: &mut Configuration,
+) -> Result<Option<EditedPlaces>, AllocError> {
+    let Lesson::Change(Change::MendAll(mendings, news)) = lesson else {
+        return Ok(None);
+    };
+    let mut edited = EditedPlaces::new(alloc);
+    for mending in mendings {
+        if !mending.plan.add_edited(&mut edited)? {
+            return Ok(None);
+        }
+        mending.plan.apply(finer)?;
+    }
+    if news.is_empty() {
+        Ok(Some(edited))
+    } else {
+        Ok(None)
+    }
 }
 
 fn add_points(more: &BTreeSet<u8>, points: &mut BTreeSet<u8>) -> Result<(), AllocError> {

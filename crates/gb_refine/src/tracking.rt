@@ -46,7 +46,7 @@ impl Cells {
     pub(crate) fn learn(&mut self, alloc: Global, run: &Run<'_>) -> Result<(), AllocError> {
         add_all(&run.named, &mut self.named)?;
         add_all(&run.fetched, &mut self.fetched)?;
-        let configuration = run.configuration;
+        let configuration = &run.configuration;
         self.idle = if configuration.tracked.len() < configuration.rules.cell_room() {
             BTreeSet::new(alloc)
         } else {
@@ -63,20 +63,27 @@ impl Cells {
         Ok(())
     }
 
-    /// The cells that a run wants and that aren't tracked, but might be.
-    pub(crate) fn missing(
-        &self,
-        alloc: Global,
-        wanted: &BTreeSet<u16>,
-        tracked: &BTreeSet<u16>,
-    ) -> Result<Vec<u16>, AllocError> {
+    /// The cells that a run wants and that aren't tracked, but might be. Where there isn't room for all, as where a loop reads
+    /// through memory byte by byte, those are left out of which nothing would be known.
+    pub(crate) fn missing(&self, alloc: Global, run: &Run<'_>) -> Result<Vec<u16>, AllocError> {
+        let tracked = &run.configuration.tracked;
         let mut missing = Vec::new(alloc);
-        for cell in wanted {
+        for cell in &run.wanted {
             if !self.untracked.contains(cell) && !tracked.contains(cell) {
                 missing.push(*cell)?;
             }
         }
-        Ok(missing)
+        let room = run.configuration.rules.cell_room();
+        if tracked.len().saturating_add(missing.len()) <= room {
+            return Ok(missing);
+        }
+        let mut telling = Vec::new(alloc);
+        for cell in &missing {
+            if may_be_known(run, *cell) {
+                telling.push(*cell)?;
+            }
+        }
+        Ok(telling)
     }
 
     fn rank(&self, configuration: &Configuration, cell: u16) -> Rank {
@@ -179,6 +186,12 @@ impl Cells {
         }
         Ok(())
     }
+}
+
+/// Whether something might be known of a cell: a store has set it, it holds code, or an instruction names it and what follows may
+/// compare it.
+fn may_be_known(run: &Run<'_>, cell: u16) -> bool {
+    run.set.contains(&cell) || run.named.contains(&cell) || run.fetched.contains(&cell)
 }
 
 /// The cells that a run tracked and of which no node of it knew anything.
