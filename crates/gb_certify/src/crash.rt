@@ -4,8 +4,8 @@ use crate::files::{is_special, write_whole};
 use crate::words::CertifyTask;
 use gb_command_line::{Rom, Trouble};
 use gb_hunt::{
-    Console, FaultyRun, Find, KeyWords, PressedKeys, Replay, Trace, TraceHead, Watched, WatchedRun,
-    keys_at, lowest_fault, replayed, seconds_of, trace_fault, watch_line,
+    Console, FaultyRun, Find, KeyWords, PressedKeys, Progress, Replay, Trace, TraceHead, Watched,
+    WatchedRun, keys_at, lowest_fault, replayed, seconds_of, trace_fault, watch_line,
 };
 use gb_ops::machine::{CodePlace, Region};
 use gb_refine::{Crash, CrashFinding, Symbols};
@@ -92,13 +92,14 @@ fn texts_with(
 }
 
 /// What is said of a crash, with the symbols of its places.
-fn texts_of(
+fn texts_of<P: Progress>(
     alloc: Global,
     rom: &Rom<'_>,
     run: &FaultyRun<'_>,
     symbols: &Symbols<'_>,
+    progress: &mut P,
 ) -> Result<CrashTexts, AllocError> {
-    match trace_fault(alloc, rom, run, symbols) {
+    match trace_fault(alloc, rom, run, symbols, progress) {
         Some(trace) => texts_with(alloc, run, &trace),
         None => Err(AllocError),
     }
@@ -154,12 +155,13 @@ impl<'r> FoundCrash<'r> {
     /// # Errors
     ///
     /// Where memory ran out.
-    pub fn of(
+    pub fn of<P: Progress>(
         alloc: Global,
         rom: &Rom<'r>,
         script: Vec<u8>,
         region: Region,
         symbols: &Symbols<'_>,
+        progress: &mut P,
     ) -> Result<Option<FoundCrash<'r>>, AllocError> {
         let Replay { console, find } = replayed(alloc, rom, &script, region)?;
         let Some(find) = find else {
@@ -172,7 +174,7 @@ impl<'r> FoundCrash<'r> {
             sighting: find.sighting,
             region,
         };
-        let texts = texts_of(alloc, rom, &run, symbols)?;
+        let texts = texts_of(alloc, rom, &run, symbols, progress)?;
         Ok(Some(FoundCrash {
             find,
             frame,

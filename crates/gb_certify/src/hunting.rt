@@ -106,7 +106,7 @@ fn hunt_region<'r, R: Eprint + Clock + AllocGlobal>(
     };
     progress.found();
     let script = shorten(rt.alloc(), rom, region, script, SHORTENED, progress)?;
-    match FoundCrash::of(rt.alloc(), rom, script, region, symbols)? {
+    match FoundCrash::of(rt.alloc(), rom, script, region, symbols, progress)? {
         Some(crash) => Ok(HuntEnd::Found(crash)),
         None => Ok(HuntEnd::Nothing(hunt.frames())),
     }

@@ -2,6 +2,7 @@
 
 use crate::compare::{read_before, work_with_older};
 use crate::crash::is_keys_file;
+use crate::files::is_missing;
 use crate::hunting::hunt_seconds;
 use crate::making::make_file;
 use crate::messages::{PROGRAM, tell_color};
@@ -14,6 +15,7 @@ use gb_command_line::symbols::{read_symbols, tell_symbols};
 use gb_command_line::words::{explain, tell_words, words_of};
 use gb_command_line::{Trouble, is_input, read_cartridge};
 use gb_refine::{Older, SymbolFault, Symbols};
+use std::alloc::{AllocError, Global};
 use std::io::Input;
 use std::rt::{Clock, Env, Files};
 
@@ -142,6 +144,46 @@ fn work_on<R: Print + Eprint + Input + Files + Clock + AllocGlobal>(
     }
 }
 
+/// The name of a file in the folder of another one.
+fn name_beside(alloc: Global, other: &str, stem: &str, ending: &str) -> Result<String, AllocError> {
+    match other.rsplit_once('/') {
+        Some((folder, _)) => format!(in alloc; "{folder}/{stem}{ending}"),
+        None => format!(in alloc; "{stem}{ending}"),
+    }
+}
+
+/// Whether the source of a module in the folder of a file ends in `.s`.
+fn is_source_s<R: Files + AllocGlobal>(
+    rt: &R,
+    name: &str,
+    module: &str,
+) -> Result<bool, AllocError> {
+    let source = name_beside(rt.alloc(), name, module, ".s")?;
+    let other = name_beside(rt.alloc(), name, module, ".asm")?;
+    Ok(!is_missing(rt, source.as_str()) && is_missing(rt, other.as_str()))
+}
+
+/// Reads the lines of sources, if the task names a file; the fault, if it has one.
+fn add_lines<'a, R: Files + AllocGlobal>(
+    rt: &R,
+    task: &CertifyTask<'_>,
+    lines: &'a [u8],
+    symbols: &mut Symbols<'a>,
+) -> Result<Option<SymbolFault>, Trouble> {
+    let Some(name) = task.lines else {
+        return Ok(None);
+    };
+    if let Err(fault) = symbols.add_lines(rt.alloc(), lines) {
+        return Ok(Some(fault));
+    }
+    if let Some(module) = symbols.module()
+        && is_source_s(rt, name, module)?
+    {
+        symbols.end_in_s();
+    }
+    Ok(None)
+}
+
 /// Does what a task says; `is_shown` says whether a person sees standard error.
 fn perform<R: Print + Eprint + Input + Files + Clock + AllocGlobal>(
     rt: &R,
@@ -161,9 +203,7 @@ fn perform<R: Print + Eprint + Input + Files + Clock + AllocGlobal>(
         Ok(symbols) => symbols,
         Err(fault) => return tell_fault(rt, task.symbols, fault),
     };
-    if task.lines.is_some()
-        && let Err(fault) = symbols.add_lines(rt.alloc(), &lines)
-    {
+    if let Some(fault) = add_lines(rt, task, &lines, &mut symbols)? {
         return tell_fault(rt, task.lines, fault);
     }
     tell_color(rt, task.rom, &bytes);

@@ -1,6 +1,6 @@
 //! How far the making of a certificate and a hunt have come, for whoever waits for them, and how long each may take.
 
-use gb_hunt::HuntProgress;
+use gb_hunt::{HuntProgress, Progress};
 use gb_refine::SearchProgress;
 use std::rt::Clock;
 use std::time::{Duration, Instant};
@@ -143,6 +143,19 @@ impl<R: Eprint + Clock> HuntClock<'_, R> {
             let _ = eprint!(self.rt; "\r{:70}\r", "");
         }
     }
+}
+
+/// The frames of a crash that is played again from one message to the next.
+const STEP: u32 = 100;
+
+impl<R: Eprint> Progress for HuntClock<'_, R> {
+    fn frame(&mut self, number: u32, frames: u32) {
+        if self.is_shown && number % STEP == 0 {
+            let _ = eprint!(self.rt; "\rplaying the crash again: frame {number:8} of {frames:8}");
+        }
+    }
+
+    fn done(&mut self) {}
 }
 
 impl<R: Eprint + Clock> HuntProgress for HuntClock<'_, R> {

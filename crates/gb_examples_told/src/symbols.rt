@@ -22,6 +22,10 @@ const MAKEBIN: &[u8] =
 /// What makebin writes, without its comments.
 const BARE_MAKEBIN: &[u8] = b"00:0000 .__.CPU.\n00:0150 s__CODE\n00:0150 start\n";
 
+/// Constants next to labels: a size, and a register of the controller.
+const CONSTANTS: &[u8] =
+    b"DEF CH_SIZE 0x8\nDEF switch_bank 0x8\nDEF rROMB0 0x2000\nDEF _main 0x200\nDEF _SRAM 0xA000\n";
+
 /// GBDK's number of a bank for BANKREF, and the function that it is of.
 const BANKREF: &[u8] = b"DEF ___bank_level 0x3\nDEF _main 0x200\nDEF ___func_level 0x34000\n";
 
@@ -82,6 +86,35 @@ fn a_symbol_is_the_nearest_before(rt: HostRuntime) {
     assert!(rt; agrees(&rt, MARKED, Format::SdccNoi, 0, 0x0150, offset("_main", 0)));
     assert!(rt; agrees(&rt, MARKED, Format::SdccNoi, 0, 0x0158, offset("_main", 8)));
     assert!(rt; agrees(&rt, MAP, Format::SdccMap, 1, 0x4010, offset("_far", 0)));
+}
+
+#[test]
+fn constants_are_no_labels(rt: HostRuntime) -> Result<(), Fail> {
+    assert!(rt;
+        agrees(
+            &rt,
+            CONSTANTS,
+            Format::SdccNoi,
+            0,
+            0x000A,
+            offset("switch_bank", 2)
+        )
+    );
+    assert!(rt;
+        agrees(
+            &rt,
+            CONSTANTS,
+            Format::SdccNoi,
+            0,
+            0xA000,
+            offset("_SRAM", 0)
+        )
+    );
+    let symbols = Symbols::parse(rt.alloc(), CONSTANTS)
+        .ok()
+        .ok_or("it is a file of symbols")?;
+    assert!(rt; symbols.place(0, 0x2012).is_none());
+    Ok(())
 }
 
 #[test]

@@ -37,11 +37,46 @@ pub const BANK: Advice = Advice {
     anchor: "unknown-bank",
 };
 
-/// An unknown bank, because an interrupt handler returns with another bank.
-pub const BANK_NOT_RESTORED: Advice = Advice {
-    remedy: "Map the bank again at the handler's end: `ld a, [current_bank]` / `ld [$2000], a`. Outside it, write the variable before you write $2000.",
-    remedy_in_c: None,
+/// A bank that was left mapped.
+const WRONG_BANK: Advice = Advice {
+    problem: "Code at $4000-$7FFF needs its own ROM bank mapped, or the CPU runs another bank's bytes.",
     ..BANK
+};
+
+/// An interrupt handler returns with another bank mapped.
+pub const BANK_NOT_RESTORED: Advice = Advice {
+    remedy: "Map the old bank again at the handler's end: `ldh a, [hBank]` or `pop af`, then `ld [$2000], a`. Writing the variable alone maps nothing.",
+    remedy_in_c: Some(
+        "Save the bank at the handler's start and map it again at its end: `uint8_t bank = CURRENT_BANK;` .. `SWITCH_ROM(bank);`.",
+    ),
+    ..WRONG_BANK
+};
+
+/// An interrupt handler maps the bank in a variable, which isn't the one that was mapped.
+pub const BANK_VARIABLE_LATE: Advice = Advice {
+    remedy: "The handler maps what the variable has: wherever you map a bank, write the variable first, then $2000.",
+    remedy_in_c: Some(
+        "The handler maps what the variable has: map banks by `SWITCH_ROM`, which writes the variable before the register.",
+    ),
+    ..WRONG_BANK
+};
+
+/// A routine returns with another bank mapped to code in the switched bank.
+pub const BANK_OF_ROUTINE: Advice = Advice {
+    remedy: "Let the routine save the bank and map it again before `ret`: `ldh a, [hBank]` / `push af`, at its end `pop af` / `ld [$2000], a`.",
+    remedy_in_c: Some(
+        "Let the function map its caller's bank again: `uint8_t bank = CURRENT_BANK;` .. `SWITCH_ROM(bank);`. Or make it `BANKED`.",
+    ),
+    ..WRONG_BANK
+};
+
+/// Code in the switched bank maps another one.
+pub const BANK_OF_ITSELF: Advice = Advice {
+    remedy: "Map banks in ROM0 ($0000-$3FFF) only: call a routine there that maps the bank, calls its code, and maps this bank again.",
+    remedy_in_c: Some(
+        "Call `SWITCH_ROM` in functions of bank 0 only (`NONBANKED`), or make the function in the other bank `BANKED`.",
+    ),
+    ..WRONG_BANK
 };
 
 pub const PATCHED_CODE: Advice = Advice {
@@ -141,15 +176,19 @@ pub const HANDLER_REENTERED: Advice = Advice {
 
 pub const PADDING: Advice = Advice {
     problem: "Unused ROM is filled with $FF, which is `rst $38`. At $0038 it calls itself until the stack has overwritten RAM.",
-    remedy: "Look at the path above for a jump into unused ROM, or for a missing `ret`, `jp` or `jr`.",
-    remedy_in_c: None,
+    remedy: "Look where the way leaves your code: a jump into unused ROM, a missing `ret`, `jp` or `jr`, or a wrong ROM bank.",
+    remedy_in_c: Some(
+        "Look where the way leaves your code: a call by a pointer that isn't set, a function in another bank that isn't `BANKED`, or an index past its array.",
+    ),
     anchor: "runs-into-padding",
 };
 
-/// Padding that runs because an interrupt has no handler.
+/// Padding that runs because an interrupt's vector is empty.
 pub const NO_HANDLER: Advice = Advice {
     remedy: "Write a handler at this interrupt's vector, at least `reti`, or keep its bit in IE clear.",
-    remedy_in_c: None,
+    remedy_in_c: Some(
+        "Write a handler for this interrupt, at least an empty one, or keep its bit in IE clear.",
+    ),
     ..PADDING
 };
 
@@ -172,10 +211,20 @@ pub const KEPT_POINTER: Advice = Advice {
 };
 
 pub const LOADED_POINTER: Advice = Advice {
-    problem: "A pointer that comes from RAM can hold any address, so the access can hit the stack, code or registers.",
+    problem: "A pointer that comes from RAM can hold any address, so the store can hit the stack, code or registers.",
     remedy: "Mask the high byte after it is loaded: `and $1F` / `add $80` for VRAM, `and $0F` / `add $C0` for $C000-$CFFF.",
     remedy_in_c: Some(
         "Keep a `uint8_t` index in RAM, not the pointer, and bound it: `if (i < 32) buffer[i] = x;`.",
+    ),
+    anchor: "pointer-from-ram",
+};
+
+/// An access to cartridge RAM by a pointer that comes from RAM.
+pub const KEPT_TO_CARTRIDGE_RAM: Advice = Advice {
+    problem: "A pointer that comes from RAM can hold any address, and while cartridge RAM is disabled, $A000-$BFFF returns garbage.",
+    remedy: "Mask the high byte after it is loaded: `and $7F` for ROM, `and $0F` / `add $C0` for $C000-$CFFF. Or keep an index in RAM.",
+    remedy_in_c: Some(
+        "Keep a `uint8_t` index in RAM, not the pointer, and bound it: `if (i < 32) x = table[i];`.",
     ),
     anchor: "pointer-from-ram",
 };
@@ -205,22 +254,41 @@ pub const STORE: Advice = Advice {
 
 /// A store to echo RAM.
 pub const STORE_TO_ECHO: Advice = Advice {
-    remedy: "Write $2000 lower: echo RAM mirrors WRAM, so use $C000-$DDFF.",
+    remedy: "Name the byte in WRAM instead ($C000-$DDFF): echo RAM shows the same bytes $2000 higher.",
     remedy_in_c: None,
     ..STORE
 };
 
+/// A pointer into cartridge RAM that may be disabled.
 pub const POINTER_TO_CARTRIDGE_RAM: Advice = Advice {
     problem: "While cartridge RAM is disabled, reads return garbage and writes are lost.",
-    remedy: "Keep the pointer out of $A000-$BFFF: end its loop by a smaller count, or bound its index (`and 31`, or `cp 32` / `ret nc`).",
+    remedy: "To use cartridge RAM, enable it first: `ld a, $0A` / `ld [$0000], a`. Else bound the index: `and 31`, or `cp 32` / `ret nc`.",
     remedy_in_c: Some(
-        "Mask the index, so that it stays out of $A000-$BFFF: `x = buffer[i & 31];`. Or compare it as a `uint8_t`: `if (i < 32)`.",
+        "To use cartridge RAM, enable it first (`ENABLE_RAM` in GBDK). Else mask the index (`buffer[i & 31]`), or compare it as a `uint8_t`: `if (i < 32)`.",
     ),
     anchor: "pointer-reaches-sram",
 };
 
 /// A pointer that a loop moves into cartridge RAM.
 pub const LOOP_TO_CARTRIDGE_RAM: Advice = Advice {
+    remedy: "To use cartridge RAM, enable it first: `ld a, $0A` / `ld [$0000], a`. Else end the loop before $A000: `ld a, h` / `cp HIGH(end)` / `jr nz, .loop`.",
+    remedy_in_c: Some(
+        "To use cartridge RAM, enable it first (`ENABLE_RAM` in GBDK). Else end the loop before $A000: `for (n = 32; n != 0; n--) *p++ = 0;`.",
+    ),
+    ..POINTER_TO_CARTRIDGE_RAM
+};
+
+/// A pointer to where cartridge RAM would be, of a cartridge without.
+pub const POINTER_TO_NO_RAM: Advice = Advice {
+    remedy: "Keep the pointer out of $A000-$BFFF: end its loop by a smaller count, or bound its index (`and 31`, or `cp 32` / `ret nc`).",
+    remedy_in_c: Some(
+        "Mask the index, so that it stays out of $A000-$BFFF: `x = buffer[i & 31];`. Or compare it as a `uint8_t`: `if (i < 32)`.",
+    ),
+    ..POINTER_TO_CARTRIDGE_RAM
+};
+
+/// The same of a pointer that a loop moves there.
+pub const LOOP_TO_NO_RAM: Advice = Advice {
     remedy: "End the loop before the pointer reaches $A000, by a counter or its page: `ld a, h` / `cp HIGH(end)` / `jr nz, .loop`.",
     remedy_in_c: Some(
         "End the loop before it reaches $A000: `for (n = 32; n != 0; n--) *p++ = 0;`.",
@@ -231,7 +299,9 @@ pub const LOOP_TO_CARTRIDGE_RAM: Advice = Advice {
 pub const GATE_CLOSED: Advice = Advice {
     problem: "While cartridge RAM is disabled, reads return garbage and writes are lost.",
     remedy: "Enable it first, on every path to this access: `ld a, $0A` / `ld [$0000], a`. Interrupt handlers must leave it as it was.",
-    remedy_in_c: None,
+    remedy_in_c: Some(
+        "Enable it first, on every path to this access (`ENABLE_RAM` in GBDK): `*(volatile uint8_t *)0x0000 = 0x0A;`. Handlers must leave it as it was.",
+    ),
     anchor: "sram-closed",
 };
 
@@ -279,8 +349,10 @@ pub const TRANSFER_INTERRUPT: Advice = Advice {
 
 pub const TRANSFER_START: Advice = Advice {
     problem: "A write to $FF46 starts OAM DMA at once, and then the CPU can use HRAM only.",
-    remedy: "Write $FF46 by name: `ldh [$FF46], a`. End a loop over other registers before it.",
-    remedy_in_c: None,
+    remedy: "If it isn't meant to start OAM DMA, bound the pointer, or end its loop below $FF46. Else name the register: `ldh [$FF46], a`.",
+    remedy_in_c: Some(
+        "Bound the index or the pointer, so that the store stays below $FF46: `if (i < 32) buffer[i] = x;`.",
+    ),
     anchor: "dma-by-pointer",
 };
 
@@ -302,8 +374,10 @@ pub const RETURN_IN_MAIN: Advice = Advice {
 
 pub const RETURN_WITH_BYTES: Advice = Advice {
     problem: "`ret` takes pushed bytes for the return address and jumps there.",
-    remedy: "Before each `ret` or `reti`, pop as often as you pushed.",
-    remedy_in_c: Some("In inline assembly, pop as often as you push before each return."),
+    remedy: "On every path to this return, pop as often as you pushed: a `pop` is missing, or the return comes before it.",
+    remedy_in_c: Some(
+        "Give caller and function the same prototype, in one header. In inline assembly, pop as often as you push before each return.",
+    ),
     anchor: "return-with-pushed",
 };
 

@@ -167,9 +167,10 @@ fn tell_fault<R: Eprint + AllocGlobal>(
     rom: &[u8],
     run: &FaultyRun<'_>,
     symbols: &Symbols<'_>,
+    progress: &mut FramesShown<'_, R>,
 ) {
     if let Ok(rom) = Rom::parse(rom)
-        && let Some(trace) = trace_fault(rt.alloc(), &rom, run, symbols)
+        && let Some(trace) = trace_fault(rt.alloc(), &rom, run, symbols, progress)
     {
         let name = shown_name(name);
         let _ = eprintln!(rt; "{PROGRAM}: {name}: {trace}");
@@ -215,7 +216,7 @@ pub fn watch_played<R: Print + Eprint + AllocGlobal>(
                     sighting,
                     region,
                 };
-                tell_fault(rt, name, rom, &run, symbols);
+                tell_fault(rt, name, rom, &run, symbols, &mut progress);
             }
         }
     }

@@ -1,7 +1,7 @@
 //! What there is to tell of failures.
 
 use gb_ops::op::Register;
-use gb_page::{Finding, InstructionFinding, PointerLoad};
+use gb_page::{Finding, InstructionFinding, PointerLoad, report_finding};
 use gb_plans::{PointerSource, loaded_span, pointer_source, untracked_behind};
 use gb_prune::{Cause, Failure, PADDING, Run, Spot, TargetPlace};
 use std::alloc::{AllocError, Global};
@@ -157,10 +157,10 @@ pub(crate) fn add_failure(
     Ok(())
 }
 
-/// An finding is told, unless it follows from those before it.
+/// A finding is told, unless it follows from those before it; before them all the bank that was left mapped, if it follows from one.
 pub(crate) fn tell(finding: Finding, told: &mut Vec<Finding>) -> Result<(), AllocError> {
     if !is_consequence(told, &finding) {
-        told.push(finding)?;
+        report_finding(finding, told)?;
     }
     Ok(())
 }

@@ -455,7 +455,7 @@ impl<'a> Refinement<'a> {
         let mut findings = Vec::new(self.alloc);
         for place in &self.given_up {
             if let Some(standing) = self.first.remove(place) {
-                findings.push(Finding::Instruction(standing))?;
+                tell(Finding::Instruction(standing), &mut findings)?;
             }
         }
         findings.push(other)?;
@@ -466,7 +466,8 @@ impl<'a> Refinement<'a> {
     fn end_at(&mut self, place: TargetPlace, other: Finding) -> Result<Made, AllocError> {
         match self.first.remove(&place) {
             Some(standing) => {
-                let mut findings = alone(self.alloc, Finding::Instruction(standing))?;
+                let mut findings = Vec::new(self.alloc);
+                tell(Finding::Instruction(standing), &mut findings)?;
                 findings.push(other)?;
                 Ok(Made::Findings(findings))
             }
@@ -477,7 +478,11 @@ impl<'a> Refinement<'a> {
     /// The failure at a place is told alone, as it was first met.
     fn end_as_first(&mut self, place: TargetPlace) -> Result<Made, AllocError> {
         match self.first.remove(&place) {
-            Some(standing) => end_alone(self.alloc, Finding::Instruction(standing)),
+            Some(standing) => {
+                let mut findings = Vec::new(self.alloc);
+                tell(Finding::Instruction(standing), &mut findings)?;
+                Ok(Made::Findings(findings))
+            }
             None => end_alone(self.alloc, Finding::Internal),
         }
     }

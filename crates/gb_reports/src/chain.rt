@@ -60,7 +60,7 @@ fn is_far(from: u16, to: u16) -> bool {
 }
 
 /// Whether an instruction calls an address.
-fn is_call_of(op: Option<Op>, address: u16) -> bool {
+pub(crate) fn is_call_of(op: Option<Op>, address: u16) -> bool {
     match op {
         Some(Op::Call(target) | Op::CallIf(_, target)) => target == address,
         Some(Op::Restart(target)) => u16::from(target) == address,
@@ -69,7 +69,7 @@ fn is_call_of(op: Option<Op>, address: u16) -> bool {
 }
 
 /// Whether an instruction may return: SDCC's routines that clean up their arguments do so by JP HL.
-fn is_return(op: Option<Op>) -> bool {
+pub(crate) fn is_return(op: Option<Op>) -> bool {
     matches!(
         op,
         Some(Op::Return | Op::ReturnIf(_) | Op::ReturnFromInterrupt | Op::JumpHl)

@@ -3,6 +3,7 @@
 use crate::chain::{CallChain, op_of};
 use crate::crowd::Crowd;
 use crate::handlers::switching_handlers;
+use crate::lost_bank::{BankLoser, LostBank, bank_finding};
 use crate::path::{Path, Start, bank_of};
 use gb_facts::Code;
 use gb_fixpoint::cause::{Cause, Failure};
@@ -39,8 +40,16 @@ pub struct InstructionFinding {
     pub is_any_address: bool,
     /// The bytes of RAM from which it comes and whose values aren't kept, since there are too many.
     pub left_out: Vec<u16>,
+    /// The bank that was left mapped, where that is what is found.
+    pub lost_bank: Option<LostBank>,
+    /// The finding of such a bank from which this one follows.
+    pub behind: Option<BankFinding>,
+    /// Where that one is, once it is reported.
+    pub follows_from: Option<CodePoint>,
     /// Where the handlers begin that may return with another bank or gate, where that may be the cause.
     pub switching: Vec<u16>,
+    /// Whether the header names cartridge RAM.
+    pub has_ram: bool,
     /// The address, in the procedures that begin at another one.
     pub place: TargetPlace,
     pub address: u16,
@@ -58,6 +67,22 @@ pub struct InstructionFinding {
     pub chain: CallChain,
     /// States were told apart further here, and a limit was reached.
     pub is_too_large: bool,
+}
+
+/// The finding of a bank that was left mapped. What is found later in that bank follows from it.
+#[derive(Drop)]
+pub struct BankFinding {
+    alloc: Global,
+    lost: LostBank,
+    place: TargetPlace,
+    address: u16,
+    bank: Option<u16>,
+    code: Code,
+    op: Option<Op>,
+    state: Abs,
+    region: Region,
+    path: Path,
+    chain: CallChain,
 }
 
 /// What was used up by rounds of refinement.
@@ -128,6 +153,14 @@ fn again_at(run: &Run<'_>, node: &RunNode, cause: Cause) -> Option<CodePoint> {
 }
 
 impl InstructionFinding {
+    /// Where it is.
+    fn point(&self) -> CodePoint {
+        CodePoint {
+            address: self.address,
+            bank: self.bank,
+        }
+    }
+
     /// Whether cartridge RAM's gate is known to be open there.
     pub(crate) fn has_open_gate(&self) -> bool {
         !self.state.core().ctl.gate.clear
@@ -177,35 +210,187 @@ impl InstructionFinding {
         run: &Run<'_>,
         failure: &Failure,
     ) -> Result<Option<InstructionFinding>, AllocError> {
-        let Some(node) = run.nodes.get(failure.node) else {
+        let Some(mut finding) = finding_at(alloc, run, failure)? else {
             return Ok(None);
         };
-        let switching = switching_handlers(alloc, run, failure.cause)?;
-        let path = Path::to(alloc, run, failure.node)?;
-        let chain = CallChain::to(alloc, run, failure.node)?;
-        let address = node.key.address;
-        let Some(place) = run.place_of(failure.node) else {
-            return Ok(None);
-        };
-        Ok(Some(InstructionFinding {
-            cause: failure.cause,
-            registers: failure.registers,
+        finding.behind = bank_finding(alloc, run, failure)?;
+        Ok(Some(finding))
+    }
+}
+
+/// What there is to report of a run's failure alone.
+pub(crate) fn finding_at(
+    alloc: Global,
+    run: &Run<'_>,
+    failure: &Failure,
+) -> Result<Option<InstructionFinding>, AllocError> {
+    let Some(node) = run.nodes.get(failure.node) else {
+        return Ok(None);
+    };
+    let switching = switching_handlers(alloc, run, failure.cause)?;
+    let path = Path::to(alloc, run, failure.node)?;
+    let chain = CallChain::to(alloc, run, failure.node)?;
+    let address = node.key.address;
+    let Some(place) = run.place_of(failure.node) else {
+        return Ok(None);
+    };
+    Ok(Some(InstructionFinding {
+        cause: failure.cause,
+        registers: failure.registers,
+        kept_in: Vec::new(alloc),
+        load: None,
+        is_any_address: false,
+        left_out: Vec::new(alloc),
+        lost_bank: None,
+        behind: None,
+        follows_from: None,
+        switching,
+        has_ram: run.rom.ram_banks() > 0,
+        place,
+        address,
+        bank: bank_of(run, node),
+        code: Code::at(run.rom, &node.state, address),
+        op: op_of(run, node),
+        again: again_at(run, node, failure.cause),
+        state: node.state.copied(),
+        region: run.configuration.region,
+        path,
+        chain,
+        is_too_large: false,
+    }))
+}
+
+impl BankFinding {
+    /// What there is to report of the place where it is found, and the bank.
+    pub(crate) fn of(alloc: Global, finding: InstructionFinding, lost: LostBank) -> BankFinding {
+        let InstructionFinding {
+            place,
+            address,
+            bank,
+            code,
+            op,
+            state,
+            region,
+            path,
+            chain,
+            ..
+        } = finding;
+        BankFinding {
+            alloc,
+            lost,
+            place,
+            address,
+            bank,
+            code,
+            op,
+            state,
+            region,
+            path,
+            chain,
+        }
+    }
+
+    /// As a finding of its own.
+    fn finding(self) -> InstructionFinding {
+        let BankFinding {
+            alloc,
+            lost,
+            place,
+            address,
+            bank,
+            code,
+            op,
+            state,
+            region,
+            path,
+            chain,
+        } = self;
+        InstructionFinding {
+            cause: Cause::Bank,
+            registers: RegisterSet::empty(),
             kept_in: Vec::new(alloc),
             load: None,
             is_any_address: false,
             left_out: Vec::new(alloc),
-            switching,
+            lost_bank: Some(lost),
+            behind: None,
+            follows_from: None,
+            switching: Vec::new(alloc),
+            has_ram: false,
             place,
             address,
-            bank: bank_of(run, node),
-            code: Code::at(run.rom, &node.state, address),
-            op: op_of(run, node),
-            again: again_at(run, node, failure.cause),
-            state: node.state.copied(),
-            region: run.configuration.region,
+            bank,
+            code,
+            op,
+            again: None,
+            state,
+            region,
             path,
             chain,
             is_too_large: false,
-        }))
+        }
     }
+}
+
+/// Whether a finding is that of a bank that the same handler, routine or instruction left mapped.
+fn is_same_loss(finding: &InstructionFinding, other: &BankFinding) -> bool {
+    match finding.lost_bank {
+        Some(lost) if lost.by == BankLoser::Instruction => {
+            other.lost.by == lost.by && finding.place == other.place
+        }
+        Some(lost) => other.lost.by == lost.by,
+        None => false,
+    }
+}
+
+/// How many of the first findings are of banks that were left mapped.
+fn losses_in(findings: &[Finding]) -> usize {
+    let mut count: usize = 0;
+    for finding in findings {
+        match finding {
+            Finding::Instruction(finding) if finding.lost_bank.is_some() => {
+                count = count.saturating_add(1);
+            }
+            _ => return count,
+        }
+    }
+    count
+}
+
+/// Reports a bank that was left mapped before all that isn't one, unless it is reported already, and answers where it is told.
+fn report_loss(loss: BankFinding, findings: &mut Vec<Finding>) -> Result<CodePoint, AllocError> {
+    for finding in &*findings {
+        if let Finding::Instruction(told) = finding
+            && is_same_loss(told, &loss)
+        {
+            return Ok(told.point());
+        }
+    }
+    let finding = loss.finding();
+    let point = finding.point();
+    let place = losses_in(findings).min(findings.len());
+    findings.insert(place, Finding::Instruction(finding))?;
+    Ok(point)
+}
+
+/// Adds a finding to those that are reported; before them all the bank that was left mapped, if it follows from one. That a bank
+/// isn't known says no more than where it was lost.
+///
+/// # Errors
+///
+/// Where memory ran out.
+pub fn report_finding(finding: Finding, findings: &mut Vec<Finding>) -> Result<(), AllocError> {
+    let Finding::Instruction(mut finding) = finding else {
+        findings.push(finding)?;
+        return Ok(());
+    };
+    let is_of_bank = finding.cause == Cause::Bank;
+    if let Some(behind) = finding.behind.take() {
+        finding.follows_from = Some(report_loss(behind, findings)?);
+        if is_of_bank {
+            return Ok(());
+        }
+    }
+    findings.push(Finding::Instruction(finding))?;
+    Ok(())
 }

@@ -3,11 +3,13 @@
 use crate::Symbols;
 use crate::chain::{CallChain, EnteredRoutine, Root};
 use crate::finding::{Finding, InstructionFinding};
+use crate::lost_bank::{BankLoser, LostBank};
 use crate::object::{JsonObject, pair};
 use crate::path::{Path, Segment, Start};
 use crate::problem::Problem;
 use crate::shown::ShownOther;
 use crate::state::ime_text;
+use crate::steps_back::MappedBanks;
 use crate::topic::{advice_on, instruction_advice, remedy_of};
 use gb_facts::{Advice, interrupt_at};
 use gb_fixpoint::{Abs, Cell, May, Val};
@@ -285,6 +287,28 @@ fn put_chain(
     object.put("call_chain", inner.finish())
 }
 
+/// Some banks, by the first and the last.
+fn put_banks(object: &mut JsonObject, name: &str, banks: MappedBanks) -> Result<(), AllocError> {
+    object.put_pair(name, u64::from(banks.first), u64::from(banks.last))
+}
+
+/// A bank that was left mapped: by what, instead of which, and where it was mapped.
+fn loss_json(alloc: Global, lost: &LostBank) -> Result<Value, AllocError> {
+    let mut object = JsonObject::new(alloc);
+    match lost.by {
+        BankLoser::Handler { vector } => object.put_address("handler", vector)?,
+        BankLoser::Routine { target } => object.put_address("routine", target.address)?,
+        BankLoser::Instruction => {}
+    }
+    object.put_address("at", lost.at.address)?;
+    put_banks(&mut object, "was", lost.was)?;
+    put_banks(&mut object, "now", lost.now)?;
+    if let Some(mapping) = lost.mapping {
+        object.put_address("mapped_at", mapping.point.address)?;
+    }
+    Ok(object.finish())
+}
+
 /// In what state, on which way, and what else may be the cause.
 fn put_circumstances(
     object: &mut JsonObject,
@@ -294,6 +318,10 @@ fn put_circumstances(
     object.put_addresses("kept_in", &finding.kept_in)?;
     object.put_addresses("left_out", &finding.left_out)?;
     object.put_addresses("switching", &finding.switching)?;
+    if let Some(lost) = &finding.lost_bank {
+        let loss = loss_json(object.alloc, lost)?;
+        object.put("lost_bank", loss)?;
+    }
     object.put_flag("too_large", finding.is_too_large)
 }
 

@@ -14,24 +14,29 @@ mod handlers;
 mod json;
 mod known;
 mod listing;
+mod lost_bank;
+mod lost_text;
 mod object;
 mod path;
 mod problem;
 mod reached;
 mod shown;
 mod state;
+mod steps_back;
 mod topic;
 
 pub use chain::{CallChain, EnteredRoutine, Root};
 pub use color::color_note;
 pub use crowd::{Count, Crowd, Multiplied, Multiplier, ReachedLimit};
-pub use finding::{Finding, InstructionFinding, PointerLoad, Spent};
+pub use finding::{BankFinding, Finding, InstructionFinding, PointerLoad, Spent, report_finding};
 pub use json::finding_json;
 pub use listing::Listing;
+pub use lost_bank::{BankLoser, LostBank, Mapping};
 pub use object::JsonObject;
 pub use path::{Path, Segment, Start};
 pub use shown::{FindingPart, ShownFinding, ShownPart};
 pub use state::{ShownCell, ShownFlags, ShownRegisters, fmt_core};
+pub use steps_back::MappedBanks;
 
 // What lies below, for the crates above.
 pub use gb_facts::{

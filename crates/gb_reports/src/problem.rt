@@ -1,6 +1,7 @@
 //! What can go wrong at an instruction, in a sentence.
 
 use crate::finding::{InstructionFinding, PointerLoad};
+use crate::lost_text::ShownLoss;
 use gb_facts::{PADDING, interrupt_at, interrupt_name};
 use gb_fixpoint::Span;
 use gb_fixpoint::cause::{Cause, StackMisuse, TransferMisuse};
@@ -53,6 +54,13 @@ pub(crate) struct Problem<'a> {
 impl fmt::Display for Problem<'_> {
     fn fmt<W: fmt::Write>(&self, f: &mut fmt::Formatter<W>) -> fmt::Result {
         let Problem { finding, symbols } = *self;
+        if let Some(lost) = &finding.lost_bank {
+            let loss = ShownLoss {
+                lost: &*lost,
+                symbols: &*symbols,
+            };
+            return write!(f, "{loss}");
+        }
         if let Some(load) = finding.load {
             return fmt_load(finding, load, symbols, f);
         }

@@ -4,7 +4,7 @@ use crate::chain::{CallChain, EnteredRoutine, Root};
 use crate::finding::InstructionFinding;
 use crate::path::Segment;
 use gb_facts::interrupt_at;
-use gb_symbols::{ShownLabel, SourceLine, Symbols};
+use gb_symbols::{BankAddress, ShownLabel, SourceLine, Symbols};
 use std::fmt;
 
 /// The calls to an instruction: `main -> step -> draw_cell (called at step+$12)`.
@@ -33,13 +33,29 @@ fn is_main(symbols: &Symbols<'_>, chain: &CallChain) -> bool {
     }
 }
 
-/// A routine that was entered, after some text.
+/// Whether a label before a routine would name it.
+fn is_named_by_another(symbols: &Symbols<'_>, entered: &EnteredRoutine) -> bool {
+    match symbols.place(entered.bank.unwrap_or(0), entered.target) {
+        Some(place) => place.offset != 0,
+        None => false,
+    }
+}
+
+/// A routine that was entered, after some text. In a wrong bank the label before it is another thing's.
 fn fmt_entered<W: fmt::Write>(
     symbols: &Symbols<'_>,
     before: &str,
     entered: &EnteredRoutine,
+    is_astray: bool,
     f: &mut fmt::Formatter<W>,
 ) -> fmt::Result {
+    if is_astray && is_named_by_another(symbols, entered) {
+        let at = BankAddress {
+            bank: entered.bank,
+            address: entered.target,
+        };
+        return write!(f, "{before}{at}");
+    }
     let label = ShownLabel {
         symbols: &*symbols,
         bank: entered.bank,
@@ -53,14 +69,33 @@ fn line_of<'a>(symbols: &Symbols<'a>, call: &EnteredRoutine) -> Option<SourceLin
     symbols.line(call.from_bank.unwrap_or(0), call.from)
 }
 
+/// From how many bytes after it on a label doesn't name code in a wrong bank, which is mostly something else's.
+const FAR: u16 = 0x80;
+
+/// Whether a call in a wrong bank is far from the label before it.
+fn is_far(symbols: &Symbols<'_>, call: &EnteredRoutine) -> bool {
+    match symbols.place(call.from_bank.unwrap_or(0), call.from) {
+        Some(place) => place.offset >= FAR,
+        None => false,
+    }
+}
+
 /// Where the last routine was called.
 fn fmt_site<W: fmt::Write>(
     symbols: &Symbols<'_>,
     call: &EnteredRoutine,
+    is_astray: bool,
     f: &mut fmt::Formatter<W>,
 ) -> fmt::Result {
     match line_of(symbols, call) {
         Some(line) => write!(f, " (called at {line})"),
+        None if is_astray && is_far(symbols, call) => {
+            let at = BankAddress {
+                bank: call.from_bank,
+                address: call.from,
+            };
+            write!(f, " (called at {at})")
+        }
         None => {
             let label = ShownLabel {
                 symbols: &*symbols,
@@ -76,6 +111,7 @@ fn fmt_site<W: fmt::Write>(
 fn fmt_chain<W: fmt::Write>(
     symbols: &Symbols<'_>,
     chain: &CallChain,
+    is_astray: bool,
     f: &mut fmt::Formatter<W>,
 ) -> fmt::Result {
     let mut before = "";
@@ -85,18 +121,19 @@ fn fmt_chain<W: fmt::Write>(
         before = " -> ";
     }
     for call in &chain.calls {
-        fmt_entered(symbols, before, call, f)?;
+        fmt_entered(symbols, before, call, is_astray, f)?;
         before = " -> ";
     }
     match chain.calls.last() {
-        Some(call) => fmt_site(symbols, call, f),
+        Some(call) => fmt_site(symbols, call, is_astray, f),
         None => Ok(()),
     }
 }
 
 impl fmt::Display for ShownReached<'_> {
     fn fmt<W: fmt::Write>(&self, f: &mut fmt::Formatter<W>) -> fmt::Result {
-        fmt_chain(self.symbols, &self.finding.chain, f)
+        let is_astray = self.finding.follows_from.is_some();
+        fmt_chain(self.symbols, &self.finding.chain, is_astray, f)
     }
 }
 

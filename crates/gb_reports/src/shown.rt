@@ -9,8 +9,10 @@ use crate::reached::{ShownPassed, ShownReached};
 use crate::state::ShownState;
 use crate::topic::{advice_on, instruction_advice, remedy_of};
 use gb_facts::interrupt_at;
+use gb_fixpoint::code_point::CodePoint;
 use gb_ops::machine::Region;
-use gb_symbols::ShownAddress;
+use gb_ops::op::Register;
+use gb_symbols::{ShownAddress, SymbolOffset};
 use std::fmt;
 
 /// A finding as lines for a person, the last without its end.
@@ -76,7 +78,27 @@ fn fmt_notes<W: fmt::Write>(
         fmt_addresses(&finding.left_out, symbols, f)?;
         write!(f, ".")?;
     }
-    fmt_handlers(&finding.switching, f)
+    match finding.follows_from {
+        Some(cause) => fmt_cause(cause, symbols, f),
+        None => fmt_handlers(&finding.switching, f),
+    }
+}
+
+/// Where the finding is from which another one follows.
+fn fmt_cause<W: fmt::Write>(
+    cause: CodePoint,
+    symbols: &Symbols<'_>,
+    f: &mut fmt::Formatter<W>,
+) -> fmt::Result {
+    let place = ShownAddress {
+        symbols: &*symbols,
+        bank: cause.bank,
+        address: cause.address,
+    };
+    write!(
+        f,
+        " The wrong bank may be mapped here: see the finding at {place}."
+    )
 }
 
 /// Where it is: the label, the address and the instruction.
@@ -211,6 +233,46 @@ fn fmt_counts<W: fmt::Write>(
     Ok(())
 }
 
+/// A byte of RAM; of a program in C as a part of its variable, whose label has an underscore before it.
+fn fmt_variable<W: fmt::Write>(
+    symbols: &Symbols<'_>,
+    address: u16,
+    f: &mut fmt::Formatter<W>,
+) -> fmt::Result {
+    match symbols.place(0, address) {
+        Some(SymbolOffset { name, offset }) if symbols.is_of_c() => {
+            let name = name.strip_prefix("_").unwrap_or(name);
+            if offset == 0 {
+                write!(f, "the variable {name} (${address:04X})")
+            } else {
+                write!(f, "byte {offset} of the variable {name} (${address:04X})")
+            }
+        }
+        _ => {
+            let byte = ShownAddress {
+                symbols: &*symbols,
+                bank: None,
+                address,
+            };
+            write!(f, "{byte}")
+        }
+    }
+}
+
+/// A register; of a program in C what it may hold there.
+fn fmt_register<W: fmt::Write>(
+    symbols: &Symbols<'_>,
+    register: Register,
+    f: &mut fmt::Formatter<W>,
+) -> fmt::Result {
+    let name = lower_name(register);
+    if symbols.is_of_c() {
+        write!(f, "an index or a local variable (in register {name})")
+    } else {
+        write!(f, "{name}")
+    }
+}
+
 /// What multiplies the first of some places, and where.
 fn fmt_multiplied<W: fmt::Write>(
     multiplied: Multiplied,
@@ -222,16 +284,12 @@ fn fmt_multiplied<W: fmt::Write>(
     write!(f, "\n  What multiplies the first: ")?;
     match multiplied.by {
         Multiplier::Register(register) => {
-            let name = lower_name(register);
-            write!(f, "{name} has {values} values {place}.")
+            fmt_register(symbols, register, f)?;
+            write!(f, " has {values} values {place}.")
         }
         Multiplier::Cell(address) => {
-            let byte = ShownAddress {
-                symbols: &*symbols,
-                bank: None,
-                address,
-            };
-            write!(f, "{byte} has {values} values {place}.")
+            fmt_variable(symbols, address, f)?;
+            write!(f, " has {values} values {place}.")
         }
         Multiplier::Bank => write!(f, "the mapped bank has {values} values {place}."),
         Multiplier::Stack => write!(f, "the stack has {values} different contents {place}."),

@@ -1,8 +1,9 @@
 //! Which texts a finding gets, and which fix fits its code.
 
-use crate::chain::Root;
+use crate::chain::{CallChain, Root};
 use crate::crowd::{Crowd, Multiplied, Multiplier, ReachedLimit};
 use crate::finding::{Finding, InstructionFinding, Spent};
+use crate::lost_bank::{BankLoser, LostBank};
 use crate::problem::{is_echo, meets_stack};
 use gb_facts::advice::{self, Advice};
 use gb_facts::{PADDING, interrupt_at};
@@ -80,18 +81,28 @@ fn store_advice(finding: &InstructionFinding, span: Span) -> Advice {
     }
 }
 
+/// An access to cartridge RAM by a pointer, which a loop may move.
+fn pointer_to_ram_advice(finding: &InstructionFinding) -> Advice {
+    match (moves_pointer(finding.op), finding.has_ram) {
+        (true, true) => advice::LOOP_TO_CARTRIDGE_RAM,
+        (true, false) => advice::LOOP_TO_NO_RAM,
+        (false, true) => advice::POINTER_TO_CARTRIDGE_RAM,
+        (false, false) => advice::POINTER_TO_NO_RAM,
+    }
+}
+
 /// An access to cartridge RAM: where there is none, by a pointer, or by an address that is named.
 fn cartridge_advice(finding: &InstructionFinding) -> Advice {
-    if finding.load.is_some() {
-        advice::LOADED_POINTER
-    } else if finding.has_open_gate() {
+    if finding.has_open_gate() {
         advice::NO_CARTRIDGE_RAM
-    } else if finding.registers.is_empty() {
+    } else if finding.load.is_some() || !finding.kept_in.is_empty() {
+        advice::KEPT_TO_CARTRIDGE_RAM
+    } else if !finding.registers.is_empty() {
+        pointer_to_ram_advice(finding)
+    } else if finding.has_ram {
         advice::GATE_CLOSED
-    } else if moves_pointer(finding.op) {
-        advice::LOOP_TO_CARTRIDGE_RAM
     } else {
-        advice::POINTER_TO_CARTRIDGE_RAM
+        advice::NO_CARTRIDGE_RAM
     }
 }
 
@@ -104,20 +115,47 @@ fn copy_advice(finding: &InstructionFinding) -> Advice {
     }
 }
 
+/// A bank that was left mapped.
+fn loss_advice(lost: &LostBank) -> Advice {
+    let is_by_variable = match &lost.mapping {
+        Some(mapping) => mapping.variable.is_some() && mapping.is_second,
+        None => false,
+    };
+    match lost.by {
+        BankLoser::Handler { .. } if is_by_variable => advice::BANK_VARIABLE_LATE,
+        BankLoser::Handler { .. } => advice::BANK_NOT_RESTORED,
+        BankLoser::Routine { .. } if lost.goes_on => advice::BANK_OF_ROUTINE,
+        BankLoser::Instruction if lost.goes_on => advice::BANK_OF_ITSELF,
+        BankLoser::Routine { .. } | BankLoser::Instruction => advice::BANK,
+    }
+}
+
 /// A bank that isn't known.
 fn bank_advice(finding: &InstructionFinding) -> Advice {
-    if finding.switching.is_empty() {
+    if let Some(lost) = &finding.lost_bank {
+        loss_advice(lost)
+    } else if finding.switching.is_empty() {
         advice::BANK
     } else {
         advice::BANK_NOT_RESTORED
     }
 }
 
+/// Whether a chain of calls begins with an interrupt whose vector itself calls, as FF there does.
+fn is_of_empty_vector(chain: &CallChain) -> bool {
+    match (chain.root, chain.calls.first()) {
+        (Root::Interrupt { vector }, Some(call)) => call.from == vector,
+        (Root::Interrupt { .. }, None) => true,
+        (Root::PowerUp, _) => false,
+    }
+}
+
 /// Padding that is executed: after an interrupt without a handler, or after a wrong jump.
 fn padding_advice(finding: &InstructionFinding) -> Advice {
-    match finding.chain.root {
-        Root::Interrupt { .. } => advice::NO_HANDLER,
-        Root::PowerUp => advice::PADDING,
+    if is_of_empty_vector(&finding.chain) {
+        advice::NO_HANDLER
+    } else {
+        advice::PADDING
     }
 }
 

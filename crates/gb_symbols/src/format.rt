@@ -180,6 +180,11 @@ fn is_of_makebin(line: &str) -> bool {
 }
 
 impl Format {
+    /// Whether SDCC's linker writes it.
+    pub(crate) fn is_of_sdcc(self) -> bool {
+        matches!(self, Format::SdccSym | Format::SdccNoi | Format::SdccMap)
+    }
+
     /// What a line is in this format.
     pub(crate) fn line<'a>(self, line: &'a str) -> SymbolLine<'a> {
         match self {

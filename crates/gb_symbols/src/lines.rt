@@ -12,6 +12,8 @@ enum Language {
     C,
     /// The name is a module's: its file has that name and `.asm`.
     Assembler,
+    /// The same with `.s`.
+    AssemblerS,
     /// The name is that of a file that a module's file includes.
     Included,
 }
@@ -38,6 +40,7 @@ impl fmt::Display for SourceLine<'_> {
         match self.language {
             Language::C | Language::Included => write!(f, "{name}:{number}"),
             Language::Assembler => write!(f, "{name}.asm:{number}"),
+            Language::AssemblerS => write!(f, "{name}.s:{number}"),
         }
     }
 }
@@ -247,6 +250,25 @@ impl<'a> SourceLines<'a> {
             Err(SymbolFault::of(SymbolFaultKind::NoLines))
         } else {
             Ok(SourceLines { marks })
+        }
+    }
+
+    /// The first module in assembly: records have its name without the ending of its file's.
+    pub(crate) fn module(&self) -> Option<&'a str> {
+        for mark in &self.marks {
+            if mark.line.language == Language::Assembler {
+                return Some(mark.line.name);
+            }
+        }
+        None
+    }
+
+    /// The files of modules end in `.s`.
+    pub(crate) fn end_in_s(&mut self) {
+        for mark in &mut self.marks {
+            if mark.line.language == Language::Assembler {
+                mark.line.language = Language::AssemblerS;
+            }
         }
     }
 

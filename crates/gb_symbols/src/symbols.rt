@@ -102,7 +102,35 @@ fn is_bank(symbol: &Symbol<'_>, symbols: &[Symbol<'_>]) -> bool {
     symbols.iter().any(|other| is_bank_of(symbol, other))
 }
 
-/// A file's symbols, as they are put in order, without numbers of banks: of those at one address the first stays.
+/// Where labels begin: what lies below are vectors and the header.
+const LABELS: u16 = 0x0150;
+
+/// Whether a name is written in capitals, as those of constants are.
+fn is_in_capitals(name: &str) -> bool {
+    let mut is_name = false;
+    for byte in name.as_bytes() {
+        match *byte {
+            b'a'..=b'z' => return false,
+            b'A'..=b'Z' => is_name = true,
+            _ => {}
+        }
+    }
+    is_name
+}
+
+/// Whether a symbol is a constant and no label: files of SDCC's have both. A number such as `CH_SIZE` may be an address of the vectors,
+/// and one of the controller's registers, as `rROMB0`, is one of ROM's.
+fn is_constant(format: Format, symbol: &Symbol<'_>) -> bool {
+    if !format.is_of_sdcc() || symbol.bank != 0 {
+        return false;
+    }
+    match symbol.name.strip_prefix("r") {
+        Some(name) => symbol.address < 0x8000 && is_in_capitals(name),
+        None => symbol.address < LABELS && is_in_capitals(symbol.name),
+    }
+}
+
+/// A file's symbols, as they are put in order, without constants and numbers of banks: of those at one address the first stays.
 fn ordered<'a>(
     alloc: Global,
     format: Format,
@@ -113,7 +141,9 @@ fn ordered<'a>(
     let mut keys: Vec<u32> = Vec::new(alloc);
     for symbol in &found {
         let key = symbol_key(symbol);
-        if keys.last() != Some(&key) && !(may_be_bank(symbol) && is_bank(symbol, &found)) {
+        let is_number = is_constant(format, symbol)
+            || (may_be_bank(symbol) && is_bank(symbol, &found));
+        if keys.last() != Some(&key) && !is_number {
             keys.push(key)?;
             symbols.push(*symbol)?;
         }
@@ -187,6 +217,16 @@ impl<'a> Symbols<'a> {
         Ok(())
     }
 
+    /// The first module in assembly of which there are lines: its file's ending isn't known from them.
+    pub fn module(&self) -> Option<&'a str> {
+        self.lines.module()
+    }
+
+    /// The files of modules in assembly end in `.s`, not in `.asm`.
+    pub fn end_in_s(&mut self) {
+        self.lines.end_in_s();
+    }
+
     /// The line of a source that an address comes from, where it is known. The bank counts for 4000-7FFF alone.
     pub fn line(&self, bank: u16, address: u16) -> Option<SourceLine<'a>> {
         let bank = if part_of(address) == 0x4000 { bank } else { 0 };
@@ -216,10 +256,10 @@ impl<'a> Symbols<'a> {
 
     /// Whether SDCC's linker wrote the file.
     fn is_of_sdcc(&self) -> bool {
-        matches!(
-            self.format,
-            Some(Format::SdccSym | Format::SdccNoi | Format::SdccMap)
-        )
+        match self.format {
+            Some(format) => format.is_of_sdcc(),
+            None => false,
+        }
     }
 
     /// The symbol that names an address: the last one at or before it, where that is near and in the same part of memory. The

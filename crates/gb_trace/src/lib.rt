@@ -1,7 +1,7 @@
 //! What happened before a fault, in an author's words.
 //!
 //! `trace_fault` plays a script again from power-up, since a console plays the same each time, and keeps the last instructions and the calls
-//! that are open. A `Recorder` keeps them of any other run. The `Trace` prints what went wrong, where, and how the code got there. Read
+//! that are open, of its last minute. A `Recorder` keeps them of any other run. The `Trace` prints what went wrong, where, and how the code got there. Read
 //! `trace` first, then `recorder` and `happening`; `keys` has a script's keys in words. It promises nothing but that it is safe and ends.
 #![tactic(auto)]
 

@@ -1,7 +1,7 @@
 //! Calls and instructions, a line each.
 
 use crate::calls::{CallTarget, OpenCall};
-use crate::recent::{HardwareBytes, Recent, StepKind, TraceStep};
+use crate::recent::{HardwareBytes, Recent, RepeatedStep, StepKind, TraceStep};
 use gb_ops::decode::decode;
 use gb_ops::machine::CodePlace;
 use gb_spelling::{Spelling, interrupt_name};
@@ -101,6 +101,15 @@ fn repeats(calls: &[OpenCall]) -> usize {
     count
 }
 
+/// From which frame on calls are known, where that isn't the first.
+pub fn fmt_first<W: fmt::Write>(first: u32, f: &mut fmt::Formatter<W>) -> fmt::Result {
+    if first > 0 {
+        write!(f, "\n    and those from before frame {first}")
+    } else {
+        Ok(())
+    }
+}
+
 /// The calls that are open, the innermost first.
 pub fn fmt_calls<W: fmt::Write>(
     symbols: &Symbols<'_>,
@@ -139,6 +148,15 @@ fn fmt_given<W: fmt::Write>(given: HardwareBytes, f: &mut fmt::Formatter<W>) -> 
     }
 }
 
+/// How often a step came in a row.
+fn fmt_times<W: fmt::Write>(times: u32, f: &mut fmt::Formatter<W>) -> fmt::Result {
+    if times > 1 {
+        write!(f, " ({times} times)")
+    } else {
+        Ok(())
+    }
+}
+
 /// The last steps, the oldest first.
 pub fn fmt_recent<W: fmt::Write>(
     symbols: &Symbols<'_>,
@@ -147,7 +165,7 @@ pub fn fmt_recent<W: fmt::Write>(
 ) -> fmt::Result {
     write!(f, "\n  Last instructions:")?;
     for number in 0..16 {
-        if let Some(step) = recent.step(number) {
+        if let Some(RepeatedStep { step, times }) = recent.step(number) {
             let at = ListedAddress {
                 symbols: &*symbols,
                 bank: bank_of(step.place),
@@ -156,6 +174,7 @@ pub fn fmt_recent<W: fmt::Write>(
             let spelled = SpelledStep { step };
             write!(f, "\n    {at}: {spelled}")?;
             fmt_given(step.given, f)?;
+            fmt_times(times, f)?;
         }
     }
     Ok(())

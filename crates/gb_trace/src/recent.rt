@@ -7,7 +7,7 @@ use gb_witness::Stepped;
 const STEPS: usize = 16;
 
 /// What the processor did at a place.
-#[derive(Clone, Copy)]
+#[derive(Clone, Copy, PartialEq, Eq)]
 pub enum StepKind {
     /// The instruction with these bytes.
     Instruction([u8; 3]),
@@ -24,7 +24,7 @@ pub enum HardwareBytes {
 }
 
 /// A step, where it was, and what hardware gave it.
-#[derive(Clone, Copy)]
+#[derive(Clone, Copy, PartialEq, Eq)]
 pub struct TraceStep {
     pub place: CodePlace,
     pub kind: StepKind,
@@ -44,10 +44,17 @@ impl TraceStep {
     }
 }
 
+/// A step, and how often it came in a row, as that of a loop of one instruction or of HALT.
+#[derive(Clone, Copy)]
+pub struct RepeatedStep {
+    pub step: TraceStep,
+    pub times: u32,
+}
+
 /// The last steps, the oldest at `next`.
 #[derive(Clone, Copy)]
 pub struct Recent {
-    steps: [Option<TraceStep>; STEPS],
+    steps: [Option<RepeatedStep>; STEPS],
     next: u8,
 }
 
@@ -60,15 +67,22 @@ impl Recent {
         }
     }
 
-    /// Keeps one more, in place of the oldest.
+    /// Keeps one more, in place of the oldest; one that is the last again is counted.
     pub fn push(&mut self, step: TraceStep) {
+        let last = (usize::from(self.next) + STEPS - 1) % STEPS;
+        if let Some(repeated) = &mut self.steps[last]
+            && repeated.step == step
+        {
+            repeated.times = repeated.times.saturating_add(1);
+            return;
+        }
         let place = usize::from(self.next) % STEPS;
-        self.steps[place] = Some(step);
+        self.steps[place] = Some(RepeatedStep { step, times: 1 });
         self.next = ((place + 1) % STEPS) as u8;
     }
 
     /// The step that came so many steps after the oldest.
-    pub fn step(&self, number: u8) -> Option<TraceStep> {
+    pub fn step(&self, number: u8) -> Option<RepeatedStep> {
         self.steps[(usize::from(self.next) + usize::from(number)) % STEPS]
     }
 }

@@ -3,14 +3,19 @@
 use crate::calls::OpenCalls;
 use crate::recent::{HardwareBytes, Recent, TraceStep};
 use gb_ops::machine::CodePlace;
-use gb_witness::{Console, FRAME_CYCLES, Keys, Stepped, keys_at, place_now, seconds_of};
+use gb_witness::{Console, FRAME_CYCLES, Keys, Progress, Stepped, keys_at, place_now, seconds_of};
 use std::alloc::{AllocError, Global};
+
+/// The last frames that are looked at instruction by instruction, a minute: those before them are played several times as fast.
+const RECORDED: u32 = 3600;
 
 /// What is kept of a run: its last instructions, and the calls that are open.
 #[derive(Drop)]
 pub struct Recorder {
     pub(crate) recent: Recent,
     pub(crate) calls: OpenCalls,
+    /// The frame from which on it was looked at.
+    pub(crate) first: u32,
 }
 
 /// A moment of a run: an event of a frame, both counted from 0.
@@ -26,6 +31,7 @@ impl Recorder {
         Recorder {
             recent: Recent::none(),
             calls: OpenCalls::none(alloc),
+            first: 0,
         }
     }
 
@@ -96,22 +102,28 @@ impl Recorder {
     /// # Errors
     ///
     /// AllocError where memory ran out.
-    pub fn play(
+    pub fn play<P: Progress>(
         &mut self,
         console: &mut Console<'_>,
         script: &[u8],
         moment: Moment,
+        progress: &mut P,
     ) -> Result<(), AllocError> {
+        self.first = moment.frame.saturating_sub(RECORDED);
         for number in 0..moment.frame {
-            // A step takes at least an M-cycle, or it ends the frame.
-            self.frame(
-                console,
-                keys_at(script, number),
-                seconds_of(number),
-                FRAME_CYCLES,
-            )?;
+            progress.frame(number, moment.frame);
+            let keys = keys_at(script, number);
+            let seconds = seconds_of(number);
+            if number < self.first {
+                console.frame(keys, seconds);
+            } else {
+                // A step takes at least an M-cycle, or it ends the frame.
+                self.frame(console, keys, seconds, FRAME_CYCLES)?;
+            }
         }
         let keys = keys_at(script, moment.frame);
-        self.frame(console, keys, seconds_of(moment.frame), moment.event)
+        let played = self.frame(console, keys, seconds_of(moment.frame), moment.event);
+        progress.done();
+        played
     }
 }

@@ -2,14 +2,14 @@
 
 use crate::happening::Happening;
 use crate::keys::HeldKeys;
-use crate::listing::{SpelledStep, bank_of, fmt_calls, fmt_recent, shown};
+use crate::listing::{SpelledStep, bank_of, fmt_calls, fmt_first, fmt_recent, shown};
 use crate::recent::{HardwareBytes, StepKind, TraceStep};
 use crate::recorder::{Moment, Recorder};
 use crate::touch::{TouchedByte, touch_at_fault};
 use bitflags::Flags;
 use gb_ops::machine::{CodePlace, Event, Region};
 use gb_symbols::{ShownAddress, Symbols};
-use gb_witness::{Console, Keys, Rom, Sighting, keys_at};
+use gb_witness::{Console, Keys, Progress, Rom, Sighting, keys_at};
 use std::alloc::Global;
 use std::fmt;
 
@@ -56,11 +56,12 @@ pub struct Trace<'a> {
 }
 
 /// Plays a run again, up to its fault. None where memory ran out.
-pub fn trace_fault<'a>(
+pub fn trace_fault<'a, P: Progress>(
     alloc: Global,
     rom: &Rom<'_>,
     run: &FaultyRun<'_>,
     symbols: &'a Symbols<'a>,
+    progress: &mut P,
 ) -> Option<Trace<'a>> {
     let mut console = Console::new(alloc, rom).ok()?;
     let mut recorder = Recorder::none(alloc);
@@ -68,7 +69,9 @@ pub fn trace_fault<'a>(
         frame: run.frame,
         event: run.sighting.number,
     };
-    recorder.play(&mut console, run.script, moment).ok()?;
+    recorder
+        .play(&mut console, run.script, moment, progress)
+        .ok()?;
     let touch = match touch_at_fault(&run.sighting, run.region) {
         Some(touch) => {
             let address = touch.address;
@@ -180,6 +183,7 @@ impl fmt::Display for Trace<'_> {
             write!(f, "\n  Keys: {keys}")?;
         }
         fmt_calls(self.symbols, self.recorder.calls.as_slice(), f)?;
+        fmt_first(self.recorder.first, f)?;
         fmt_recent(self.symbols, &self.recorder.recent, f)
     }
 }
