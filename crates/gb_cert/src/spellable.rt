@@ -70,10 +70,7 @@ fn may_be_of(rules: Rules, origin: Option<Origin>) -> bool
     ensures { result ≡ may_be_of rules origin }
 {
     match rules {
-        Rules::Simple => !matches!(
-            origin,
-            Some(Origin::ReturnHigh) | Some(Origin::ReturnLow)
-        ),
+        Rules::Simple => !matches!(origin, Some(Origin::ReturnHigh) | Some(Origin::ReturnLow)),
         Rules::Extended => true,
     }
 }

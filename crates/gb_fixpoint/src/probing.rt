@@ -35,7 +35,11 @@ impl EditedPlaces {
 }
 
 /// Whether arrivals belong to one another, each to one alone.
-fn are_one_to_one(before: &[Arrival], behind: &[Arrival], run: &Run<'_>) -> Result<bool, AllocError> {
+fn are_one_to_one(
+    before: &[Arrival],
+    behind: &[Arrival],
+    run: &Run<'_>,
+) -> Result<bool, AllocError> {
     if before.len() != behind.len() {
         return Ok(false);
     }
@@ -117,10 +121,8 @@ impl<'a> Run<'a> {
         caller: &Abs,
         back: u16,
     ) -> Result<(), RunStop> {
-        let callee = self
-            .procedures
-            .iter()
-            .position(|called| called.key.point() == target && called.sites.contains(&number));
+        let callee = self.procedures.iter().position(|called| called.key.point() == target
+            && called.sites.contains(&number));
         match callee {
             Some(callee) => self.go_behind(number, callee, caller, back),
             None => Ok(()),

@@ -22,8 +22,8 @@ mod waiting;
 mod ways;
 
 pub use below::learn_touched;
-pub use gb_fixpoint::EditedPlaces;
 pub use cells::{PointerSource, loaded_span, pointer_source, untracked_behind};
+pub use gb_fixpoint::EditedPlaces;
 pub use plan::{Edit, Plan, parted_by};
 pub use plans::{inline_plan, last_plan, plan_for};
 pub use saving::targets_to_follow;

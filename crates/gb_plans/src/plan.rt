@@ -3,11 +3,11 @@
 use crate::carries::is_carry_read;
 use crate::spots::place_of;
 use crate::ways::Ways;
-use gb_fixpoint::{EditedPlaces, Rules};
 use gb_fixpoint::code_point::CodePoint;
 use gb_fixpoint::configuration::{Configuration, TargetPlace};
 use gb_fixpoint::register_set::{REGISTERS, RegisterSet};
 use gb_fixpoint::types::{Run, Spot};
+use gb_fixpoint::{EditedPlaces, Rules};
 use gb_ops::op::Register;
 use std::alloc::{AllocError, Global};
 use std::collections::{BTreeSet, HashMap};

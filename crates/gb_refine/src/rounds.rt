@@ -4,9 +4,9 @@ use crate::failures::tell;
 use crate::tracking::Cells;
 use gb_ops::machine::Region;
 use gb_page::{Crowd, Finding, InstructionFinding, Spent};
-use gb_plans::{EditedPlaces, Plan, learn_touched};
+use gb_plans::{Plan, learn_touched};
 use gb_prune::limits::{
-    ALL_STEPS, FEW_NODES, IDLE_EDITS, OBSTACLES, RUN_STEPS, STEPS_A_NODE, STEPS_A_NODE_OF_MANY, STEPS_ASKED,
+    ALL_STEPS, FEW_NODES, OBSTACLES, RUN_STEPS, STEPS_A_NODE, STEPS_A_NODE_OF_MANY, STEPS_ASKED,
     TAKEN_BACK, TAKEN_BACK_OF_MANY,
 };
 use gb_prune::{
@@ -283,32 +283,6 @@ impl<'a> Refinement<'a> {
         self.past_idle(run, outcome, lesson)
     }
 
-    /// A lesson, and behind it what the run teaches further while the edits tell nothing apart: a round under them would end
-    /// where this one did.
-    fn past_idle(
-        &mut self,
-        run: &mut Run<'_>,
-        outcome: RunEnd,
-        first: Lesson,
-    ) -> Result<Lesson, AllocError> {
-        let mut lesson = first;
-        for _ in 0..IDLE_EDITS {
-            let mut finer = self.configuration.clone()?;
-            let Some(edited) = edits_of(self.alloc, &lesson, &mut finer)? else {
-                break;
-            };
-            if run.is_refined_by(finer, &edited)? {
-                break;
-            }
-            if let Lesson::Change(change) = lesson {
-                self.change(change)?;
-            }
-            run.configuration = self.configuration.clone()?;
-            lesson = self.learn(run, outcome)?;
-        }
-        Ok(lesson)
-    }
-
     /// Something is refined; what was before is kept.
     fn refine(&mut self, mending: Mending) -> Result<(), AllocError> {
         self.keep_before(&mending, false)?;
@@ -561,7 +535,7 @@ impl<'a> Refinement<'a> {
         }
     }
 
-    fn change(&mut self, change: Change) -> Result<(), AllocError> {
+    pub(crate) fn change(&mut self, change: Change) -> Result<(), AllocError> {
         match change {
             Change::Region(region) => self.set_region(region),
             Change::Deepen(region) => self.deepen(region),
@@ -728,29 +702,6 @@ fn outcome_of<P: SearchProgress>(
         }
     }
     Ok(Some(RunEnd::TooLarge))
-}
-
-/// Makes the edits of a lesson in a configuration, where it is about nothing else: where they tell states apart.
-fn edits_of(
-    alloc: Global,
-    lesson: &Lesson,
-    finer: &mut Configuration,
-) -> Result<Option<EditedPlaces>, AllocError> {
-    let Lesson::Change(Change::MendAll(mendings, news)) = lesson else {
-        return Ok(None);
-    };
-    let mut edited = EditedPlaces::new(alloc);
-    for mending in mendings {
-        if !mending.plan.add_edited(&mut edited)? {
-            return Ok(None);
-        }
-        mending.plan.apply(finer)?;
-    }
-    if news.is_empty() {
-        Ok(Some(edited))
-    } else {
-        Ok(None)
-    }
 }
 
 fn add_points(more: &BTreeSet<u8>, points: &mut BTreeSet<u8>) -> Result<(), AllocError> {

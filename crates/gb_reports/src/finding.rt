@@ -5,6 +5,7 @@ use crate::crowd::Crowd;
 use crate::handlers::switching_handlers;
 use crate::lost_bank::{BankLoser, LostBank, bank_finding};
 use crate::path::{Path, Start, bank_of};
+use crate::pushed_return::{PushedReturn, wild_return};
 use gb_facts::Code;
 use gb_fixpoint::cause::{Cause, Failure};
 use gb_fixpoint::code_point::CodePoint;
@@ -40,6 +41,8 @@ pub struct InstructionFinding {
     pub is_any_address: bool,
     /// The bytes of RAM from which it comes and whose values aren't kept, since there are too many.
     pub left_out: Vec<u16>,
+    /// The return that takes pushed bytes for the return address, where that is what is found.
+    pub pushed_return: Option<PushedReturn>,
     /// The bank that was left mapped, where that is what is found.
     pub lost_bank: Option<LostBank>,
     /// The finding of such a bank from which this one follows.
@@ -204,15 +207,27 @@ impl InstructionFinding {
         }
     }
 
-    /// What there is to report of a run's failure.
+    /// What there is to report of a run's failure. Where a return took pushed bytes shortly before, that is reported in its place.
     pub fn of(
         alloc: Global,
         run: &Run<'_>,
         failure: &Failure,
     ) -> Result<Option<InstructionFinding>, AllocError> {
-        let Some(mut finding) = finding_at(alloc, run, failure)? else {
+        let wild = wild_return(run, failure);
+        let at = match wild {
+            Some(wild) => Failure {
+                node: wild.node,
+                ..*failure
+            },
+            None => *failure,
+        };
+        let Some(mut finding) = finding_at(alloc, run, &at)? else {
             return Ok(None);
         };
+        if let Some(place) = run.place_of(failure.node) {
+            finding.place = place;
+        }
+        finding.pushed_return = wild.map(|wild| wild.told);
         finding.behind = bank_finding(alloc, run, failure)?;
         Ok(Some(finding))
     }
@@ -241,6 +256,7 @@ pub(crate) fn finding_at(
         load: None,
         is_any_address: false,
         left_out: Vec::new(alloc),
+        pushed_return: None,
         lost_bank: None,
         behind: None,
         follows_from: None,
@@ -312,6 +328,7 @@ impl BankFinding {
             load: None,
             is_any_address: false,
             left_out: Vec::new(alloc),
+            pushed_return: None,
             lost_bank: Some(lost),
             behind: None,
             follows_from: None,

@@ -318,6 +318,10 @@ fn put_circumstances(
     object.put_addresses("kept_in", &finding.kept_in)?;
     object.put_addresses("left_out", &finding.left_out)?;
     object.put_addresses("switching", &finding.switching)?;
+    if let Some(pushed) = finding.pushed_return {
+        object.put_address("pushed_at", pushed.pushed_at.address)?;
+        object.put_address("goes_to", pushed.leads_to.address)?;
+    }
     if let Some(lost) = &finding.lost_bank {
         let loss = loss_json(object.alloc, lost)?;
         object.put("lost_bank", loss)?;

@@ -2,6 +2,7 @@
 
 use crate::finding::{InstructionFinding, PointerLoad};
 use crate::lost_text::ShownLoss;
+use crate::pushed_return::PushedReturn;
 use gb_facts::{PADDING, interrupt_at, interrupt_name};
 use gb_fixpoint::Span;
 use gb_fixpoint::cause::{Cause, StackMisuse, TransferMisuse};
@@ -61,6 +62,9 @@ impl fmt::Display for Problem<'_> {
             };
             return write!(f, "{loss}");
         }
+        if let Some(pushed) = finding.pushed_return {
+            return fmt_pushed(pushed, symbols, f);
+        }
         if let Some(load) = finding.load {
             return fmt_load(finding, load, symbols, f);
         }
@@ -70,6 +74,32 @@ impl fmt::Display for Problem<'_> {
             _ => fmt_detailed(finding, f),
         }
     }
+}
+
+/// A return that takes pushed bytes for the return address.
+fn fmt_pushed<W: fmt::Write>(
+    pushed: PushedReturn,
+    symbols: &Symbols<'_>,
+    f: &mut fmt::Formatter<W>,
+) -> fmt::Result {
+    let PushedReturn {
+        pushed_at,
+        leads_to,
+    } = pushed;
+    let pushed_at = ShownAddress {
+        symbols: &*symbols,
+        bank: pushed_at.bank,
+        address: pushed_at.address,
+    };
+    let leads_to = ShownAddress {
+        symbols: &*symbols,
+        bank: leads_to.bank,
+        address: leads_to.address,
+    };
+    write!(
+        f,
+        "This return takes the bytes pushed at {pushed_at} for its return address, and goes to {leads_to}, which is no code."
+    )
 }
 
 /// A byte of a pointer that is loaded from RAM, and what an access through the pointer can reach.

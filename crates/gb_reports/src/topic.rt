@@ -169,6 +169,9 @@ fn recursion_advice(target: u16) -> Advice {
 
 /// A failure at an instruction.
 pub(crate) fn instruction_advice(finding: &InstructionFinding) -> Advice {
+    if finding.pushed_return.is_some() {
+        return advice::RETURN_WITH_BYTES;
+    }
     match finding.cause {
         Cause::Area => advice::AREA,
         Cause::Bank => bank_advice(finding),
